@@ -1,0 +1,199 @@
+// One slot's bytes: reading its parts, free, well formed, its entries in order, and writing a slot whole.
+//
+// Slot: byte 0 is 1 when used; 1 the entry count; 2 lower length; 3 upper length; 4 to 7 zero; 8 to 31 lower; 32 to 55
+// upper; 56 to 63 zero; then b entries of 32 bytes, a filled name (24) and a value (8, little-endian).
+ghost use mathlib.Core.Path.{_≡_};
+ghost use Prim.Native.Nat.{_≤_, _<_, _+_, _*_};
+ghost use lib.ListN.{length};
+use digits::Key;
+use digits::index;
+use digits::wide;
+mod entries;
+pub use entries::changed_value;
+pub use entries::copy;
+pub use entries::is_copied;
+pub use entries::rank;
+pub use entries::upto;
+pub use entries::value_at;
+pub use entries::with_entry;
+pub use entries::without_entry;
+
+// What a well-formed slot says of itself: how many entries, the lengths of its bounds, and its range (low, high].
+pub struct Bucket {
+    pub count: usize,
+    pub lower: usize,
+    pub upper: usize,
+    pub low: Key,
+    pub high: Key,
+}
+
+pub enum Vacancy {
+    Taken,
+    Free,
+}
+
+pub enum Form {
+    Well(Bucket),
+    Ill,
+}
+
+// Whether a bucket's range holds a name.
+pub enum Range {
+    Holds,
+    Lacks,
+}
+
+// What a bucket holds under a name.
+pub enum Held {
+    Value(u64),
+    Absent,
+}
+
+// A free slot is all zero.
+pub fn vacancy_of(slot: &[u8]) -> Vacancy {
+    if 0 < slot.len() {
+        if slot[0] == 1 {
+            return Vacancy::Taken;
+        }
+    }
+    if digits::is_zero(slot) {
+        return Vacancy::Free;
+    }
+    Vacancy::Taken
+}
+
+// An empty lower bound means no lower limit.
+fn low_of(slot: &[u8], lower: usize) -> Key
+    requires { ⌜ 64 ≤ length (now slot) ⌝ }
+{
+    if lower == 0 {
+        return digits::no_limit();
+    }
+    digits::bound_key_at(slot, 8, lower)
+}
+
+// Names are legal, strictly ascending and in the range: each is above the one before it, the first above the lower limit.
+fn are_entries(entries: &[u8], count: usize, low: Key, high: Key) -> bool
+    requires { ⌜ (32 * count ≤ length (now entries)) × (count ≤ 16) ⌝ }
+{
+    let mut last = low;
+    let mut i = 0;
+    while i < count {
+        let at = 32 * i;
+        let e = at + 24;
+        if !digits::is_filled_name(&entries[at..e]) {
+            return false;
+        }
+        let name = digits::key_at(entries, at);
+        if !digits::is_below(last, name) {
+            return false;
+        }
+        last = name;
+        i += 1;
+    }
+    !digits::is_below(high, last)
+}
+
+// Whether the bytes that a used slot leaves zero are zero.
+fn is_clear(slot: &[u8], count: usize) -> bool
+    requires { ⌜ 64 + 32 * count ≤ length (now slot) ⌝ }
+{
+    if !digits::is_zero(&slot[4..8]) {
+        return false;
+    }
+    if !digits::is_zero(&slot[56..64]) {
+        return false;
+    }
+    let end = 64 + 32 * count;
+    digits::is_zero(&slot[end..])
+}
+
+// A used slot as it is read, or that it is not well formed.
+pub fn form_of(slot: &[u8], b: usize) -> Form
+    requires { ⌜ (length (now slot) ≡ 64 + 32 * b) × (b ≤ 16) ⌝ }
+{
+    if slot[0] != 1 {
+        return Form::Ill;
+    }
+    let count = index(slot[1]);
+    if b < count {
+        return Form::Ill;
+    }
+    if !is_clear(slot, count) {
+        return Form::Ill;
+    }
+    let lower = index(slot[2]);
+    if !digits::is_bound(&slot[8..32], lower) {
+        return Form::Ill;
+    }
+    let upper = index(slot[3]);
+    if !digits::is_bound(&slot[32..56], upper) {
+        return Form::Ill;
+    }
+    let low = low_of(slot, lower);
+    let high = digits::bound_key_at(slot, 32, upper);
+    if !digits::is_below(low, high) {
+        return Form::Ill;
+    }
+    if !are_entries(&slot[64..], count, low, high) {
+        return Form::Ill;
+    }
+    Form::Well(
+        Bucket {
+            count,
+            lower,
+            upper,
+            low,
+            high,
+        },
+    )
+}
+
+// A bucket's range is the names within its upper bound and not within its lower.
+pub fn range_of(bucket: Bucket, name: Key) -> Range {
+    let low = bucket.low;
+    if !digits::is_below(low, name) {
+        return Range::Lacks;
+    }
+    let high = bucket.high;
+    if digits::is_below(high, name) {
+        return Range::Lacks;
+    }
+    Range::Holds
+}
+
+// The value under a name.
+pub fn held_under(entries: &[u8], count: usize, name: Key) -> Held
+    requires { ⌜ (32 * count ≤ length (now entries)) × (count ≤ 16) ⌝ }
+{
+    let i = rank(entries, count, name);
+    if count <= i {
+        return Held::Absent;
+    }
+    if !digits::is_same(digits::key_at(entries, 32 * i), name) {
+        return Held::Absent;
+    }
+    Held::Value(value_at(entries, i))
+}
+
+fn byte(x: usize) -> u8
+    requires { ⌜ x < 256 ⌝ }
+    ensures { λ r. ⌜ r ≡ x ⌝ }
+{
+    x as u8
+}
+
+// A used slot written whole: its bounds and its entries, and zero elsewhere.
+pub fn written(lower: &[u8], upper: &[u8], entries: &[u8]) -> [u8; 576]
+    requires { ⌜ (length (now lower) ≤ 24) × (length (now upper) ≤ 24) × (length (now entries) ≤ 512) ⌝ }
+{
+    let mut slot = [0u8; 576];
+    slot[0] = 1;
+    slot[1] = byte(entries.len() / 32);
+    slot[2] = byte(lower.len());
+    slot[3] = byte(upper.len());
+    copy(&mut slot, 8, lower);
+    copy(&mut slot, 32, upper);
+    copy(&mut slot, 64, entries);
+    slot
+}

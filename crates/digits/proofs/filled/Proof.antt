@@ -1,0 +1,54 @@
+use Prim.Native.Nat.{ℕ, _≤_, _-_, _<_, _+_, _*_}
+use native.Mathlib.Omega.{arith}
+use mathlib.Core.Path.{_≡_, refl, sym, _∙_}
+use lib.ListN.{length, take, drop, getD}
+use borrow.Author.Needs.{needs}
+use Rattle.digits.proofs.filled.Statement.{statement}
+use Rattle.digits.proofs.filled.Tie as tie
+use Rattle.digits.proofs.filled.Reads as reads
+use Rattle.digits.proofs.filled.Lts as lts
+
+abbrev Inv-loop : tie.InvT-loop
+Inv-loop name digits₀ i₀ digits i = (i ≤ 24) × (i ≤ length name)
+
+abbrev μ-loop : tie.MeasureT-loop
+μ-loop name digits₀ i₀ digits i = length name - i
+
+loop-holds : tie.Need-loop-holds Inv-loop μ-loop
+loop-holds c = search needs
+
+returns : tie.Need-returns Inv-loop μ-loop
+returns c = search needs
+
+shared-slice-read-digits : tie.Need-shared-slice-read-digits Inv-loop μ-loop
+shared-slice-read-digits c = search needs
+
+array-write-digits : tie.Need-array-write-digits Inv-loop μ-loop
+array-write-digits c = search needs
+
+add-i : tie.Need-add-i Inv-loop μ-loop
+add-i c = search needs
+
+loop-less : tie.Need-loop-less Inv-loop μ-loop
+loop-less c = search needs
+
+loop-again : tie.Need-loop-again Inv-loop μ-loop
+loop-again c = search needs
+
+returns-2 : tie.Need-returns-2 Inv-loop μ-loop
+returns-2 c = search needs
+
+pub filled-spec : {M : Type 1} → statement M
+filled-spec =
+    tie.close
+    (tie.spec
+    Inv-loop
+    μ-loop
+    loop-holds
+    returns
+    shared-slice-read-digits
+    array-write-digits
+    add-i
+    loop-less
+    loop-again
+    returns-2)

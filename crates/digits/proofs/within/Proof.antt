@@ -1,0 +1,62 @@
+use Prim.Native.Nat.{ℕ, _≤_, _-_, _<_, _+_, _*_}
+use native.Mathlib.Omega.{arith}
+use mathlib.Core.Path.{_≡_, refl, sym, _∙_}
+use lib.ListN.{length, take, drop, getD}
+use borrow.Author.Needs.{needs}
+use Rattle.digits.proofs.within.Statement.{statement}
+use Rattle.digits.proofs.within.Tie as tie
+use Rattle.digits.proofs.within.Reads as reads
+use Rattle.digits.proofs.within.Lts as lts
+
+abbrev Inv-loop : tie.InvT-loop
+Inv-loop name p i₀ i = i ≤ length p
+
+abbrev μ-loop : tie.MeasureT-loop
+μ-loop name p i₀ i = length p - i
+
+loop-holds : tie.Need-loop-holds Inv-loop μ-loop
+loop-holds c = search needs
+
+returns : tie.Need-returns Inv-loop μ-loop
+returns c = search needs
+
+shared-slice-read-d : tie.Need-shared-slice-read-d Inv-loop μ-loop
+shared-slice-read-d c = search needs
+
+shared-slice-read-e : tie.Need-shared-slice-read-e Inv-loop μ-loop
+shared-slice-read-e c = search needs
+
+returns-2 : tie.Need-returns-2 Inv-loop μ-loop
+returns-2 c = search needs
+
+returns-3 : tie.Need-returns-3 Inv-loop μ-loop
+returns-3 c = search needs
+
+add-i : tie.Need-add-i Inv-loop μ-loop
+add-i c = search needs
+
+loop-less : tie.Need-loop-less Inv-loop μ-loop
+loop-less c = search needs
+
+loop-again : tie.Need-loop-again Inv-loop μ-loop
+loop-again c = search needs
+
+returns-4 : tie.Need-returns-4 Inv-loop μ-loop
+returns-4 c = search needs
+
+pub within-spec : {M : Type 1} → statement M
+within-spec =
+    tie.close
+    (tie.spec
+    Inv-loop
+    μ-loop
+    loop-holds
+    returns
+    shared-slice-read-d
+    shared-slice-read-e
+    returns-2
+    returns-3
+    add-i
+    loop-less
+    loop-again
+    returns-4)

@@ -1,0 +1,284 @@
+// Strings of digits: names and bounds, the one order that names and bounds share, and the first difference of two strings.
+//
+// A string of at most 24 digits is compared as three words, the first digit highest. A filled name has 24 digits; a bound
+// is continued by 0xFF, a digit above all others. So "name within bound" and "bound below bound" are one comparison.
+ghost use mathlib.Core.Path.{_≡_};
+ghost use Prim.Native.Nat.{_≤_, _<_, _+_};
+ghost use lib.ListN.{length};
+
+// A string of digits as it is compared.
+pub struct Key {
+    pub a: u64,
+    pub b: u64,
+    pub c: u64,
+}
+
+// What stands before a name is looked for: whether it is one.
+pub enum Naming {
+    Legal,
+    Illegal,
+}
+
+// The words whose lowest bytes, 0 to 8 of them, are 0xFF.
+const FILL: [u64; 9] = [
+    0,
+    0xFF,
+    0xFFFF,
+    0xFF_FFFF,
+    0xFFFF_FFFF,
+    0xFF_FFFF_FFFF,
+    0xFFFF_FFFF_FFFF,
+    0xFF_FFFF_FFFF_FFFF,
+    0xFFFF_FFFF_FFFF_FFFF,
+];
+
+pub fn index(x: u8) -> usize
+    ensures { λ r. ⌜ (r ≡ x) × (r < 256) ⌝ }
+{
+    x as usize
+}
+
+pub fn wide(x: u8) -> u64
+    ensures { λ r. ⌜ (r ≡ x) × (r < 256) ⌝ }
+{
+    x as u64
+}
+
+// The eight bytes from `at` on as one number, the first byte highest.
+pub fn word(s: &[u8], at: usize) -> u64
+    requires { ⌜ at + 8 ≤ length (now s) ⌝ }
+{
+    wide(s[at + 7])
+        + 256
+            * (wide(s[at + 6])
+                + 256
+                    * (wide(s[at + 5])
+                        + 256
+                            * (wide(s[at + 4])
+                                + 256
+                                    * (wide(s[at + 3])
+                                        + 256
+                                            * (wide(s[at + 2])
+                                                + 256 * (wide(s[at + 1]) + 256 * wide(s[at])))))))
+}
+
+// The 24 digits from `at` on, as they are compared.
+pub fn key_at(s: &[u8], at: usize) -> Key
+    requires { ⌜ at + 24 ≤ length (now s) ⌝ }
+{
+    Key {
+        a: word(s, at),
+        b: word(s, at + 8),
+        c: word(s, at + 16),
+    }
+}
+
+// How many bytes of a word stay behind a string's end: the word ends at the digit number `end`.
+fn behind(end: usize, len: usize) -> usize
+    requires { ⌜ (8 ≤ end) × (end ≤ 24) ⌝ }
+    ensures { λ r. ⌜ r ≤ 8 ⌝ }
+{
+    if end <= len {
+        return 0;
+    }
+    if len <= end - 8 {
+        return 8;
+    }
+    end - len
+}
+
+// The word from `at` on, continued by 0xFF behind the string's end. The bytes there are zero in a slot that is well
+// formed, so nothing wraps.
+fn continued(s: &[u8], at: usize, end: usize, len: usize) -> u64
+    requires { ⌜ (at + 8 ≤ length (now s)) × (8 ≤ end) × (end ≤ 24) ⌝ }
+{
+    let f = behind(end, len);
+    std::num::wrapping_add_u64(word(s, at), FILL[f])
+}
+
+// The bound of `len` digits at `at`, as it is compared.
+pub fn bound_key_at(s: &[u8], at: usize, len: usize) -> Key
+    requires { ⌜ at + 24 ≤ length (now s) ⌝ }
+{
+    Key {
+        a: continued(s, at, 8, len),
+        b: continued(s, at + 8, 16, len),
+        c: continued(s, at + 16, 24, len),
+    }
+}
+
+// What is below every name: the key of no lower limit.
+pub fn no_limit() -> Key {
+    Key { a: 0, b: 0, c: 0 }
+}
+
+pub fn is_below(x: Key, y: Key) -> bool {
+    if x.a < y.a {
+        return true;
+    }
+    if y.a < x.a {
+        return false;
+    }
+    if x.b < y.b {
+        return true;
+    }
+    if y.b < x.b {
+        return false;
+    }
+    x.c < y.c
+}
+
+pub fn is_same(x: Key, y: Key) -> bool {
+    if x.a != y.a {
+        return false;
+    }
+    if x.b != y.b {
+        return false;
+    }
+    x.c == y.c
+}
+
+// The larger of two numbers. A check that gathers, and does not stop at the first fault, is fast.
+pub fn larger(x: u8, y: u8) -> u8
+    ensures { λ r. ⌜ (x ≤ r) × (y ≤ r) ⌝ }
+{
+    if x < y {
+        return y;
+    }
+    x
+}
+
+// Whether all bytes are zero.
+pub fn is_zero(s: &[u8]) -> bool {
+    let mut most = 0u8;
+    let mut i = 0;
+    while i < s.len() {
+        most = larger(most, s[i]);
+        i += 1;
+    }
+    most == 0
+}
+
+// 1 where x is no digit from `least` to 0x7D, else 0.
+fn fault(x: u8, least: u8) -> u8 {
+    if x < least {
+        return 1;
+    }
+    if 0x7D < x {
+        return 1;
+    }
+    0
+}
+
+// Whether each byte is a digit, `least` or above.
+fn are_digits(s: &[u8], least: u8) -> bool {
+    let mut most = 0u8;
+    let mut i = 0;
+    while i < s.len() {
+        most = larger(most, fault(s[i], least));
+        i += 1;
+    }
+    most == 0
+}
+
+// A name has 1 to 24 bytes, each 0x21 to 0x7D.
+pub fn named(name: &[u8]) -> Naming {
+    if name.len() == 0 {
+        return Naming::Illegal;
+    }
+    if 24 < name.len() {
+        return Naming::Illegal;
+    }
+    if !are_digits(name, 0x21) {
+        return Naming::Illegal;
+    }
+    Naming::Legal
+}
+
+// The name filled to 24 digits with 0x20.
+pub fn filled(name: &[u8]) -> [u8; 24] {
+    let mut digits = [0x20u8; 24];
+    let mut i = 0;
+    while i < name.len() {
+        if 24 <= i {
+            return digits;
+        }
+        digits[i] = name[i];
+        i += 1;
+    }
+    digits
+}
+
+// 1 where x cannot stand after y in a filled name: no digit, or more than a blank behind a blank.
+fn fault_after(y: u8, x: u8) -> u8 {
+    if x == 0x20 {
+        return 0;
+    }
+    if y == 0x20 {
+        return 1;
+    }
+    fault(x, 0x21)
+}
+
+// Whether these 24 bytes are a legal name, filled.
+pub fn is_filled_name(s: &[u8]) -> bool
+    requires { ⌜ length (now s) ≡ 24 ⌝ }
+{
+    let mut most = fault(s[0], 0x21);
+    let mut i = 1;
+    while i < 24 {
+        most = larger(most, fault_after(s[i - 1], s[i]));
+        i += 1;
+    }
+    most == 0
+}
+
+// Whether these 24 bytes are a bound of `len` digits: each 0x20 to 0x7D, and zero behind them.
+pub fn is_bound(s: &[u8], len: usize) -> bool
+    requires { ⌜ length (now s) ≡ 24 ⌝ }
+{
+    if 24 < len {
+        return false;
+    }
+    if !are_digits(&s[0..len], 0x20) {
+        return false;
+    }
+    is_zero(&s[len..])
+}
+
+// Whether the name's first digits, as many as p has, are not greater than p.
+pub fn within(name: &[u8], p: &[u8]) -> bool {
+    let mut i = 0;
+    while i < p.len() {
+        if name.len() <= i {
+            return true;
+        }
+        let d = name[i];
+        let e = p[i];
+        if d < e {
+            return true;
+        }
+        if e < d {
+            return false;
+        }
+        i += 1;
+    }
+    true
+}
+
+// How many digits the two strings share before the first difference.
+pub fn shared(x: &[u8], y: &[u8]) -> usize
+    ensures { λ r. ⌜ (r ≤ length (now (x .entry))) × (r ≤ length (now (y .entry))) ⌝ }
+{
+    let mut i = 0;
+    while i < x.len() {
+        if y.len() <= i {
+            return i;
+        }
+        if x[i] != y[i] {
+            return i;
+        }
+        i += 1;
+    }
+    i
+}
