@@ -157,8 +157,17 @@ static struct lap add_with_split(const struct engine *e, const struct scene *s, 
 
 static uint8_t output[MOST_HELD * PAL_ENTRY_BYTES];
 
-static const struct name least = {.bytes = "!                       ", .length = 1};
-static const struct name greatest = {.bytes = "}}}}}}}}}}}}}}}}}}}}}}}}", .length = NAME_DIGITS};
+/* The first and the last of all legal names. */
+static struct name least, greatest;
+
+static void make_edges(void)
+{
+    memset(least.bytes, 0x20, NAME_DIGITS);
+    least.bytes[0] = 0x21;
+    least.length = 1;
+    memset(greatest.bytes, 0x7D, NAME_DIGITS);
+    greatest.length = NAME_DIGITS;
+}
 
 static struct lap list_all(const struct engine *e, const struct scene *s, unsigned passes)
 {
@@ -460,6 +469,7 @@ int main(int argc, char **argv)
         return 2;
     }
     measure_clock();
+    make_edges();
     printf("Palhavento beside SQLite %s (in memory, prepared statements), LMDB %d.%d.%d (no sync)\n"
            "and a sorted array. SQLite / ours: above 1 we are faster (best, median).\n"
            "copies: our best time in memcpys of the whole file.\n",
