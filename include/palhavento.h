@@ -1,0 +1,174 @@
+/*
+ * palhavento.h: an ordered file of names in lent bytes, and the trie that addresses it.
+ *
+ * A name has 1 to 24 bytes, each 0x21 to 0x7D, and carries a 64-bit value. A file keeps the names in
+ * buckets of up to b entries, one bucket a slot; its trie leads each name to the one bucket whose
+ * range holds it. The file is what lasts. The trie can be rebuilt from it at any time.
+ *
+ *     uint8_t  file[PAL_FILE_BYTES(4, 8)], trie[PAL_TRIE_BYTES];
+ *     uint64_t out[4];
+ *
+ *     const uint8_t name[] = {'g', 'd', 'p', '.', 'd', 'e'};
+ *
+ *     pal_create(file, sizeof file, 1, 4, 8, trie, sizeof trie);
+ *     pal_put(file, sizeof file, trie, sizeof trie, name, sizeof name, 42, 0, 2, out);
+ *     if (pal_lookup(file, sizeof file, trie, sizeof trie, name, sizeof name, out) == PAL_FOUND)
+ *         printf("%llu\n", (unsigned long long)out[0]);
+ *
+ * To open a file that was kept: pal_recover, then pal_rebuild.
+ *
+ * Every call checks for itself what it is lent; no file, trie or name, however damaged, makes it
+ * crash, hang or leave its memory. No call keeps a pointer, allocates, or touches anything but what
+ * is lent to it, and each needs less than 64 KB of stack. Pointers are not null, and lent memory
+ * does not overlap; memory of length 0 may have any other pointer.
+ *
+ * Names, parameters and answers below never change: what was built against one release links
+ * against every later one.
+ */
+#ifndef PALHAVENTO_H
+#define PALHAVENTO_H
+
+#include <stddef.h>
+#include <stdint.h>
+
+#ifdef __cplusplus
+extern "C" {
+#endif
+
+/* The bytes of a trie image: count (2), first leaf (2), then 256 cells of digit (1), digit number
+ * (1), left side (2) and right side (2), little-endian. A side is signed: 0 and above is that slot,
+ * below 0 the cell of that number's negative. */
+#define PAL_TRIE_BYTES 1540
+
+/* The bytes of an entry in pal_list's output: the name filled to 24 with 0x20, then the value (8,
+ * little-endian). */
+#define PAL_ENTRY_BYTES 32
+
+/* The bytes of a file with bucket capacity b, 2 to 16, and slots, 1 to 64. */
+#define PAL_FILE_BYTES(b, slots) (16 + (size_t)(slots) * (64 + 32 * (size_t)(b)))
+
+/*
+ * Answers. 1 to 99 is a refusal, 255 a malformed call; every other answer says what was done.
+ *
+ * A refusal carries the first cause that holds, in the order 8, 1, 2, 3, 4, 5, 6, 7 (pal_lookup has
+ * its own), and changes no file, trie, output or out. Only pal_create and pal_rebuild, whose trie is
+ * a result, then give the empty trie: an image of zeros.
+ *
+ * A word of out that is not named for an answer is left as it was.
+ */
+enum {
+    PAL_ILLEGAL_NAME     = 1,   /* A name has not 1 to 24 bytes, each 0x21 to 0x7D. */
+    PAL_BAD_FILE         = 2,   /* The file is neither sound nor cut; for look up: the part it reads is wrong. */
+    PAL_CUT_FILE         = 3,   /* The file is cut: recover, then rebuild. */
+    PAL_STALE_TRIE       = 4,   /* The trie does not agree with the file: rebuild. */
+    PAL_NO_FREE_SLOT     = 5,   /* A split is needed and there is no free slot. */
+    PAL_TOO_MANY_STRINGS = 6,   /* The bounds and their beginnings, after the change, exceed 256 strings. */
+    PAL_SHORT_OUTPUT     = 7,   /* The output is shorter than 32 bytes times the entries to be listed. */
+    PAL_OUTSIDE_LIMITS   = 8,   /* The store limit is above 2; or create's version, b, slots or length is wrong. */
+
+    PAL_FOUND            = 100, /* The file holds the name. */
+    PAL_ABSENT           = 101, /* The file does not hold the name. */
+    PAL_ADDED            = 110, /* The name is new in the file. */
+    PAL_REPLACED         = 111, /* The name was held and has the new value. */
+    PAL_STOPPED          = 112, /* The limit was too low for the last store; the trie is unchanged. */
+    PAL_REMOVED          = 120, /* The name was held and is gone. */
+    PAL_FREED            = 130, /* The file was cut and is sound again: one slot was freed. */
+    PAL_NOTHING_TO_DO    = 131, /* The file was sound already. */
+    PAL_SOUND            = 140, /* The slots are free or well formed, and their ranges leave no gap. */
+    PAL_CUT              = 141, /* A split was stopped between its two stores; freeing one slot mends it. */
+    PAL_BAD              = 142, /* The file is neither sound nor cut. */
+    PAL_CREATED          = 150, /* The file is new and empty, and the trie is its trie. */
+    PAL_REBUILT          = 151, /* The trie is the one rebuilt from the file's bounds. */
+    PAL_LISTED           = 152, /* The output begins with the entries of the range. */
+
+    PAL_MALFORMED        = 255  /* The trie image has not exactly PAL_TRIE_BYTES; nothing is changed. */
+};
+
+/*
+ * Write a new file without names over the whole buffer, and its trie.
+ * version is 1; file_length is PAL_FILE_BYTES(b, slots).
+ *
+ * PAL_CREATED. Refusals: 8.
+ */
+uint64_t pal_create(uint8_t *file, size_t file_length,
+                    uint64_t version, uint64_t b, uint64_t slots,
+                    uint8_t *trie, size_t trie_length);
+
+/*
+ * Say whether a file is sound, cut or bad.
+ *
+ * PAL_SOUND, PAL_CUT, PAL_BAD. No refusals.
+ */
+uint64_t pal_check(const uint8_t *file, size_t file_length);
+
+/*
+ * Make a cut file sound: free the new slot of the split that was stopped. One store, within the
+ * limit as for pal_put. Rebuild the trie afterwards.
+ *
+ * PAL_FREED (out[0]: the slot), PAL_NOTHING_TO_DO, PAL_STOPPED (out[0]: stores made). Refusals: 8, 2.
+ */
+uint64_t pal_recover(uint8_t *file, size_t file_length,
+                     uint64_t limit, uint64_t out[4]);
+
+/*
+ * Give the trie of a sound file, from its bounds alone.
+ *
+ * PAL_REBUILT. Refusals: 2, 3, 6.
+ */
+uint64_t pal_rebuild(const uint8_t *file, size_t file_length,
+                     uint8_t *trie, size_t trie_length);
+
+/*
+ * Look up a name. Reads the header and one bucket. With a sound file and any trie at all the answer
+ * is true or the trie is refused as stale.
+ *
+ * PAL_FOUND (out[0]: the value, out[1]: its run, now 0), PAL_ABSENT. Refusals: 1, 2, 4.
+ */
+uint64_t pal_lookup(const uint8_t *file, size_t file_length,
+                    const uint8_t *trie, size_t trie_length,
+                    const uint8_t *name, size_t name_length,
+                    uint64_t out[4]);
+
+/*
+ * Put a name with a value, and keep the trie in step with the file. run is ignored for now.
+ *
+ * limit, 0 to 2, is how many stores the call may make, each of one whole slot; 2 is always enough.
+ * A lower one stops the call where a kill could. After a stop or a kill discard the trie, recover
+ * and rebuild: a call stopped short of its last store then counts as never made.
+ *
+ * PAL_ADDED, PAL_REPLACED (out[0]: the old value, out[1]: its run, now 0), PAL_STOPPED (out[0]:
+ * stores made). Refusals: 8, 1, 2, 3, 4, 5, 6.
+ */
+uint64_t pal_put(uint8_t *file, size_t file_length,
+                 uint8_t *trie, size_t trie_length,
+                 const uint8_t *name, size_t name_length,
+                 uint64_t value, uint64_t run, uint64_t limit, uint64_t out[4]);
+
+/*
+ * Remove a name, within the store limit as for pal_put. An emptied bucket keeps its range.
+ *
+ * PAL_REMOVED, PAL_ABSENT, PAL_STOPPED (out[0]: stores made). Refusals: 8, 1, 2, 3, 4.
+ */
+uint64_t pal_remove(uint8_t *file, size_t file_length,
+                    uint8_t *trie, size_t trie_length,
+                    const uint8_t *name, size_t name_length,
+                    uint64_t limit, uint64_t out[4]);
+
+/*
+ * Write the entries whose names lie from first to second, both included, ascending, PAL_ENTRY_BYTES
+ * each, to the beginning of output, and nothing behind them. First above second gives no entries.
+ *
+ * PAL_LISTED (out[0]: entries written). Refusals: 1, 2, 3, 4, 7.
+ */
+uint64_t pal_list(const uint8_t *file, size_t file_length,
+                  const uint8_t *trie, size_t trie_length,
+                  const uint8_t *first, size_t first_length,
+                  const uint8_t *second, size_t second_length,
+                  uint8_t *output, size_t output_length,
+                  uint64_t out[4]);
+
+#ifdef __cplusplus
+}
+#endif
+
+#endif
