@@ -62,14 +62,22 @@ pub fn vacancy_of(slot: &[u8]) -> Vacancy {
     Vacancy::Taken
 }
 
-// An empty lower bound means no lower limit.
-fn low_of(slot: &[u8], lower: usize) -> Key
+// The lower end of a slot's range. An empty lower bound means no lower limit.
+pub fn low_of(slot: &[u8]) -> Key
     requires { ⌜ 64 ≤ length (now slot) ⌝ }
 {
+    let lower = index(slot[2]);
     if lower == 0 {
         return digits::no_limit();
     }
     digits::bound_key_at(slot, 8, lower)
+}
+
+// The upper end of a slot's range. An empty upper bound is above all.
+pub fn high_of(slot: &[u8]) -> Key
+    requires { ⌜ 64 ≤ length (now slot) ⌝ }
+{
+    digits::bound_key_at(slot, 32, index(slot[3]))
 }
 
 // Names are legal, strictly ascending and in the range: each is above the one before it, the first above the lower limit.
@@ -130,8 +138,8 @@ pub fn form_of(slot: &[u8], b: usize) -> Form
     if !digits::is_bound(&slot[32..56], upper) {
         return Form::Ill;
     }
-    let low = low_of(slot, lower);
-    let high = digits::bound_key_at(slot, 32, upper);
+    let low = low_of(slot);
+    let high = high_of(slot);
     if !digits::is_below(low, high) {
         return Form::Ill;
     }

@@ -112,6 +112,15 @@ pub fn no_limit() -> Key {
     Key { a: 0, b: 0, c: 0 }
 }
 
+// What the empty upper bound is compared as: above every name and every other bound.
+pub fn no_end() -> Key {
+    Key {
+        a: 0xFFFF_FFFF_FFFF_FFFF,
+        b: 0xFFFF_FFFF_FFFF_FFFF,
+        c: 0xFFFF_FFFF_FFFF_FFFF,
+    }
+}
+
 pub fn is_below(x: Key, y: Key) -> bool {
     if x.a < y.a {
         return true;

@@ -1,0 +1,40 @@
+-- The sizes of a file that its header says, and what they say of its length.
+use Prim.Native.Nat.{ℕ, _+_, _*_, _≤_, _<_}
+use mathlib.Core.Path.{_≡_}
+use mathlib.Core.List.{List}
+use lib.ListN.{length, getD}
+use Rattle.file.specs.declared.Size.{Size}
+use Rattle.file.specs.declared.Header.{Header}
+use Rattle.file.specs.declared.Header.the-variants.{Right, Wrong}
+use Rattle.file.specs.declared.Room.{Room}
+use Rattle.file.specs.declared.Room.the-variants.{At, Full}
+
+-- a slot's bytes: 64 + 32 × b
+abbrev pub slotSize : Size → ℕ
+slotSize s = 64 + 32 * s .b
+
+-- b is 2 to 16, slots is 1 to 64
+pub record Legal (s : Size) : Type 0 where
+  pub b-least : 2 ≤ s .b
+  pub b-most : s .b ≤ 16
+  pub slots-least : 1 ≤ s .slots
+  pub slots-most : s .slots ≤ 64
+
+-- file length is exactly 16 + slots × (64 + 32 × b)
+pub record Sized (n : ℕ) (s : Size) : Type 0 where
+  pub legal : Legal s
+  pub whole : n ≡ 16 + s .slots * (64 + 32 * s .b)
+
+-- what a header that is right says of the file's length
+abbrev pub Told : Header → ℕ → Type 0
+Told (Right s) n = Sized n s
+Told Wrong n = Unit
+
+-- each number of the list is below n
+abbrev pub Below : List ℕ → ℕ → Type 0
+Below xs n = (j : ℕ) → getD xs j 0 < n
+
+-- a free slot that was found is one of the file's
+abbrev pub Inside : Room → ℕ → Type 0
+Inside (At k) n = k < n
+Inside Full n = Unit

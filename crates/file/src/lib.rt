@@ -1,0 +1,170 @@
+// The file: its header and sizes, its slots, the one function that stores, and create.
+//
+// File length is exactly 16 + slots × (64 + 32 × b). Header: 0 to 2 `TKF`; 3 and 4 version 1, little-endian; 5 b; 6 slots;
+// 7 to 15 zero.
+ghost use mathlib.Core.Path.{_≡_};
+ghost use Prim.Native.Nat.{_≤_, _<_, _+_, _*_};
+ghost use lib.ListN.{length, take, drop};
+ghost use lib.Seq.{paste};
+ghost use Rattle.file.specs.Sizes.{Legal, Sized, Told, Below, Inside};
+use digits::index;
+mod order;
+mod survey;
+pub use order::holder;
+pub use survey::Kind;
+pub use survey::Survey;
+pub use survey::survey_of;
+
+// The bucket capacity and the number of slots.
+pub struct Size {
+    pub b: usize,
+    pub slots: usize,
+}
+
+pub enum Header {
+    Right(Size),
+    Wrong,
+}
+
+// Where a new bucket goes.
+pub enum Room {
+    At(usize),
+    Full,
+}
+
+// How many bytes a slot has.
+pub fn slot_size(size: Size) -> usize
+    requires { ⌜ Legal size ⌝ }
+    ensures { λ r. ⌜ r ≡ 64 + 32 * size .b ⌝ }
+{
+    64 + 32 * size.b
+}
+
+// b is 2 to 16, slots is 1 to 64, and the length fits them.
+pub fn sizes(length: usize, b: usize, slots: usize) -> Header
+    ensures { λ r. ⌜ Told r length ⌝ }
+{
+    if b < 2 {
+        return Header::Wrong;
+    }
+    if 16 < b {
+        return Header::Wrong;
+    }
+    if slots < 1 {
+        return Header::Wrong;
+    }
+    if 64 < slots {
+        return Header::Wrong;
+    }
+    if length != 16 + slots * (64 + 32 * b) {
+        return Header::Wrong;
+    }
+    Header::Right(
+        Size { b, slots },
+    )
+}
+
+// Whether the bytes that say what kind of file it is are right.
+fn is_marked(file: &[u8]) -> bool
+    requires { ⌜ 16 ≤ length (now file) ⌝ }
+{
+    if file[0] != b'T' {
+        return false;
+    }
+    if file[1] != b'K' {
+        return false;
+    }
+    if file[2] != b'F' {
+        return false;
+    }
+    if file[3] != 1 {
+        return false;
+    }
+    if file[4] != 0 {
+        return false;
+    }
+    digits::is_zero(&file[7..16])
+}
+
+// The sizes of a file whose length and header are right.
+pub fn header_of(file: &[u8]) -> Header
+    ensures { λ r. ⌜ Told r (length (now (file .entry))) ⌝ }
+{
+    if file.len() < 16 {
+        return Header::Wrong;
+    }
+    if !is_marked(file) {
+        return Header::Wrong;
+    }
+    sizes(file.len(), index(file[5]), index(file[6]))
+}
+
+// The bytes of slot k.
+pub fn slot_at(file: &[u8], size: Size, k: usize) -> &[u8]
+    requires { ⌜ (Sized (length (now file)) size) × (k < size .slots) ⌝ }
+    ensures { λ r. ⌜ (now r ≡ take (64 + 32 * size .b) (drop (16 + k * (64 + 32 * size .b)) (now (file .entry))))
+        × (length (now r) ≡ 64 + 32 * size .b) ⌝ }
+{
+    let n = slot_size(size);
+    let at = 16 + k * n;
+    let end = at + n;
+    &file[at..end]
+}
+
+// A store replaces one slot whole. Nothing else writes to a lent file, create aside.
+pub fn store(file: &mut [u8], size: Size, k: usize, slot: &[u8])
+    requires { ⌜ (Sized (length (now file)) size) × (k < size .slots) × (length (now slot) ≡ 64 + 32 * size .b) ⌝ }
+    ensures { λ _. ⌜ now (file .exit) ≡ paste (now (file .entry)) (16 + k * (64 + 32 * size .b)) (now (slot .entry)) (64 + 32 * size .b) ⌝ }
+{
+    let at = 16 + k * slot_size(size);
+    bucket::copy(file, at, slot);
+}
+
+fn byte(x: usize) -> u8
+    requires { ⌜ x < 256 ⌝ }
+    ensures { λ r. ⌜ r ≡ x ⌝ }
+{
+    x as u8
+}
+
+fn clear(file: &mut [u8]) {
+    let mut i = 0;
+    while i < file.len() {
+        file[i] = 0;
+        i += 1;
+    }
+}
+
+// Writes the whole buffer: slot 0 used, no limits, no entries.
+pub fn create(file: &mut [u8], size: Size)
+    requires { ⌜ Sized (length (now file)) size ⌝ }
+{
+    clear(file);
+    file[0] = b'T';
+    file[1] = b'K';
+    file[2] = b'F';
+    file[3] = 1;
+    file[5] = byte(size.b);
+    file[6] = byte(size.slots);
+    file[16] = 1;
+}
+
+fn number(x: u32) -> usize
+    ensures { λ r. ⌜ r ≡ x ⌝ }
+{
+    x as usize
+}
+
+// A new bucket always takes the lowest free slot.
+pub fn lowest_free(used: u64, slots: usize) -> Room
+    ensures { λ r. ⌜ Inside r slots ⌝ }
+{
+    if slots <= number(u64::count_ones(used)) {
+        return Room::Full;
+    }
+    let lowest = number(u64::trailing_zeros(!used));
+    if slots <= lowest {
+        return Room::Full;
+    }
+    Room::At(lowest)
+}

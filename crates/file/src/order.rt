@@ -1,0 +1,84 @@
+// The used slots in range order: by upper bound, and where two are equal by lower bound.
+ghost use mathlib.Core.Path.{_≡_};
+ghost use Prim.Native.Nat.{_≤_, _<_, _+_, _*_};
+ghost use lib.ListN.{length};
+ghost use Rattle.file.specs.Sizes.{Sized, Below};
+use crate::Size;
+use crate::slot_at;
+use digits::Key;
+use digits::index;
+
+// Whether the first range stands before the second.
+fn is_before(high: Key, low: Key, other_high: Key, other_low: Key) -> bool {
+    if digits::is_below(high, other_high) {
+        return true;
+    }
+    if !digits::is_same(high, other_high) {
+        return false;
+    }
+    digits::is_below(low, other_low)
+}
+
+// How many of the slots in order stand before the range (low, high] or are equal to it.
+pub fn place_of(file: &[u8], size: Size, order: &[u8; 64], count: usize, low: Key, high: Key) -> usize
+    requires { ⌜ (Sized (length (now file)) size) × (Below (now order) (size .slots)) × (count ≤ 64) ⌝ }
+    ensures { λ r. ⌜ r ≤ count ⌝ }
+{
+    let mut least = 0;
+    let mut most = count;
+    while least < most {
+        let middle = least + (most - least) / 2;
+        let slot = slot_at(file, size, index(order[middle]));
+        if is_before(high, low, bucket::high_of(slot), bucket::low_of(slot)) {
+            most = middle;
+        } else {
+            least = middle + 1;
+        }
+    }
+    least
+}
+
+// Puts slot k at its place among the slots in order.
+pub fn insert(order: &mut [u8; 64], count: usize, place: usize, k: u8)
+    requires { ⌜ (count < 64) × (place ≤ count) ⌝ }
+{
+    let mut j = count;
+    while place < j {
+        order[j] = order[j - 1];
+        j -= 1;
+    }
+    order[place] = k;
+}
+
+// Takes what stands at the place out of the slots in order.
+pub fn leave_out(order: &mut [u8; 64], count: usize, place: usize)
+    requires { ⌜ (count ≤ 64) × (place < count) ⌝ }
+{
+    let mut j = place + 1;
+    while j < count {
+        order[j - 1] = order[j];
+        j += 1;
+    }
+}
+
+// The place of the bucket whose range holds the name, in a sound file: the first whose upper bound is not below it.
+pub fn holder(file: &[u8], size: Size, order: &[u8; 64], count: usize, name: Key) -> usize
+    requires { ⌜ (Sized (length (now file)) size) × (Below (now order) (size .slots)) × (count ≤ 64) ⌝ }
+    ensures { λ r. ⌜ r < 64 ⌝ }
+{
+    if count == 0 {
+        return 0;
+    }
+    let mut least = 0;
+    let mut most = count - 1;
+    while least < most {
+        let middle = least + (most - least) / 2;
+        let slot = slot_at(file, size, index(order[middle]));
+        if digits::is_below(bucket::high_of(slot), name) {
+            least = middle + 1;
+        } else {
+            most = middle;
+        }
+    }
+    least
+}

@@ -1,0 +1,170 @@
+// Sound, cut or bad: one pass over the slots, their order, and whether they follow on each other.
+ghost use mathlib.Core.Path.{_≡_};
+ghost use Prim.Native.Nat.{_≤_, _<_, _+_, _*_};
+ghost use lib.ListN.{length};
+ghost use Rattle.file.specs.Sizes.{Sized, Below};
+ghost use Rattle.file.specs.Surveys.{Surveyed};
+use bucket::Form;
+use bucket::Vacancy;
+use crate::Size;
+use crate::order;
+use crate::slot_at;
+use digits::index;
+
+pub enum Kind {
+    Sound,
+    Cut,
+    Bad,
+}
+
+// What a look at the whole file finds: the used slots as a map and in range order; of a cut file, the slot to free.
+pub struct Survey {
+    pub kind: Kind,
+    pub used: u64,
+    pub count: usize,
+    pub order: [u8; 64],
+    pub inner: usize,
+}
+
+fn found(kind: Kind, used: u64, count: usize, order: &[u8; 64], inner: usize) -> Survey
+{
+    Survey {
+        kind,
+        used,
+        count,
+        order: *order,
+        inner,
+    }
+}
+
+// The map with the next lower slot.
+fn with_next(used: u64, next: u64) -> u64 {
+    std::num::wrapping_add_u64(std::num::wrapping_add_u64(used, used), next)
+}
+
+// Whether the first has no lower limit, the last no upper, and each lower equals the upper before it.
+fn is_chain(file: &[u8], size: Size, order: &[u8; 64], count: usize) -> bool
+    requires { ⌜ (Sized (length (now file)) size) × (Below (now order) (size .slots)) × (count ≤ 64) ⌝ }
+{
+    let mut end = digits::no_limit();
+    let mut j = 0;
+    while j < count {
+        let slot = slot_at(file, size, index(order[j]));
+        if !digits::is_same(bucket::low_of(slot), end) {
+            return false;
+        }
+        end = bucket::high_of(slot);
+        j += 1;
+    }
+    digits::is_same(end, digits::no_end())
+}
+
+// The first place whose slot has the upper bound of the one before it; the count where there is none.
+fn twin(file: &[u8], size: Size, order: &[u8; 64], count: usize) -> usize
+    requires { ⌜ (Sized (length (now file)) size) × (Below (now order) (size .slots)) × (count ≤ 64) ⌝ }
+    ensures { λ r. ⌜ (r < count → 1 ≤ r) ⌝ }
+{
+    let mut j = 1;
+    while j < count {
+        let before = slot_at(file, size, index(order[j - 1]));
+        let slot = slot_at(file, size, index(order[j]));
+        if digits::is_same(bucket::high_of(before), bucket::high_of(slot)) {
+            return j;
+        }
+        j += 1;
+    }
+    count
+}
+
+// Whether N is a copy, not yet cut out, of the upper part of A: A has b entries and a lower below N's, and N's entries are
+// exactly A's entries in N's range, or those and one more.
+fn is_copy_of(n: &[u8], a: &[u8], b: usize) -> bool
+    requires { ⌜ (length (now n) ≡ 64 + 32 * b) × (length (now a) ≡ 64 + 32 * b) × (b ≤ 16) ⌝ }
+{
+    if index(a[1]) != b {
+        return false;
+    }
+    let low = bucket::low_of(n);
+    if !digits::is_below(bucket::low_of(a), low) {
+        return false;
+    }
+    let count = index(n[1]);
+    if b < count {
+        return false;
+    }
+    let stay = bucket::upto(&a[64..], b, low);
+    let moved = 64 + 32 * stay;
+    bucket::is_copied(&a[moved..], b - stay, &n[64..], count)
+}
+
+// A file with two slots of one upper bound: cut, or bad.
+fn cut_of(file: &[u8], size: Size, order: &[u8; 64], count: usize, place: usize, used: u64) -> Survey
+    requires { ⌜ (Sized (length (now file)) size) × (Below (now order) (size .slots)) × (count ≤ 64) × (place < count) × (1 ≤ place) ⌝ }
+    ensures { λ r. ⌜ Surveyed r (size .slots) ⌝ }
+{
+    let inner = index(order[place]);
+    let outer = index(order[place - 1]);
+    if !is_copy_of(slot_at(file, size, inner), slot_at(file, size, outer), size.b) {
+        return found(Kind::Bad, used, count, order, inner);
+    }
+    let mut rest = *order;
+    order::leave_out(&mut rest, count, place);
+    if !is_chain(file, size, &rest, count - 1) {
+        return found(Kind::Bad, used, count, order, inner);
+    }
+    found(Kind::Cut, used, count, order, inner)
+}
+
+// A file whose slots are each free or well formed, and in order.
+fn kind_of(file: &[u8], size: Size, order: &[u8; 64], count: usize, used: u64) -> Survey
+    requires { ⌜ (Sized (length (now file)) size) × (Below (now order) (size .slots)) × (count ≤ 64) ⌝ }
+    ensures { λ r. ⌜ Surveyed r (size .slots) ⌝ }
+{
+    let place = twin(file, size, order, count);
+    if place < count {
+        return cut_of(file, size, order, count, place, used);
+    }
+    if !is_chain(file, size, order, count) {
+        return found(Kind::Bad, used, count, order, 0);
+    }
+    found(Kind::Sound, used, count, order, 0)
+}
+
+fn byte(x: usize) -> u8
+    requires { ⌜ x < 64 ⌝ }
+    ensures { λ r. ⌜ r ≡ x ⌝ }
+{
+    x as u8
+}
+
+// The whole file, from its last slot to its first.
+pub fn survey_of(file: &[u8], size: Size) -> Survey
+    requires { ⌜ Sized (length (now file)) size ⌝ }
+    ensures { λ r. ⌜ Surveyed r (size .slots) ⌝ }
+{
+    let mut order = [0u8; 64];
+    let mut count = 0usize;
+    let mut used = 0u64;
+    let mut k = size.slots;
+    while 0 < k {
+        k -= 1;
+        let slot = slot_at(file, size, k);
+        let vacancy = bucket::vacancy_of(slot);
+        match vacancy {
+            Vacancy::Free => {
+                used = with_next(used, 0);
+            }
+            Vacancy::Taken => {
+                let form = bucket::form_of(slot, size.b);
+                let Form::Well(bucket) = form else {
+                    return found(Kind::Bad, 0, 0, &[0u8; 64], 0);
+                };
+                let place = order::place_of(file, size, &order, count, bucket.low, bucket.high);
+                order::insert(&mut order, count, place, byte(k));
+                count += 1;
+                used = with_next(used, 1);
+            }
+        }
+    }
+    kind_of(file, size, &order, count, used)
+}
