@@ -1,0 +1,198 @@
+// Agreement of a trie with a sound file: one in-order pass of the trie against the file's strings.
+//
+// In order a cell must have its string's length less one as number and its string's last digit as digit, and each leaf the
+// slot that stands there. The digits before the last are then the string's own, because in the right part of a cell no
+// number is smaller than the cell's.
+ghost use mathlib.Core.Path.{_≡_};
+ghost use Prim.Native.Nat.{_≤_, _<_, _+_};
+use digits::index;
+use trie::Cell;
+use trie::Side;
+use trie::Strings;
+use trie::Trie;
+use trie::number;
+
+// A cell whose left part is under way, and the length of the path to it.
+pub struct Frame {
+    pub cell: u8,
+    pub len: u16,
+}
+
+// Whether the trie agrees; then the place of each cell's string among the strings.
+pub struct Agreement {
+    pub agrees: bool,
+    pub places: [u16; 256],
+}
+
+// The place of a cell that was not reached.
+const NOWHERE: u16 = 256;
+
+fn no() -> Agreement {
+    Agreement {
+        agrees: false,
+        places: [256u16; 256],
+    }
+}
+
+fn is_slot_0(side: Side) -> bool {
+    match side {
+        Side::Slot(s) => s == 0,
+        Side::Cell(_) => false,
+    }
+}
+
+// Cells past the count are zero with both sides leading to slot 0.
+fn is_no_cell(cell: Cell) -> bool {
+    if cell.digit != 0 {
+        return false;
+    }
+    if cell.number != 0 {
+        return false;
+    }
+    let left = cell.left;
+    if !is_slot_0(left) {
+        return false;
+    }
+    let right = cell.right;
+    is_slot_0(right)
+}
+
+fn is_clear_past(trie: Trie, count: usize) -> bool
+    requires { ⌜ count ≤ 256 ⌝ }
+{
+    let mut i = count;
+    while i < 256 {
+        let cell = trie.cells[i];
+        if !is_no_cell(cell) {
+            return false;
+        }
+        i += 1;
+    }
+    true
+}
+
+fn byte(x: usize) -> u8
+    requires { ⌜ x < 256 ⌝ }
+    ensures { λ r. ⌜ r ≡ x ⌝ }
+{
+    x as u8
+}
+
+fn short(x: usize) -> u16
+    requires { ⌜ x ≤ 256 ⌝ }
+    ensures { λ r. ⌜ r ≡ x ⌝ }
+{
+    x as u16
+}
+
+fn length_of(frame: Frame) -> usize
+    ensures { λ r. ⌜ r ≤ 256 ⌝ }
+{
+    let len = number(frame.len);
+    if 256 < len {
+        return 256;
+    }
+    len
+}
+
+// The pass itself, over a trie whose count is the number of strings and not 0.
+fn pass(trie: Trie, strings: Strings) -> Agreement
+    requires { ⌜ strings .count ≤ 256 ⌝ }
+{
+    let count = strings.count;
+    let mut places = [256u16; 256];
+    let mut frames = [Frame { cell: 0, len: 0 }; 256];
+    let mut top = 0usize;
+    let mut entered = 0usize;
+    let mut done = 0usize;
+    let mut len = 0usize;
+    let mut least = 0usize;
+    let mut place = Side::Cell(0);
+    loop {
+        match place {
+            Side::Slot(s) => {
+                if number(s) != index(strings.slots[done]) {
+                    return no();
+                }
+                if top == 0 {
+                    return Agreement {
+                        agrees: done == count,
+                        places,
+                    };
+                }
+                top -= 1;
+                let frame = frames[top];
+                let k = index(frame.cell);
+                let cell = trie.cells[k];
+                let n = index(cell.number);
+                if n + 1 != index(strings.lens[done]) {
+                    return no();
+                }
+                if cell.digit != strings.digits[done] {
+                    return no();
+                }
+                if places[k] != NOWHERE {
+                    return no();
+                }
+                places[k] = short(done);
+                done += 1;
+                len = length_of(frame);
+                least = n;
+                place = cell.right;
+            }
+            Side::Cell(i) => {
+                if count <= entered {
+                    return no();
+                }
+                let k = number(i);
+                if count <= k {
+                    return no();
+                }
+                let cell = trie.cells[k];
+                let n = index(cell.number);
+                if len < n {
+                    return no();
+                }
+                if n < least {
+                    return no();
+                }
+                let frame = Frame {
+                    cell: byte(k),
+                    len: short(len),
+                };
+                frames[top] = frame;
+                top += 1;
+                entered += 1;
+                len = n + 1;
+                place = cell.left;
+            }
+        }
+    }
+}
+
+// Whether the trie agrees with the file that has these strings.
+pub fn agreement_of(trie: Trie, strings: Strings) -> Agreement
+    requires { ⌜ strings .count ≤ 256 ⌝ }
+{
+    if !strings.few {
+        return no();
+    }
+    let count = strings.count;
+    if number(trie.count) != count {
+        return no();
+    }
+    if !is_clear_past(trie, count) {
+        return no();
+    }
+    let first = number(trie.first);
+    if count == 0 {
+        return Agreement {
+            agrees: first == index(strings.slots[0]),
+            places: [256u16; 256],
+        };
+    }
+    if first != 0 {
+        return no();
+    }
+    pass(trie, strings)
+}

@@ -1,0 +1,76 @@
+use Prim.Native.Nat.{ℕ, _≤_, _-_, _<_, _+_, _*_}
+use native.Mathlib.Omega.{arith}
+use mathlib.Core.Path.{_≡_, refl, sym, _∙_}
+use lib.ListN.{length, take, drop, getD}
+use borrow.Author.Needs.{needs}
+use Rattle.growth.proofs.redirected.Statement.{statement}
+use Rattle.growth.proofs.redirected.Tie as tie
+use Rattle.growth.proofs.redirected.Reads as reads
+use Rattle.growth.proofs.redirected.Lts as lts
+use Rattle.growth.proofs.turned_cell.Reads as turned-cell-reads
+use Rattle.trie.proofs.number.Reads as number-reads
+
+abbrev Inv-loop : tie.InvT-loop
+Inv-loop places count last a n turned₀ i₀ turned i = (i ≤ count) × (count ≤ 256)
+
+abbrev μ-loop : tie.MeasureT-loop
+μ-loop places count last a n turned₀ i₀ turned i = count - i
+
+loop-holds : tie.Need-loop-holds Inv-loop μ-loop
+loop-holds c = search needs
+
+mul-cell : tie.Need-mul-cell Inv-loop μ-loop
+mul-cell c = search needs
+
+element-copy-out-cell : tie.Need-element-copy-out-cell Inv-loop μ-loop
+element-copy-out-cell c = search needs
+
+mul-number : tie.Need-mul-number Inv-loop μ-loop
+mul-number c = search needs
+
+element-copy-out-number : tie.Need-element-copy-out-number Inv-loop μ-loop
+element-copy-out-number c = search needs
+
+number-requires : tie.Need-number-requires Inv-loop μ-loop
+number-requires c κs = search needs
+
+turned-cell-requires : tie.Need-turned-cell-requires Inv-loop μ-loop
+turned-cell-requires c κs = search needs
+
+mul-other : tie.Need-mul-other Inv-loop μ-loop
+mul-other c = search needs
+
+element-set-from-other : tie.Need-element-set-from-other Inv-loop μ-loop
+element-set-from-other c = search needs
+
+add-i : tie.Need-add-i Inv-loop μ-loop
+add-i c = search needs
+
+loop-less : tie.Need-loop-less Inv-loop μ-loop
+loop-less c = search needs
+
+loop-again : tie.Need-loop-again Inv-loop μ-loop
+loop-again c = search needs
+
+returns : tie.Need-returns Inv-loop μ-loop
+returns c = search needs
+
+pub redirected-spec : {M : Type 1} → statement M
+redirected-spec =
+    tie.close
+    (tie.spec
+    Inv-loop
+    μ-loop
+    loop-holds
+    mul-cell
+    element-copy-out-cell
+    mul-number
+    element-copy-out-number
+    number-requires
+    turned-cell-requires
+    mul-other
+    element-set-from-other
+    add-i
+    loop-less
+    loop-again
+    returns)

@@ -1,0 +1,204 @@
+// Growth: the trie of a file one of whose buckets was split at a string s.
+//
+// The place of a cell's string among the strings is known from the agreement. The leaf on a cell's left stands just left
+// of that string and has it as its path; the leaf on its right stands one further. So a leaf's path is above s where the
+// leaf stands past s, and no path is compared.
+ghost use mathlib.Core.Path.{_≡_};
+ghost use Prim.Native.Nat.{_≤_, _<_, _+_};
+ghost use lib.ListN.{length};
+use digits::index;
+use trie::Cell;
+use trie::Side;
+use trie::Trie;
+use trie::Walk;
+use trie::number;
+
+fn short(x: usize) -> u16
+    requires { ⌜ x ≤ 256 ⌝ }
+    ensures { λ r. ⌜ r ≡ x ⌝ }
+{
+    x as u16
+}
+
+// How many digits s shares with the path of the leaf at which the split key's walk ended: as many beginnings of s are
+// strings already, and all of them where s is a cell's string.
+pub fn shared_with(walk: Walk, s: &[u8]) -> usize
+    requires { ⌜ walk .len ≤ 24 ⌝ }
+    ensures { λ r. ⌜ r ≤ length (now (s .entry)) ⌝ }
+{
+    let path = walk.path;
+    shared_first(s, &path, walk.len)
+}
+
+fn shared_first(s: &[u8], path: &[u8; 24], len: usize) -> usize
+    requires { ⌜ len ≤ 24 ⌝ }
+    ensures { λ r. ⌜ r ≤ length (now (s .entry)) ⌝ }
+{
+    let whole = &path[..];
+    digits::shared(s, &whole[0..len])
+}
+
+// Where the leaf stands at which the walk ended: just left of the string with this place.
+fn leaf_place(walk: Walk, places: &[u16; 256]) -> usize {
+    let cell = number(walk.cell);
+    if 256 <= cell {
+        return 0;
+    }
+    let place = number(places[cell]);
+    if walk.left {
+        return place;
+    }
+    place + 1
+}
+
+// The first place, from `from` on, of a string with so many digits.
+fn place_of(lens: &[u8; 256], from: usize, digits: usize) -> usize {
+    let mut i = from;
+    while i < 256 {
+        if index(lens[i]) == digits {
+            return i;
+        }
+        i += 1;
+    }
+    i
+}
+
+// A side that leads to A leads to N instead where its leaf stands past s.
+fn turned_side(side: Side, place: usize, last: usize, a: u16, n: u16) -> Side {
+    match side {
+        Side::Slot(s) => {
+            if s != a {
+                return Side::Slot(s);
+            }
+            if place <= last {
+                return Side::Slot(s);
+            }
+            Side::Slot(n)
+        }
+        Side::Cell(i) => Side::Cell(i),
+    }
+}
+
+fn turned_cell(cell: Cell, place: usize, last: usize, a: u16, n: u16) -> Cell
+    requires { ⌜ place < 65536 ⌝ }
+{
+    let left = cell.left;
+    let right = cell.right;
+    Cell {
+        digit: cell.digit,
+        number: cell.number,
+        left: turned_side(left, place, last, a, n),
+        right: turned_side(right, place + 1, last, a, n),
+    }
+}
+
+// Each leaf that led to A and whose path is above s leads to N: those that stand past the place `last`.
+fn redirected(trie: Trie, places: &[u16; 256], count: usize, last: usize, a: u16, n: u16) -> Trie
+    requires { ⌜ count ≤ 256 ⌝ }
+{
+    let mut turned = trie;
+    let mut i = 0;
+    while i < count {
+        let cell = turned.cells[i];
+        let other = turned_cell(cell, number(places[i]), last, a, n);
+        turned.cells[i] = other;
+        i += 1;
+    }
+    turned
+}
+
+// The cell with one side leading to a further cell.
+fn joined(cell: Cell, is_left: bool, to: u16) -> Cell {
+    let left = cell.left;
+    let right = cell.right;
+    if is_left {
+        return Cell {
+            digit: cell.digit,
+            number: cell.number,
+            left: Side::Cell(to),
+            right,
+        };
+    }
+    Cell {
+        digit: cell.digit,
+        number: cell.number,
+        left,
+        right: Side::Cell(to),
+    }
+}
+
+// The left side of a new cell: the next one, or A where there is none.
+fn next_of(i: usize, end: usize, a: u16) -> Side
+    requires { ⌜ (i < end) × (end ≤ 256) ⌝ }
+{
+    if i + 1 < end {
+        return Side::Cell(short(i + 1));
+    }
+    Side::Slot(a)
+}
+
+// One cell for each digit of s past the shared ones, first digit first, each the left side of the one before, the last
+// one's left leading to A and all right sides to N.
+fn appended(trie: Trie, count: usize, s: &[u8], shared: usize, a: u16, n: u16) -> Trie
+    requires { ⌜ (count + length (now s) ≤ 256 + shared) × (shared ≤ length (now s)) × (length (now s) ≤ 24) ⌝ }
+{
+    let mut grown = trie;
+    let end = count + (s.len() - shared);
+    let mut i = count;
+    let mut at = shared;
+    while at < s.len() {
+        let left = next_of(i, end, a);
+        let cell = Cell {
+            digit: s[at],
+            number: at as u8,
+            left,
+            right: Side::Slot(n),
+        };
+        grown.cells[i] = cell;
+        i += 1;
+        at += 1;
+    }
+    grown.count = short(end);
+    grown.first = 0;
+    grown
+}
+
+// The side by which the walk reached its leaf leads to the first new cell.
+fn grafted(trie: Trie, count: usize, walk: Walk) -> Trie
+    requires { ⌜ count ≤ 256 ⌝ }
+{
+    let mut grown = trie;
+    let k = number(walk.cell);
+    if count <= k {
+        return grown;
+    }
+    let cell = grown.cells[k];
+    let other = joined(cell, walk.left, short(count));
+    grown.cells[k] = other;
+    grown
+}
+
+// The trie after A was split at s and N took the names above s. The walk is that of the split key, and `shared` is how
+// many digits s shares with its path.
+pub fn grown(
+    trie: Trie,
+    places: &[u16; 256],
+    lens: &[u8; 256],
+    walk: Walk,
+    s: &[u8],
+    shared: usize,
+    a: u16,
+    n: u16,
+) -> Trie
+    requires { ⌜ (trie .count + length (now s) ≤ 256 + shared) × (shared ≤ length (now s)) × (length (now s) ≤ 24) ⌝ }
+{
+    let count = number(trie.count);
+    let place = leaf_place(walk, places);
+    if shared == s.len() {
+        let last = place_of(lens, place, shared);
+        return redirected(trie, places, count, last, a, n);
+    }
+    let turned = redirected(trie, places, count, place, a, n);
+    let joined = grafted(turned, count, walk);
+    appended(joined, count, s, shared, a, n)
+}

@@ -1,0 +1,51 @@
+use Prim.Native.Nat.{ℕ, _≤_, _-_, _<_, _+_, _*_}
+use native.Mathlib.Omega.{arith}
+use mathlib.Core.Path.{_≡_, refl, sym, _∙_}
+use lib.ListN.{length, take, drop, getD}
+use borrow.Author.Needs.{needs}
+use Rattle.rebuilding.proofs.fewest.Statement.{statement}
+use Rattle.rebuilding.proofs.fewest.Tie as tie
+use Rattle.rebuilding.proofs.fewest.Reads as reads
+use Rattle.rebuilding.proofs.fewest.Lts as lts
+use Rattle.rebuilding.proofs.lesser.Reads as lesser-reads
+
+abbrev Inv-loop : tie.InvT-loop
+Inv-loop lens from to least₀ i₀ least i = i ≤ to
+
+abbrev μ-loop : tie.MeasureT-loop
+μ-loop lens from to least₀ i₀ least i = to - i
+
+loop-holds : tie.Need-loop-holds Inv-loop μ-loop
+loop-holds c = search needs
+
+element-copy-out-lesser : tie.Need-element-copy-out-lesser Inv-loop μ-loop
+element-copy-out-lesser c = search needs
+
+lesser-requires : tie.Need-lesser-requires Inv-loop μ-loop
+lesser-requires c κs = search needs
+
+add-i : tie.Need-add-i Inv-loop μ-loop
+add-i c = search needs
+
+loop-less : tie.Need-loop-less Inv-loop μ-loop
+loop-less c = search needs
+
+loop-again : tie.Need-loop-again Inv-loop μ-loop
+loop-again c = search needs
+
+returns : tie.Need-returns Inv-loop μ-loop
+returns c = search needs
+
+pub fewest-spec : {M : Type 1} → statement M
+fewest-spec =
+    tie.close
+    (tie.spec
+    Inv-loop
+    μ-loop
+    loop-holds
+    element-copy-out-lesser
+    lesser-requires
+    add-i
+    loop-less
+    loop-again
+    returns)

@@ -1,0 +1,51 @@
+use Prim.Native.Nat.{ℕ, _≤_, _-_, _<_, _+_, _*_}
+use native.Mathlib.Omega.{arith}
+use mathlib.Core.Path.{_≡_, refl, sym, _∙_}
+use lib.ListN.{length, take, drop, getD}
+use borrow.Author.Needs.{needs}
+use Rattle.rebuilding.proofs.how_many.Statement.{statement}
+use Rattle.rebuilding.proofs.how_many.Tie as tie
+use Rattle.rebuilding.proofs.how_many.Reads as reads
+use Rattle.rebuilding.proofs.how_many.Lts as lts
+use Rattle.rebuilding.proofs.counted.Reads as counted-reads
+
+abbrev Inv-loop : tie.InvT-loop
+Inv-loop lens from to digits n₀ i₀ n i = (i ≤ to) × (n ≤ i)
+
+abbrev μ-loop : tie.MeasureT-loop
+μ-loop lens from to digits n₀ i₀ n i = to - i
+
+loop-holds : tie.Need-loop-holds Inv-loop μ-loop
+loop-holds c = search needs
+
+element-copy-out-counted : tie.Need-element-copy-out-counted Inv-loop μ-loop
+element-copy-out-counted c = search needs
+
+counted-requires : tie.Need-counted-requires Inv-loop μ-loop
+counted-requires c κs = search needs
+
+add-i : tie.Need-add-i Inv-loop μ-loop
+add-i c = search needs
+
+loop-less : tie.Need-loop-less Inv-loop μ-loop
+loop-less c = search needs
+
+loop-again : tie.Need-loop-again Inv-loop μ-loop
+loop-again c = search needs
+
+returns : tie.Need-returns Inv-loop μ-loop
+returns c = search needs
+
+pub how-many-spec : {M : Type 1} → statement M
+how-many-spec =
+    tie.close
+    (tie.spec
+    Inv-loop
+    μ-loop
+    loop-holds
+    element-copy-out-counted
+    counted-requires
+    add-i
+    loop-less
+    loop-again
+    returns)

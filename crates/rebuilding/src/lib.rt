@@ -1,0 +1,209 @@
+// Rebuilding: the trie of a file's strings, its cells numbered root, left part, right part.
+//
+// A run of strings makes as many cells as it has strings, so each cell's number and its sides' are known when it is
+// written, and no cell is written twice.
+ghost use mathlib.Core.Path.{_≡_};
+ghost use Prim.Native.Nat.{_≤_, _<_, _+_, _-_};
+ghost use lib.ListN.{length};
+use digits::index;
+use trie::Cell;
+use trie::Side;
+use trie::Strings;
+use trie::Trie;
+use trie::number;
+
+// The strings from the first place on and below the second.
+pub struct Run {
+    pub from: u16,
+    pub to: u16,
+}
+
+fn short(x: usize) -> u16
+    requires { ⌜ x ≤ 256 ⌝ }
+    ensures { λ r. ⌜ r ≡ x ⌝ }
+{
+    x as u16
+}
+
+fn lesser(x: u8, y: u8) -> u8 {
+    if x < y {
+        return x;
+    }
+    y
+}
+
+// The fewest digits that a string of the run has.
+fn fewest(lens: &[u8; 256], from: usize, to: usize) -> u8
+    requires { ⌜ (from < to) × (to ≤ 256) ⌝ }
+{
+    let mut least = 255;
+    let mut i = from;
+    while i < to {
+        least = lesser(lens[i], least);
+        i += 1;
+    }
+    least
+}
+
+// One more where the two are equal.
+fn counted(n: usize, x: u8, y: u8) -> usize
+    requires { ⌜ n < 256 ⌝ }
+    ensures { λ r. ⌜ r ≤ n + 1 ⌝ }
+{
+    if x == y {
+        return n + 1;
+    }
+    n
+}
+
+// How many strings of the run have so many digits.
+fn how_many(lens: &[u8; 256], from: usize, to: usize, digits: u8) -> usize
+    requires { ⌜ (from < to) × (to ≤ 256) ⌝ }
+    ensures { λ r. ⌜ r ≤ 256 ⌝ }
+{
+    let mut n = 0usize;
+    let mut i = from;
+    while i < to {
+        n = counted(n, lens[i], digits);
+        i += 1;
+    }
+    n
+}
+
+// The place of the string of the run with so many digits that has `before` such strings before it.
+fn place_of(lens: &[u8; 256], from: usize, to: usize, digits: u8, before: usize) -> usize
+    requires { ⌜ (from < to) × (to ≤ 256) ⌝ }
+    ensures { λ r. ⌜ (from ≤ r) × (r < to) ⌝ }
+{
+    let mut left = before;
+    let mut i = from;
+    while i < to {
+        if lens[i] == digits {
+            if left == 0 {
+                return i;
+            }
+            left -= 1;
+        }
+        i += 1;
+    }
+    from
+}
+
+// Of a run, the root is the middle one of the strings with fewest digits; of an even number, the lower middle.
+fn root_of(lens: &[u8; 256], from: usize, to: usize) -> usize
+    requires { ⌜ (from < to) × (to ≤ 256) ⌝ }
+    ensures { λ r. ⌜ (from ≤ r) × (r < to) ⌝ }
+{
+    let digits = fewest(lens, from, to);
+    let n = how_many(lens, from, to, digits);
+    if n == 0 {
+        return from;
+    }
+    place_of(lens, from, to, digits, (n - 1) / 2)
+}
+
+fn slot_number(x: u8) -> u16
+    ensures { λ r. ⌜ r ≡ x ⌝ }
+{
+    x as u16
+}
+
+// The side that leads to a run: its first cell, or, where it is empty, the slot of the leaf that stands there.
+fn side_of(slots: &[u8; 257], from: usize, to: usize, cell: usize) -> Side
+    requires { ⌜ (from ≤ 256) × (cell ≤ 256) ⌝ }
+{
+    if from < to {
+        return Side::Cell(short(cell));
+    }
+    Side::Slot(slot_number(slots[from]))
+}
+
+fn one_less(len: u8) -> u8 {
+    if len == 0 {
+        return 0;
+    }
+    len - 1
+}
+
+// The cell, at number i, of a run with its root.
+fn cell_of(len: u8, digit: u8, slots: &[u8; 257], from: usize, root: usize, to: usize, i: usize) -> Cell
+    requires { ⌜ (from ≤ root) × (root < to) × (to ≤ 256) × (i + to ≤ 256 + from) ⌝ }
+{
+    let left = side_of(slots, from, root, i + 1);
+    let right = side_of(slots, root + 1, to, i + 1 + (root - from));
+    Cell {
+        digit,
+        number: one_less(len),
+        left,
+        right,
+    }
+}
+
+// 1 where the run is not empty. An empty run is written to the stack too, and not kept.
+fn kept(from: usize, to: usize) -> usize
+    ensures { λ r. ⌜ r ≤ 1 ⌝ }
+{
+    if from < to {
+        return 1;
+    }
+    0
+}
+
+// The trie of the strings.
+pub fn rebuilt(strings: Strings) -> Trie
+    requires { ⌜ strings .count ≤ 256 ⌝ }
+{
+    let lens = strings.lens;
+    let digits = strings.digits;
+    let slots = strings.slots;
+    let count = strings.count;
+    let mut trie = trie::lone(0);
+    if count == 0 {
+        return trie::lone(slot_number(slots[0]));
+    }
+    let mut runs = [Run { from: 0, to: 0 }; 512];
+    let whole = Run {
+        from: 0,
+        to: short(count),
+    };
+    runs[0] = whole;
+    let mut top = 1usize;
+    let mut i = 0usize;
+    while i < count {
+        if top == 0 {
+            return trie;
+        }
+        top -= 1;
+        let run = runs[top];
+        let from = number(run.from);
+        let to = number(run.to);
+        if to <= from {
+            return trie;
+        }
+        if count < to {
+            return trie;
+        }
+        if count - i < to - from {
+            return trie;
+        }
+        let root = root_of(&lens, from, to);
+        let cell = cell_of(lens[root], digits[root], &slots, from, root, to, i);
+        trie.cells[i] = cell;
+        i += 1;
+        let after = root + 1;
+        let right = Run {
+            from: short(after),
+            to: run.to,
+        };
+        let left = Run {
+            from: run.from,
+            to: short(root),
+        };
+        runs[top] = right;
+        top = top + kept(after, to);
+        runs[top] = left;
+        top = top + kept(from, root);
+    }
+    trie.count = short(count);
+    trie
+}

@@ -1,0 +1,101 @@
+// The strings of a sound file in ascending order: its non-empty bounds and all their non-empty beginnings.
+//
+// A beginning comes after everything that it begins. So after a bound x, before the next bound y, come the beginnings of x
+// that are longer than what x and y share, the longest first. Each string is kept as its length and its last digit, which
+// is what a cell holds of it, with the slot of the leaf just left of it.
+ghost use mathlib.Core.Path.{_≡_};
+ghost use Prim.Native.Nat.{_≤_, _<_, _+_, _*_};
+ghost use lib.ListN.{length};
+ghost use Rattle.file.specs.Sizes.{Sized, Below};
+use digits::index;
+use file::Size;
+use trie::Strings;
+
+fn byte(x: usize) -> u8
+    requires { ⌜ x < 256 ⌝ }
+    ensures { λ r. ⌜ r ≡ x ⌝ }
+{
+    x as u8
+}
+
+// Adds the beginnings of x that are longer than `shared` digits, the longest first. Left of x itself stands the bucket
+// that x ends, left of the others the next one.
+fn add(
+    lens: &mut [u8; 256],
+    digits: &mut [u8; 256],
+    slots: &mut [u8; 257],
+    count: usize,
+    x: &[u8],
+    shared: usize,
+    slot: u8,
+    next: u8,
+) -> usize
+    requires { ⌜ (count + length (now x) ≤ 256 + shared) × (shared ≤ length (now x)) × (length (now x) ≤ 24) ⌝ }
+    ensures { λ r. ⌜ r + shared ≡ count + length (now (x .entry)) ⌝ }
+{
+    let mut n = count;
+    let mut len = x.len();
+    let mut left = slot;
+    while shared < len {
+        lens[n] = byte(len);
+        digits[n] = x[len - 1];
+        slots[n] = left;
+        left = next;
+        n += 1;
+        len -= 1;
+    }
+    n
+}
+
+// The upper bound of a slot.
+pub fn upper_of(slot: &[u8]) -> &[u8]
+    requires { ⌜ 64 ≤ length (now slot) ⌝ }
+    ensures { λ r. ⌜ length (now r) ≤ 24 ⌝ }
+{
+    let len = index(slot[3]);
+    if 24 < len {
+        return &slot[32..32];
+    }
+    let end = 32 + len;
+    &slot[32..end]
+}
+
+// The strings of a sound file, whose buckets stand in range order.
+pub fn strings_of(file: &[u8], size: Size, order: &[u8; 64], count: usize) -> Strings
+    requires { ⌜ (Sized (length (now file)) size) × (Below (now order) (size .slots)) × (count ≤ 64) ⌝ }
+    ensures { λ r. ⌜ r .count ≤ 256 ⌝ }
+{
+    let mut lens = [0u8; 256];
+    let mut digits = [0u8; 256];
+    let mut slots = [0u8; 257];
+    let mut n = 0usize;
+    let mut j = 1usize;
+    while j < count {
+        let slot = order[j - 1];
+        let next = order[j];
+        let x = upper_of(file::slot_at(file, size, index(slot)));
+        let y = upper_of(file::slot_at(file, size, index(next)));
+        let shared = digits::shared(x, y);
+        if 256 + shared < n + x.len() {
+            return Strings {
+                few: false,
+                count: 0,
+                lens,
+                digits,
+                slots,
+            };
+        }
+        n = add(&mut lens, &mut digits, &mut slots, n, x, shared, slot, next);
+        j += 1;
+    }
+    if 0 < count {
+        slots[n] = order[count - 1];
+    }
+    Strings {
+        few: true,
+        count: n,
+        lens,
+        digits,
+        slots,
+    }
+}
