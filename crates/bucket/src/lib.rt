@@ -80,6 +80,60 @@ pub fn high_of(slot: &[u8]) -> Key
     digits::bound_key_at(slot, 32, index(slot[3]))
 }
 
+// The lower bound of a slot.
+pub fn lower_of(slot: &[u8]) -> &[u8]
+    requires { ⌜ 64 ≤ length (now slot) ⌝ }
+    ensures { λ r. ⌜ length (now r) ≤ 24 ⌝ }
+{
+    let len = index(slot[2]);
+    if 24 < len {
+        return &slot[8..8];
+    }
+    let end = 8 + len;
+    &slot[8..end]
+}
+
+// The upper bound of a slot.
+pub fn upper_of(slot: &[u8]) -> &[u8]
+    requires { ⌜ 64 ≤ length (now slot) ⌝ }
+    ensures { λ r. ⌜ length (now r) ≤ 24 ⌝ }
+{
+    let len = index(slot[3]);
+    if 24 < len {
+        return &slot[32..32];
+    }
+    let end = 32 + len;
+    &slot[32..end]
+}
+
+// How many entries a slot has; never more than fit into it.
+pub fn count_of(slot: &[u8], b: usize) -> usize
+    requires { ⌜ 64 ≤ length (now slot) ⌝ }
+    ensures { λ r. ⌜ r ≤ b ⌝ }
+{
+    let count = index(slot[1]);
+    if b < count {
+        return b;
+    }
+    count
+}
+
+// The bytes of the entries whose names lie from the first to the second, both included.
+pub fn part_between(slot: &[u8], b: usize, first: Key, second: Key) -> &[u8]
+    requires { ⌜ (length (now slot) ≡ 64 + 32 * b) × (b ≤ 16) ⌝ }
+    ensures { λ r. ⌜ length (now r) ≤ 512 ⌝ }
+{
+    let count = count_of(slot, b);
+    let from = rank(&slot[64..], count, first);
+    let to = upto(&slot[64..], count, second);
+    if to <= from {
+        return &slot[64..64];
+    }
+    let at = 64 + 32 * from;
+    let end = 64 + 32 * to;
+    &slot[at..end]
+}
+
 // Names are legal, strictly ascending and in the range: each is above the one before it, the first above the lower limit.
 fn are_entries(entries: &[u8], count: usize, low: Key, high: Key) -> bool
     requires { ⌜ (32 * count ≤ length (now entries)) × (count ≤ 16) ⌝ }
@@ -189,6 +243,13 @@ fn byte(x: usize) -> u8
     ensures { λ r. ⌜ r ≡ x ⌝ }
 {
     x as u8
+}
+
+// The slot with the same bounds and other entries.
+pub fn rewritten(slot: &[u8], entries: &[u8]) -> [u8; 576]
+    requires { ⌜ (64 ≤ length (now slot)) × (length (now entries) ≤ 512) ⌝ }
+{
+    written(lower_of(slot), upper_of(slot), entries)
 }
 
 // A used slot written whole: its bounds and its entries, and zero elsewhere.

@@ -47,19 +47,6 @@ fn add(
     n
 }
 
-// The upper bound of a slot.
-pub fn upper_of(slot: &[u8]) -> &[u8]
-    requires { ⌜ 64 ≤ length (now slot) ⌝ }
-    ensures { λ r. ⌜ length (now r) ≤ 24 ⌝ }
-{
-    let len = index(slot[3]);
-    if 24 < len {
-        return &slot[32..32];
-    }
-    let end = 32 + len;
-    &slot[32..end]
-}
-
 // The strings of a sound file, whose buckets stand in range order.
 pub fn strings_of(file: &[u8], size: Size, order: &[u8; 64], count: usize) -> Strings
     requires { ⌜ (Sized (length (now file)) size) × (Below (now order) (size .slots)) × (count ≤ 64) ⌝ }
@@ -73,8 +60,8 @@ pub fn strings_of(file: &[u8], size: Size, order: &[u8; 64], count: usize) -> St
     while j < count {
         let slot = order[j - 1];
         let next = order[j];
-        let x = upper_of(file::slot_at(file, size, index(slot)));
-        let y = upper_of(file::slot_at(file, size, index(next)));
+        let x = bucket::upper_of(file::slot_at(file, size, index(slot)));
+        let y = bucket::upper_of(file::slot_at(file, size, index(next)));
         let shared = digits::shared(x, y);
         if 256 + shared < n + x.len() {
             return Strings {

@@ -1,0 +1,25 @@
+// The eight public calls, in document 01's order of refusals. None has a `requires`: each checks for itself.
+mod answers;
+mod changes;
+mod checks;
+mod whole;
+pub use answers::Cause;
+pub use answers::ListAnswer;
+pub use answers::LookUpAnswer;
+pub use answers::PutAnswer;
+pub use answers::PutGiven;
+pub use answers::RecoverAnswer;
+pub use answers::RemoveAnswer;
+pub use answers::TrieAnswer;
+pub use answers::TrieGiven;
+pub use answers::cause_number;
+pub use changes::put;
+pub use changes::remove;
+pub use reading::list;
+pub use reading::look_up;
+pub use whole::check;
+pub use whole::create;
+pub use whole::rebuild;
+pub use whole::recover;
+mod reading;
+mod splitting;

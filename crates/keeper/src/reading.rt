@@ -1,0 +1,138 @@
+// The calls that change nothing: look up and list.
+ghost use mathlib.Core.Path.{_≡_};
+ghost use Prim.Native.Nat.{_≤_, _<_, _+_, _*_};
+ghost use lib.ListN.{length};
+ghost use Rattle.file.specs.Sizes.{Sized, Below};
+ghost use Rattle.keeper.specs.Ready.{Ready};
+use bucket::Form;
+use bucket::Held;
+use bucket::Range;
+use bucket::Vacancy;
+use crate::Cause;
+use crate::ListAnswer;
+use crate::LookUpAnswer;
+use crate::checks::Checked;
+use crate::checks::Verdict;
+use crate::checks::checks_of;
+use digits::Key;
+use digits::Naming;
+use digits::index;
+use file::Header;
+use file::Size;
+use trie::Arrival;
+use trie::Trie;
+
+// What one slot answers to a name.
+fn answer_of(slot: &[u8], b: usize, name: Key) -> LookUpAnswer
+    requires { ⌜ (length (now slot) ≡ 64 + 32 * b) × (b ≤ 16) ⌝ }
+{
+    let Vacancy::Taken = bucket::vacancy_of(slot) else {
+        return LookUpAnswer::Refused(Cause::StaleTrie);
+    };
+    let Form::Well(bucket) = bucket::form_of(slot, b) else {
+        return LookUpAnswer::Refused(Cause::BadFile);
+    };
+    let Range::Holds = bucket::range_of(bucket, name) else {
+        return LookUpAnswer::Refused(Cause::StaleTrie);
+    };
+    let Held::Value(value) = bucket::held_under(&slot[64..], bucket::count_of(slot, b), name) else {
+        return LookUpAnswer::Absent;
+    };
+    LookUpAnswer::Found(value)
+}
+
+// Look up reads one bucket and has its own order of refusals.
+pub fn look_up(file: &[u8], trie: Trie, name: &[u8]) -> LookUpAnswer {
+    let Naming::Legal = digits::named(name) else {
+        return LookUpAnswer::Refused(Cause::IllegalName);
+    };
+    let Header::Right(size) = file::header_of(file) else {
+        return LookUpAnswer::Refused(Cause::BadFile);
+    };
+    let filled = digits::filled(name);
+    let Arrival::At(k) = trie::arrival_of(trie, &filled, size.slots) else {
+        return LookUpAnswer::Refused(Cause::StaleTrie);
+    };
+    answer_of(file::slot_at(file, size, k), size.b, digits::key_at(&filled, 0))
+}
+
+// How many bytes the entries take that are to be listed, from the bucket at the place `from` to that at `to`.
+fn bytes_between(file: &[u8], size: Size, order: &[u8; 64], from: usize, to: usize, first: Key, second: Key) -> usize
+    requires { ⌜ (Sized (length (now file)) size) × (Below (now order) (size .slots)) × (to < 64) ⌝ }
+    ensures { λ r. ⌜ r ≤ 32768 ⌝ }
+{
+    let mut bytes = 0usize;
+    let mut j = from;
+    while j <= to {
+        let slot = file::slot_at(file, size, index(order[j]));
+        let part = bucket::part_between(slot, size.b, first, second);
+        bytes += part.len();
+        j += 1;
+    }
+    bytes
+}
+
+// Writes them, one after another.
+fn write_between(
+    file: &[u8],
+    size: Size,
+    order: &[u8; 64],
+    from: usize,
+    to: usize,
+    first: Key,
+    second: Key,
+    output: &mut [u8],
+)
+    requires { ⌜ (Sized (length (now file)) size) × (Below (now order) (size .slots)) × (to < 64) ⌝ }
+{
+    let mut at = 0usize;
+    let mut j = from;
+    while j <= to {
+        let slot = file::slot_at(file, size, index(order[j]));
+        let part = bucket::part_between(slot, size.b, first, second);
+        if output.len() - at < part.len() {
+            return;
+        }
+        bucket::copy(output, at, part);
+        at += part.len();
+        j += 1;
+    }
+}
+
+// Lists the entries of a file that passed the checks.
+fn list_checked(file: &[u8], checked: Checked, first: Key, second: Key, output: &mut [u8]) -> ListAnswer
+    requires { ⌜ Ready checked (length (now file)) ⌝ }
+{
+    let size = checked.size;
+    let survey = checked.survey;
+    let order = survey.order;
+    let from = file::holder(file, size, &order, survey.count, first);
+    let to = file::holder(file, size, &order, survey.count, second);
+    let bytes = bytes_between(file, size, &order, from, to, first, second);
+    if output.len() < bytes {
+        return ListAnswer::Refused(Cause::ShortOutput);
+    }
+    write_between(file, size, &order, from, to, first, second, output);
+    ListAnswer::Listed((bytes / 32) as u64)
+}
+
+// Writes the entries, ascending, whose names lie from the first to the second name, both included, and nothing behind
+// them, and gives their number.
+pub fn list(file: &[u8], trie: Trie, first: &[u8], second: &[u8], output: &mut [u8]) -> ListAnswer {
+    let Naming::Legal = digits::named(first) else {
+        return ListAnswer::Refused(Cause::IllegalName);
+    };
+    let Naming::Legal = digits::named(second) else {
+        return ListAnswer::Refused(Cause::IllegalName);
+    };
+    let checked = checks_of(file, trie);
+    let verdict = checked.verdict;
+    match verdict {
+        Verdict::Refused(cause) => ListAnswer::Refused(cause),
+        Verdict::Fine => {
+            let low = digits::filled(first);
+            let high = digits::filled(second);
+            list_checked(file, checked, digits::key_at(&low, 0), digits::key_at(&high, 0), output)
+        }
+    }
+}

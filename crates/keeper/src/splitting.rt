@@ -1,0 +1,80 @@
+// The split of a bucket of b + 1 entries: the split string, what stays and what moves, and the cells to be added.
+ghost use mathlib.Core.Path.{_≡_};
+ghost use Prim.Native.Nat.{_≤_, _<_, _+_, _*_};
+ghost use lib.ListN.{length};
+ghost use Rattle.keeper.specs.Parts.{Parted};
+use trie::Trie;
+use trie::Walk;
+
+// The split string and how many digits it has, how many entries stay, the walk of the split key, and how many digits of
+// the string are shared with the walk's path. `ended` is whether that walk ended at a slot.
+pub struct Split {
+    pub string: [u8; 24],
+    pub len: usize,
+    pub stay: usize,
+    pub ended: bool,
+    pub walk: Walk,
+    pub shared: usize,
+}
+
+// The 24 digits from `at` on.
+fn name_at(entries: &[u8; 544], at: usize) -> [u8; 24]
+    requires { ⌜ at + 24 ≤ 544 ⌝ }
+{
+    let whole = &entries[..];
+    let end = at + 24;
+    let mut name = [0u8; 24];
+    bucket::copy(&mut name, 0, &whole[at..end]);
+    name
+}
+
+// The split string's digits: the shortest beginning of the split key that is smaller than as many digits of the last name.
+// The two differ, so if they share 23 digits the last digit decides.
+fn string_length(key: &[u8; 24], last: &[u8; 24]) -> usize
+    ensures { λ r. ⌜ (1 ≤ r) × (r ≤ 24) ⌝ }
+{
+    let whole = &key[..];
+    digits::shared(&whole[0..23], last) + 1
+}
+
+// The first digits, and zero behind them.
+fn beginning(name: &[u8; 24], len: usize) -> [u8; 24]
+    requires { ⌜ len ≤ 24 ⌝ }
+{
+    let whole = &name[..];
+    let mut string = [0u8; 24];
+    bucket::copy(&mut string, 0, &whole[0..len]);
+    string
+}
+
+// Names within the string stay. The first always does and the last never.
+fn stay_of(entries: &[u8; 544], b: usize, string: &[u8; 24], len: usize) -> usize
+    requires { ⌜ (2 ≤ b) × (b ≤ 16) ⌝ }
+    ensures { λ r. ⌜ (1 ≤ r) × (r ≤ b) ⌝ }
+{
+    let whole = &entries[..];
+    1 + bucket::upto(&whole[32..], b - 1, digits::bound_key_at(string, 0, len))
+}
+
+// The split of b + 1 entries, sorted. The split key is at position b/2 + 1, counted from 1.
+pub fn split_of(entries: &[u8; 544], b: usize, trie: Trie) -> Split
+    requires { ⌜ (2 ≤ b) × (b ≤ 16) ⌝ }
+    ensures { λ r. ⌜ Parted r b ⌝ }
+{
+    let key = name_at(entries, 32 * (b / 2));
+    let last = name_at(entries, 32 * b);
+    let len = string_length(&key, &last);
+    let string = beginning(&key, len);
+    let stay = stay_of(entries, b, &string, len);
+    let end = trie::walk_of(trie, &key);
+    let walk = end.walk;
+    let shared = growth::shared_with(walk, &string[0..len]);
+    Split {
+        string,
+        len,
+        stay,
+        ended: end.ended,
+        walk,
+        shared,
+    }
+}

@@ -1,0 +1,100 @@
+// The calls on a whole file: create, check, recover, rebuild.
+ghost use mathlib.Core.Path.{_≡_};
+ghost use Prim.Native.Nat.{_≤_, _<_, _+_, _*_};
+use crate::Cause;
+use crate::RecoverAnswer;
+use crate::TrieAnswer;
+use crate::TrieGiven;
+use file::Header;
+use file::Kind;
+
+fn refused(cause: Cause) -> TrieGiven {
+    TrieGiven {
+        answer: TrieAnswer::Refused(cause),
+        trie: trie::lone(0),
+    }
+}
+
+// A number that is no size of a file stays none.
+fn small(x: u64) -> usize
+    ensures { λ r. ⌜ r ≤ 255 ⌝ }
+{
+    if 255 < x {
+        return 255;
+    }
+    x as usize
+}
+
+// Writes the whole buffer: a file with one empty bucket without limits, in slot 0.
+pub fn create(file: &mut [u8], version: u64, b: u64, slots: u64) -> TrieGiven {
+    if version != 1 {
+        return refused(Cause::WrongSize);
+    }
+    let Header::Right(size) = file::sizes(file.len(), small(b), small(slots)) else {
+        return refused(Cause::WrongSize);
+    };
+    file::create(file, size);
+    TrieGiven {
+        answer: TrieAnswer::Given,
+        trie: trie::lone(0),
+    }
+}
+
+// Whether a file is sound, cut or bad.
+pub fn check(file: &[u8]) -> Kind {
+    let Header::Right(size) = file::header_of(file) else {
+        return Kind::Bad;
+    };
+    let survey = file::survey_of(file, size);
+    let kind = survey.kind;
+    kind
+}
+
+// Frees slot N of a cut file in one store and names it.
+pub fn recover(file: &mut [u8], limit: u64) -> RecoverAnswer {
+    if 2 < limit {
+        return RecoverAnswer::Refused(Cause::WrongSize);
+    }
+    let Header::Right(size) = file::header_of(file) else {
+        return RecoverAnswer::Refused(Cause::BadFile);
+    };
+    let survey = file::survey_of(file, size);
+    let kind = survey.kind;
+    match kind {
+        Kind::Bad => RecoverAnswer::Refused(Cause::BadFile),
+        Kind::Sound => RecoverAnswer::Nothing,
+        Kind::Cut => {
+            if limit < 1 {
+                return RecoverAnswer::Stopped(0);
+            }
+            let free = [0u8; 576];
+            let n = file::slot_size(size);
+            file::store(file, size, survey.inner, &free[0..n]);
+            RecoverAnswer::Freed(survey.inner)
+        }
+    }
+}
+
+// The trie of the bucket headers alone.
+pub fn rebuild(file: &[u8]) -> TrieGiven {
+    let Header::Right(size) = file::header_of(file) else {
+        return refused(Cause::BadFile);
+    };
+    let survey = file::survey_of(file, size);
+    let kind = survey.kind;
+    match kind {
+        Kind::Bad => refused(Cause::BadFile),
+        Kind::Cut => refused(Cause::CutFile),
+        Kind::Sound => {
+            let order = survey.order;
+            let strings = strings::strings_of(file, size, &order, survey.count);
+            if !strings.few {
+                return refused(Cause::ManyStrings);
+            }
+            TrieGiven {
+                answer: TrieAnswer::Given,
+                trie: rebuilding::rebuilt(strings),
+            }
+        }
+    }
+}
