@@ -27,6 +27,7 @@ pub struct Survey {
 }
 
 fn found(kind: Kind, used: u64, count: usize, order: &[u8; 64], inner: usize) -> Survey
+    ensures { λ r. ⌜ (r .count ≡ count) × (r .order ≡ now (order .entry)) × (r .inner ≡ inner) ⌝ }
 {
     Survey {
         kind,
