@@ -20,7 +20,14 @@ fn is_before(high: Key, low: Key, other_high: Key, other_low: Key) -> bool {
 }
 
 // How many of the slots in order stand before the range (low, high] or are equal to it.
-pub fn place_of(file: &[u8], size: Size, order: &[u8; 64], count: usize, low: Key, high: Key) -> usize
+pub fn place_of(
+    file: &[u8],
+    size: Size,
+    order: &[u8; 64],
+    count: usize,
+    low: Key,
+    high: Key,
+) -> usize
     requires { ⌜ (Sized (length (now file)) size) × (Below (now order) (size .slots)) × (count ≤ 64) ⌝ }
     ensures { λ r. ⌜ r ≤ count ⌝ }
 {

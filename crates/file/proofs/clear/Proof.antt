@@ -1,14 +1,11 @@
-use Prim.Native.Nat.{ℕ, _≤_, _-_, _<_, _+_, _*_}
+-- `clear` meets its contract: the buffer keeps its length.
+use Prim.Native.Nat.{_≤_, _-_}
 use native.Mathlib.Omega.{arith}
-use mathlib.Core.Path.{_≡_, refl, sym, ap, _∙_}
+use mathlib.Core.Path.{_≡_}
 use lib.ListN.{length, length-set}
 use borrow.Author.Needs.{needs}
-use Rattle.file.specs.Sizes.{Sized, Below}
-use Rattle.file.proofs.Laws.{room, slots-fit, below-set, part-is, part-length, paste-is}
 use Rattle.file.proofs.clear.Statement.{statement}
 use Rattle.file.proofs.clear.Tie as tie
-use Rattle.file.proofs.clear.Reads as reads
-use Rattle.file.proofs.clear.Lts as lts
 
 abbrev Inv-loop : tie.InvT-loop
 Inv-loop file₀ i₀ file i = (i ≤ length file₀) × (length file ≡ length file₀)

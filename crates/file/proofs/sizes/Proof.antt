@@ -1,14 +1,10 @@
-use Prim.Native.Nat.{ℕ, _≤_, _-_, _<_, _+_, _*_}
+-- `sizes` meets its contract: the product of legal sizes fits, and a length that it tells of is whole.
+use Prim.Native.Nat.{_+_, _*_}
 use native.Mathlib.Omega.{arith}
-use mathlib.Core.Path.{_≡_, refl, sym, ap, _∙_}
-use lib.ListN.{length, take, drop, getD}
-use Rattle.file.specs.Sizes.{Sized, Below}
-use Rattle.file.proofs.Laws.{room, slots-fit, below-set, part-is, part-length, paste-is}
+use Rattle.file.proofs.Laws.{slots-fit}
 use borrow.Author.Needs.{needs}
 use Rattle.file.proofs.sizes.Statement.{statement}
 use Rattle.file.proofs.sizes.Tie as tie
-use Rattle.file.proofs.sizes.Reads as reads
-use Rattle.file.proofs.sizes.Lts as lts
 
 returns : tie.Need-returns
 returns c = search needs
@@ -29,13 +25,13 @@ add-if5 : tie.Need-add-if5
 add-if5 c = search needs
 
 mul-if5-2 : tie.Need-mul-if5-2
-mul-if5-2 c = 
+mul-if5-2 c =
     let a = c .before .before .before .before .args in
     let h = slots-fit (a .slots) (64 + 32 * a .b) (omega arith) (omega arith) in
     omega arith
 
 add-if5-2 : tie.Need-add-if5-2
-add-if5-2 c = 
+add-if5-2 c =
     let a = c .before .before .before .before .args in
     let h = slots-fit (a .slots) (64 + 32 * a .b) (omega arith) (omega arith) in
     omega arith

@@ -1,33 +1,29 @@
-use Prim.Native.Nat.{ℕ, _≤_, _-_, _<_, _+_, _*_}
+-- `slot_at` meets its contract: slot k lies within the file.
+use Prim.Native.Nat.{_+_, _*_}
 use native.Mathlib.Omega.{arith}
-use mathlib.Core.Path.{_≡_, refl, sym, ap, _∙_}
-use lib.ListN.{length, take, drop, getD}
-use Rattle.file.specs.Sizes.{Sized, Below}
-use Rattle.file.proofs.Laws.{room, slots-fit, below-set, part-is, part-length, paste-is}
+use mathlib.Core.Path.{_∙_}
+use Rattle.file.proofs.Laws.{room, part-is, part-length}
 use borrow.Author.Needs.{needs}
 use Rattle.file.proofs.slot_at.Statement.{statement}
 use Rattle.file.proofs.slot_at.Tie as tie
-use Rattle.file.proofs.slot_at.Reads as reads
-use Rattle.file.proofs.slot_at.Lts as lts
-use Rattle.file.proofs.slot_size.Reads as slot-size-reads
 
 slot-size-requires : tie.Need-slot-size-requires
 slot-size-requires c κs = search needs
 
 mul-at : tie.Need-mul-at
-mul-at c = 
+mul-at c =
     let s = c .before .before in
     let h = room _ (s .args .k) (c .slot-size .result) (s .args .size) (s .pre .0) (s .pre .1) (c .slot-size .ensures) in
     omega arith
 
 add-at : tie.Need-add-at
-add-at c = 
+add-at c =
     let s = c .before .before in
     let h = room _ (s .args .k) (c .slot-size .result) (s .args .size) (s .pre .0) (s .pre .1) (c .slot-size .ensures) in
     omega arith
 
 add-end : tie.Need-add-end
-add-end c = 
+add-end c =
     let s = c .before .before in
     let h = room _ (s .args .k) (c .slot-size .result) (s .args .size) (s .pre .0) (s .pre .1) (c .slot-size .ensures) in
     omega arith
@@ -39,13 +35,13 @@ part-result-start : tie.Need-part-result-start
 part-result-start c = search needs
 
 part-result-end : tie.Need-part-result-end
-part-result-end c = 
+part-result-end c =
     let s = c .before .before in
     let h = room _ (s .args .k) (c .slot-size .result) (s .args .size) (s .pre .0) (s .pre .1) (c .slot-size .ensures) in
     omega arith
 
 returns : tie.Need-returns
-returns c = 
+returns c =
     let s = c .before .before .before in
     let n = c .before .slot-size .result in
     let e = c .before .slot-size .ensures in

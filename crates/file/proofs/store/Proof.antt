@@ -1,34 +1,28 @@
-use Prim.Native.Nat.{ℕ, _≤_, _-_, _<_, _+_, _*_}
+-- `store` meets its contract: slot k is pasted over, and nothing else changes.
 use native.Mathlib.Omega.{arith}
-use mathlib.Core.Path.{_≡_, refl, sym, ap, _∙_}
-use lib.ListN.{length, take, drop, getD}
-use Rattle.file.specs.Sizes.{Sized, Below}
-use Rattle.file.proofs.Laws.{room, slots-fit, below-set, part-is, part-length, paste-is}
+use mathlib.Core.Path.{_∙_}
+use Rattle.file.proofs.Laws.{room, paste-is}
 use borrow.Author.Needs.{needs}
 use Rattle.file.proofs.store.Statement.{statement}
 use Rattle.file.proofs.store.Tie as tie
-use Rattle.file.proofs.store.Reads as reads
-use Rattle.file.proofs.store.Lts as lts
-use Rattle.bucket.proofs.copy.Reads as copy-reads
-use Rattle.file.proofs.slot_size.Reads as slot-size-reads
 
 slot-size-requires : tie.Need-slot-size-requires
 slot-size-requires c κs = search needs
 
 mul-at : tie.Need-mul-at
-mul-at c = 
+mul-at c =
     let s = c .before .before .before in
     let h = room _ (s .args .k) (c .slot-size .result) (s .args .size) (s .pre .0) (s .pre .1) (c .slot-size .ensures) in
     omega arith
 
 add-at : tie.Need-add-at
-add-at c = 
+add-at c =
     let s = c .before .before .before in
     let h = room _ (s .args .k) (c .slot-size .result) (s .args .size) (s .pre .0) (s .pre .1) (c .slot-size .ensures) in
     omega arith
 
 copy-requires : tie.Need-copy-requires
-copy-requires c κs = 
+copy-requires c κs =
     let s = c .before .before .before .before in
     let n = c .before .slot-size .result in
     let e = c .before .slot-size .ensures in
@@ -39,7 +33,7 @@ same-length : tie.Need-same-length
 same-length c = search needs
 
 returns : tie.Need-returns
-returns c = 
+returns c =
     let s = c .before .before .before .before .before .before .before in
     let n = c .before .before .before .before .slot-size .result in
     let e = c .before .before .before .before .slot-size .ensures in

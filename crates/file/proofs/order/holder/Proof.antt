@@ -1,18 +1,9 @@
-use Prim.Native.Nat.{ℕ, _≤_, _-_, _<_, _+_, _*_, _/_}
+-- `holder` meets its contract: the halves close in on a place below the count.
+use Prim.Native.Nat.{_≤_, _-_, _<_, _+_, _/_}
 use native.Mathlib.Omega.{arith}
-use mathlib.Core.Path.{_≡_, refl, sym, ap, _∙_}
-use lib.ListN.{length, take, drop, getD}
 use borrow.Author.Needs.{needs}
-use Rattle.file.specs.Sizes.{Sized, Below}
-use Rattle.file.proofs.Laws.{room, slots-fit, below-set, part-is, part-length, paste-is}
 use Rattle.file.proofs.order.holder.Statement.{statement}
 use Rattle.file.proofs.order.holder.Tie as tie
-use Rattle.file.proofs.order.holder.Reads as reads
-use Rattle.file.proofs.order.holder.Lts as lts
-use Rattle.bucket.proofs.high_of.Reads as high-of-reads
-use Rattle.digits.proofs.index.Reads as index-reads
-use Rattle.digits.proofs.is_below.Reads as is-below-reads
-use Rattle.file.proofs.slot_at.Reads as slot-at-reads
 
 abbrev Inv-loop : tie.InvT-loop
 Inv-loop file size order count name least₀ most₀ least most = (least ≤ most) × (most < count)
@@ -42,7 +33,7 @@ index-requires : tie.Need-index-requires Inv-loop μ-loop
 index-requires c κs = search needs
 
 slot-at-requires : tie.Need-slot-at-requires Inv-loop μ-loop
-slot-at-requires c κs = 
+slot-at-requires c κs =
     let s = c .before .before .before .before .before .before in
     let l = c .before .before .before .loop in
     (s .pre .0, omega (arith, s .pre .1 (l .least + (l .most - l .least) / 2)))

@@ -1,14 +1,11 @@
-use Prim.Native.Nat.{ℕ, _≤_, _-_, _<_, _+_, _*_}
+-- `leave_out` meets its contract: moving slot numbers down keeps them below what bounds them all.
+use Prim.Native.Nat.{ℕ, _≤_, _-_, _<_}
 use native.Mathlib.Omega.{arith}
-use mathlib.Core.Path.{_≡_, refl, sym, ap, _∙_}
-use lib.ListN.{length, take, drop, getD}
 use borrow.Author.Needs.{needs}
-use Rattle.file.specs.Sizes.{Sized, Below}
-use Rattle.file.proofs.Laws.{room, slots-fit, below-set, part-is, part-length, paste-is}
+use Rattle.file.specs.Sizes.{Below}
+use Rattle.file.proofs.Laws.{below-set}
 use Rattle.file.proofs.order.leave_out.Statement.{statement}
 use Rattle.file.proofs.order.leave_out.Tie as tie
-use Rattle.file.proofs.order.leave_out.Reads as reads
-use Rattle.file.proofs.order.leave_out.Lts as lts
 
 abbrev Inv-loop : tie.InvT-loop
 Inv-loop order₀ count place j₀ order j = (place < j) × (j ≤ count) × ((n : ℕ) → Below order₀ n → Below order n)
@@ -38,7 +35,7 @@ loop-less : tie.Need-loop-less Inv-loop μ-loop
 loop-less c = search needs
 
 loop-again : tie.Need-loop-again Inv-loop μ-loop
-loop-again c = 
+loop-again c =
     let l = c .before .before .loop in
     (omega arith, omega arith, λ n. λ h. below-set (l .order) (l .j - 1) _ n (l .inv .2 n h) (l .inv .2 n h (l .j)))
 

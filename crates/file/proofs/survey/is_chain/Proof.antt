@@ -1,21 +1,9 @@
-use Prim.Native.Nat.{ℕ, _≤_, _-_, _<_, _+_, _*_}
+-- `is_chain` meets its contract: every slot that it reads is one of the file's.
+use Prim.Native.Nat.{_≤_, _-_}
 use native.Mathlib.Omega.{arith}
-use mathlib.Core.Path.{_≡_, refl, sym, ap, _∙_}
-use lib.ListN.{length, take, drop, getD}
 use borrow.Author.Needs.{needs}
-use Rattle.file.specs.Sizes.{Sized, Below}
-use Rattle.file.proofs.Laws.{room, slots-fit, below-set, part-is, part-length, paste-is}
 use Rattle.file.proofs.survey.is_chain.Statement.{statement}
 use Rattle.file.proofs.survey.is_chain.Tie as tie
-use Rattle.file.proofs.survey.is_chain.Reads as reads
-use Rattle.file.proofs.survey.is_chain.Lts as lts
-use Rattle.bucket.proofs.high_of.Reads as high-of-reads
-use Rattle.bucket.proofs.low_of.Reads as low-of-reads
-use Rattle.digits.proofs.index.Reads as index-reads
-use Rattle.digits.proofs.is_same.Reads as is-same-reads
-use Rattle.digits.proofs.no_end.Reads as no-end-reads
-use Rattle.digits.proofs.no_limit.Reads as no-limit-reads
-use Rattle.file.proofs.slot_at.Reads as slot-at-reads
 
 abbrev Inv-loop : tie.InvT-loop
 Inv-loop file size order count end₀ j₀ end j = j ≤ count
@@ -36,7 +24,7 @@ index-requires : tie.Need-index-requires Inv-loop μ-loop
 index-requires c κs = search needs
 
 slot-at-requires : tie.Need-slot-at-requires Inv-loop μ-loop
-slot-at-requires c κs = 
+slot-at-requires c κs =
     let s = c .before .before .before .before .before .before in
     let l = c .before .before .before .loop in
     (s .pre .0, omega (arith, s .pre .1 (l .j)))

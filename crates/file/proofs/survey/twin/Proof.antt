@@ -1,18 +1,9 @@
-use Prim.Native.Nat.{ℕ, _≤_, _-_, _<_, _+_, _*_}
+-- `twin` meets its contract: a place that it finds has one before it.
+use Prim.Native.Nat.{_≤_, _-_}
 use native.Mathlib.Omega.{arith}
-use mathlib.Core.Path.{_≡_, refl, sym, ap, _∙_}
-use lib.ListN.{length, take, drop, getD}
 use borrow.Author.Needs.{needs}
-use Rattle.file.specs.Sizes.{Sized, Below}
-use Rattle.file.proofs.Laws.{room, slots-fit, below-set, part-is, part-length, paste-is}
 use Rattle.file.proofs.survey.twin.Statement.{statement}
 use Rattle.file.proofs.survey.twin.Tie as tie
-use Rattle.file.proofs.survey.twin.Reads as reads
-use Rattle.file.proofs.survey.twin.Lts as lts
-use Rattle.bucket.proofs.high_of.Reads as high-of-reads
-use Rattle.digits.proofs.index.Reads as index-reads
-use Rattle.digits.proofs.is_same.Reads as is-same-reads
-use Rattle.file.proofs.slot_at.Reads as slot-at-reads
 
 abbrev Inv-loop : tie.InvT-loop
 Inv-loop file size order count j₀ j = 1 ≤ j
@@ -33,7 +24,7 @@ index-requires : tie.Need-index-requires Inv-loop μ-loop
 index-requires c κs = search needs
 
 slot-at-requires : tie.Need-slot-at-requires Inv-loop μ-loop
-slot-at-requires c κs = 
+slot-at-requires c κs =
     let s = c .before .before .before .before .before in
     let l = c .before .before .before .loop in
     (s .pre .0, omega (arith, s .pre .1 (l .j - 1)))
@@ -45,7 +36,7 @@ index-requires-2 : tie.Need-index-requires-2 Inv-loop μ-loop
 index-requires-2 c κs = search needs
 
 slot-at-requires-2 : tie.Need-slot-at-requires-2 Inv-loop μ-loop
-slot-at-requires-2 c κs = 
+slot-at-requires-2 c κs =
     let s = c .before .before .before .before .before .before .before .before in
     let l = c .before .before .before .before .before .before .loop in
     (s .pre .0, omega (arith, s .pre .1 (l .j)))
