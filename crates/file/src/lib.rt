@@ -8,8 +8,10 @@ ghost use lib.ListN.{length, take, drop};
 ghost use lib.Seq.{paste};
 ghost use Rattle.file.specs.Sizes.{Legal, Sized, Told, Below, Inside};
 use digits::index;
+
 mod order;
 mod survey;
+
 pub use order::holder;
 pub use survey::Kind;
 pub use survey::Survey;
@@ -59,9 +61,7 @@ pub fn sizes(length: usize, b: usize, slots: usize) -> Header
     if length != 16 + slots * (64 + 32 * b) {
         return Header::Wrong;
     }
-    Header::Right(
-        Size { b, slots },
-    )
+    Header::Right(Size { b, slots })
 }
 
 // Whether the bytes that say what kind of file it is are right.

@@ -1,6 +1,6 @@
 // The used slots in range order: by upper bound, and where two are equal by lower bound.
 ghost use mathlib.Core.Path.{_≡_};
-ghost use Prim.Native.Nat.{_≤_, _<_, _+_, _*_};
+ghost use Prim.Native.Nat.{ℕ, _≤_, _<_, _+_, _*_};
 ghost use lib.ListN.{length};
 ghost use Rattle.file.specs.Sizes.{Sized, Below};
 use crate::Size;
@@ -20,7 +20,14 @@ fn is_before(high: Key, low: Key, other_high: Key, other_low: Key) -> bool {
 }
 
 // How many of the slots in order stand before the range (low, high] or are equal to it.
-pub fn place_of(file: &[u8], size: Size, order: &[u8; 64], count: usize, low: Key, high: Key) -> usize
+pub fn place_of(
+    file: &[u8],
+    size: Size,
+    order: &[u8; 64],
+    count: usize,
+    low: Key,
+    high: Key,
+) -> usize
     requires { ⌜ (Sized (length (now file)) size) × (Below (now order) (size .slots)) × (count ≤ 64) ⌝ }
     ensures { λ r. ⌜ r ≤ count ⌝ }
 {
@@ -41,6 +48,7 @@ pub fn place_of(file: &[u8], size: Size, order: &[u8; 64], count: usize, low: Ke
 // Puts slot k at its place among the slots in order.
 pub fn insert(order: &mut [u8; 64], count: usize, place: usize, k: u8)
     requires { ⌜ (count < 64) × (place ≤ count) ⌝ }
+    ensures { λ _. ⌜ ((n : ℕ) → Below (now (order .entry)) n → k < n → Below (now (order .exit)) n) ⌝ }
 {
     let mut j = count;
     while place < j {
@@ -53,6 +61,7 @@ pub fn insert(order: &mut [u8; 64], count: usize, place: usize, k: u8)
 // Takes what stands at the place out of the slots in order.
 pub fn leave_out(order: &mut [u8; 64], count: usize, place: usize)
     requires { ⌜ (count ≤ 64) × (place < count) ⌝ }
+    ensures { λ _. ⌜ ((n : ℕ) → Below (now (order .entry)) n → Below (now (order .exit)) n) ⌝ }
 {
     let mut j = place + 1;
     while j < count {

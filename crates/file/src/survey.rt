@@ -4,11 +4,11 @@ ghost use Prim.Native.Nat.{_≤_, _<_, _+_, _*_};
 ghost use lib.ListN.{length};
 ghost use Rattle.file.specs.Sizes.{Sized, Below};
 ghost use Rattle.file.specs.Surveys.{Surveyed};
-use bucket::Form;
-use bucket::Vacancy;
 use crate::Size;
 use crate::order;
 use crate::slot_at;
+use bucket::Form;
+use bucket::Vacancy;
 use digits::index;
 
 pub enum Kind {
@@ -27,6 +27,7 @@ pub struct Survey {
 }
 
 fn found(kind: Kind, used: u64, count: usize, order: &[u8; 64], inner: usize) -> Survey
+    ensures { λ r. ⌜ (r .count ≡ count) × (r .order ≡ now (order .entry)) × (r .inner ≡ inner) ⌝ }
 {
     Survey {
         kind,
@@ -98,13 +99,24 @@ fn is_copy_of(n: &[u8], a: &[u8], b: usize) -> bool
 }
 
 // A file with two slots of one upper bound: cut, or bad.
-fn cut_of(file: &[u8], size: Size, order: &[u8; 64], count: usize, place: usize, used: u64) -> Survey
+fn cut_of(
+    file: &[u8],
+    size: Size,
+    order: &[u8; 64],
+    count: usize,
+    place: usize,
+    used: u64,
+) -> Survey
     requires { ⌜ (Sized (length (now file)) size) × (Below (now order) (size .slots)) × (count ≤ 64) × (place < count) × (1 ≤ place) ⌝ }
     ensures { λ r. ⌜ Surveyed r (size .slots) ⌝ }
 {
     let inner = index(order[place]);
     let outer = index(order[place - 1]);
-    if !is_copy_of(slot_at(file, size, inner), slot_at(file, size, outer), size.b) {
+    if !is_copy_of(
+        slot_at(file, size, inner),
+        slot_at(file, size, outer),
+        size.b,
+    ) {
         return found(Kind::Bad, used, count, order, inner);
     }
     let mut rest = *order;

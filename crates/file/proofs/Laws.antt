@@ -1,0 +1,74 @@
+-- Laws of a file's sizes, and of lists of slot numbers.
+use mathlib.Core.Path.{_≡_, refl, sym, ap, subst, _∙_}
+use mathlib.Core.List.{List, [], _∷_}
+use Prim.Native.Nat.{ℕ, zero, suc, _+_, _-_, _*_, _≤_, _<_}
+use native.Mathlib.Nat.{suc-mul, mul-le-mul, le-of-eq, add-sub-cancel-left}
+use native.Mathlib.Omega.{arith}
+use lib.ListN.{length, take, drop, set, replicate, length-take, length-drop}
+use lib.Seq.{paste}
+use Rattle.file.specs.declared.Size.{Size}
+use Rattle.file.specs.declared.survey.Survey.{Survey}
+use Rattle.file.specs.Sizes.{Sized, Below}
+use Rattle.file.specs.Surveys.{Surveyed}
+
+-- all the slots of a file together are small
+pub slots-fit : (k n : ℕ) → k ≤ 64 → n ≤ 576 → k * n ≤ 36864
+slots-fit k n h p = mul-le-mul h p
+
+-- slot k lies within the file, and the file is small
+pub record Within (len k n : ℕ) : Type 0 where
+  pub slot-end : 16 + k * n + n ≤ len
+  pub small : len ≤ 36880
+
+pub room : (len k n : ℕ) (s : Size) → Sized len s → k < s .slots → n ≡ 64 + 32 * s .b → Within len k n
+room len k n s z h e =
+    let w : len ≡ 16 + s .slots * n = z .whole ∙ ap (λ (m : ℕ). 16 + s .slots * m) (sym e) in
+    let l = z .legal in
+    let t : n ≤ 576 = omega arith in
+    let u : suc k * n ≤ s .slots * n = mul-le-mul h (le-of-eq refl) in
+    record {
+      slot-end = omega (arith, suc-mul k n);
+      small = omega (arith, slots-fit (s .slots) n (l .slots-most) t);
+    }
+
+-- a store of a number below n
+pub below-set : (l : List ℕ) (i a n : ℕ) → Below l n → a < n → Below (set l i a) n
+below-set [] i a n h p j = h j
+below-set (x ∷ xs) zero a n h p zero = p
+below-set (x ∷ xs) zero a n h p (suc j) = h (suc j)
+below-set (x ∷ xs) (suc i) a n h p zero = h zero
+below-set (x ∷ xs) (suc i) a n h p (suc j) = below-set xs i a n (λ m. h (suc m)) p j
+
+-- the part of n bytes from slot k's start, where n is m under another name
+pub part-is : (xs : List ℕ) (k n m : ℕ) → n ≡ m → take (16 + k * n + n - (16 + k * n)) (drop (16 + k * n) xs) ≡ take m (drop (16 + k * m) xs)
+part-is xs k n m e = rw (e, add-sub-cancel-left)
+
+pub part-length : (xs : List ℕ) (at n : ℕ) → at + n ≤ length xs → length (take (at + n - at) (drop at xs)) ≡ n
+part-length xs at n h = simp (add-sub-cancel-left, length-take, length-drop) (omega arith)
+
+-- a paste whose length and start have other names
+pub paste-is : (d s : List ℕ) (k n m : ℕ) → n ≡ m → length s ≡ m → paste d (16 + k * n) s (length s) ≡ paste d (16 + k * m) s m
+paste-is d s k n m e h = rw (e, h)
+
+-- a list of zeros, of any length
+pub below-zeros : (m n : ℕ) → 0 < n → Below (replicate m 0) n
+below-zeros zero n h j = h
+below-zeros (suc m) n h zero = h
+below-zeros (suc m) n h (suc j) = below-zeros m n h j
+
+-- a file has a slot 0, and so room for its header and one slot
+pub some-slot : (len : ℕ) (s : Size) → Sized len s → (0 < s .slots) × (64 < len)
+some-slot len s z =
+    let l = z .legal in
+    let h = room len 0 (64 + 32 * s .b) s z (l .slots-least) refl in
+    (l .slots-least, omega arith)
+
+-- a survey made of its parts
+pub surveyed : (s : Survey) (count : ℕ) (order : List ℕ) (inner n : ℕ) → (s .count ≡ count) × (s .order ≡ order) × (s .inner ≡ inner)
+    → Below order n → count ≤ 64 → inner < n → Surveyed s n
+surveyed s count order inner n e h p q =
+    record {
+      slots-inside = subst (λ (l : List ℕ). Below l n) (sym (e .1)) h;
+      count-most = omega (arith, e .0);
+      inner-inside = omega (arith, e .2);
+    }

@@ -1,0 +1,59 @@
+-- `insert` meets its contract: moving slot numbers up and putting one in keeps them below what bounds them all.
+use Prim.Native.Nat.{ℕ, _≤_, _-_}
+use native.Mathlib.Omega.{arith}
+use borrow.Author.Needs.{needs}
+use Rattle.file.specs.Sizes.{Below}
+use Rattle.file.proofs.Laws.{below-set}
+use Rattle.file.proofs.order.insert.Statement.{statement}
+use Rattle.file.proofs.order.insert.Tie as tie
+
+abbrev Inv-loop : tie.InvT-loop
+Inv-loop order₀ count place k j₀ order j = (place ≤ j) × (j ≤ count) × ((n : ℕ) → Below order₀ n → Below order n)
+
+abbrev μ-loop : tie.MeasureT-loop
+μ-loop order₀ count place k j₀ order j = j
+
+loop-holds : tie.Need-loop-holds Inv-loop μ-loop
+loop-holds c = search needs
+
+sub-order : tie.Need-sub-order Inv-loop μ-loop
+sub-order c = search needs
+
+element-copy-out-order : tie.Need-element-copy-out-order Inv-loop μ-loop
+element-copy-out-order c = search needs
+
+element-write-order : tie.Need-element-write-order Inv-loop μ-loop
+element-write-order c = search needs
+
+sub-j : tie.Need-sub-j Inv-loop μ-loop
+sub-j c = search needs
+
+loop-less : tie.Need-loop-less Inv-loop μ-loop
+loop-less c = search needs
+
+loop-again : tie.Need-loop-again Inv-loop μ-loop
+loop-again c =
+    let l = c .before .before .loop in
+    (omega arith, omega arith, λ n. λ h. below-set (l .order) (l .j) _ n (l .inv .2 n h) (l .inv .2 n h (l .j - 1)))
+
+element-write-order-2 : tie.Need-element-write-order-2 Inv-loop μ-loop
+element-write-order-2 c = search needs
+
+returns : tie.Need-returns Inv-loop μ-loop
+returns c = λ n. λ h. λ p. below-set (c .before .loop .order) (c .before .before .args .place) _ n (c .before .loop .inv .2 n h) p
+
+pub insert-spec : {M : Type 1} → statement M
+insert-spec =
+    tie.close
+    (tie.spec
+    Inv-loop
+    μ-loop
+    loop-holds
+    sub-order
+    element-copy-out-order
+    element-write-order
+    sub-j
+    loop-less
+    loop-again
+    element-write-order-2
+    returns)

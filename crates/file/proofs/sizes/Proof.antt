@@ -1,0 +1,58 @@
+-- `sizes` meets its contract: the product of legal sizes fits, and a length that it tells of is whole.
+use Prim.Native.Nat.{_+_, _*_}
+use native.Mathlib.Omega.{arith}
+use Rattle.file.proofs.Laws.{slots-fit}
+use borrow.Author.Needs.{needs}
+use Rattle.file.proofs.sizes.Statement.{statement}
+use Rattle.file.proofs.sizes.Tie as tie
+
+returns : tie.Need-returns
+returns c = search needs
+
+returns-2 : tie.Need-returns-2
+returns-2 c = search needs
+
+returns-3 : tie.Need-returns-3
+returns-3 c = search needs
+
+returns-4 : tie.Need-returns-4
+returns-4 c = search needs
+
+mul-if5 : tie.Need-mul-if5
+mul-if5 c = search needs
+
+add-if5 : tie.Need-add-if5
+add-if5 c = search needs
+
+mul-if5-2 : tie.Need-mul-if5-2
+mul-if5-2 c =
+    let a = c .before .before .before .before .args in
+    let h = slots-fit (a .slots) (64 + 32 * a .b) (omega arith) (omega arith) in
+    omega arith
+
+add-if5-2 : tie.Need-add-if5-2
+add-if5-2 c =
+    let a = c .before .before .before .before .args in
+    let h = slots-fit (a .slots) (64 + 32 * a .b) (omega arith) (omega arith) in
+    omega arith
+
+returns-5 : tie.Need-returns-5
+returns-5 c = search needs
+
+returns-6 : tie.Need-returns-6
+returns-6 c = search needs
+
+pub sizes-spec : {M : Type 1} → statement M
+sizes-spec =
+    tie.close
+    (tie.spec
+    returns
+    returns-2
+    returns-3
+    returns-4
+    mul-if5
+    add-if5
+    mul-if5-2
+    add-if5-2
+    returns-5
+    returns-6)
