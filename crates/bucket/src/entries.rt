@@ -52,7 +52,9 @@ pub fn value_at(entries: &[u8], i: usize) -> u64
                                     * (wide(entries[at + 4])
                                         + 256
                                             * (wide(entries[at + 5])
-                                                + 256 * (wide(entries[at + 6]) + 256 * wide(entries[at + 7])))))))
+                                                + 256
+                                                    * (wide(entries[at + 6])
+                                                        + 256 * wide(entries[at + 7])))))))
 }
 
 // Puts s over d from `at` on.

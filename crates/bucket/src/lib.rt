@@ -8,7 +8,9 @@ ghost use lib.ListN.{length};
 use digits::Key;
 use digits::index;
 use digits::wide;
+
 mod entries;
+
 pub use entries::changed_value;
 pub use entries::copy;
 pub use entries::is_copied;
@@ -200,15 +202,13 @@ pub fn form_of(slot: &[u8], b: usize) -> Form
     if !are_entries(&slot[64..], count, low, high) {
         return Form::Ill;
     }
-    Form::Well(
-        Bucket {
-            count,
-            lower,
-            upper,
-            low,
-            high,
-        },
-    )
+    Form::Well(Bucket {
+        count,
+        lower,
+        upper,
+        low,
+        high,
+    })
 }
 
 // A bucket's range is the names within its upper bound and not within its lower.

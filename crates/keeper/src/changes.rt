@@ -5,6 +5,7 @@ ghost use lib.ListN.{length};
 ghost use Rattle.file.specs.Sizes.{Sized, Below};
 ghost use Rattle.keeper.specs.Ready.{Ready};
 ghost use Rattle.keeper.specs.Parts.{Parted};
+ghost use Rattle.keeper.specs.Spots.{Spotted};
 use crate::Cause;
 use crate::PutAnswer;
 use crate::PutGiven;
@@ -39,15 +40,14 @@ fn store(file: &mut [u8], size: Size, k: usize, slot: &[u8; 576])
     file::store(file, size, k, &whole[0..n]);
 }
 
-// Where in its bucket a name is or would be.
+// Where in its bucket a name is or would be: the slot, how many entries it has, and how many of them are below the name.
 pub struct Spot {
     pub slot: usize,
     pub count: usize,
     pub place: usize,
-    pub held: bool,
 }
 
-// The place of a name in the file: its bucket, and its entry's place there.
+// The place of a name in a file that passed the checks.
 fn spot_of(file: &[u8], checked: Checked, name: Key) -> Spot
     requires { ⌜ Ready checked (length (now file)) ⌝ }
     ensures { λ r. ⌜ Spotted r (checked .size) ⌝ }
@@ -55,14 +55,297 @@ fn spot_of(file: &[u8], checked: Checked, name: Key) -> Spot
     let size = checked.size;
     let survey = checked.survey;
     let order = survey.order;
-    let k = index(order[file::holder(file, size, &order, survey.count, name)]);
+    let place = file::holder(file, size, &order, survey.count, name);
+    let k = index(order[place]);
     let slot = file::slot_at(file, size, k);
     let count = bucket::count_of(slot, size.b);
-    let place = bucket::rank(&slot[64..], count, name);
     Spot {
         slot: k,
         count,
-        place,
-        held: is_at(&slot[64..], count, place, name),
+        place: bucket::rank(&slot[64..], count, name),
+    }
+}
+
+// The slot with its entry at the place replaced.
+fn replaced(slot: &[u8], b: usize, spot: Spot, value: u64) -> [u8; 576]
+    requires { ⌜ (length (now slot) ≡ 64 + 32 * b) × (b ≤ 16) × (spot .count ≤ b) × (spot .place < spot .count) ⌝ }
+{
+    let count = spot.count;
+    let entries = bucket::changed_value(&slot[64..], count, spot.place, value);
+    let end = 32 * count;
+    bucket::rewritten(slot, &entries[0..end])
+}
+
+// Put on a held name replaces the value, one store.
+fn replace(file: &mut [u8], size: Size, spot: Spot, value: u64, limit: u64, trie: Trie) -> PutGiven
+    requires { ⌜ (Sized (length (now file)) size) × (Spotted spot size) × (spot .place < spot .count) ⌝ }
+{
+    if limit < 1 {
+        return given(PutAnswer::Stopped(0), trie);
+    }
+    let k = spot.slot;
+    let slot = file::slot_at(file, size, k);
+    let old = bucket::value_at(&slot[64..], spot.place);
+    let new = replaced(slot, size.b, spot, value);
+    store(file, size, k, &new);
+    given(PutAnswer::Replaced(old), trie)
+}
+
+// A new name that fits into its bucket, one store.
+fn add(
+    file: &mut [u8],
+    size: Size,
+    spot: Spot,
+    entries: &[u8; 544],
+    limit: u64,
+    trie: Trie,
+) -> PutGiven
+    requires { ⌜ (Sized (length (now file)) size) × (Spotted spot size) × (spot .count < size .b) ⌝ }
+{
+    if limit < 1 {
+        return given(PutAnswer::Stopped(0), trie);
+    }
+    let k = spot.slot;
+    let end = 32 * (spot.count + 1);
+    let whole = &entries[..];
+    let new = bucket::rewritten(file::slot_at(file, size, k), &whole[0..end]);
+    store(file, size, k, &new);
+    given(PutAnswer::Added, trie)
+}
+
+// The new slot of a split: bounds s and A's upper, and the entries that move.
+fn new_slot(slot: &[u8], b: usize, entries: &[u8; 544], split: Split) -> [u8; 576]
+    requires { ⌜ (length (now slot) ≡ 64 + 32 * b) × (b ≤ 16) × (Parted split b) ⌝ }
+{
+    let string = split.string;
+    let len = split.len;
+    let whole = &entries[..];
+    let at = 32 * split.stay;
+    let end = 32 * (b + 1);
+    written_above(&string, len, bucket::upper_of(slot), &whole[at..end])
+}
+
+// The slot A of a split, cut down: its upper is now s.
+fn old_slot(slot: &[u8], b: usize, entries: &[u8; 544], split: Split) -> [u8; 576]
+    requires { ⌜ (length (now slot) ≡ 64 + 32 * b) × (b ≤ 16) × (Parted split b) ⌝ }
+{
+    let string = split.string;
+    let len = split.len;
+    let whole = &entries[..];
+    let end = 32 * split.stay;
+    written_below(bucket::lower_of(slot), &string, len, &whole[0..end])
+}
+
+fn written_above(string: &[u8; 24], len: usize, upper: &[u8], entries: &[u8]) -> [u8; 576]
+    requires { ⌜ (len ≤ 24) × (length (now upper) ≤ 24) × (length (now entries) ≤ 512) ⌝ }
+{
+    let whole = &string[..];
+    bucket::written(&whole[0..len], upper, entries)
+}
+
+fn written_below(lower: &[u8], string: &[u8; 24], len: usize, entries: &[u8]) -> [u8; 576]
+    requires { ⌜ (len ≤ 24) × (length (now lower) ≤ 24) × (length (now entries) ≤ 512) ⌝ }
+{
+    let whole = &string[..];
+    bucket::written(lower, &whole[0..len], entries)
+}
+
+fn short(x: usize) -> u16
+    requires { ⌜ x < 64 ⌝ }
+    ensures { λ r. ⌜ r ≡ x ⌝ }
+{
+    x as u16
+}
+
+// The trie after a split.
+fn grown(checked: Checked, trie: Trie, split: Split, a: usize, n: usize) -> Trie
+    requires { ⌜ (a < 64) × (n < 64) × (trie .count + split .len ≤ 256 + split .shared) × (split .shared ≤ split .len) × (split .len ≤ 24) ⌝ }
+{
+    let strings = checked.strings;
+    let lens = strings.lens;
+    let places = checked.places;
+    let string = split.string;
+    let len = split.len;
+    grown_at(
+        trie,
+        &places,
+        &lens,
+        split,
+        &string,
+        len,
+        short(a),
+        short(n),
+    )
+}
+
+fn grown_at(
+    trie: Trie,
+    places: &[u16; 256],
+    lens: &[u8; 256],
+    split: Split,
+    string: &[u8; 24],
+    len: usize,
+    a: u16,
+    n: u16,
+) -> Trie
+    requires { ⌜ (trie .count + len ≤ 256 + split .shared) × (split .shared ≤ len) × (len ≤ 24) ⌝ }
+{
+    let walk = split.walk;
+    let whole = &string[..];
+    growth::grown(trie, places, lens, walk, &whole[0..len], split.shared, a, n)
+}
+
+// Two stores, in this order: the new slot; then A, cut down. The trie grows with the last.
+fn divide(
+    file: &mut [u8],
+    checked: Checked,
+    a: usize,
+    n: usize,
+    entries: &[u8; 544],
+    split: Split,
+    limit: u64,
+    trie: Trie,
+) -> PutGiven
+    requires { ⌜ (Ready checked (length (now file))) × (a < checked .size .slots) × (n < checked .size .slots) × (Parted split (checked .size .b))
+        × (trie .count + split .len ≤ 256 + split .shared) ⌝ }
+{
+    if limit < 1 {
+        return given(PutAnswer::Stopped(0), trie);
+    }
+    let size = checked.size;
+    let slot = file::slot_at(file, size, a);
+    let new = new_slot(slot, size.b, entries, split);
+    let old = old_slot(slot, size.b, entries, split);
+    store(file, size, n, &new);
+    if limit < 2 {
+        return given(PutAnswer::Stopped(1), trie);
+    }
+    store(file, size, a, &old);
+    given(PutAnswer::Added, grown(checked, trie, split, a, n))
+}
+
+// A new name whose bucket is full: refused where no slot is free or the strings would be too many.
+fn split(
+    file: &mut [u8],
+    checked: Checked,
+    a: usize,
+    entries: &[u8; 544],
+    limit: u64,
+    trie: Trie,
+) -> PutGiven
+    requires { ⌜ (Ready checked (length (now file))) × (a < checked .size .slots) ⌝ }
+{
+    let size = checked.size;
+    let survey = checked.survey;
+    let Room::At(n) = file::lowest_free(survey.used, size.slots) else {
+        return refused(Cause::NoFreeSlot, trie);
+    };
+    let split = split_of(entries, size.b, trie);
+    if !split.ended {
+        return refused(Cause::StaleTrie, trie);
+    }
+    if 256 + split.shared < trie::number(trie.count) + split.len {
+        return refused(Cause::ManyStrings, trie);
+    }
+    divide(file, checked, a, n, entries, split, limit, trie)
+}
+
+// Put into a file that passed the checks.
+fn put_checked(
+    file: &mut [u8],
+    checked: Checked,
+    name: &[u8; 24],
+    value: u64,
+    limit: u64,
+    trie: Trie,
+) -> PutGiven
+    requires { ⌜ Ready checked (length (now file)) ⌝ }
+{
+    let size = checked.size;
+    let key = digits::key_at(name, 0);
+    let spot = spot_of(file, checked, key);
+    let place = spot.place;
+    let count = spot.count;
+    let slot = file::slot_at(file, size, spot.slot);
+    if place < count {
+        if digits::is_same(digits::key_at(slot, 64 + 32 * place), key) {
+            return replace(file, size, spot, value, limit, trie);
+        }
+    }
+    let entries = bucket::with_entry(&slot[64..], count, place, name, value);
+    if count < size.b {
+        return add(file, size, spot, &entries, limit, trie);
+    }
+    split(file, checked, spot.slot, &entries, limit, trie)
+}
+
+// Puts a name with its value.
+pub fn put(file: &mut [u8], trie: Trie, name: &[u8], value: u64, limit: u64) -> PutGiven {
+    if 2 < limit {
+        return refused(Cause::WrongSize, trie);
+    }
+    let Naming::Legal = digits::named(name) else {
+        return refused(Cause::IllegalName, trie);
+    };
+    let checked = checks_of(file, trie);
+    let verdict = checked.verdict;
+    match verdict {
+        Verdict::Refused(cause) => refused(cause, trie),
+        Verdict::Fine => {
+            let filled = digits::filled(name);
+            put_checked(file, checked, &filled, value, limit, trie)
+        }
+    }
+}
+
+// The slot without its entry at the place.
+fn lessened(slot: &[u8], b: usize, spot: Spot) -> [u8; 576]
+    requires { ⌜ (length (now slot) ≡ 64 + 32 * b) × (b ≤ 16) × (spot .count ≤ b) × (spot .place < spot .count) ⌝ }
+{
+    let count = spot.count;
+    let entries = bucket::without_entry(&slot[64..], count, spot.place);
+    let end = 32 * (count - 1);
+    bucket::rewritten(slot, &entries[0..end])
+}
+
+// Remove from a file that passed the checks. An emptied bucket keeps its range.
+fn remove_checked(file: &mut [u8], checked: Checked, name: Key, limit: u64) -> RemoveAnswer
+    requires { ⌜ Ready checked (length (now file)) ⌝ }
+{
+    let size = checked.size;
+    let spot = spot_of(file, checked, name);
+    let k = spot.slot;
+    let place = spot.place;
+    let slot = file::slot_at(file, size, k);
+    if spot.count <= place {
+        return RemoveAnswer::Absent;
+    }
+    if !digits::is_same(digits::key_at(slot, 64 + 32 * place), name) {
+        return RemoveAnswer::Absent;
+    }
+    if limit < 1 {
+        return RemoveAnswer::Stopped(0);
+    }
+    let new = lessened(slot, size.b, spot);
+    store(file, size, k, &new);
+    RemoveAnswer::Removed
+}
+
+// Removes a name, one store; a name that is absent needs none.
+pub fn remove(file: &mut [u8], trie: Trie, name: &[u8], limit: u64) -> RemoveAnswer {
+    if 2 < limit {
+        return RemoveAnswer::Refused(Cause::WrongSize);
+    }
+    let Naming::Legal = digits::named(name) else {
+        return RemoveAnswer::Refused(Cause::IllegalName);
+    };
+    let checked = checks_of(file, trie);
+    let verdict = checked.verdict;
+    match verdict {
+        Verdict::Refused(cause) => RemoveAnswer::Refused(cause),
+        Verdict::Fine => {
+            let filled = digits::filled(name);
+            remove_checked(file, checked, digits::key_at(&filled, 0), limit)
+        }
     }
 }

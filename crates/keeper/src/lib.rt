@@ -3,6 +3,7 @@ mod answers;
 mod changes;
 mod checks;
 mod whole;
+
 pub use answers::Cause;
 pub use answers::ListAnswer;
 pub use answers::LookUpAnswer;
@@ -21,5 +22,6 @@ pub use whole::check;
 pub use whole::create;
 pub use whole::rebuild;
 pub use whole::recover;
+
 mod reading;
 mod splitting;

@@ -4,16 +4,16 @@ ghost use Prim.Native.Nat.{_≤_, _<_, _+_, _*_};
 ghost use lib.ListN.{length};
 ghost use Rattle.file.specs.Sizes.{Sized, Below};
 ghost use Rattle.keeper.specs.Ready.{Ready};
-use bucket::Form;
-use bucket::Held;
-use bucket::Range;
-use bucket::Vacancy;
 use crate::Cause;
 use crate::ListAnswer;
 use crate::LookUpAnswer;
 use crate::checks::Checked;
 use crate::checks::Verdict;
 use crate::checks::checks_of;
+use bucket::Form;
+use bucket::Held;
+use bucket::Range;
+use bucket::Vacancy;
 use digits::Key;
 use digits::Naming;
 use digits::index;
@@ -53,11 +53,23 @@ pub fn look_up(file: &[u8], trie: Trie, name: &[u8]) -> LookUpAnswer {
     let Arrival::At(k) = trie::arrival_of(trie, &filled, size.slots) else {
         return LookUpAnswer::Refused(Cause::StaleTrie);
     };
-    answer_of(file::slot_at(file, size, k), size.b, digits::key_at(&filled, 0))
+    answer_of(
+        file::slot_at(file, size, k),
+        size.b,
+        digits::key_at(&filled, 0),
+    )
 }
 
 // How many bytes the entries take that are to be listed, from the bucket at the place `from` to that at `to`.
-fn bytes_between(file: &[u8], size: Size, order: &[u8; 64], from: usize, to: usize, first: Key, second: Key) -> usize
+fn bytes_between(
+    file: &[u8],
+    size: Size,
+    order: &[u8; 64],
+    from: usize,
+    to: usize,
+    first: Key,
+    second: Key,
+) -> usize
     requires { ⌜ (Sized (length (now file)) size) × (Below (now order) (size .slots)) × (to < 64) ⌝ }
     ensures { λ r. ⌜ r ≤ 32768 ⌝ }
 {
@@ -100,7 +112,13 @@ fn write_between(
 }
 
 // Lists the entries of a file that passed the checks.
-fn list_checked(file: &[u8], checked: Checked, first: Key, second: Key, output: &mut [u8]) -> ListAnswer
+fn list_checked(
+    file: &[u8],
+    checked: Checked,
+    first: Key,
+    second: Key,
+    output: &mut [u8],
+) -> ListAnswer
     requires { ⌜ Ready checked (length (now file)) ⌝ }
 {
     let size = checked.size;
@@ -132,7 +150,13 @@ pub fn list(file: &[u8], trie: Trie, first: &[u8], second: &[u8], output: &mut [
         Verdict::Fine => {
             let low = digits::filled(first);
             let high = digits::filled(second);
-            list_checked(file, checked, digits::key_at(&low, 0), digits::key_at(&high, 0), output)
+            list_checked(
+                file,
+                checked,
+                digits::key_at(&low, 0),
+                digits::key_at(&high, 0),
+                output,
+            )
         }
     }
 }

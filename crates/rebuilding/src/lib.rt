@@ -126,7 +126,15 @@ fn one_less(len: u8) -> u8 {
 }
 
 // The cell, at number i, of a run with its root.
-fn cell_of(len: u8, digit: u8, slots: &[u8; 257], from: usize, root: usize, to: usize, i: usize) -> Cell
+fn cell_of(
+    len: u8,
+    digit: u8,
+    slots: &[u8; 257],
+    from: usize,
+    root: usize,
+    to: usize,
+    i: usize,
+) -> Cell
     requires { ⌜ (from ≤ root) × (root < to) × (to ≤ 256) × (i + to ≤ 256 + from) ⌝ }
 {
     let left = side_of(slots, from, root, i + 1);

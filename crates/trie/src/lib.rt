@@ -171,10 +171,7 @@ pub fn walk_of(trie: Trie, name: &[u8; 24]) -> Walked
         let place = walk.place;
         match place {
             Side::Slot(_) => {
-                return Walked {
-                    ended: true,
-                    walk,
-                };
+                return Walked { ended: true, walk };
             }
             Side::Cell(i) => {
                 if left == 0 {
