@@ -1,0 +1,133 @@
+// The trie image: 1,540 bytes that are some trie, whatever they hold.
+//
+// The count (2 bytes, little-endian), the first leaf (2), then 256 cells of 6 bytes: digit, digit number, left side, right
+// side. A side is a signed 16-bit little-endian number: 0 and above is that slot, below 0 is the cell of that number's
+// negative.
+ghost use mathlib.Core.Path.{_≡_};
+ghost use Prim.Native.Nat.{_≤_, _<_, _+_, _*_};
+ghost use lib.ListN.{length};
+use trie::Cell;
+use trie::Side;
+use trie::Trie;
+use trie::number;
+
+fn wide(x: u8) -> u16
+    ensures { λ r. ⌜ (r ≡ x) × (r < 256) ⌝ }
+{
+    x as u16
+}
+
+// Two bytes, little-endian.
+fn pair(low: u8, high: u8) -> u16 {
+    wide(low) + 256 * wide(high)
+}
+
+fn side_of(x: u16) -> Side {
+    if x < 32768 {
+        return Side::Slot(x);
+    }
+    Side::Cell(65535 - x + 1)
+}
+
+fn cell_at(image: &[u8], i: usize) -> Cell
+    requires { ⌜ (i < 256) × (length (now image) ≡ 1540) ⌝ }
+{
+    let at = 4 + 6 * i;
+    Cell {
+        digit: image[at],
+        number: image[at + 1],
+        left: side_of(pair(image[at + 2], image[at + 3])),
+        right: side_of(pair(image[at + 4], image[at + 5])),
+    }
+}
+
+// The first cells of the image, and no cell past them.
+fn with_cells(image: &[u8], cells: usize) -> Trie
+    requires { ⌜ (cells ≤ 256) × (length (now image) ≡ 1540) ⌝ }
+{
+    let mut trie = trie::lone(pair(image[2], image[3]));
+    trie.count = pair(image[0], image[1]);
+    let mut i = 0usize;
+    while i < cells {
+        let cell = cell_at(image, i);
+        trie.cells[i] = cell;
+        i += 1;
+    }
+    trie
+}
+
+// The trie of an image.
+pub fn decoded(image: &[u8]) -> Trie
+    requires { ⌜ length (now image) ≡ 1540 ⌝ }
+{
+    with_cells(image, 256)
+}
+
+fn at_most_256(x: usize) -> usize
+    ensures { λ r. ⌜ r ≤ 256 ⌝ }
+{
+    if 256 < x {
+        return 256;
+    }
+    x
+}
+
+// The trie of an image without the cells past its count, which no walk meets.
+pub fn decoded_below_count(image: &[u8]) -> Trie
+    requires { ⌜ length (now image) ≡ 1540 ⌝ }
+{
+    with_cells(image, at_most_256(number(pair(image[0], image[1]))))
+}
+
+fn low(x: u16) -> u8 {
+    (x % 256) as u8
+}
+
+fn high(x: u16) -> u8 {
+    (x / 256) as u8
+}
+
+fn number_of(side: Side) -> u16 {
+    match side {
+        Side::Slot(s) => s,
+        Side::Cell(i) => {
+            if i == 0 {
+                return 0;
+            }
+            65535 - (i - 1)
+        }
+    }
+}
+
+fn write_cell(image: &mut [u8], i: usize, cell: Cell)
+    requires { ⌜ (i < 256) × (length (now image) ≡ 1540) ⌝ }
+    ensures { λ _. ⌜ length (now (image .exit)) ≡ 1540 ⌝ }
+{
+    let left = cell.left;
+    let right = cell.right;
+    let l = number_of(left);
+    let r = number_of(right);
+    let at = 4 + 6 * i;
+    image[at] = cell.digit;
+    image[at + 1] = cell.number;
+    image[at + 2] = low(l);
+    image[at + 3] = high(l);
+    image[at + 4] = low(r);
+    image[at + 5] = high(r);
+}
+
+// Writes the image of a trie.
+pub fn encode(image: &mut [u8], trie: Trie)
+    requires { ⌜ length (now image) ≡ 1540 ⌝ }
+{
+    image[0] = low(trie.count);
+    image[1] = high(trie.count);
+    image[2] = low(trie.first);
+    image[3] = high(trie.first);
+    let mut i = 0usize;
+    while i < 256 {
+        let cell = trie.cells[i];
+        write_cell(image, i, cell);
+        i += 1;
+    }
+}

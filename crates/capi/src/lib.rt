@@ -1,0 +1,178 @@
+// The C interface: the eight calls over a trie image, their answers as numbers. It decides nothing.
+//
+// 1 to 99 is a refusal with document 01's number; 100 and up says what was done; 255 is an image that has not 1,540 bytes.
+ghost use Prim.Native.Nat.{_≤_, _<_, _+_, _*_};
+use file::Kind;
+use keeper::ListAnswer;
+use keeper::LookUpAnswer;
+use keeper::PutAnswer;
+use keeper::RecoverAnswer;
+use keeper::RemoveAnswer;
+use keeper::TrieAnswer;
+use keeper::cause_number;
+
+mod image;
+
+// What refuses a trie image of another length, before everything else.
+const MALFORMED: u64 = 255;
+
+fn wide(x: usize) -> u64 {
+    x as u64
+}
+
+#[no_mangle]
+pub extern "C" fn pal_create(
+    file: &mut [u8],
+    version: u64,
+    b: u64,
+    slots: u64,
+    trie: &mut [u8],
+) -> u64 {
+    if trie.len() != 1540 {
+        return MALFORMED;
+    }
+    let given = keeper::create(file, version, b, slots);
+    image::encode(trie, given.trie);
+    let answer = given.answer;
+    match answer {
+        TrieAnswer::Given => 150,
+        TrieAnswer::Refused(cause) => cause_number(cause),
+    }
+}
+
+#[no_mangle]
+pub extern "C" fn pal_check(file: &[u8]) -> u64 {
+    let kind = keeper::check(file);
+    match kind {
+        Kind::Sound => 140,
+        Kind::Cut => 141,
+        Kind::Bad => 142,
+    }
+}
+
+#[no_mangle]
+pub extern "C" fn pal_recover(file: &mut [u8], limit: u64, out: &mut [u64; 4]) -> u64 {
+    let answer = keeper::recover(file, limit);
+    match answer {
+        RecoverAnswer::Freed(slot) => {
+            out[0] = wide(slot);
+            130
+        }
+        RecoverAnswer::Nothing => 131,
+        RecoverAnswer::Stopped(stores) => {
+            out[0] = stores;
+            112
+        }
+        RecoverAnswer::Refused(cause) => cause_number(cause),
+    }
+}
+
+#[no_mangle]
+pub extern "C" fn pal_rebuild(file: &[u8], trie: &mut [u8]) -> u64 {
+    if trie.len() != 1540 {
+        return MALFORMED;
+    }
+    let given = keeper::rebuild(file);
+    image::encode(trie, given.trie);
+    let answer = given.answer;
+    match answer {
+        TrieAnswer::Given => 151,
+        TrieAnswer::Refused(cause) => cause_number(cause),
+    }
+}
+
+#[no_mangle]
+pub extern "C" fn pal_lookup(file: &[u8], trie: &[u8], name: &[u8], out: &mut [u64; 4]) -> u64 {
+    if trie.len() != 1540 {
+        return MALFORMED;
+    }
+    let answer = keeper::look_up(file, image::decoded_below_count(trie), name);
+    match answer {
+        LookUpAnswer::Found(value) => {
+            out[0] = value;
+            out[1] = 0;
+            100
+        }
+        LookUpAnswer::Absent => 101,
+        LookUpAnswer::Refused(cause) => cause_number(cause),
+    }
+}
+
+// `run` is taken for files that will keep it; files of version 1 do not.
+#[no_mangle]
+pub extern "C" fn pal_put(
+    file: &mut [u8],
+    trie: &mut [u8],
+    name: &[u8],
+    value: u64,
+    run: u64,
+    limit: u64,
+    out: &mut [u64; 4],
+) -> u64 {
+    if trie.len() != 1540 {
+        return MALFORMED;
+    }
+    let given = keeper::put(file, image::decoded(trie), name, value, limit);
+    let answer = given.answer;
+    match answer {
+        PutAnswer::Added => {
+            image::encode(trie, given.trie);
+            110
+        }
+        PutAnswer::Replaced(old) => {
+            out[0] = old;
+            out[1] = 0;
+            111
+        }
+        PutAnswer::Stopped(stores) => {
+            out[0] = stores;
+            112
+        }
+        PutAnswer::Refused(cause) => cause_number(cause),
+    }
+}
+
+#[no_mangle]
+pub extern "C" fn pal_remove(
+    file: &mut [u8],
+    trie: &mut [u8],
+    name: &[u8],
+    limit: u64,
+    out: &mut [u64; 4],
+) -> u64 {
+    if trie.len() != 1540 {
+        return MALFORMED;
+    }
+    let answer = keeper::remove(file, image::decoded(trie), name, limit);
+    match answer {
+        RemoveAnswer::Removed => 120,
+        RemoveAnswer::Absent => 101,
+        RemoveAnswer::Stopped(stores) => {
+            out[0] = stores;
+            112
+        }
+        RemoveAnswer::Refused(cause) => cause_number(cause),
+    }
+}
+
+#[no_mangle]
+pub extern "C" fn pal_list(
+    file: &[u8],
+    trie: &[u8],
+    first: &[u8],
+    second: &[u8],
+    output: &mut [u8],
+    out: &mut [u64; 4],
+) -> u64 {
+    if trie.len() != 1540 {
+        return MALFORMED;
+    }
+    let answer = keeper::list(file, image::decoded(trie), first, second, output);
+    match answer {
+        ListAnswer::Listed(entries) => {
+            out[0] = entries;
+            152
+        }
+        ListAnswer::Refused(cause) => cause_number(cause),
+    }
+}
