@@ -3,13 +3,6 @@ use Rattle.keeper.proofs.Laws.{fine-ready}
 use borrow.Author.Needs.{needs}
 use Rattle.keeper.proofs.changes.put.Statement.{statement}
 use Rattle.keeper.proofs.changes.put.Tie as tie
-use Rattle.keeper.proofs.changes.put.Reads as reads
-use Rattle.keeper.proofs.changes.put.Lts as lts
-use Rattle.digits.proofs.filled.Reads as filled-reads
-use Rattle.digits.proofs.named.Reads as named-reads
-use Rattle.keeper.proofs.changes.put_checked.Reads as put-checked-reads
-use Rattle.keeper.proofs.changes.refused.Reads as refused-reads
-use Rattle.keeper.proofs.checks.checks_of.Reads as checks-of-reads
 
 refused-requires : tie.Need-refused-requires
 refused-requires c κs = search needs

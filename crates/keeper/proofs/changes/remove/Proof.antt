@@ -3,13 +3,6 @@ use Rattle.keeper.proofs.Laws.{fine-ready}
 use borrow.Author.Needs.{needs}
 use Rattle.keeper.proofs.changes.remove.Statement.{statement}
 use Rattle.keeper.proofs.changes.remove.Tie as tie
-use Rattle.keeper.proofs.changes.remove.Reads as reads
-use Rattle.keeper.proofs.changes.remove.Lts as lts
-use Rattle.digits.proofs.filled.Reads as filled-reads
-use Rattle.digits.proofs.key_at.Reads as key-at-reads
-use Rattle.digits.proofs.named.Reads as named-reads
-use Rattle.keeper.proofs.changes.remove_checked.Reads as remove-checked-reads
-use Rattle.keeper.proofs.checks.checks_of.Reads as checks-of-reads
 
 returns : tie.Need-returns
 returns c = search needs

@@ -3,13 +3,6 @@ use native.Mathlib.Omega.{arith}
 use borrow.Author.Needs.{needs}
 use Rattle.keeper.proofs.changes.spot_of.Statement.{statement}
 use Rattle.keeper.proofs.changes.spot_of.Tie as tie
-use Rattle.keeper.proofs.changes.spot_of.Reads as reads
-use Rattle.keeper.proofs.changes.spot_of.Lts as lts
-use Rattle.bucket.proofs.count_of.Reads as count-of-reads
-use Rattle.bucket.proofs.rank.Reads as rank-reads
-use Rattle.digits.proofs.index.Reads as index-reads
-use Rattle.file.proofs.holder.Reads as holder-reads
-use Rattle.file.proofs.slot_at.Reads as slot-at-reads
 
 holder-requires : tie.Need-holder-requires
 holder-requires c κs = search needs

@@ -3,11 +3,6 @@ use Rattle.keeper.proofs.Laws.{refused-passed}
 use borrow.Author.Needs.{needs}
 use Rattle.keeper.proofs.checks.agreed.Statement.{statement}
 use Rattle.keeper.proofs.checks.agreed.Tie as tie
-use Rattle.keeper.proofs.checks.agreed.Reads as reads
-use Rattle.keeper.proofs.checks.agreed.Lts as lts
-use Rattle.agreement.proofs.agreement_of.Reads as agreement-of-reads
-use Rattle.keeper.proofs.checks.refused.Reads as refused-reads
-use Rattle.strings.proofs.strings_of.Reads as strings-of-reads
 
 strings-of-requires : tie.Need-strings-of-requires
 strings-of-requires c κs = search needs

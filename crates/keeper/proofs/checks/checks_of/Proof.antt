@@ -3,12 +3,6 @@ use Rattle.keeper.proofs.Laws.{right-sized, refused-passed}
 use borrow.Author.Needs.{needs}
 use Rattle.keeper.proofs.checks.checks_of.Statement.{statement}
 use Rattle.keeper.proofs.checks.checks_of.Tie as tie
-use Rattle.keeper.proofs.checks.checks_of.Reads as reads
-use Rattle.keeper.proofs.checks.checks_of.Lts as lts
-use Rattle.file.proofs.header_of.Reads as header-of-reads
-use Rattle.file.proofs.survey_of.Reads as survey-of-reads
-use Rattle.keeper.proofs.checks.agreed.Reads as agreed-reads
-use Rattle.keeper.proofs.checks.refused.Reads as refused-reads
 
 header-of-requires : tie.Need-header-of-requires
 header-of-requires c κs = search needs

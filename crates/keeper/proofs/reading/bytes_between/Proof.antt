@@ -1,14 +1,9 @@
 -- `bytes_between` meets its contract: each slot passed gives at most 512 bytes.
-use Prim.Native.Nat.{_≤_, _<_, _-_, _+_, _*_}
+use Prim.Native.Nat.{_≤_, _-_, _*_}
 use native.Mathlib.Omega.{arith}
 use borrow.Author.Needs.{needs}
 use Rattle.keeper.proofs.reading.bytes_between.Statement.{statement}
 use Rattle.keeper.proofs.reading.bytes_between.Tie as tie
-use Rattle.keeper.proofs.reading.bytes_between.Reads as reads
-use Rattle.keeper.proofs.reading.bytes_between.Lts as lts
-use Rattle.bucket.proofs.part_between.Reads as part-between-reads
-use Rattle.digits.proofs.index.Reads as index-reads
-use Rattle.file.proofs.slot_at.Reads as slot-at-reads
 
 abbrev Inv-loop : tie.InvT-loop
 Inv-loop file size order from to first second bytes₀ j₀ bytes j = (bytes ≤ 512 * j) × (bytes ≤ 32768)

@@ -1,13 +1,8 @@
+-- `list` meets its contract: what passed the checks is ready.
+use Rattle.keeper.proofs.Laws.{fine-ready}
 use borrow.Author.Needs.{needs}
 use Rattle.keeper.proofs.reading.list.Statement.{statement}
 use Rattle.keeper.proofs.reading.list.Tie as tie
-use Rattle.keeper.proofs.reading.list.Reads as reads
-use Rattle.keeper.proofs.reading.list.Lts as lts
-use Rattle.digits.proofs.filled.Reads as filled-reads
-use Rattle.digits.proofs.key_at.Reads as key-at-reads
-use Rattle.digits.proofs.named.Reads as named-reads
-use Rattle.keeper.proofs.checks.checks_of.Reads as checks-of-reads
-use Rattle.keeper.proofs.reading.list_checked.Reads as list-checked-reads
 
 named-requires : tie.Need-named-requires
 named-requires c κs = search needs
@@ -61,7 +56,7 @@ key-at-requires-2 : tie.Need-key-at-requires-2
 key-at-requires-2 c κs = search needs
 
 list-checked-requires : tie.Need-list-checked-requires
-list-checked-requires c κs = ?
+list-checked-requires c κs = fine-ready (c .before .before .before .before .before .before .before .before .before .checks-of .result) (c .before .before .before .before .before .before .before .enum-told5 .given .1) (c .before .before .before .before .before .before .before .before .before .checks-of .ensures)
 
 returns-3 : tie.Need-returns-3
 returns-3 c = search needs

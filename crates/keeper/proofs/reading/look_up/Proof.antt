@@ -3,15 +3,6 @@ use Rattle.keeper.proofs.Laws.{right-sized, arrival-inside}
 use borrow.Author.Needs.{needs}
 use Rattle.keeper.proofs.reading.look_up.Statement.{statement}
 use Rattle.keeper.proofs.reading.look_up.Tie as tie
-use Rattle.keeper.proofs.reading.look_up.Reads as reads
-use Rattle.keeper.proofs.reading.look_up.Lts as lts
-use Rattle.digits.proofs.filled.Reads as filled-reads
-use Rattle.digits.proofs.key_at.Reads as key-at-reads
-use Rattle.digits.proofs.named.Reads as named-reads
-use Rattle.file.proofs.header_of.Reads as header-of-reads
-use Rattle.file.proofs.slot_at.Reads as slot-at-reads
-use Rattle.keeper.proofs.reading.answer_of.Reads as answer-of-reads
-use Rattle.trie.proofs.arrival_of.Reads as arrival-of-reads
 
 named-requires : tie.Need-named-requires
 named-requires c κs = search needs

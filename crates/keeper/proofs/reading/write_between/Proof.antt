@@ -1,18 +1,11 @@
 -- `write_between` meets its contract: the output keeps its length, and each part fits behind those before it.
-use Prim.Native.Nat.{_≤_, _<_, _-_, _+_, _*_}
+use Prim.Native.Nat.{_≤_, _-_}
 use native.Mathlib.Omega.{arith}
-use mathlib.Core.Path.{_≡_, ap, _∙_}
+use mathlib.Core.Path.{_≡_}
 use lib.ListN.{length}
-use lib.Seq.{length-paste}
 use borrow.Author.Needs.{needs}
 use Rattle.keeper.proofs.reading.write_between.Statement.{statement}
 use Rattle.keeper.proofs.reading.write_between.Tie as tie
-use Rattle.keeper.proofs.reading.write_between.Reads as reads
-use Rattle.keeper.proofs.reading.write_between.Lts as lts
-use Rattle.bucket.proofs.copy.Reads as copy-reads
-use Rattle.bucket.proofs.part_between.Reads as part-between-reads
-use Rattle.digits.proofs.index.Reads as index-reads
-use Rattle.file.proofs.slot_at.Reads as slot-at-reads
 
 abbrev Inv-loop : tie.InvT-loop
 Inv-loop file size order from to first second output₀ at₀ j₀ output at j = (at ≤ length output) × (length output ≡ length output₀)

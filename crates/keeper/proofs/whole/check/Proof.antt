@@ -3,10 +3,6 @@ use Rattle.keeper.proofs.Laws.{right-sized}
 use borrow.Author.Needs.{needs}
 use Rattle.keeper.proofs.whole.check.Statement.{statement}
 use Rattle.keeper.proofs.whole.check.Tie as tie
-use Rattle.keeper.proofs.whole.check.Reads as reads
-use Rattle.keeper.proofs.whole.check.Lts as lts
-use Rattle.file.proofs.header_of.Reads as header-of-reads
-use Rattle.file.proofs.survey_of.Reads as survey-of-reads
 
 header-of-requires : tie.Need-header-of-requires
 header-of-requires c κs = search needs

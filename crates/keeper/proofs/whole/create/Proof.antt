@@ -3,13 +3,6 @@ use Rattle.keeper.proofs.Laws.{right-sized}
 use borrow.Author.Needs.{needs}
 use Rattle.keeper.proofs.whole.create.Statement.{statement}
 use Rattle.keeper.proofs.whole.create.Tie as tie
-use Rattle.keeper.proofs.whole.create.Reads as reads
-use Rattle.keeper.proofs.whole.create.Lts as lts
-use Rattle.file.proofs.create.Reads as create-reads
-use Rattle.file.proofs.sizes.Reads as sizes-reads
-use Rattle.keeper.proofs.whole.refused.Reads as refused-reads
-use Rattle.keeper.proofs.whole.small.Reads as small-reads
-use Rattle.trie.proofs.lone.Reads as lone-reads
 
 refused-requires : tie.Need-refused-requires
 refused-requires c κs = search needs

@@ -3,13 +3,6 @@ use Rattle.keeper.proofs.Laws.{right-sized}
 use borrow.Author.Needs.{needs}
 use Rattle.keeper.proofs.whole.rebuild.Statement.{statement}
 use Rattle.keeper.proofs.whole.rebuild.Tie as tie
-use Rattle.keeper.proofs.whole.rebuild.Reads as reads
-use Rattle.keeper.proofs.whole.rebuild.Lts as lts
-use Rattle.file.proofs.header_of.Reads as header-of-reads
-use Rattle.file.proofs.survey_of.Reads as survey-of-reads
-use Rattle.keeper.proofs.whole.refused.Reads as refused-reads
-use Rattle.rebuilding.proofs.rebuilt.Reads as rebuilt-reads
-use Rattle.strings.proofs.strings_of.Reads as strings-of-reads
 
 header-of-requires : tie.Need-header-of-requires
 header-of-requires c κs = search needs

@@ -1,15 +1,8 @@
 -- `recover` meets its contract: the slot that it frees is one of the file's.
-use native.Mathlib.Omega.{arith}
 use Rattle.keeper.proofs.Laws.{right-sized}
 use borrow.Author.Needs.{needs}
 use Rattle.keeper.proofs.whole.recover.Statement.{statement}
 use Rattle.keeper.proofs.whole.recover.Tie as tie
-use Rattle.keeper.proofs.whole.recover.Reads as reads
-use Rattle.keeper.proofs.whole.recover.Lts as lts
-use Rattle.file.proofs.header_of.Reads as header-of-reads
-use Rattle.file.proofs.slot_size.Reads as slot-size-reads
-use Rattle.file.proofs.store.Reads as store-reads
-use Rattle.file.proofs.survey_of.Reads as survey-of-reads
 
 returns : tie.Need-returns
 returns c = search needs
