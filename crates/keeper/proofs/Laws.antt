@@ -1,0 +1,37 @@
+-- What the answers of the crates below say, once it is known which answer was given.
+use mathlib.Core.Path.{_≡_, subst}
+use Prim.Native.Nat.{ℕ, _<_}
+use Rattle.file.specs.declared.Size.{Size}
+use Rattle.file.specs.declared.Header.{Header}
+use Rattle.file.specs.declared.Header.the-variants.{Right}
+use Rattle.file.specs.declared.Room.{Room}
+use Rattle.file.specs.declared.Room.the-variants.{At as RoomAt}
+use Rattle.file.specs.Sizes.{Sized, Told, Inside as RoomInside}
+use Rattle.trie.specs.declared.Arrival.{Arrival}
+use Rattle.trie.specs.declared.Arrival.the-variants.{At as ArrivalAt}
+use Rattle.trie.specs.Arrivals.{Inside as ArrivalInside}
+use Rattle.keeper.specs.declared.checks.Checked.{Checked}
+use Rattle.keeper.specs.declared.checks.Verdict.{Verdict}
+use Rattle.keeper.specs.declared.checks.Verdict.the-variants.{Fine, Refused}
+use Rattle.keeper.specs.declared.answers.Cause.{Cause}
+use Rattle.keeper.specs.Ready.{Ready, ReadyWhere, Passed}
+
+-- a header that is right says the file's sizes
+pub right-sized : {h : Header} {s : Size} {n : ℕ} → h ≡ Right s → Told h n → Sized n s
+right-sized {h} {s} {n} e t = subst (λ (x : Header). Told x n) e t
+
+-- a free slot that was found is one of the file's
+pub room-inside : {r : Room} {k n : ℕ} → r ≡ RoomAt k → RoomInside r n → k < n
+room-inside {r} {k} {n} e t = subst (λ (x : Room). RoomInside x n) e t
+
+-- a walk arrives at one of the file's slots
+pub arrival-inside : {a : Arrival} {k n : ℕ} → a ≡ ArrivalAt k → ArrivalInside a n → k < n
+arrival-inside {a} {k} {n} e t = subst (λ (x : Arrival). ArrivalInside x n) e t
+
+-- checks whose verdict is fine found a file that is ready
+pub fine-ready : (c : Checked) {n : ℕ} → c .verdict ≡ Fine → Passed c n → Ready c n
+fine-ready c {n} e t = subst (λ (x : Verdict). ReadyWhere x c n) e t
+
+-- a refusal says nothing of the file
+pub refused-passed : (c : Checked) {cause : Cause} (n : ℕ) → c .verdict ≡ Refused cause → Passed c n
+refused-passed c {cause} n e = rw e tt

@@ -1,0 +1,78 @@
+-- `split` meets its contract: the free slot is one of the file's, and the strings are not too many.
+use native.Mathlib.Omega.{arith}
+use Rattle.keeper.proofs.Laws.{room-inside}
+use borrow.Author.Needs.{needs}
+use Rattle.keeper.proofs.changes.split.Statement.{statement}
+use Rattle.keeper.proofs.changes.split.Tie as tie
+
+lowest-free-requires : tie.Need-lowest-free-requires
+lowest-free-requires c κs = search needs
+
+enum-known-n : tie.Need-enum-known-n
+enum-known-n c = search needs
+
+enum-told : tie.Need-enum-told
+enum-told c = search needs
+
+refused-requires : tie.Need-refused-requires
+refused-requires c κs = search needs
+
+returns : tie.Need-returns
+returns c = search needs
+
+split-of-requires : tie.Need-split-of-requires
+split-of-requires c κs = search needs
+
+refused-requires-2 : tie.Need-refused-requires-2
+refused-requires-2 c κs = search needs
+
+returns-2 : tie.Need-returns-2
+returns-2 c = search needs
+
+add-if2 : tie.Need-add-if2
+add-if2 c = search needs
+
+number-requires : tie.Need-number-requires
+number-requires c κs = search needs
+
+add-if2-2 : tie.Need-add-if2-2
+add-if2-2 c = search needs
+
+refused-requires-3 : tie.Need-refused-requires-3
+refused-requires-3 c κs = search needs
+
+returns-3 : tie.Need-returns-3
+returns-3 c = search needs
+
+divide-requires : tie.Need-divide-requires
+divide-requires c κs =
+    let s = c .before .before .before .before .before .before .before .before .before .before .before .before .before .before .before in
+    let h = room-inside (c .before .before .before .before .before .before .before .before .before .n .given .1) (c .before .before .before .before .before .before .before .before .before .before .before .lowest-free .ensures) in
+    (s .pre .0, s .pre .1, h, c .before .before .before .before .before .before .before .split-of .ensures, omega arith)
+
+same-length : tie.Need-same-length
+same-length c = search needs
+
+returns-4 : tie.Need-returns-4
+returns-4 c = search needs
+
+pub split-spec : {M : Type 1} → statement M
+split-spec =
+    tie.close
+    (tie.spec
+    lowest-free-requires
+    enum-known-n
+    enum-told
+    refused-requires
+    returns
+    split-of-requires
+    refused-requires-2
+    returns-2
+    add-if2
+    number-requires
+    add-if2-2
+    refused-requires-3
+    returns-3
+    divide-requires
+    same-length
+    returns-4)

@@ -1,0 +1,70 @@
+-- `checks_of` meets its contract: each refusal stands alone, and agreement sees sizes and a survey of this file.
+use Rattle.keeper.proofs.Laws.{right-sized, refused-passed}
+use borrow.Author.Needs.{needs}
+use Rattle.keeper.proofs.checks.checks_of.Statement.{statement}
+use Rattle.keeper.proofs.checks.checks_of.Tie as tie
+
+header-of-requires : tie.Need-header-of-requires
+header-of-requires c κs = search needs
+
+enum-known-size : tie.Need-enum-known-size
+enum-known-size c = search needs
+
+enum-told : tie.Need-enum-told
+enum-told c = search needs
+
+refused-requires : tie.Need-refused-requires
+refused-requires c κs = search needs
+
+returns : tie.Need-returns
+returns c = refused-passed (c .refused .result) _ (c .refused .ensures)
+
+survey-of-requires : tie.Need-survey-of-requires
+survey-of-requires c κs = right-sized (c .before .size .given .1) (c .before .before .before .header-of .ensures)
+
+enum-told-2 : tie.Need-enum-told-2
+enum-told-2 c = search needs
+
+refused-requires-2 : tie.Need-refused-requires-2
+refused-requires-2 c κs = search needs
+
+enum-told-3 : tie.Need-enum-told-3
+enum-told-3 c = search needs
+
+refused-requires-3 : tie.Need-refused-requires-3
+refused-requires-3 c κs = search needs
+
+enum-told-4 : tie.Need-enum-told-4
+enum-told-4 c = search needs
+
+agreed-requires : tie.Need-agreed-requires
+agreed-requires c κs = (right-sized (c .before .before .before .before .size .given .1) (c .before .before .before .before .before .before .header-of .ensures), c .before .before .survey-of .ensures)
+
+returns-2 : tie.Need-returns-2
+returns-2 c = refused-passed (c .refused2 .result) _ (c .refused2 .ensures)
+
+returns-3 : tie.Need-returns-3
+returns-3 c = refused-passed (c .refused3 .result) _ (c .refused3 .ensures)
+
+returns-4 : tie.Need-returns-4
+returns-4 c = search needs
+
+pub checks-of-spec : {M : Type 1} → statement M
+checks-of-spec =
+    tie.close
+    (tie.spec
+    header-of-requires
+    enum-known-size
+    enum-told
+    refused-requires
+    returns
+    survey-of-requires
+    enum-told-2
+    refused-requires-2
+    enum-told-3
+    refused-requires-3
+    enum-told-4
+    agreed-requires
+    returns-2
+    returns-3
+    returns-4)

@@ -1,0 +1,94 @@
+-- `list` meets its contract: what passed the checks is ready.
+use Rattle.keeper.proofs.Laws.{fine-ready}
+use borrow.Author.Needs.{needs}
+use Rattle.keeper.proofs.reading.list.Statement.{statement}
+use Rattle.keeper.proofs.reading.list.Tie as tie
+
+named-requires : tie.Need-named-requires
+named-requires c κs = search needs
+
+enum-told : tie.Need-enum-told
+enum-told c = search needs
+
+enum-told-2 : tie.Need-enum-told-2
+enum-told-2 c = search needs
+
+returns : tie.Need-returns
+returns c = search needs
+
+named-requires-2 : tie.Need-named-requires-2
+named-requires-2 c κs = search needs
+
+enum-told-3 : tie.Need-enum-told-3
+enum-told-3 c = search needs
+
+enum-told-4 : tie.Need-enum-told-4
+enum-told-4 c = search needs
+
+returns-2 : tie.Need-returns-2
+returns-2 c = search needs
+
+checks-of-requires : tie.Need-checks-of-requires
+checks-of-requires c κs = search needs
+
+enum-known-verdict : tie.Need-enum-known-verdict
+enum-known-verdict c = search needs
+
+enum-told-5 : tie.Need-enum-told-5
+enum-told-5 c = search needs
+
+filled-requires : tie.Need-filled-requires
+filled-requires c κs = search needs
+
+filled-requires-2 : tie.Need-filled-requires-2
+filled-requires-2 c κs = search needs
+
+slice-aggregate-key-at : tie.Need-slice-aggregate-key-at
+slice-aggregate-key-at c = search needs
+
+key-at-requires : tie.Need-key-at-requires
+key-at-requires c κs = search needs
+
+slice-aggregate-key-at-2 : tie.Need-slice-aggregate-key-at-2
+slice-aggregate-key-at-2 c = search needs
+
+key-at-requires-2 : tie.Need-key-at-requires-2
+key-at-requires-2 c κs = search needs
+
+list-checked-requires : tie.Need-list-checked-requires
+list-checked-requires c κs = fine-ready (c .before .before .before .before .before .before .before .before .before .checks-of .result) (c .before .before .before .before .before .before .before .enum-told5 .given .1) (c .before .before .before .before .before .before .before .before .before .checks-of .ensures)
+
+returns-3 : tie.Need-returns-3
+returns-3 c = search needs
+
+same-length : tie.Need-same-length
+same-length c = search needs
+
+returns-4 : tie.Need-returns-4
+returns-4 c = search needs
+
+pub list-spec : {M : Type 1} → statement M
+list-spec =
+    tie.close
+    (tie.spec
+    named-requires
+    enum-told
+    enum-told-2
+    returns
+    named-requires-2
+    enum-told-3
+    enum-told-4
+    returns-2
+    checks-of-requires
+    enum-known-verdict
+    enum-told-5
+    filled-requires
+    filled-requires-2
+    slice-aggregate-key-at
+    key-at-requires
+    slice-aggregate-key-at-2
+    key-at-requires-2
+    list-checked-requires
+    returns-3
+    same-length
+    returns-4)

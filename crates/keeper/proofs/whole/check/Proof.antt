@@ -1,0 +1,28 @@
+-- `check` meets its contract: the survey is of a file whose sizes are right.
+use Rattle.keeper.proofs.Laws.{right-sized}
+use borrow.Author.Needs.{needs}
+use Rattle.keeper.proofs.whole.check.Statement.{statement}
+use Rattle.keeper.proofs.whole.check.Tie as tie
+
+header-of-requires : tie.Need-header-of-requires
+header-of-requires c κs = search needs
+
+enum-known-size : tie.Need-enum-known-size
+enum-known-size c = search needs
+
+enum-told : tie.Need-enum-told
+enum-told c = search needs
+
+returns : tie.Need-returns
+returns c = search needs
+
+survey-of-requires : tie.Need-survey-of-requires
+survey-of-requires c κs = right-sized (c .before .size .given .1) (c .before .before .before .header-of .ensures)
+
+returns-2 : tie.Need-returns-2
+returns-2 c = search needs
+
+pub check-spec : {M : Type 1} → statement M
+check-spec =
+    tie.close
+    (tie.spec header-of-requires enum-known-size enum-told returns survey-of-requires returns-2)

@@ -1,0 +1,84 @@
+-- `rebuild` meets its contract: the order is of a file whose sizes are right.
+use Rattle.keeper.proofs.Laws.{right-sized}
+use borrow.Author.Needs.{needs}
+use Rattle.keeper.proofs.whole.rebuild.Statement.{statement}
+use Rattle.keeper.proofs.whole.rebuild.Tie as tie
+
+header-of-requires : tie.Need-header-of-requires
+header-of-requires c κs = search needs
+
+enum-known-size : tie.Need-enum-known-size
+enum-known-size c = search needs
+
+enum-told : tie.Need-enum-told
+enum-told c = search needs
+
+refused-requires : tie.Need-refused-requires
+refused-requires c κs = search needs
+
+returns : tie.Need-returns
+returns c = search needs
+
+survey-of-requires : tie.Need-survey-of-requires
+survey-of-requires c κs = right-sized (c .before .size .given .1) (c .before .before .before .header-of .ensures)
+
+enum-told-2 : tie.Need-enum-told-2
+enum-told-2 c = search needs
+
+refused-requires-2 : tie.Need-refused-requires-2
+refused-requires-2 c κs = search needs
+
+enum-told-3 : tie.Need-enum-told-3
+enum-told-3 c = search needs
+
+refused-requires-3 : tie.Need-refused-requires-3
+refused-requires-3 c κs = search needs
+
+enum-told-4 : tie.Need-enum-told-4
+enum-told-4 c = search needs
+
+strings-of-requires : tie.Need-strings-of-requires
+strings-of-requires c κs =
+    let v = c .before .before .before .before .survey-of .ensures in
+    (right-sized (c .before .before .before .before .before .before .size .given .1) (c .before .before .before .before .before .before .before .before .header-of .ensures), v .slots-inside, v .count-most)
+
+refused-requires-4 : tie.Need-refused-requires-4
+refused-requires-4 c κs = search needs
+
+returns-2 : tie.Need-returns-2
+returns-2 c = search needs
+
+rebuilt-requires : tie.Need-rebuilt-requires
+rebuilt-requires c κs = search needs
+
+returns-3 : tie.Need-returns-3
+returns-3 c = search needs
+
+returns-4 : tie.Need-returns-4
+returns-4 c = search needs
+
+returns-5 : tie.Need-returns-5
+returns-5 c = search needs
+
+pub rebuild-spec : {M : Type 1} → statement M
+rebuild-spec =
+    tie.close
+    (tie.spec
+    header-of-requires
+    enum-known-size
+    enum-told
+    refused-requires
+    returns
+    survey-of-requires
+    enum-told-2
+    refused-requires-2
+    enum-told-3
+    refused-requires-3
+    enum-told-4
+    strings-of-requires
+    refused-requires-4
+    returns-2
+    rebuilt-requires
+    returns-3
+    returns-4
+    returns-5)
