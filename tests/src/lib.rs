@@ -9,6 +9,7 @@ pub mod library;
 pub mod make;
 pub mod model;
 pub mod run;
+pub mod situations;
 pub mod stories;
 pub mod sweeps;
 pub mod watch;
