@@ -3,7 +3,7 @@
 use crate::chance::Chance;
 use crate::door::{read_image, write_image, IMAGE};
 use crate::make;
-use crate::model::file::{header, slot_length, File, Slot, HEADER};
+use crate::model::file::{header, slot_length, File, HEADER};
 use crate::model::trie::{Place, Side, Trie, CELLS};
 
 /// A damaged copy of a file. Some damage leaves it sound: a changed value, two slots that changed places.
@@ -241,9 +241,4 @@ pub fn unreached_leaf_changed(chance: &mut Chance, trie: &Trie, slots: usize) ->
         }
     }
     None
-}
-
-/// The numbers of the used slots of a file, whatever it is.
-pub fn used_slots(file: &[u8]) -> usize {
-    File::read(file).map_or(0, |file| file.slots.iter().filter(|slot| matches!(slot, Slot::Used(_))).count())
 }

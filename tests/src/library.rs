@@ -186,76 +186,111 @@ impl Default for Grounds {
     }
 }
 
-/// What the library leaves behind, or which memory it touched that it must leave alone. `turn` chooses where the buffers
-/// stand.
-pub fn by_library(call: &Call, grounds: &mut Grounds, turn: usize) -> Result<Outcome, String> {
-    let Grounds { file: file_ground, trie: trie_ground, first: first_ground, second: second_ground, output: output_ground, out: out_ground } =
-        grounds;
-    let at_entry: Vec<u8> = OUT_AT_ENTRY.iter().flat_map(|word| word.to_ne_bytes()).collect();
-    let out_words = out_ground.lend(&at_entry, turn / 7, 8) as *mut u64;
-    // A buffer that this call has not is lent empty, so that what the call before left there is not read again.
-    let empty: &[u8] = &[];
-    let (file, trie, first, second, output) = match call {
-        Call::Create { file, trie, .. } | Call::Rebuild { file, trie } => (&file[..], &trie[..], empty, empty, empty),
-        Call::Check { file } | Call::Recover { file, .. } => (&file[..], empty, empty, empty, empty),
-        Call::Lookup { file, trie, name } | Call::Put { file, trie, name, .. } | Call::Remove { file, trie, name, .. } => {
-            (&file[..], &trie[..], &name[..], empty, empty)
-        }
-        Call::List { file, trie, first, second, output } => {
-            (&file[..], &trie[..], &first[..], &second[..], &output[..])
-        }
-    };
-    let f = file_ground.lend(file, turn, 1);
-    let t = trie_ground.lend(trie, turn / 3, 1);
-    let n = first_ground.lend(first, turn / 5, 1);
-    let s = second_ground.lend(second, turn / 2, 1);
-    let o = output_ground.lend(output, turn / 11, 1);
-    // Each buffer stands alone on its own ground, lives until the answer, and has exactly the length that is said.
-    let answer = unsafe {
-        match call {
-            Call::Create { version, b, slots, .. } => {
-                raw::pal_create(f, file.len(), *version, *b, *slots, t, trie.len())
-            }
-            Call::Check { .. } => raw::pal_check(f, file.len()),
-            Call::Recover { limit, .. } => raw::pal_recover(f, file.len(), *limit, out_words),
-            Call::Rebuild { .. } => raw::pal_rebuild(f, file.len(), t, trie.len()),
-            Call::Lookup { .. } => raw::pal_lookup(f, file.len(), t, trie.len(), n, first.len(), out_words),
-            Call::Put { value, run, limit, .. } => {
-                raw::pal_put(f, file.len(), t, trie.len(), n, first.len(), *value, *run, *limit, out_words)
-            }
-            Call::Remove { limit, .. } => {
-                raw::pal_remove(f, file.len(), t, trie.len(), n, first.len(), *limit, out_words)
-            }
-            Call::List { .. } => raw::pal_list(
-                f, file.len(), t, trie.len(), n, first.len(), s, second.len(), o, output.len(), out_words,
+/// A call with everything lent to it, ready to be made. It points into grounds that must outlive it.
+#[derive(Clone, Copy)]
+pub struct Lent {
+    number: usize,
+    file: (*mut u8, usize),
+    trie: (*mut u8, usize),
+    first: (*mut u8, usize),
+    second: (*mut u8, usize),
+    output: (*mut u8, usize),
+    out: *mut u64,
+    numbers: [u64; 3],
+}
+
+impl Lent {
+    /// Makes the call and nothing else, so that what it needs of the stack can be measured.
+    ///
+    /// # Safety
+    /// The grounds are alive, and nobody else uses them.
+    pub unsafe fn make(&self) -> u64 {
+        let Lent { number, file, trie, first, second, output, out, numbers: [one, two, three] } = *self;
+        match number {
+            0 => raw::pal_create(file.0, file.1, one, two, three, trie.0, trie.1),
+            1 => raw::pal_check(file.0, file.1),
+            2 => raw::pal_recover(file.0, file.1, one, out),
+            3 => raw::pal_rebuild(file.0, file.1, trie.0, trie.1),
+            4 => raw::pal_lookup(file.0, file.1, trie.0, trie.1, first.0, first.1, out),
+            5 => raw::pal_put(file.0, file.1, trie.0, trie.1, first.0, first.1, one, two, three, out),
+            6 => raw::pal_remove(file.0, file.1, trie.0, trie.1, first.0, first.1, one, out),
+            _ => raw::pal_list(
+                file.0, file.1, trie.0, trie.1, first.0, first.1, second.0, second.1, output.0, output.1, out,
             ),
         }
+    }
+}
+
+/// The bytes lent to a call: file, trie, first and second name, output. What a call has not is empty.
+fn buffers(call: &Call) -> [&[u8]; 5] {
+    match call {
+        Call::Create { file, trie, .. } | Call::Rebuild { file, trie } => [file, trie, &[], &[], &[]],
+        Call::Check { file } | Call::Recover { file, .. } => [file, &[], &[], &[], &[]],
+        Call::Lookup { file, trie, name } | Call::Put { file, trie, name, .. } | Call::Remove { file, trie, name, .. } => {
+            [file, trie, name, &[], &[]]
+        }
+        Call::List { file, trie, first, second, output } => [file, trie, first, second, output],
+    }
+}
+
+/// Lends everything that a call needs. `turn` chooses where the buffers stand.
+pub fn lend(call: &Call, grounds: &mut Grounds, turn: usize) -> Lent {
+    let [file, trie, first, second, output] = buffers(call);
+    let at_entry: Vec<u8> = OUT_AT_ENTRY.iter().flat_map(|word| word.to_ne_bytes()).collect();
+    let numbers = match call {
+        Call::Create { version, b, slots, .. } => [*version, *b, *slots],
+        Call::Put { value, run, limit, .. } => [*value, *run, *limit],
+        Call::Recover { limit, .. } | Call::Remove { limit, .. } => [*limit, 0, 0],
+        Call::Check { .. } | Call::Rebuild { .. } | Call::Lookup { .. } | Call::List { .. } => [0, 0, 0],
     };
+    Lent {
+        number: call.number(),
+        file: (grounds.file.lend(file, turn, 1), file.len()),
+        trie: (grounds.trie.lend(trie, turn / 3, 1), trie.len()),
+        first: (grounds.first.lend(first, turn / 5, 1), first.len()),
+        second: (grounds.second.lend(second, turn / 2, 1), second.len()),
+        output: (grounds.output.lend(output, turn / 11, 1), output.len()),
+        out: grounds.out.lend(&at_entry, turn / 7, 8) as *mut u64,
+        numbers,
+    }
+}
+
+/// What a call that was made has left behind, or which memory it wrote that it must leave alone.
+pub fn take_back(call: &Call, grounds: &Grounds, answer: u64) -> Result<Outcome, String> {
+    let [_, _, first, second, _] = buffers(call);
     let lent: [(&str, &Ground); 6] = [
-        ("file", file_ground),
-        ("trie", trie_ground),
-        ("first name", first_ground),
-        ("second name", second_ground),
-        ("output", output_ground),
-        ("out", out_ground),
+        ("file", &grounds.file),
+        ("trie", &grounds.trie),
+        ("first name", &grounds.first),
+        ("second name", &grounds.second),
+        ("output", &grounds.output),
+        ("out", &grounds.out),
     ];
     for (what, ground) in lent {
         if !ground.guarded() {
             return Err(format!("bytes beside the {what} were written (answer {answer})"));
         }
     }
-    if first_ground.lent() != first || second_ground.lent() != second {
+    if grounds.first.lent() != first || grounds.second.lent() != second {
         return Err(format!("a name was written (answer {answer})"));
     }
     let mut out = [0; 4];
-    for (word, bytes) in out.iter_mut().zip(out_ground.lent().chunks(8)) {
+    for (word, bytes) in out.iter_mut().zip(grounds.out.lent().chunks(8)) {
         *word = u64::from_ne_bytes(bytes.try_into().unwrap());
     }
     Ok(Outcome {
         answer,
         out,
-        file: file_ground.lent().to_vec(),
-        trie: trie_ground.lent().to_vec(),
-        output: output_ground.lent().to_vec(),
+        file: grounds.file.lent().to_vec(),
+        trie: grounds.trie.lent().to_vec(),
+        output: grounds.output.lent().to_vec(),
     })
+}
+
+/// What the library leaves behind, or which memory it wrote that it must leave alone.
+pub fn by_library(call: &Call, grounds: &mut Grounds, turn: usize) -> Result<Outcome, String> {
+    let lent = lend(call, grounds, turn);
+    // Each buffer stands alone on its own ground, is alive, and has exactly the length that is said.
+    let answer = unsafe { lent.make() };
+    take_back(call, grounds, answer)
 }

@@ -7,7 +7,7 @@ use crate::model::file::{
     bucket_bytes, file_length, header_bytes, kind, store, Bucket, Entry, File, Kind, Slot,
 };
 use crate::model::names::{filled, is_legal_name, unfilled, Bound, BLANK, DIGITS};
-use crate::model::trie::{fits, row, strings, Cell, Side, Trie, CELLS, PAST_THE_COUNT};
+use crate::model::trie::{fits, row, strings, Cell, Place, Side, Trie, CELLS};
 
 /// What the names of a story look like.
 #[derive(Clone, Copy, PartialEq, Eq, Debug)]
@@ -368,7 +368,7 @@ pub fn has_a_legal_name(left: Option<&Bound>, right: Option<&Bound>) -> bool {
 }
 
 /// The places of leaves that no legal name reaches.
-pub fn unreached_leaves(trie: &Trie) -> Vec<crate::model::trie::Place> {
+pub fn unreached_leaves(trie: &Trie) -> Vec<Place> {
     let Some(row) = row(trie) else { return Vec::new() };
     let unreached = row.leaves.iter().enumerate().filter(|(place, _)| {
         let left = place.checked_sub(1).map(|before| &row.strings[before]);
@@ -442,11 +442,6 @@ pub fn cut_file(chance: &mut Chance, file: &File, names: &[Vec<u8>], nearly: boo
     slots[a] = Slot::Used(kept);
     slots[n] = Slot::Used(copy);
     Some(file_bytes(file.b, &slots))
-}
-
-/// Whether what stands past a trie's count is as it must be.
-pub fn is_clean_past_the_count(trie: &Trie) -> bool {
-    trie.cells.iter().skip(trie.count).all(|cell| *cell == PAST_THE_COUNT)
 }
 
 #[cfg(test)]

@@ -1,6 +1,7 @@
 //! Runs stories: each call goes to the model at once and to the library soon after, and both must leave the same behind.
 
 use std::fmt::Write;
+use std::time::Instant;
 
 use crate::answers;
 use crate::door::{by_model, Call, Outcome, CALLS};
@@ -50,13 +51,14 @@ pub fn part(name: &'static str, first: u64, stories: u64, tell: impl Fn(u64, &mu
         numbers = only..only + 1;
     }
     println!("part {name}: stories {} to {}", numbers.start, numbers.end - 1);
+    let start = Instant::now();
     for story in numbers {
         run.story = story;
         run.step = 0;
         tell(story, &mut run);
     }
     run.compare();
-    println!("part {name}: {} calls compared", run.compared);
+    println!("part {name}: {} calls compared in {:.1} s", run.compared, start.elapsed().as_secs_f64());
     run.compared
 }
 

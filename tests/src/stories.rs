@@ -47,6 +47,8 @@ pub const SITUATIONS: &[&str] = &[
     "a sound file with more than 256 strings, a lookup that answers",
     "a stale trie that answers a lookup",
     "a stale trie that is refused by a lookup",
+    "a digit number above 23 on a path of 24 digits",
+    "a walk that meets a cell twice",
     "a lookup that answers in a cut file",
     "a lookup that answers in a bad file",
     "a leaf that no legal name reaches was changed, put refuses",

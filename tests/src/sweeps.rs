@@ -1,10 +1,12 @@
 //! Sweeps: every value of something, where random choices might miss one.
 
+use crate::answers::mark;
+use crate::chance::Chance;
 use crate::door::{write_image, Call, IMAGE};
-use crate::make::file_bytes;
+use crate::make::{file_bytes, sound_file};
 use crate::model::file::{file_length, Bucket, Entry, File, Slot};
 use crate::model::names::{filled, is_in_range, Bound};
-use crate::model::trie::rebuilt;
+use crate::model::trie::{rebuilt, Cell, Side, Trie, CELLS};
 use crate::run::Run;
 
 fn bound(digits: &str) -> Bound {
@@ -65,7 +67,7 @@ pub fn create_arguments(_: u64, run: &mut Run) {
         create(run, length, 1, 4, 8);
         create(run, length, 1, 0, 0);
     }
-    for length in [0, 1, 2, 4, 1539, 1541, 3080] {
+    for length in [0, 1, 2, 4, 1539, 1541, IMAGE + 256, 3080, IMAGE + 65_536] {
         let trie = vec![0xDD; length];
         for b in [4, 99] {
             run.call(Call::Create { file: vec![0xEE; file_length(4, 8)], version: 1, b, slots: 8, trie: trie.clone() });
@@ -143,7 +145,8 @@ pub fn bits_of_a_file(_: u64, run: &mut Run) {
                 run.call(Call::Lookup { file: damaged, trie: trie.clone(), name: b"gold".to_vec() });
             }
         }
-        for length in (0..60).chain(file.len() - 3..file.len() + 4) {
+        let far = [file.len() + 256, file.len() + 65_536];
+        for length in (0..60).chain(file.len() - 3..file.len() + 4).chain(far) {
             let mut damaged = file.clone();
             damaged.resize(length, 0);
             all_calls(run, &damaged, &trie);
@@ -279,5 +282,132 @@ pub fn small_files(_: u64, run: &mut Run) {
                 }
             }
         }
+    }
+}
+
+/// Look ups with tries that no file agrees with: each word of look up's order on both sides.
+pub fn walks(_: u64, run: &mut Run) {
+    let slots = 5;
+    let file = file_bytes(
+        2,
+        &[
+            bucket("", "", &[("abcdefghijklmnopqrstuvwx", 1), ("az", 2)]),
+            Slot::Free,
+            bucket("a", "b", &[("b", 3)]),
+            bucket("", "az", &[("a", 4), ("az", 5)]),
+            Slot::Free,
+        ],
+    );
+    let look_up = |run: &mut Run, trie: &Trie, name: &[u8]| {
+        run.call(Call::Lookup { file: file.clone(), trie: write_image(trie), name: name.to_vec() }).answer
+    };
+    let names: [&[u8]; 4] = [b"abcdefghijklmnopqrstuvwx", b"az", b"b", b"a"];
+    // The first leaf with count 0, and the same with every count.
+    for first_leaf in (0..70).chain([255, 256, 259, 0x7FFF, 0x8000, 0xFFFF]) {
+        for count in [0, 1, 2, CELLS, CELLS + 1] {
+            let mut trie = Trie::empty(first_leaf);
+            trie.count = count;
+            for name in names {
+                look_up(run, &trie, name);
+            }
+        }
+    }
+    // A path of 24 digits, then a cell with any number.
+    for length in 20..=24 {
+        for number in 0..=255 {
+            let mut trie = Trie::empty(0);
+            trie.count = length + 1;
+            for place in 0..length {
+                let digit = b'a' + place as u8;
+                trie.cells[place] =
+                    Cell { digit, number: place, left: Side::Cell(place + 1), right: Side::Slot(1) };
+            }
+            trie.cells[length] = Cell { digit: b'~', number, left: Side::Slot(0), right: Side::Slot(3) };
+            for name in names {
+                let answer = look_up(run, &trie, name);
+                if length == 24 && number == 24 && name.len() == 24 {
+                    assert_eq!(answer, 4);
+                    mark("a digit number above 23 on a path of 24 digits");
+                }
+            }
+        }
+    }
+    // A walk that meets a cell twice and goes another way the second time: 4 visits. Only the count can refuse it.
+    for count in 3..=6 {
+        let mut trie = Trie::empty(0);
+        trie.count = count;
+        trie.cells[0] = Cell { digit: b'z', number: 0, left: Side::Cell(1), right: Side::Slot(1) };
+        trie.cells[1] = Cell { digit: b'!', number: 1, left: Side::Cell(2), right: Side::Slot(0) };
+        trie.cells[2] = Cell { digit: b'a', number: 0, left: Side::Cell(1), right: Side::Slot(1) };
+        let answer = look_up(run, &trie, b"az");
+        assert_eq!(answer, if count < 4 { 4 } else { 100 });
+        mark("a walk that meets a cell twice");
+        for name in names {
+            look_up(run, &trie, name);
+        }
+    }
+    // Chains of every length, with every count around it, left and right.
+    for length in (1..12).chain(250..=256) {
+        for count in [length - 1, length, length + 1, length + 7] {
+            for left in [true, false] {
+                let mut trie = Trie::empty(0);
+                trie.count = count;
+                for cell in 0..length {
+                    let next = if cell + 1 < length { Side::Cell(cell + 1) } else { Side::Slot(0) };
+                    trie.cells[cell] = match left {
+                        true => Cell { digit: b'}', number: 0, left: next, right: Side::Slot(1) },
+                        false => Cell { digit: b'!', number: 0, left: Side::Slot(1), right: next },
+                    };
+                }
+                for name in names {
+                    look_up(run, &trie, name);
+                }
+            }
+        }
+    }
+    // Every side that a cell can have.
+    for side in i16::MIN..=i16::MAX {
+        let near = (-300..300).contains(&side) || side % 256 == 0 || side % 256 == 1 || side < -0x7FF0 || side > 0x7FF0;
+        if near {
+            let mut trie = Trie::empty(0);
+            trie.count = slots;
+            let mut image = write_image(&trie);
+            image[4] = b'm';
+            image[6..8].copy_from_slice(&side.to_le_bytes());
+            for name in [&b"az"[..], b"x"] {
+                run.call(Call::Lookup { file: file.clone(), trie: image.clone(), name: name.to_vec() });
+            }
+        }
+    }
+}
+
+/// Look ups with tries whose cells are thrown together, so that walks are long and odd.
+pub fn thrown_tries(story: u64, run: &mut Run) {
+    let mut chance = Chance::new(story);
+    let alphabet = [0x20, 0x21, b'a', b'b', b'c', 0x7D, 0xFF];
+    let mut names: Vec<Vec<u8>> = Vec::new();
+    for _ in 0..8 {
+        let length = chance.between(1, 4);
+        names.push((0..length).map(|_| *chance.pick(&alphabet[1..6])).collect());
+    }
+    let file = sound_file(&mut chance, 2, 4, 3, &names);
+    for _ in 0..20 {
+        let mut trie = Trie::empty(chance.below(5));
+        trie.count = chance.between(1, 12);
+        let count = trie.count;
+        for cell in trie.cells.iter_mut().take(count) {
+            let mut side = || match chance.below(100) {
+                0..=39 => Side::Slot(chance.below(4)),
+                40..=97 if count > 1 => Side::Cell(chance.between(1, count - 1)),
+                _ => Side::Cell(count),
+            };
+            let (left, right) = (side(), side());
+            *cell = Cell { digit: *chance.pick(&alphabet), number: chance.below(3), left, right };
+        }
+        let image = write_image(&trie);
+        for name in &names {
+            run.call(Call::Lookup { file: file.clone(), trie: image.clone(), name: name.clone() });
+        }
+        run.call(Call::Remove { file: file.clone(), trie: image, name: names[0].clone(), limit: 1 });
     }
 }

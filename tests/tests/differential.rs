@@ -12,7 +12,7 @@ use palhavento_tests::stories::{tell_brim, tell_built, tell_history, Profile, SI
 use palhavento_tests::sweeps;
 
 /// As many parts as there are tests below.
-const PARTS: usize = 14;
+const PARTS: usize = 16;
 /// So many calls at least are compared in a whole run.
 const CALLS: u64 = 1_000_000;
 
@@ -59,7 +59,7 @@ fn middle_histories() {
 #[test]
 fn full_histories() {
     let profile = Profile { b: (16, 16), slots: (64, 64), names: (600, 1100), changes: (900, 1400), beside: 20 };
-    run_part("full_histories", 4_000_000, 12, |seed, run| tell_history(seed, run, &profile));
+    run_part("full_histories", 4_000_000, 30, |seed, run| tell_history(seed, run, &profile));
 }
 
 #[test]
@@ -71,19 +71,19 @@ fn small_built() {
 #[test]
 fn middle_built() {
     let profile = Profile { b: (2, 16), slots: (4, 64), names: (10, 100), changes: (10, 30), beside: 100 };
-    run_part("middle_built", 6_000_000, 200, |seed, run| tell_built(seed, run, &profile));
+    run_part("middle_built", 6_000_000, 500, |seed, run| tell_built(seed, run, &profile));
 }
 
 #[test]
 fn full_built() {
     let profile = Profile { b: (16, 16), slots: (64, 64), names: (20, 300), changes: (10, 30), beside: 100 };
-    run_part("full_built", 7_000_000, 200, |seed, run| tell_built(seed, run, &profile));
+    run_part("full_built", 7_000_000, 400, |seed, run| tell_built(seed, run, &profile));
 }
 
 #[test]
 fn brim() {
     let profile = Profile { b: (2, 16), slots: (20, 64), names: (0, 0), changes: (10, 30), beside: 100 };
-    run_part("brim", 8_000_000, 200, |seed, run| tell_brim(seed, run, &profile));
+    run_part("brim", 8_000_000, 500, |seed, run| tell_brim(seed, run, &profile));
 }
 
 #[test]
@@ -114,4 +114,14 @@ fn orders() {
 #[test]
 fn small_files() {
     run_part("small_files", 0, 1, sweeps::small_files);
+}
+
+#[test]
+fn walks() {
+    run_part("walks", 0, 1, sweeps::walks);
+}
+
+#[test]
+fn thrown_tries() {
+    run_part("thrown_tries", 10_000_000, 600, sweeps::thrown_tries);
 }
