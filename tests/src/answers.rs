@@ -65,7 +65,11 @@ pub fn never_seen() -> Vec<String> {
 /// The situations of a list that were not noted.
 pub fn never_marked(situations: &[&'static str]) -> Vec<String> {
     let marks = MARKS.lock().unwrap();
-    situations.iter().filter(|situation| !marks.contains_key(*situation)).map(|situation| situation.to_string()).collect()
+    situations
+        .iter()
+        .filter(|situation| !marks.contains_key(*situation))
+        .map(|situation| situation.to_string())
+        .collect()
 }
 
 /// All counts as text.

@@ -174,8 +174,7 @@ fn damage_trie(chance: &mut Chance, trie: &mut Trie) {
     let place = if chance.percent(50) { Place::Left(cell) } else { Place::Right(cell) };
     match chance.below(14) {
         0 => {
-            trie.count =
-                *chance.pick(&[0, 1, count - 1, count + 1, 255, 256, 257, 300, 0x7FFF, 0x8000, 0xFFFF]);
+            trie.count = *chance.pick(&[0, 1, count - 1, count + 1, 255, 256, 257, 300, 0x7FFF, 0x8000, 0xFFFF]);
         }
         1 => trie.first_leaf = *chance.pick(&[0, 1, 2, 63, 64, 0x7FFF, 0x8000, 0xFFFF]),
         // Dirt past the count.

@@ -42,7 +42,8 @@ impl Call {
 }
 
 /// What the four words of `out` hold before each call. A word that a call must not write keeps this.
-pub const OUT_AT_ENTRY: [u64; 4] = [0xA5A5_0000_1111_5A5A, 0xA5A5_2222_3333_5A5A, 0xA5A5_4444_5555_5A5A, 0xA5A5_6666_7777_5A5A];
+pub const OUT_AT_ENTRY: [u64; 4] =
+    [0xA5A5_0000_1111_5A5A, 0xA5A5_2222_3333_5A5A, 0xA5A5_4444_5555_5A5A, 0xA5A5_6666_7777_5A5A];
 
 /// What a call leaves behind: the answer and every byte lent to it that it may change. A call that is not lent one of
 /// them leaves it empty; a call without `out` leaves it as at entry.

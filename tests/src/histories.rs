@@ -54,8 +54,7 @@ pub fn tell(seed: u64, mut call: impl FnMut(Call) -> Outcome) {
         };
         let outcome = if chance.percent(75) {
             let value = chance.word();
-            let outcome =
-                call(Call::Put { file: file.clone(), trie: trie.clone(), name: asked, value, run: 0, limit });
+            let outcome = call(Call::Put { file: file.clone(), trie: trie.clone(), name: asked, value, run: 0, limit });
             match outcome.answer {
                 110 => assert!(history.insert(name, value).is_none()),
                 111 => assert_eq!(history.insert(name, value), Some(outcome.out[0])),

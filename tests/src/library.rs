@@ -12,26 +12,59 @@ pub mod raw {
     //! The calls as the C interface declares them.
     extern "C" {
         pub fn pal_create(
-            file: *mut u8, file_length: usize, version: u64, b: u64, slots: u64, trie: *mut u8, trie_length: usize,
+            file: *mut u8,
+            file_length: usize,
+            version: u64,
+            b: u64,
+            slots: u64,
+            trie: *mut u8,
+            trie_length: usize,
         ) -> u64;
         pub fn pal_check(file: *const u8, file_length: usize) -> u64;
         pub fn pal_recover(file: *mut u8, file_length: usize, limit: u64, out: *mut u64) -> u64;
         pub fn pal_rebuild(file: *const u8, file_length: usize, trie: *mut u8, trie_length: usize) -> u64;
         pub fn pal_lookup(
-            file: *const u8, file_length: usize, trie: *const u8, trie_length: usize, name: *const u8,
-            name_length: usize, out: *mut u64,
+            file: *const u8,
+            file_length: usize,
+            trie: *const u8,
+            trie_length: usize,
+            name: *const u8,
+            name_length: usize,
+            out: *mut u64,
         ) -> u64;
         pub fn pal_put(
-            file: *mut u8, file_length: usize, trie: *mut u8, trie_length: usize, name: *const u8, name_length: usize,
-            value: u64, run: u64, limit: u64, out: *mut u64,
+            file: *mut u8,
+            file_length: usize,
+            trie: *mut u8,
+            trie_length: usize,
+            name: *const u8,
+            name_length: usize,
+            value: u64,
+            run: u64,
+            limit: u64,
+            out: *mut u64,
         ) -> u64;
         pub fn pal_remove(
-            file: *mut u8, file_length: usize, trie: *mut u8, trie_length: usize, name: *const u8, name_length: usize,
-            limit: u64, out: *mut u64,
+            file: *mut u8,
+            file_length: usize,
+            trie: *mut u8,
+            trie_length: usize,
+            name: *const u8,
+            name_length: usize,
+            limit: u64,
+            out: *mut u64,
         ) -> u64;
         pub fn pal_list(
-            file: *const u8, file_length: usize, trie: *const u8, trie_length: usize, first: *const u8,
-            first_length: usize, second: *const u8, second_length: usize, output: *mut u8, output_length: usize,
+            file: *const u8,
+            file_length: usize,
+            trie: *const u8,
+            trie_length: usize,
+            first: *const u8,
+            first_length: usize,
+            second: *const u8,
+            second_length: usize,
+            output: *mut u8,
+            output_length: usize,
             out: *mut u64,
         ) -> u64;
     }
@@ -226,9 +259,9 @@ fn buffers(call: &Call) -> [&[u8]; 5] {
     match call {
         Call::Create { file, trie, .. } | Call::Rebuild { file, trie } => [file, trie, &[], &[], &[]],
         Call::Check { file } | Call::Recover { file, .. } => [file, &[], &[], &[], &[]],
-        Call::Lookup { file, trie, name } | Call::Put { file, trie, name, .. } | Call::Remove { file, trie, name, .. } => {
-            [file, trie, name, &[], &[]]
-        }
+        Call::Lookup { file, trie, name }
+        | Call::Put { file, trie, name, .. }
+        | Call::Remove { file, trie, name, .. } => [file, trie, name, &[], &[]],
         Call::List { file, trie, first, second, output } => [file, trie, first, second, output],
     }
 }

@@ -3,9 +3,7 @@
 use std::collections::BTreeSet;
 
 use crate::chance::Chance;
-use crate::model::file::{
-    bucket_bytes, file_length, header_bytes, kind, store, Bucket, Entry, File, Kind, Slot,
-};
+use crate::model::file::{bucket_bytes, file_length, header_bytes, kind, store, Bucket, Entry, File, Kind, Slot};
 use crate::model::names::{filled, is_legal_name, unfilled, Bound, BLANK, DIGITS};
 use crate::model::trie::{fits, row, strings, Cell, Place, Side, Trie, CELLS};
 
@@ -318,8 +316,14 @@ pub fn shaped(chance: &mut Chance, file: &File, roots: Roots) -> Option<Trie> {
 
 #[allow(clippy::too_many_arguments)]
 fn shape(
-    chance: &mut Chance, run: &[Bound], path: &Bound, beside: (Option<&Bound>, Option<&Bound>), file: &File, roots: Roots,
-    numbers: &mut Vec<usize>, trie: &mut Trie,
+    chance: &mut Chance,
+    run: &[Bound],
+    path: &Bound,
+    beside: (Option<&Bound>, Option<&Bound>),
+    file: &File,
+    roots: Roots,
+    numbers: &mut Vec<usize>,
+    trie: &mut Trie,
 ) -> Side {
     // A string can be a root here when all its digits but the last begin the path.
     let legal: Vec<usize> =
@@ -407,10 +411,11 @@ pub fn cut_file(chance: &mut Chance, file: &File, names: &[Vec<u8>], nearly: boo
     copy.entries = kept.entries.iter().filter(|entry| copy.holds(&entry.name)).cloned().collect();
     let one_more = |chance: &mut Chance, copy: &mut Bucket| {
         let more = entries(chance, names, &copy.lower, &copy.upper, 3);
-        let more = more.into_iter().find(|entry| kept.value_of(&entry.name).is_none() && copy.value_of(&entry.name).is_none());
+        let more =
+            more.into_iter().find(|entry| kept.value_of(&entry.name).is_none() && copy.value_of(&entry.name).is_none());
         if let (Some(more), true) = (more, copy.entries.len() < file.b) {
             copy.entries.push(more);
-            copy.entries.sort_by(|left, right| left.name.cmp(&right.name));
+            copy.entries.sort_by_key(|entry| entry.name);
         }
     };
     if chance.percent(60) {
@@ -456,7 +461,10 @@ mod tests {
         let mut all: Vec<Vec<u8>> = vec![Vec::new()];
         let mut last = all.clone();
         for _ in 0..3 {
-            last = last.iter().flat_map(|name| alphabet.iter().map(move |digit| [&name[..], &[*digit]].concat())).collect();
+            last = last
+                .iter()
+                .flat_map(|name| alphabet.iter().map(move |digit| [&name[..], &[*digit]].concat()))
+                .collect();
             all.extend(last.clone());
         }
         all.iter().filter(|name| !name.is_empty()).map(|name| filled(name)).collect()

@@ -414,7 +414,9 @@ pub fn each_refusal_number(door: Door) {
         desk.file = right;
     }
     assert_eq!(desk.recover(3).0, 8);
-    for (version, b, slots, length) in [(1, 1, 2, 208), (1, 17, 2, 1232), (1, 2, 0, 16), (1, 2, 65, 8336), (1, 2, 2, 271), (2, 2, 2, 272)] {
+    for (version, b, slots, length) in
+        [(1, 1, 2, 208), (1, 17, 2, 1232), (1, 2, 0, 16), (1, 2, 65, 8336), (1, 2, 2, 271), (2, 2, 2, 272)]
+    {
         let call = Call::Create { file: vec![9; length], version, b, slots, trie: vec![9; IMAGE] };
         let outcome = (desk.door)(&call);
         assert_eq!(outcome.answer, 8);

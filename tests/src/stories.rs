@@ -315,7 +315,8 @@ impl Story<'_> {
         match self.chance.below(100) {
             0..=29 => {
                 let name = self.some_name();
-                let outcome = self.run.call(Call::Lookup { file: file.clone(), trie: trie.clone(), name: name.clone() });
+                let outcome =
+                    self.run.call(Call::Lookup { file: file.clone(), trie: trie.clone(), name: name.clone() });
                 mark_lookup(&file, kind, &trie, &name, &outcome);
             }
             30..=59 => {
@@ -326,7 +327,10 @@ impl Story<'_> {
                 mark_order(limit, &name, kind, &file, &trie, outcome.answer);
                 if outcome.answer == 110 && outcome.trie != trie {
                     mark_growth(&trie, &outcome.trie, &file, &outcome.file);
-                    if trie != self.trie && Some(&trie) != File::read(&file).and_then(|file| rebuilt(&file)).map(|trie| write_image(&trie)).as_ref() {
+                    if trie != self.trie
+                        && Some(&trie)
+                            != File::read(&file).and_then(|file| rebuilt(&file)).map(|trie| write_image(&trie)).as_ref()
+                    {
                         mark("a split of a trie that is neither grown nor rebuilt");
                     }
                 }
@@ -473,7 +477,11 @@ fn mark_lookup(file: &[u8], kind: u64, trie: &[u8], name: &[u8], outcome: &Outco
                 mark("a sound file with more than 256 strings, a lookup that answers");
             }
             if !agrees(&read_image(trie), &read) {
-                mark(if answers { "a stale trie that answers a lookup" } else { "a stale trie that is refused by a lookup" });
+                mark(if answers {
+                    "a stale trie that answers a lookup"
+                } else {
+                    "a stale trie that is refused by a lookup"
+                });
             }
         }
         _ => {}
@@ -483,11 +491,14 @@ fn mark_lookup(file: &[u8], kind: u64, trie: &[u8], name: &[u8], outcome: &Outco
 /// Notes which causes of refusal held together with the one that was given.
 fn mark_order(limit: u64, name: &[u8], kind: u64, file: &[u8], trie: &[u8], answer: u64) {
     let illegal = !is_legal_name(name);
-    let stale = || trie.len() == IMAGE && header(file).is_some_and(|(_, slots)| {
-        // A count above 256 or a first leaf that is no slot agrees with no file at all.
-        let trie = read_image(trie);
-        trie.count > CELLS || (trie.count > 0 && trie.first_leaf > 0) || trie.first_leaf >= slots
-    });
+    let stale = || {
+        trie.len() == IMAGE
+            && header(file).is_some_and(|(_, slots)| {
+                // A count above 256 or a first leaf that is no slot agrees with no file at all.
+                let trie = read_image(trie);
+                trie.count > CELLS || (trie.count > 0 && trie.first_leaf > 0) || trie.first_leaf >= slots
+            })
+    };
     match answer {
         8 if illegal => mark("8 stands before 1"),
         8 if limit > 2 && kind == BAD => mark("8 stands before 2"),
@@ -520,7 +531,7 @@ fn strings_after_a_split(file: &File, name: &[u8]) -> usize {
     let (_, bucket) = file.bucket_of(&name);
     let mut entries = bucket.entries.clone();
     entries.push(Entry { name, value: 0 });
-    entries.sort_by(|left, right| left.name.cmp(&right.name));
+    entries.sort_by_key(|entry| entry.name);
     let mut after = strings(file);
     after.extend(strings_of([&split(&entries).string].into_iter()));
     after.len()

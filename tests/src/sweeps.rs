@@ -170,7 +170,14 @@ pub fn bits_of_a_trie(_: u64, run: &mut Run) {
         for name in [&b"a"[..], b"gold", b"i"] {
             run.call(Call::Lookup { file: file.clone(), trie: trie.clone(), name: name.to_vec() });
         }
-        run.call(Call::Put { file: file.clone(), trie: trie.clone(), name: b"gc".to_vec(), value: 5, run: 6, limit: 2 });
+        run.call(Call::Put {
+            file: file.clone(),
+            trie: trie.clone(),
+            name: b"gc".to_vec(),
+            value: 5,
+            run: 6,
+            limit: 2,
+        });
         let (first, second) = (b"!".to_vec(), b"}".to_vec());
         run.call(Call::List { file: file.clone(), trie, first, second, output: vec![0x99; 100] });
     };
@@ -197,7 +204,14 @@ pub fn orders(story: u64, run: &mut Run) {
         &["a", "aa", "aaa", "aaaa", "aaaaa", "aaaaaa"],
         &["!", "}", "!}", "}!", "!!", "}}"],
         &["i", "in", "is", "it", "a", "o"],
-        &["vintage-of-1998-quarter1", "vintage-of-1998-quarter2", "vintage-of-1998-quarter", "vintage-of-1998-quarter3", "v", "w"],
+        &[
+            "vintage-of-1998-quarter1",
+            "vintage-of-1998-quarter2",
+            "vintage-of-1998-quarter",
+            "vintage-of-1998-quarter3",
+            "v",
+            "w",
+        ],
         &["b", "a}", "a|", "a}}", "b!", "c"],
     ];
     let names = sets[story as usize % sets.len()];
@@ -319,8 +333,7 @@ pub fn walks(_: u64, run: &mut Run) {
             trie.count = length + 1;
             for place in 0..length {
                 let digit = b'a' + place as u8;
-                trie.cells[place] =
-                    Cell { digit, number: place, left: Side::Cell(place + 1), right: Side::Slot(1) };
+                trie.cells[place] = Cell { digit, number: place, left: Side::Cell(place + 1), right: Side::Slot(1) };
             }
             trie.cells[length] = Cell { digit: b'~', number, left: Side::Slot(0), right: Side::Slot(3) };
             for name in names {
@@ -367,7 +380,8 @@ pub fn walks(_: u64, run: &mut Run) {
     }
     // Every side that a cell can have.
     for side in i16::MIN..=i16::MAX {
-        let near = (-300..300).contains(&side) || side % 256 == 0 || side % 256 == 1 || side < -0x7FF0 || side > 0x7FF0;
+        let near =
+            (-300..300).contains(&side) || side % 256 == 0 || side % 256 == 1 || !(-0x7FF0..0x7FF0).contains(&side);
         if near {
             let mut trie = Trie::empty(0);
             trie.count = slots;

@@ -27,7 +27,9 @@ extern "C" {
     fn pthread_attr_setstack(attributes: *mut Attributes, stack: *mut c_void, length: usize) -> i32;
     fn pthread_attr_destroy(attributes: *mut Attributes) -> i32;
     fn pthread_create(
-        thread: *mut usize, attributes: *const Attributes, start: extern "C" fn(*mut c_void) -> *mut c_void,
+        thread: *mut usize,
+        attributes: *const Attributes,
+        start: extern "C" fn(*mut c_void) -> *mut c_void,
         job: *mut c_void,
     ) -> i32;
     fn pthread_join(thread: usize, answer: *mut *mut c_void) -> i32;
@@ -98,8 +100,8 @@ fn the_paint_shows_what_is_used() {
     #[inline(never)]
     fn touch(length: usize) -> u64 {
         let mut bytes = [0u8; 20_000];
-        for place in 0..length {
-            unsafe { ptr::write_volatile(&mut bytes[place], place as u8) };
+        for (place, byte) in bytes.iter_mut().enumerate().take(length) {
+            unsafe { ptr::write_volatile(byte, place as u8) };
         }
         std::hint::black_box(&bytes).iter().map(|byte| *byte as u64).sum()
     }
@@ -115,7 +117,9 @@ fn the_paint_shows_what_is_used() {
 /// Full-size files: 64 slots, b = 16. Sound, cut and bad.
 fn files(chance: &mut Chance) -> Vec<Vec<u8>> {
     let mut files = Vec::new();
-    for (style, how_many) in [(Style::Any, 2000), (Style::LongBeginnings, 400), (Style::LastDigit, 400), (Style::Ends, 300)] {
+    for (style, how_many) in
+        [(Style::Any, 2000), (Style::LongBeginnings, 400), (Style::LastDigit, 400), (Style::Ends, 300)]
+    {
         let pool = names(chance, style, how_many);
         files.push(sound_file(chance, 16, 64, 64, &pool));
         files.push(sound_file(chance, 16, 64, 40, &pool));
@@ -221,7 +225,8 @@ fn each_call_uses_less_than_64_kb() {
     }
     let figures: Vec<String> = CALLS.iter().zip(deepest).map(|(call, used)| format!("{call} {used}")).collect();
     // Past the harness, so that a gate's log shows it.
-    writeln!(std::io::stderr(), "deepest use of the stack in bytes: {}", figures.join(", ")).unwrap();
+    let figures = format!("deepest use of the stack in bytes: {}\n", figures.join(", "));
+    std::io::stderr().write_all(figures.as_bytes()).unwrap();
     for (call, used) in CALLS.iter().zip(deepest) {
         assert!(used > 0, "{call} was not measured");
         assert!(used < ALLOWED, "{call} used {used} bytes of stack");

@@ -1,8 +1,8 @@
 //! The eight calls of document 01, with its order of refusals.
 
 use super::file::{
-    bucket_bytes, entry_bytes, file_length, header, header_bytes, kind, read_slot, slot_bytes, slot_length, store, Bucket,
-    Entry, File, Kind, Slot,
+    bucket_bytes, entry_bytes, file_length, header, header_bytes, kind, read_slot, slot_bytes, slot_length, store,
+    Bucket, Entry, File, Kind, Slot,
 };
 use super::names::{filled, is_legal_name, is_within, Bound, Filled, DIGITS};
 use super::trie::{agrees, grow, rebuilt, strings, strings_of, walk, Trie, CELLS};
@@ -198,7 +198,7 @@ pub fn put(file: &mut [u8], trie: &mut Trie, name: &[u8], value: u64, limit: u64
         return make_stores(file, b, limit, &[(a, bucket_bytes(&with_it, b))]).unwrap_or(Replaced(old));
     }
     with_it.entries.push(Entry { name, value });
-    with_it.entries.sort_by(|left, right| left.name.cmp(&right.name));
+    with_it.entries.sort_by_key(|entry| entry.name);
     // "With b or fewer entries then, that is one store."
     if with_it.entries.len() <= b {
         return make_stores(file, b, limit, &[(a, bucket_bytes(&with_it, b))]).unwrap_or(Added);
@@ -267,6 +267,6 @@ pub fn entries_between(file: &File, first: &Filled, second: &Filled) -> Vec<Entr
         .filter(|entry| *first <= entry.name && entry.name <= *second)
         .cloned()
         .collect();
-    entries.sort_by(|left, right| left.name.cmp(&right.name));
+    entries.sort_by_key(|entry| entry.name);
     entries
 }

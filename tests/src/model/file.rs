@@ -102,7 +102,7 @@ fn read_bucket(bytes: &[u8], b: usize) -> Option<Bucket> {
             return None;
         }
         let entry = Entry { name: filled(name), value: u64::from_le_bytes(bytes[24..].try_into().unwrap()) };
-        let ascends = bucket.entries.last().map_or(true, |before| before.name < entry.name);
+        let ascends = bucket.entries.last().is_none_or(|before| before.name < entry.name);
         if !ascends || !bucket.holds(&entry.name) {
             return None;
         }
@@ -271,10 +271,7 @@ fn is_cut_pair(a: &Bucket, n: &Bucket, b: usize) -> bool {
         let rest = n.entries.iter().enumerate().filter(|(place, _)| *place != more).map(|(_, entry)| entry);
         rest.eq(inside.iter().copied())
     });
-    a.upper == n.upper
-        && (a.lower.is_empty() || a.lower < n.lower)
-        && a.entries.len() == b
-        && (exactly || one_more)
+    a.upper == n.upper && (a.lower.is_empty() || a.lower < n.lower) && a.entries.len() == b && (exactly || one_more)
 }
 
 /// What check says of a file.

@@ -269,8 +269,7 @@ pub fn grow(trie: &mut Trie, s: &Bound, split_key: &Filled, a: usize, new: usize
         for number in shared..s.len() {
             let cell = trie.count;
             trie.count += 1;
-            trie.cells[cell] =
-                Cell { digit: s.0[number], number, left: Side::Slot(a), right: Side::Slot(new) };
+            trie.cells[cell] = Cell { digit: s.0[number], number, left: Side::Slot(a), right: Side::Slot(new) };
             trie.set(place, Side::Cell(cell));
             new_cells.push(cell);
             place = Place::Left(cell);
