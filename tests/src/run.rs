@@ -31,10 +31,17 @@ pub struct Run {
     grounds: Grounds,
     seat: &'static Seat,
     compared: u64,
+    told_step: Option<u64>,
+}
+
+/// A number from the environment.
+fn asked(name: &str) -> Option<u64> {
+    std::env::var(name).ok().map(|text| text.parse().unwrap_or_else(|_| panic!("{name} is a number")))
 }
 
 /// Tells the stories `first`, `first` + 1, ... of a part. A story is made from its number alone, so the number is the
-/// seed that repeats it: with PALHAVENTO_STORY set, only that story is told.
+/// seed that repeats it: with PALHAVENTO_STORY set, only that story is told. With PALHAVENTO_STEP set too, the inputs of
+/// that step are printed before the library is called, for a call that does not come back.
 pub fn part(name: &'static str, first: u64, stories: u64, tell: impl Fn(u64, &mut Run)) -> u64 {
     let mut run = Run {
         part: name,
@@ -44,12 +51,9 @@ pub fn part(name: &'static str, first: u64, stories: u64, tell: impl Fn(u64, &mu
         grounds: Grounds::default(),
         seat: seat(name),
         compared: 0,
+        told_step: asked("PALHAVENTO_STEP"),
     };
-    let mut numbers = first..first + stories;
-    if let Ok(only) = std::env::var("PALHAVENTO_STORY") {
-        let only: u64 = only.parse().expect("PALHAVENTO_STORY is a number");
-        numbers = only..only + 1;
-    }
+    let numbers = asked("PALHAVENTO_STORY").map_or(first..first + stories, |only| only..only + 1);
     println!("part {name}: stories {} to {}", numbers.start, numbers.end - 1);
     let start = Instant::now();
     for story in numbers {
@@ -64,7 +68,7 @@ pub fn part(name: &'static str, first: u64, stories: u64, tell: impl Fn(u64, &mu
 
 /// True when the whole suite is run, not one story of it.
 pub fn is_whole() -> bool {
-    std::env::var("PALHAVENTO_STORY").is_err()
+    asked("PALHAVENTO_STORY").is_none()
 }
 
 impl Run {
@@ -88,13 +92,19 @@ impl Run {
         let part = self.part;
         let seat = self.seat;
         let grounds = &mut self.grounds;
+        let told_step = self.told_step;
         let compare_all = || {
             cases.iter().find_map(|case| {
+                if told_step == Some(case.step) {
+                    println!("{}", tell_case(part, case));
+                }
                 seat.enter(case.story, case.step);
                 let turn = (case.story as usize).wrapping_add(case.step as usize);
                 let left_behind = by_library(&case.call, grounds, turn);
                 seat.leave();
-                difference(case, left_behind).map(|difference| tell_difference(part, case, &difference))
+                difference(case, left_behind).map(|difference| {
+                    format!("the library differs from the model\n{}{difference}", tell_case(part, case))
+                })
             })
         };
         let found = std::thread::scope(|scope| {
@@ -149,10 +159,9 @@ fn difference(case: &Case, left_behind: Result<Outcome, String>) -> Option<Strin
     Some(text)
 }
 
-/// Everything that repeats a call that went wrong.
-fn tell_difference(part: &str, case: &Case, difference: &str) -> String {
+/// Everything that repeats a call.
+fn tell_case(part: &str, case: &Case) -> String {
     let mut text = String::new();
-    writeln!(text, "the library differs from the model").unwrap();
     writeln!(text, "part {part}, story {}, step {}", case.story, case.step).unwrap();
     writeln!(text, "repeat: PALHAVENTO_STORY={} cargo test --release --offline {part}", case.story).unwrap();
     writeln!(text, "call: {}", CALLS[case.call.number()]).unwrap();
@@ -181,7 +190,7 @@ fn tell_difference(part: &str, case: &Case, difference: &str) -> String {
             tell_bytes(&mut text, &all);
         }
     }
-    text + difference
+    text
 }
 
 fn tell_bytes(text: &mut String, all: &[(&str, &Vec<u8>)]) {

@@ -5,5 +5,5 @@ use palhavento_tests::run::part;
 
 #[test]
 fn histories_with_stops() {
-    part("histories_with_stops", 9_000_000, 400, |seed, run| histories::tell(seed, |call| run.call(call)));
+    part("histories_with_stops", 9_000_000, 1500, |seed, run| histories::tell(seed, |call| run.call(call)));
 }
