@@ -1,0 +1,117 @@
+//! Demand 3 as a trial: histories with stops, recoveries that are stopped too, and rebuilding, beside a plain map.
+
+use std::collections::BTreeMap;
+
+use crate::chance::Chance;
+use crate::door::{Call, Outcome, IMAGE};
+use crate::make;
+use crate::model::file::file_length;
+
+/// A closed world of names: everything of one to three digits over three, and a few long ones.
+fn world(chance: &mut Chance) -> Vec<Vec<u8>> {
+    let alphabet = [0x21, chance.between(0x22, 0x7C) as u8, 0x7D];
+    let mut names: Vec<Vec<u8>> = Vec::new();
+    let mut last: Vec<Vec<u8>> = vec![Vec::new()];
+    for _ in 0..3 {
+        last = last.iter().flat_map(|name| alphabet.iter().map(move |digit| [&name[..], &[*digit]].concat())).collect();
+        names.extend(last.iter().cloned());
+    }
+    let style = *chance.pick(&make::STYLES);
+    names.extend(make::names(chance, style, 20));
+    names
+}
+
+/// Tells one history. `call` makes a call and gives what it left behind.
+///
+/// "Start from a new file; put and remove in any order; stop any call after any of its whole-bucket stores, then discard
+/// the trie, recover (again, if that was stopped too) and rebuild before the next change. A call stopped short of its
+/// last store counts as never made; a call that reached it counts as made. Every legal name then looks up as that history
+/// says, refused calls having changed nothing, and recovery with a legal store limit and rebuilding after it never
+/// refuse, where that recovery wasn't itself stopped."
+pub fn tell(seed: u64, mut call: impl FnMut(Call) -> Outcome) {
+    let mut chance = Chance::new(seed);
+    let b = chance.between(2, 5);
+    let slots = chance.between(1, 24);
+    let names = world(&mut chance);
+    let mut history: BTreeMap<Vec<u8>, u64> = BTreeMap::new();
+    let made = call(Call::Create {
+        file: vec![chance.byte(); file_length(b, slots)],
+        version: 1,
+        b: b as u64,
+        slots: slots as u64,
+        trie: vec![0; IMAGE],
+    });
+    assert_eq!(made.answer, 150);
+    let (mut file, mut trie) = (made.file, made.trie);
+    for step in 0..60 {
+        let name = chance.pick(&names).clone();
+        let limit = chance.below(3) as u64;
+        // Now and then a refused call: it changes nothing.
+        let (asked, limit) = match chance.below(20) {
+            0 => (make::illegal_name(&mut chance), limit),
+            1 => (name.clone(), 3),
+            _ => (name.clone(), limit),
+        };
+        let outcome = if chance.percent(75) {
+            let value = chance.word();
+            let outcome = call(Call::Put { file: file.clone(), trie: trie.clone(), name: asked, value, run: 0, limit });
+            match outcome.answer {
+                110 => assert!(history.insert(name, value).is_none()),
+                111 => assert_eq!(history.insert(name, value), Some(outcome.out[0])),
+                _ => {}
+            }
+            outcome
+        } else {
+            let outcome = call(Call::Remove { file: file.clone(), trie: trie.clone(), name: asked, limit });
+            match outcome.answer {
+                120 => assert!(history.remove(&name).is_some()),
+                101 => assert!(!history.contains_key(&name)),
+                _ => {}
+            }
+            outcome
+        };
+        if outcome.answer < 100 {
+            assert!(outcome.file == file && outcome.trie == trie, "a refused call changed something");
+        }
+        file = outcome.file;
+        trie = outcome.trie;
+        // Stopped, or killed after its last store: the trie is discarded.
+        if outcome.answer == 112 || chance.percent(10) {
+            loop {
+                let limit = chance.below(3) as u64;
+                let outcome = call(Call::Recover { file: file.clone(), limit });
+                file = outcome.file;
+                match outcome.answer {
+                    112 => assert_eq!(limit, 0),
+                    130 | 131 => break,
+                    other => panic!("recovery refused {other}"),
+                }
+            }
+            let outcome = call(Call::Rebuild { file: file.clone(), trie: vec![chance.byte(); IMAGE] });
+            assert_eq!(outcome.answer, 151, "rebuilding refused");
+            trie = outcome.trie;
+        }
+        if step % 20 == 19 {
+            for name in &names {
+                let asked = Call::Lookup { file: file.clone(), trie: trie.clone(), name: name.clone() };
+                let outcome = call(asked);
+                match history.get(name) {
+                    Some(value) => assert!(outcome.answer == 100 && outcome.out[0] == *value),
+                    None => assert_eq!(outcome.answer, 101),
+                }
+            }
+        }
+    }
+}
+
+#[cfg(test)]
+mod tests {
+    use crate::door::by_model;
+
+    #[test]
+    fn the_model_keeps_demand_3() {
+        for seed in 0..300 {
+            super::tell(seed, |call| by_model(&call));
+        }
+    }
+}

@@ -1,0 +1,296 @@
+//! The bytes of a file: header, slots, and the words well formed, sound, cut and bad of document 01.
+
+use super::names::{filled, is_in_range, is_legal_name, unfilled, Bound, Filled, DIGITS};
+
+/// The header's length; the slots follow it.
+pub const HEADER: usize = 16;
+
+/// "64 + 32 × b": what one slot takes.
+pub fn slot_length(b: usize) -> usize {
+    64 + 32 * b
+}
+
+/// "File length is exactly 16 + slots × (64 + 32 × b)."
+pub fn file_length(b: usize, slots: usize) -> usize {
+    HEADER + slots * slot_length(b)
+}
+
+/// "An entry is the filled name (24) and the value (8, little-endian, any value, zero too)."
+#[derive(Clone, PartialEq, Eq, Debug)]
+pub struct Entry {
+    pub name: Filled,
+    pub value: u64,
+}
+
+/// What a well-formed used slot says.
+#[derive(Clone, PartialEq, Eq, Debug)]
+pub struct Bucket {
+    pub lower: Bound,
+    pub upper: Bound,
+    pub entries: Vec<Entry>,
+}
+
+impl Bucket {
+    pub fn holds(&self, name: &Filled) -> bool {
+        is_in_range(name, &self.lower, &self.upper)
+    }
+
+    pub fn value_of(&self, name: &Filled) -> Option<u64> {
+        self.entries.iter().find(|entry| entry.name == *name).map(|entry| entry.value)
+    }
+}
+
+/// What the bytes of one slot are.
+#[derive(Clone, PartialEq, Eq, Debug)]
+pub enum Slot {
+    /// "A free slot is all zero."
+    Free,
+    /// A used slot that is well formed.
+    Used(Bucket),
+    /// Neither.
+    Malformed,
+}
+
+fn all_zero(bytes: &[u8]) -> bool {
+    bytes.iter().all(|byte| *byte == 0)
+}
+
+/// The bytes of one slot: free, well formed, or neither.
+pub fn read_slot(bytes: &[u8], b: usize) -> Slot {
+    if all_zero(bytes) {
+        return Slot::Free;
+    }
+    match read_bucket(bytes, b) {
+        Some(bucket) => Slot::Used(bucket),
+        None => Slot::Malformed,
+    }
+}
+
+/// "A used slot is *well formed* when this holds, lower is below upper where both are non-empty, names are legal and
+/// strictly ascending, and every name is in the range." None when it is not.
+fn read_bucket(bytes: &[u8], b: usize) -> Option<Bucket> {
+    // "byte 0 is 1 when used; 1 the entry count, 0 to b; 2 lower length; 3 upper length; 4 to 7 zero; 8 to 31 lower; 32
+    // to 55 upper; 56 to 63 zero; then b entries."
+    let count = bytes[1] as usize;
+    let lower_length = bytes[2] as usize;
+    let upper_length = bytes[3] as usize;
+    let lengths_hold = bytes[0] == 1 && count <= b && lower_length <= DIGITS && upper_length <= DIGITS;
+    if !lengths_hold || !all_zero(&bytes[4..8]) || !all_zero(&bytes[56..64]) {
+        return None;
+    }
+    let (lower, lower_rest) = bytes[8..32].split_at(lower_length);
+    let (upper, upper_rest) = bytes[32..56].split_at(upper_length);
+    let (entries, entries_rest) = bytes[64..].split_at(32 * count);
+    // "Unused bytes of bounds and unused entries are zero."
+    if !all_zero(lower_rest) || !all_zero(upper_rest) || !all_zero(entries_rest) {
+        return None;
+    }
+    let lower = Bound(lower.to_vec());
+    let upper = Bound(upper.to_vec());
+    if !lower.is_legal() || !upper.is_legal() {
+        return None;
+    }
+    // "lower is below upper where both are non-empty"
+    if !lower.is_empty() && !upper.is_empty() && lower >= upper {
+        return None;
+    }
+    let mut bucket = Bucket { lower, upper, entries: Vec::new() };
+    for bytes in entries.chunks(32) {
+        let name = unfilled(&bytes[..24]);
+        // "names are legal and strictly ascending, and every name is in the range"
+        if !is_legal_name(name) {
+            return None;
+        }
+        let entry = Entry { name: filled(name), value: u64::from_le_bytes(bytes[24..].try_into().unwrap()) };
+        let ascends = bucket.entries.last().is_none_or(|before| before.name < entry.name);
+        if !ascends || !bucket.holds(&entry.name) {
+            return None;
+        }
+        bucket.entries.push(entry);
+    }
+    Some(bucket)
+}
+
+/// The bytes of an entry.
+pub fn entry_bytes(entry: &Entry) -> [u8; 32] {
+    let mut bytes = [0; 32];
+    bytes[..24].copy_from_slice(&entry.name);
+    bytes[24..].copy_from_slice(&entry.value.to_le_bytes());
+    bytes
+}
+
+/// The bytes of a used slot.
+pub fn bucket_bytes(bucket: &Bucket, b: usize) -> Vec<u8> {
+    let mut bytes = vec![0; slot_length(b)];
+    bytes[0] = 1;
+    bytes[1] = bucket.entries.len() as u8;
+    bytes[2] = bucket.lower.len() as u8;
+    bytes[3] = bucket.upper.len() as u8;
+    bytes[8..8 + bucket.lower.len()].copy_from_slice(&bucket.lower.0);
+    bytes[32..32 + bucket.upper.len()].copy_from_slice(&bucket.upper.0);
+    for (place, entry) in bucket.entries.iter().enumerate() {
+        bytes[64 + 32 * place..][..32].copy_from_slice(&entry_bytes(entry));
+    }
+    bytes
+}
+
+/// "A store replaces one slot whole."
+pub fn store(file: &mut [u8], b: usize, slot: usize, bytes: &[u8]) {
+    file[HEADER + slot * slot_length(b)..][..slot_length(b)].copy_from_slice(bytes);
+}
+
+/// A file whose length and header are right, with its slots as read.
+pub struct File {
+    pub b: usize,
+    pub slots: Vec<Slot>,
+}
+
+/// None if length or header is wrong.
+/// "Header: 0 to 2 `TKF`; 3 and 4 version 1, little-endian; 5 b; 6 slots; 7 to 15 zero." "b, the bucket capacity, is 2
+/// to 16; slots is 1 to 64."
+pub fn header(file: &[u8]) -> Option<(usize, usize)> {
+    if file.len() < HEADER {
+        return None;
+    }
+    let version = u16::from_le_bytes([file[3], file[4]]);
+    let b = file[5] as usize;
+    let slots = file[6] as usize;
+    let right = &file[..3] == b"TKF"
+        && version == 1
+        && (2..=16).contains(&b)
+        && (1..=64).contains(&slots)
+        && all_zero(&file[7..16])
+        && file.len() == file_length(b, slots);
+    right.then_some((b, slots))
+}
+
+/// The bytes of one slot of a file whose length and header are right.
+pub fn slot_bytes(file: &[u8], b: usize, slot: usize) -> &[u8] {
+    &file[HEADER + slot * slot_length(b)..][..slot_length(b)]
+}
+
+/// The header's bytes.
+pub fn header_bytes(b: usize, slots: usize) -> [u8; HEADER] {
+    let mut bytes = [0; HEADER];
+    bytes[..3].copy_from_slice(b"TKF");
+    bytes[3] = 1;
+    bytes[5] = b as u8;
+    bytes[6] = slots as u8;
+    bytes
+}
+
+impl File {
+    /// None if length or header is wrong.
+    pub fn read(bytes: &[u8]) -> Option<File> {
+        let (b, slots) = header(bytes)?;
+        let slots = (0..slots).map(|slot| read_slot(slot_bytes(bytes, b, slot), b)).collect();
+        Some(File { b, slots })
+    }
+
+    /// The used slots with their numbers.
+    pub fn used(&self) -> impl Iterator<Item = (usize, &Bucket)> {
+        self.slots.iter().enumerate().filter_map(|(number, slot)| match slot {
+            Slot::Used(bucket) => Some((number, bucket)),
+            _ => None,
+        })
+    }
+
+    /// The bucket in a slot that is known to be used.
+    pub fn bucket(&self, slot: usize) -> &Bucket {
+        let Slot::Used(bucket) = &self.slots[slot] else { panic!("slot {slot} is not used") };
+        bucket
+    }
+
+    /// The used slots in range order, if the file is sound.
+    pub fn range_order(&self) -> Option<Vec<usize>> {
+        range_order(&self.slots.iter().collect::<Vec<_>>())
+    }
+
+    /// The one bucket whose range holds the name. A sound file has it.
+    pub fn bucket_of(&self, name: &Filled) -> (usize, &Bucket) {
+        let mut holders = self.used().filter(|(_, bucket)| bucket.holds(name));
+        let holder = holders.next().expect("ranges leave no gap");
+        assert!(holders.next().is_none(), "ranges do not overlap");
+        holder
+    }
+}
+
+/// "A file is *sound* when length and header are right, each slot is free or well formed, at least one is used, and the
+/// used slots can be ordered so that the first has no lower limit, the last no upper, each lower equals the upper before
+/// it and is not empty, and bounds strictly ascend."
+///
+/// Length and header are right here. The answer is that order, None if there is none. In it the uppers strictly ascend,
+/// so it can only be the order of the uppers.
+pub fn range_order(slots: &[&Slot]) -> Option<Vec<usize>> {
+    let mut used: Vec<(usize, &Bucket)> = Vec::new();
+    for (number, slot) in slots.iter().enumerate() {
+        match slot {
+            Slot::Free => {}
+            Slot::Used(bucket) => used.push((number, bucket)),
+            Slot::Malformed => return None,
+        }
+    }
+    used.sort_by(|(_, left), (_, right)| left.upper.cmp(&right.upper));
+    let (_, first) = used.first()?;
+    let (_, last) = used.last()?;
+    let sound = first.lower.is_empty()
+        && last.upper.is_empty()
+        && used.windows(2).all(|pair| {
+            let (before, after) = (pair[0].1, pair[1].1);
+            after.lower == before.upper && !after.lower.is_empty() && before.upper < after.upper
+        });
+    sound.then(|| used.iter().map(|(number, _)| *number).collect())
+}
+
+/// "A file is *cut* when freeing one well-formed slot N leaves a sound file in which a slot A has N's upper, a lower
+/// below N's (or none), and b entries; N's lower is not empty; and N's entries are exactly A's entries in N's range, or
+/// those and one more."
+///
+/// The answer is N, None if the file is not cut.
+pub fn cut_slot(file: &File) -> Option<usize> {
+    let mut found: Vec<usize> = Vec::new();
+    for (n, bucket) in file.used() {
+        let mut slots: Vec<&Slot> = file.slots.iter().collect();
+        slots[n] = &Slot::Free;
+        if range_order(&slots).is_none() || bucket.lower.is_empty() {
+            continue;
+        }
+        if file.used().any(|(a, other)| a != n && is_cut_pair(other, bucket, file.b)) {
+            found.push(n);
+        }
+    }
+    assert!(found.len() <= 1, "at most one slot can be N");
+    found.first().copied()
+}
+
+/// The words of *cut* that speak of A and N together.
+fn is_cut_pair(a: &Bucket, n: &Bucket, b: usize) -> bool {
+    let inside: Vec<&Entry> = a.entries.iter().filter(|entry| n.holds(&entry.name)).collect();
+    let exactly = n.entries.iter().eq(inside.iter().copied());
+    let one_more = (0..n.entries.len()).any(|more| {
+        let rest = n.entries.iter().enumerate().filter(|(place, _)| *place != more).map(|(_, entry)| entry);
+        rest.eq(inside.iter().copied())
+    });
+    a.upper == n.upper && (a.lower.is_empty() || a.lower < n.lower) && a.entries.len() == b && (exactly || one_more)
+}
+
+/// What check says of a file.
+pub enum Kind {
+    Sound(File),
+    /// The slot is N.
+    Cut(usize),
+    /// "Each other file is *bad*."
+    Bad,
+}
+
+/// Sound, cut or bad. Sound and cut exclude each other, so it does not matter which is asked first.
+pub fn kind(bytes: &[u8]) -> Kind {
+    let Some(file) = File::read(bytes) else { return Kind::Bad };
+    if file.range_order().is_some() {
+        return Kind::Sound(file);
+    }
+    match cut_slot(&file) {
+        Some(n) => Kind::Cut(n),
+        None => Kind::Bad,
+    }
+}

@@ -1,0 +1,499 @@
+//! The worked situations of document 01 and the figure of document 000, to be shown of the model and of the library.
+
+use crate::door::{read_image, Call, Outcome, IMAGE, OUT_AT_ENTRY};
+use crate::make::file_bytes;
+use crate::model::calls::entries_between;
+use crate::model::file::{file_length, Bucket, Entry, File, Slot};
+use crate::model::names::{filled, unfilled, Bound};
+use crate::model::trie::{row, strings, walk, Side};
+
+/// Who answers: the model or the library.
+pub type Door<'a> = &'a mut dyn FnMut(&Call) -> Outcome;
+
+/// A file and its trie on a desk, and who answers for them.
+struct Desk<'a> {
+    file: Vec<u8>,
+    trie: Vec<u8>,
+    door: Door<'a>,
+}
+
+impl<'a> Desk<'a> {
+    fn new(b: usize, slots: usize, door: Door<'a>) -> Desk<'a> {
+        let file = vec![0x77; file_length(b, slots)];
+        let call = Call::Create { file, version: 1, b: b as u64, slots: slots as u64, trie: vec![0x77; IMAGE] };
+        let made = door(&call);
+        assert_eq!(made.answer, 150);
+        assert!(made.trie == [0; IMAGE], "count 0 and first leaf 0");
+        Desk { file: made.file, trie: made.trie, door }
+    }
+
+    /// Puts a name with its place from 1 on as value, for each of the names. All are added.
+    fn add(&mut self, names: &[&str]) {
+        for (place, name) in names.iter().enumerate() {
+            assert_eq!(self.put(name, place as u64 + 1, 2), 110, "{name}");
+        }
+    }
+
+    fn put(&mut self, name: &str, value: u64, limit: u64) -> u64 {
+        self.put_all(name.as_bytes(), value, limit).0
+    }
+
+    fn put_all(&mut self, name: &[u8], value: u64, limit: u64) -> (u64, [u64; 4]) {
+        let (file, trie, name) = (self.file.clone(), self.trie.clone(), name.to_vec());
+        let outcome = (self.door)(&Call::Put { file, trie, name, value, run: 99, limit });
+        self.file = outcome.file;
+        self.trie = outcome.trie;
+        (outcome.answer, outcome.out)
+    }
+
+    fn remove(&mut self, name: &str, limit: u64) -> (u64, [u64; 4]) {
+        let (file, trie, name) = (self.file.clone(), self.trie.clone(), name.as_bytes().to_vec());
+        let outcome = (self.door)(&Call::Remove { file, trie, name, limit });
+        self.file = outcome.file;
+        self.trie = outcome.trie;
+        (outcome.answer, outcome.out)
+    }
+
+    fn look_up(&mut self, name: &[u8]) -> (u64, [u64; 4]) {
+        let (file, trie, name) = (self.file.clone(), self.trie.clone(), name.to_vec());
+        let outcome = (self.door)(&Call::Lookup { file, trie, name });
+        (outcome.answer, outcome.out)
+    }
+
+    fn list(&mut self, first: &str, second: &str, length: usize) -> Outcome {
+        let (file, trie) = (self.file.clone(), self.trie.clone());
+        let (first, second) = (first.as_bytes().to_vec(), second.as_bytes().to_vec());
+        (self.door)(&Call::List { file, trie, first, second, output: vec![0x55; length] })
+    }
+
+    fn check(&mut self) -> u64 {
+        (self.door)(&Call::Check { file: self.file.clone() }).answer
+    }
+
+    fn recover(&mut self, limit: u64) -> (u64, [u64; 4]) {
+        let outcome = (self.door)(&Call::Recover { file: self.file.clone(), limit });
+        self.file = outcome.file;
+        (outcome.answer, outcome.out)
+    }
+
+    fn rebuild(&mut self) -> u64 {
+        let outcome = (self.door)(&Call::Rebuild { file: self.file.clone(), trie: vec![0x55; IMAGE] });
+        self.trie = outcome.trie;
+        outcome.answer
+    }
+
+    fn read(&self) -> File {
+        File::read(&self.file).expect("the header is right")
+    }
+
+    /// The slots in range order, each with its lower, upper and names.
+    fn buckets(&self) -> Vec<(usize, String, String, Vec<String>)> {
+        let text = |bytes: &[u8]| String::from_utf8(bytes.to_vec()).unwrap();
+        let file = self.read();
+        let order = file.range_order().expect("the file is sound");
+        let told = order.iter().map(|slot| {
+            let bucket = file.bucket(*slot);
+            let names = bucket.entries.iter().map(|entry| text(unfilled(&entry.name))).collect();
+            (*slot, text(&bucket.lower.0), text(&bucket.upper.0), names)
+        });
+        told.collect()
+    }
+
+    /// The slot to which the trie leads a name.
+    fn leads_to(&self, name: &str) -> usize {
+        walk(&read_image(&self.trie), &filled(name.as_bytes()), 64).expect("the walk ends").slot
+    }
+
+    /// The cells: digit, number, left, right. A slot counts from 0 up, a cell below 0.
+    fn cells(&self) -> Vec<(char, usize, i32, i32)> {
+        let trie = read_image(&self.trie);
+        let side = |side: Side| match side {
+            Side::Slot(slot) => slot as i32,
+            Side::Cell(cell) => -(cell as i32),
+        };
+        let cells = trie.cells[..trie.count].iter();
+        cells.map(|cell| (cell.digit as char, cell.number, side(cell.left), side(cell.right))).collect()
+    }
+}
+
+/// `out` with these first words, the others as at entry.
+fn words(first: &[u64]) -> [u64; 4] {
+    let mut words = OUT_AT_ENTRY;
+    words[..first.len()].copy_from_slice(first);
+    words
+}
+
+/// The program's table, read from a file.
+pub fn table(file: &[u8]) -> String {
+    let file = File::read(file).expect("the header is right");
+    let limit = |bound: &Bound| match bound.is_empty() {
+        true => "-".to_string(),
+        false => format!("[{}]", String::from_utf8_lossy(&bound.0)),
+    };
+    let mut text = "slot lower upper entries\n".to_string();
+    for slot in file.range_order().expect("the file is sound") {
+        let bucket = file.bucket(slot);
+        text += &format!("{slot} {} {}", limit(&bucket.lower), limit(&bucket.upper));
+        for entry in &bucket.entries {
+            text += &format!(" {}", String::from_utf8_lossy(unfilled(&entry.name)));
+        }
+        text += "\n";
+    }
+    text
+}
+
+fn strs(texts: &[&str]) -> Vec<String> {
+    texts.iter().map(|text| text.to_string()).collect()
+}
+
+/// "24 bytes legal"
+pub fn a_name_of_24_bytes_is_legal(door: Door) {
+    let mut desk = Desk::new(4, 8, door);
+    assert_eq!(desk.put("abcdefghijklmnopqrstuvwx", 5, 2), 110);
+    assert_eq!(desk.look_up(b"abcdefghijklmnopqrstuvwx"), (100, words(&[5, 0])));
+}
+
+/// "0 and 25 refused"
+pub fn names_of_0_and_25_bytes_are_refused(door: Door) {
+    let mut desk = Desk::new(4, 8, door);
+    for name in [&b""[..], b"abcdefghijklmnopqrstuvwxy"] {
+        assert_eq!(desk.put_all(name, 5, 2), (1, words(&[])));
+        assert_eq!(desk.look_up(name), (1, words(&[])));
+    }
+}
+
+/// "0x7D legal, 0x7E and 0x20 refused, so "a b" is refused."
+pub fn digit_7d_is_legal_7e_and_20_are_refused(door: Door) {
+    let mut desk = Desk::new(4, 8, door);
+    assert_eq!(desk.put("}", 5, 2), 110);
+    assert_eq!(desk.look_up(b"}"), (100, words(&[5, 0])));
+    for name in ["~", " ", "a b", "a ", " a"] {
+        assert_eq!(desk.put(name, 5, 2), 1);
+        assert_eq!(desk.look_up(name.as_bytes()).0, 1);
+    }
+}
+
+/// ""i" is within "i "; "in" is not, and is within "i"."
+pub fn i_is_within_i_blank_and_in_is_within_i(door: Door) {
+    let bucket = |lower: &str, upper: &str| {
+        let bound = |digits: &str| Bound(digits.as_bytes().to_vec());
+        Slot::Used(Bucket { lower: bound(lower), upper: bound(upper), entries: vec![] })
+    };
+    let file = file_bytes(4, &[bucket("", "i "), bucket("i ", "i"), bucket("i", "")]);
+    let mut desk = Desk { file, trie: vec![], door };
+    assert_eq!(desk.rebuild(), 151);
+    desk.add(&["i", "in", "j"]);
+    let expected = [(0, "", "i ", "i"), (1, "i ", "i", "in"), (2, "i", "", "j")];
+    let expected: Vec<_> =
+        expected.iter().map(|(slot, l, u, name)| (*slot, l.to_string(), u.to_string(), strs(&[name]))).collect();
+    assert_eq!(desk.buckets(), expected);
+}
+
+/// "b = 4 split strings: a and of the to gives "o"; a and in is of gives "i"; a and i in is gives "i "."
+pub fn split_strings(door: Door) {
+    let cases: [([&str; 5], &str); 3] = [
+        (["a", "and", "of", "the", "to"], "o"),
+        (["a", "and", "in", "is", "of"], "i"),
+        (["a", "and", "i", "in", "is"], "i "),
+    ];
+    for (names, string) in cases {
+        for turn in 0..5 {
+            let mut names = names;
+            names.rotate_left(turn);
+            let mut desk = Desk::new(4, 8, &mut *door);
+            desk.add(&names);
+            let buckets = desk.buckets();
+            assert_eq!(buckets.len(), 2);
+            assert_eq!((buckets[0].0, &buckets[0].2[..], buckets[1].0), (0, string, 1));
+        }
+    }
+}
+
+/// "b = 2: rate1 rate2 rate3 gives "rate2", five cells: (r, 0), (a, 1), (t, 2), (e, 3), (2, 4). The absent name rb then
+/// leads to slot 1."
+pub fn rate_gives_five_cells(door: Door) {
+    let mut desk = Desk::new(2, 4, door);
+    desk.add(&["rate1", "rate2", "rate3"]);
+    let expected = vec![
+        (0, String::new(), "rate2".to_string(), strs(&["rate1", "rate2"])),
+        (1, "rate2".to_string(), String::new(), strs(&["rate3"])),
+    ];
+    assert_eq!(desk.buckets(), expected);
+    let cells = vec![('r', 0, -1, 1), ('a', 1, -2, 1), ('t', 2, -3, 1), ('e', 3, -4, 1), ('2', 4, 0, 1)];
+    assert_eq!(desk.cells(), cells);
+    assert_eq!(desk.look_up(b"rb"), (101, words(&[])));
+    assert_eq!(desk.leads_to("rb"), 1);
+    // Rebuilding takes the beginnings too, and gives the same trie here.
+    assert_eq!(desk.rebuild(), 151);
+    assert_eq!(desk.cells(), cells);
+}
+
+/// "Add razz and rz: "ra", already a string, no cell added; slot 1 keeps rate3, razz; slot 2 has rz."
+pub fn razz_and_rz_add_no_cell(door: Door) {
+    let mut desk = Desk::new(2, 4, door);
+    desk.add(&["rate1", "rate2", "rate3", "razz", "rz"]);
+    let expected = vec![
+        (0, String::new(), "rate2".to_string(), strs(&["rate1", "rate2"])),
+        (1, "rate2".to_string(), "ra".to_string(), strs(&["rate3", "razz"])),
+        (2, "ra".to_string(), String::new(), strs(&["rz"])),
+    ];
+    assert_eq!(desk.buckets(), expected);
+    // Both leaves above "ra" lead to the new slot, not only the one reached.
+    let cells = vec![('r', 0, -1, 2), ('a', 1, -2, 2), ('t', 2, -3, 1), ('e', 3, -4, 1), ('2', 4, 0, 1)];
+    assert_eq!(desk.cells(), cells);
+    for (name, slot) in [("rate2", 0), ("rate3", 1), ("rau", 1), ("rb", 2), ("s", 2), ("}", 2), ("!", 0)] {
+        assert_eq!(desk.leads_to(name), slot, "{name}");
+    }
+    for (place, name) in ["rate1", "rate2", "rate3", "razz", "rz"].iter().enumerate() {
+        assert_eq!(desk.look_up(name.as_bytes()), (100, words(&[place as u64 + 1, 0])));
+    }
+}
+
+/// "That last put stopped after one store: slot 1 still unlimited above, slot 2 holds rz; recover frees slot 2, rz is
+/// absent."
+pub fn the_last_put_stopped_after_one_store(door: Door) {
+    let mut desk = Desk::new(2, 4, door);
+    desk.add(&["rate1", "rate2", "rate3", "razz"]);
+    let before = desk.file.clone();
+    let trie = desk.trie.clone();
+    assert_eq!(desk.put_all(b"rz", 5, 0), (112, words(&[0])));
+    assert!(desk.file == before && desk.trie == trie);
+    assert_eq!(desk.put_all(b"rz", 5, 1), (112, words(&[1])));
+    assert!(desk.trie == trie, "the trie is unchanged");
+    let stopped = desk.read();
+    assert!(stopped.bucket(1).upper.is_empty());
+    assert_eq!(stopped.bucket(1).entries.len(), 2, "rate3 and razz are still there");
+    assert_eq!(stopped.bucket(2).entries, [Entry { name: filled(b"rz"), value: 5 }]);
+    assert_eq!(stopped.bucket(2).lower, Bound(b"ra".to_vec()));
+    assert_eq!(desk.check(), 141);
+    // Nobody but recover takes a cut file.
+    assert_eq!(desk.put("zz", 6, 2), 3);
+    assert_eq!(desk.remove("razz", 2).0, 3);
+    assert_eq!(desk.list("a", "z", 320).answer, 3);
+    assert_eq!(desk.rebuild(), 3);
+    assert!(desk.trie == [0; IMAGE], "a refused rebuild gives the trie with count 0 and first leaf 0");
+    assert_eq!(desk.recover(0), (112, words(&[0])));
+    assert_eq!(desk.check(), 141);
+    assert_eq!(desk.recover(1), (130, words(&[2])));
+    assert!(desk.file == before, "recovery keeps the outer bucket");
+    assert_eq!(desk.check(), 140);
+    assert_eq!(desk.recover(0), (131, words(&[])));
+    assert_eq!(desk.rebuild(), 151);
+    assert_eq!(desk.look_up(b"rz"), (101, words(&[])));
+    assert_eq!(desk.look_up(b"razz"), (100, words(&[4, 0])));
+}
+
+/// The nine words of the program, as it puts them.
+const NINE: [&str; 9] = ["the", "of", "and", "to", "a", "in", "that", "is", "i"];
+
+/// What the program prints for the nine words.
+pub fn the_nine_words_and_the_table(door: Door) {
+    let mut desk = Desk::new(4, 8, door);
+    desk.add(&NINE);
+    let expected = "slot lower upper entries\n0 - [i ] a and i\n3 [i ] [i] in is\n2 [i] [o] of\n1 [o] - that the to\n";
+    assert_eq!(table(&desk.file), expected);
+    let mut sorted = NINE;
+    sorted.sort();
+    let listed = desk.list("!", "}", 9 * 32 + 5);
+    assert_eq!((listed.answer, listed.out), (152, words(&[9])));
+    for (entry, name) in listed.output.chunks(32).zip(sorted) {
+        let value = NINE.iter().position(|nine| *nine == name).unwrap() as u64 + 1;
+        assert_eq!(entry[..24], filled(name.as_bytes()));
+        assert_eq!(entry[24..], value.to_le_bytes());
+    }
+    assert_eq!(listed.output[288..], [0x55; 5], "nothing behind them");
+}
+
+/// "The nine words below, rebuilt: cell 0 (i, 0); cell 1 (space, 1) slots 0 and 3; cell 2 (o, 0) slots 2 and 1."
+pub fn the_nine_words_rebuilt(door: Door) {
+    let mut desk = Desk::new(4, 8, door);
+    desk.add(&NINE);
+    assert_eq!(desk.rebuild(), 151);
+    assert_eq!(desk.cells(), vec![('i', 0, -1, -2), (' ', 1, 0, 3), ('o', 0, 2, 1)]);
+    assert_eq!(read_image(&desk.trie).first_leaf, 0);
+}
+
+/// The insertions of document 000, Fig 1 (a).
+const WORDS: [&str; 31] = [
+    "the", "of", "and", "to", "a", "in", "that", "is", "i", "it", "for", "as", "with", "was", "his", "he", "be", "not",
+    "by", "but", "have", "you", "which", "are", "on", "or", "her", "had", "at", "from", "this",
+];
+
+/// Document 000: "the successive leaves and buckets are 0, 9, 4, 10, 7, 8, 6, 3, 2, 1, 5". Document 004, 3.4.1: the
+/// strings that begin no other one are ar, b, f, he, "i ", o, t.
+pub fn the_31_words_of_figure_1(door: Door) {
+    let mut desk = Desk::new(4, 16, door);
+    desk.add(&WORDS);
+    let order = vec![0, 9, 4, 10, 7, 8, 6, 3, 2, 1, 5];
+    assert_eq!(desk.read().range_order(), Some(order.clone()));
+    let all = strings(&desk.read());
+    let begins_no_other = |string: &&Bound| !all.iter().any(|other| other != *string && other.0.starts_with(&string.0));
+    let longest: Vec<String> =
+        all.iter().filter(begins_no_other).map(|string| String::from_utf8_lossy(&string.0).to_string()).collect();
+    assert_eq!(longest, ["ar", "b", "f", "he", "i ", "o", "t"]);
+    for _ in 0..2 {
+        // The grown trie first, then the rebuilt one.
+        let row = row(&read_image(&desk.trie)).unwrap();
+        assert_eq!(row.leaves.iter().map(|leaf| leaf.slot).collect::<Vec<_>>(), order);
+        assert_eq!(row.strings, all.iter().cloned().collect::<Vec<_>>());
+        // "c = 's' for instance, returns n = 1 and C = 't', while c = 'he' or c = 'gun' return n = 7 and C = 'he'."
+        for (name, slot, path) in [("s", 1, "t"), ("he", 7, "he"), ("gun", 7, "he")] {
+            let leaf = walk(&read_image(&desk.trie), &filled(name.as_bytes()), 16).unwrap();
+            assert_eq!((leaf.slot, leaf.path), (slot, Bound(path.as_bytes().to_vec())));
+        }
+        for (place, word) in WORDS.iter().enumerate() {
+            assert_eq!(desk.look_up(word.as_bytes()), (100, words(&[place as u64 + 1, 0])));
+        }
+        assert_eq!(desk.rebuild(), 151);
+    }
+    let read = desk.read();
+    assert_eq!(entries_between(&read, &filled(b"!"), &filled(b"}")).len(), 31);
+}
+
+/// Put on a held name, remove, and what stops them.
+pub fn replace_remove_and_stops(door: Door) {
+    let mut desk = Desk::new(4, 8, door);
+    desk.add(&NINE);
+    let (file, trie) = (desk.file.clone(), desk.trie.clone());
+    assert_eq!(desk.put_all(b"of", 77, 0), (112, words(&[0])));
+    assert!(desk.file == file && desk.trie == trie);
+    assert_eq!(desk.put_all(b"of", 77, 1), (111, words(&[2, 0])));
+    assert_eq!(desk.put_all(b"of", 0, 2), (111, words(&[77, 0])));
+    assert_eq!(desk.look_up(b"of"), (100, words(&[0, 0])));
+    assert_eq!(desk.remove("of", 0), (112, words(&[0])));
+    assert_eq!(desk.remove("of", 1), (120, words(&[])));
+    assert_eq!(desk.look_up(b"of"), (101, words(&[])));
+    // "an emptied bucket keeps its range"
+    assert_eq!(desk.buckets()[2], (2, "i".to_string(), "o".to_string(), vec![]));
+    assert!(desk.trie == trie);
+    // "Removing an absent name needs no store and says absent."
+    assert_eq!(desk.remove("of", 0), (101, words(&[])));
+    assert_eq!(desk.check(), 140);
+}
+
+/// Each refusal of the table by an example.
+pub fn each_refusal_number(door: Door) {
+    let mut desk = Desk::new(2, 2, door);
+    desk.add(&["a", "b", "c"]);
+    let (file, trie) = (desk.file.clone(), desk.trie.clone());
+    assert_eq!(desk.put("a b", 1, 2), 1);
+    assert_eq!(desk.put("x", 1, 3), 8);
+    assert_eq!(desk.put("", 1, 3), 8, "8 stands before 1");
+    // "split needed, no free slot": slot 0 has a and b, slot 1 has c and then d.
+    assert_eq!(desk.put("d", 4, 2), 110);
+    assert_eq!(desk.put_all(b"e", 5, 2), (5, words(&[])));
+    assert_eq!(desk.put_all(b"e", 5, 0), (5, words(&[])), "a refusal comes before a stop");
+    assert!(desk.trie == trie);
+    // A trie older than its file.
+    desk.trie = vec![0; IMAGE];
+    assert_eq!(desk.put("a", 1, 2), 4);
+    assert_eq!(desk.remove("zz", 2).0, 4);
+    assert_eq!(desk.list("a", "z", 320).answer, 4);
+    assert_eq!(desk.look_up(b"a").0, 100);
+    assert_eq!(desk.look_up(b"d").0, 4);
+    desk.trie = trie.clone();
+    desk.file = file;
+    let short = desk.list("a", "c", 95);
+    assert_eq!((short.answer, short.out), (7, words(&[])));
+    assert!(short.output == [0x55; 95]);
+    assert_eq!(desk.list("a", "c", 96).answer, 152);
+    let none = desk.list("c", "a", 0);
+    assert_eq!((none.answer, none.out), (152, words(&[0])));
+    // Every bit of the header counts.
+    for place in 0..16 {
+        let right = desk.file.clone();
+        desk.file[place] ^= 0x40;
+        assert_eq!(desk.check(), 142);
+        assert_eq!(desk.put("x", 1, 2), 2);
+        assert_eq!(desk.remove("x", 2).0, 2);
+        assert_eq!(desk.list("x", "y", 0).answer, 2);
+        assert_eq!(desk.look_up(b"x").0, 2);
+        assert_eq!(desk.recover(2).0, 2);
+        assert_eq!(desk.rebuild(), 2);
+        desk.trie = trie.clone();
+        desk.file = right;
+    }
+    assert_eq!(desk.recover(3).0, 8);
+    for (version, b, slots, length) in
+        [(1, 1, 2, 208), (1, 17, 2, 1232), (1, 2, 0, 16), (1, 2, 65, 8336), (1, 2, 2, 271), (2, 2, 2, 272)]
+    {
+        let call = Call::Create { file: vec![9; length], version, b, slots, trie: vec![9; IMAGE] };
+        let outcome = (desk.door)(&call);
+        assert_eq!(outcome.answer, 8);
+        assert!(outcome.file.iter().all(|byte| *byte == 9) && outcome.trie == [0; IMAGE]);
+    }
+}
+
+/// "the bounds and their beginnings, after the change, exceed 256 strings": 256 pass, 257 do not.
+pub fn strings_fill_the_trie(door: Door) {
+    let mut desk = Desk::new(2, 64, door);
+    let mut count = 0;
+    // Each group of three names has a first digit of its own, and its split string has as many digits as we wish.
+    for group in 0..11u8 {
+        let length = if group < 10 { 24 } else { 16 };
+        let mut stem = vec![b'A' + group];
+        stem.resize(length - 1, b'x');
+        for last in [b'1', b'2', b'3'] {
+            let name = [&stem[..], &[last]].concat();
+            let (answer, _) = desk.put_all(&name, 1, 2);
+            assert_eq!(answer, 110);
+        }
+        count += length;
+    }
+    // Splits between two groups bring strings of one digit that are there already, so only the long ones count.
+    assert_eq!(count, 256);
+    let read = desk.read();
+    assert_eq!(strings(&read).len(), 256);
+    assert_eq!(read_image(&desk.trie).count, 256);
+    let (file, trie) = (desk.file.clone(), desk.trie.clone());
+    assert_eq!(desk.put("Z1", 1, 2), 110);
+    assert_eq!(desk.put_all(b"Z2", 1, 2), (6, words(&[])));
+    assert_eq!(desk.put_all(b"Z2", 1, 0), (6, words(&[])), "a refusal comes before a stop");
+    assert!(desk.trie == trie);
+    desk.file = file;
+    assert_eq!(desk.rebuild(), 151);
+    assert_eq!(read_image(&desk.trie).count, 256);
+    desk.trie = trie;
+    assert_eq!(desk.look_up(b"Axxxxxxxxxxxxxxxxxxxxxx1"), (100, words(&[1, 0])));
+}
+
+/// Lists the situations once, for the model's tests and the library's.
+#[macro_export]
+macro_rules! every_situation {
+    ($show:path) => {
+        $crate::every_situation!(@ $show,
+            a_name_of_24_bytes_is_legal
+            names_of_0_and_25_bytes_are_refused
+            digit_7d_is_legal_7e_and_20_are_refused
+            i_is_within_i_blank_and_in_is_within_i
+            split_strings
+            rate_gives_five_cells
+            razz_and_rz_add_no_cell
+            the_last_put_stopped_after_one_store
+            the_nine_words_and_the_table
+            the_nine_words_rebuilt
+            the_31_words_of_figure_1
+            replace_remove_and_stops
+            each_refusal_number
+            strings_fill_the_trie
+        );
+    };
+    (@ $show:path, $($name:ident)*) => {
+        $(#[test]
+        fn $name() {
+            $show($crate::situations::$name);
+        })*
+    };
+}
+
+#[cfg(test)]
+mod tests {
+    use super::Door;
+    use crate::door::by_model;
+
+    fn show(situation: fn(Door)) {
+        situation(&mut |call| by_model(call));
+    }
+
+    crate::every_situation!(show);
+}

@@ -1,0 +1,538 @@
+//! Stories: a file and its trie live through many calls, and beside that life other calls are made on damaged copies.
+
+use crate::answers::mark;
+use crate::chance::Chance;
+use crate::damage::{damaged_file, damaged_trie, unreached_leaf_changed};
+use crate::door::{read_image, write_image, Call, Outcome, IMAGE};
+use crate::make::{self, cut_file, shaped, sound_file, value, Roots, STYLES};
+use crate::model::calls::{entries_between, split};
+use crate::model::file::{file_length, header, kind, Entry, File, Kind};
+use crate::model::names::{filled, is_legal_name, DIGITS};
+use crate::model::trie::{agrees, rebuilt, strings, strings_of, Side, CELLS};
+use crate::run::Run;
+
+/// The sizes of a story, each from the first to the second number.
+pub struct Profile {
+    pub b: (usize, usize),
+    pub slots: (usize, usize),
+    pub names: (usize, usize),
+    /// Changes of the file.
+    pub changes: (usize, usize),
+    /// Out of 100 changes, so many are followed by calls on copies.
+    pub beside: usize,
+}
+
+/// What check answers.
+const SOUND: u64 = 140;
+const CUT: u64 = 141;
+const BAD: u64 = 142;
+
+/// What must have occurred in the whole run, beside every pair of call and answer.
+pub const SITUATIONS: &[&str] = &[
+    "a split that adds no cell",
+    "a split that adds one cell",
+    "a split that adds several cells",
+    "a split that adds 24 cells",
+    "a split that leads two or more old leaves to the new slot",
+    "a split of a trie with count 0",
+    "a split that fills all 256 cells",
+    "a split of a trie that is neither grown nor rebuilt",
+    "a split into a slot below a used one",
+    "a split stopped after one store, the new name moved",
+    "a split stopped after one store, the new name stayed",
+    "a recovery that was stopped",
+    "a trie rebuilt with 256 cells",
+    "a lone used slot other than 0",
+    "a sound file with more than 256 strings",
+    "a sound file with more than 256 strings, a lookup that answers",
+    "a stale trie that answers a lookup",
+    "a stale trie that is refused by a lookup",
+    "a digit number above 23 on a path of 24 digits",
+    "a walk that meets a cell twice",
+    "a lookup that answers in a cut file",
+    "a lookup that answers in a bad file",
+    "a leaf that no legal name reaches was changed, put refuses",
+    "a leaf that no legal name reaches was changed, remove refuses",
+    "a leaf that no legal name reaches was changed, list refuses",
+    "a leaf that no legal name reaches was changed, a lookup answers",
+    "a list into an output that is exactly long enough",
+    "a list into an output one byte too short",
+    "a list whose first name is above its second",
+    "an absent name removed with limit 0",
+    "nothing to recover with limit 0",
+    "8 stands before 1",
+    "8 stands before 2",
+    "8 stands before 3",
+    "8 stands before 4",
+    "1 stands before 2",
+    "1 stands before 3",
+    "1 stands before 4",
+    "2 stands before 4",
+    "3 stands before 4",
+    "4 stands before 5",
+    "4 stands before 7",
+    "5 stands before 6",
+];
+
+/// One story while it is told.
+struct Story<'a> {
+    chance: Chance,
+    run: &'a mut Run,
+    names: Vec<Vec<u8>>,
+    file: Vec<u8>,
+    trie: Vec<u8>,
+    /// Images that once agreed with the file.
+    old_tries: Vec<Vec<u8>>,
+}
+
+/// The story of a new file.
+pub fn tell_history(seed: u64, run: &mut Run, profile: &Profile) {
+    let mut chance = Chance::new(seed);
+    let b = chance.between(profile.b.0, profile.b.1);
+    let slots = chance.between(profile.slots.0, profile.slots.1);
+    let style = *chance.pick(&STYLES);
+    let how_many = chance.between(profile.names.0, profile.names.1);
+    let mut names = make::names(&mut chance, style, how_many);
+    if chance.percent(20) {
+        let other = *chance.pick(&STYLES);
+        names.extend(make::names(&mut chance, other, how_many / 2 + 1));
+    }
+    let dirt = chance.byte();
+    let trie = vec![dirt; IMAGE];
+    let file = vec![dirt; file_length(b, slots)];
+    let made = run.call(Call::Create { file, version: 1, b: b as u64, slots: slots as u64, trie });
+    let changes = chance.between(profile.changes.0, profile.changes.1);
+    let mut story = Story { chance, run, names, file: made.file, trie: made.trie, old_tries: Vec::new() };
+    for _ in 0..changes {
+        story.change();
+        if story.chance.percent(profile.beside) {
+            story.beside();
+        }
+    }
+}
+
+/// The story of a sound file with arbitrary bounds, as no history leaves it.
+pub fn tell_built(seed: u64, run: &mut Run, profile: &Profile) {
+    let mut chance = Chance::new(seed);
+    let b = chance.between(profile.b.0, profile.b.1);
+    let slots = chance.between(profile.slots.0, profile.slots.1);
+    let used = match chance.below(4) {
+        0 => 1,
+        1 => slots,
+        _ => chance.between(1, slots),
+    };
+    let style = *chance.pick(&STYLES);
+    let how_many = chance.between(profile.names.0, profile.names.1);
+    let mut names = make::names(&mut chance, style, how_many);
+    let file = sound_file(&mut chance, b, slots, used, &names);
+    names.extend(make::names_near(&mut chance, &file));
+    tell_of_file(chance, run, profile, file, names);
+}
+
+/// The story of a sound file that has just about as many strings as a trie can have.
+pub fn tell_brim(seed: u64, run: &mut Run, profile: &Profile) {
+    let mut chance = Chance::new(seed);
+    let b = chance.between(profile.b.0, profile.b.1);
+    let slots = chance.between(profile.slots.0, profile.slots.1);
+    let used = *chance.pick(&[slots, slots - 1, slots - 1, slots - 2]);
+    let how_many = *chance.pick(&[200, 240, 250, 254, 255, 256, 256, 257, 280]);
+    let file = make::file_with_strings(&mut chance, b, slots, used, how_many);
+    let names = make::names_near(&mut chance, &file);
+    tell_of_file(chance, run, profile, file, names);
+}
+
+fn tell_of_file(mut chance: Chance, run: &mut Run, profile: &Profile, file: Vec<u8>, names: Vec<Vec<u8>>) {
+    let read = File::read(&file).unwrap();
+    let order = read.range_order().unwrap();
+    if order.len() == 1 && order[0] != 0 {
+        mark("a lone used slot other than 0");
+    }
+    if strings(&read).len() > CELLS {
+        mark("a sound file with more than 256 strings");
+    }
+    let trie = shaped(&mut chance, &read, Roots::Any).map_or(vec![0; IMAGE], |trie| write_image(&trie));
+    let changes = chance.between(profile.changes.0, profile.changes.1);
+    let mut story = Story { chance, run, names, file, trie, old_tries: Vec::new() };
+    for _ in 0..changes {
+        story.beside();
+        story.change();
+    }
+}
+
+impl Story<'_> {
+    /// A put or a remove on the file itself, with its own trie. What was stopped is mended.
+    fn change(&mut self) {
+        let name = self.chance.pick(&self.names).clone();
+        let limit = *self.chance.pick(&[2, 2, 2, 2, 2, 2, 1, 1, 0]);
+        let before = self.trie.clone();
+        let file = self.file.clone();
+        let trie = self.trie.clone();
+        let outcome = if self.chance.percent(75) {
+            let (value, run) = (value(&mut self.chance), self.chance.word());
+            self.run.call(Call::Put { file, trie, name: name.clone(), value, run, limit })
+        } else {
+            self.run.call(Call::Remove { file, trie, name: name.clone(), limit })
+        };
+        if outcome.answer == 110 && outcome.trie != before {
+            mark_growth(&before, &outcome.trie, &self.file, &outcome.file);
+        }
+        if outcome.trie != before && self.old_tries.len() < 40 {
+            self.old_tries.push(before);
+        }
+        let stopped = outcome.answer == 112;
+        self.file = outcome.file;
+        self.trie = outcome.trie;
+        if stopped && outcome.out[0] == 1 {
+            if let Kind::Cut(n) = kind(&self.file) {
+                let moved = File::read(&self.file).unwrap().bucket(n).value_of(&filled(&name)).is_some();
+                mark(if moved {
+                    "a split stopped after one store, the new name moved"
+                } else {
+                    "a split stopped after one store, the new name stayed"
+                });
+            }
+            for _ in 0..self.chance.below(3) {
+                let file = self.file.clone();
+                let trie = self.some_trie(&file);
+                self.some_call(&file, CUT, trie);
+            }
+            self.mend();
+        } else if stopped && self.chance.percent(30) {
+            self.mend();
+        }
+    }
+
+    /// Recovers, again if that is stopped, and rebuilds.
+    fn mend(&mut self) {
+        loop {
+            let limit = *self.chance.pick(&[0, 1, 2]);
+            let outcome = self.run.call(Call::Recover { file: self.file.clone(), limit });
+            self.file = outcome.file;
+            match outcome.answer {
+                112 => mark("a recovery that was stopped"),
+                130 | 131 => break,
+                other => panic!("recovery refused {other}"),
+            }
+        }
+        let trie = self.trie.clone();
+        let outcome = self.run.call(Call::Rebuild { file: self.file.clone(), trie });
+        assert_eq!(outcome.answer, 151, "rebuilding after recovery never refuses");
+        self.trie = outcome.trie;
+    }
+
+    /// Calls on a copy, damaged or not. The file itself stays as it is.
+    fn beside(&mut self) {
+        let file = self.some_file();
+        let kind = self.run.call(Call::Check { file: file.clone() }).answer;
+        for _ in 0..self.chance.between(1, 4) {
+            let trie = self.some_trie(&file);
+            self.some_call(&file, kind, trie);
+        }
+        if kind == SOUND && self.chance.percent(15) {
+            self.unreached_leaf(&file);
+        }
+    }
+
+    fn some_file(&mut self) -> Vec<u8> {
+        let read = File::read(&self.file).unwrap();
+        let chance = &mut self.chance;
+        let other = match chance.below(100) {
+            0..=49 => None,
+            50..=79 => Some(damaged_file(chance, &self.file, &self.names)),
+            80..=89 => cut_file(chance, &read, &self.names, false),
+            _ => cut_file(chance, &read, &self.names, true),
+        };
+        other.unwrap_or_else(|| self.file.clone())
+    }
+
+    /// The own trie, a rebuilt one or one of another shape, an old one, a damaged one, or no image at all.
+    fn some_trie(&mut self, file: &[u8]) -> Vec<u8> {
+        let own = self.trie.clone();
+        let chance = &mut self.chance;
+        match chance.below(100) {
+            0..=34 => own,
+            35..=59 => {
+                let Kind::Sound(read) = kind(file) else { return own };
+                let trie = match chance.below(5) {
+                    0 | 1 => rebuilt(&read),
+                    2 => shaped(chance, &read, Roots::First),
+                    3 => shaped(chance, &read, Roots::Last),
+                    _ => shaped(chance, &read, Roots::Any),
+                };
+                let image = trie.map_or(own, |trie| write_image(&trie));
+                if chance.percent(20) {
+                    damaged_trie(chance, &image)
+                } else {
+                    image
+                }
+            }
+            60..=71 if !self.old_tries.is_empty() => chance.pick(&self.old_tries).clone(),
+            60..=97 => damaged_trie(chance, &own),
+            _ => {
+                let length = *chance.pick(&[0, 1, 4, IMAGE - 6, IMAGE - 1, IMAGE + 1, IMAGE + 6, 2 * IMAGE]);
+                let mut image = own;
+                image.resize(length, 0);
+                image
+            }
+        }
+    }
+
+    /// Mostly a name of the story, sometimes one close to it, sometimes an illegal one.
+    fn some_name(&mut self) -> Vec<u8> {
+        let chance = &mut self.chance;
+        let mut name = chance.pick(&self.names).clone();
+        match chance.below(100) {
+            0..=74 => name,
+            75..=91 => {
+                match chance.below(4) {
+                    0 if name.len() < DIGITS => name.push(*chance.pick(&[0x21, 0x61, 0x7D])),
+                    1 if name.len() > 1 => {
+                        name.pop();
+                    }
+                    2 => {
+                        let place = chance.below(name.len());
+                        name[place] = chance.between(0x21, 0x7D) as u8;
+                    }
+                    _ => {
+                        let length = *chance.pick(&[1, 1, 24]);
+                        name = vec![*chance.pick(&[0x21, 0x7D]); length];
+                    }
+                }
+                name
+            }
+            _ => make::illegal_name(chance),
+        }
+    }
+
+    fn some_limit(&mut self) -> u64 {
+        *self.chance.pick(&[2, 2, 2, 2, 2, 1, 1, 0, 0, 3, u64::MAX, 1 << 32])
+    }
+
+    /// Any call on a copy that check called `kind`.
+    fn some_call(&mut self, file: &[u8], kind: u64, trie: Vec<u8>) {
+        let file = file.to_vec();
+        let rebuilds = self.chance.percent(5);
+        match self.chance.below(100) {
+            0..=29 => {
+                let name = self.some_name();
+                let outcome =
+                    self.run.call(Call::Lookup { file: file.clone(), trie: trie.clone(), name: name.clone() });
+                mark_lookup(&file, kind, &trie, &name, &outcome);
+            }
+            30..=59 => {
+                let (name, limit) = (self.some_name(), self.some_limit());
+                let (value, run) = (value(&mut self.chance), self.chance.word());
+                let call = Call::Put { file: file.clone(), trie: trie.clone(), name: name.clone(), value, run, limit };
+                let outcome = self.run.call(call);
+                mark_order(limit, &name, kind, &file, &trie, outcome.answer);
+                if outcome.answer == 110 && outcome.trie != trie {
+                    mark_growth(&trie, &outcome.trie, &file, &outcome.file);
+                    if trie != self.trie
+                        && Some(&trie)
+                            != File::read(&file).and_then(|file| rebuilt(&file)).map(|trie| write_image(&trie)).as_ref()
+                    {
+                        mark("a split of a trie that is neither grown nor rebuilt");
+                    }
+                }
+            }
+            60..=72 => {
+                let (name, limit) = (self.some_name(), self.some_limit());
+                let outcome = self.run.call(Call::Remove { file, trie, name, limit });
+                if outcome.answer == 101 && limit == 0 {
+                    mark("an absent name removed with limit 0");
+                }
+            }
+            73..=87 => self.some_list(&file, kind, trie),
+            88..=93 => {
+                let limit = self.some_limit();
+                let outcome = self.run.call(Call::Recover { file, limit });
+                if outcome.answer == 131 && limit == 0 {
+                    mark("nothing to recover with limit 0");
+                }
+            }
+            _ => {
+                let trie = if rebuilds { trie } else { self.trie.clone() };
+                let outcome = self.run.call(Call::Rebuild { file, trie });
+                if outcome.answer == 151 && outcome.trie[..2] == [0, 1] {
+                    mark("a trie rebuilt with 256 cells");
+                }
+            }
+        }
+    }
+
+    fn some_list(&mut self, file: &[u8], kind: u64, trie: Vec<u8>) {
+        let (mut first, mut second) = match self.chance.below(10) {
+            0 => (vec![0x21], vec![0x7D; 24]),
+            1 => {
+                let name = self.some_name();
+                (name.clone(), name)
+            }
+            _ => (self.some_name(), self.some_name()),
+        };
+        if first > second && self.chance.percent(75) {
+            std::mem::swap(&mut first, &mut second);
+        }
+        let legal = is_legal_name(&first) && is_legal_name(&second);
+        // As many entries as a sound file would list.
+        let entries = match File::read(file) {
+            Some(read) if legal => entries_between(&read, &filled(&first), &filled(&second)).len(),
+            _ => 0,
+        };
+        let exactly = 32 * entries;
+        let length = match self.chance.below(8) {
+            0 => 0,
+            1 | 2 => exactly.saturating_sub(1),
+            3 | 4 => exactly,
+            5 => exactly + 1,
+            6 => exactly + self.chance.below(100),
+            _ => self.chance.below(exactly + 33),
+        };
+        let output = vec![self.chance.byte(); length];
+        let call = Call::List { file: file.to_vec(), trie, first: first.clone(), second: second.clone(), output };
+        let outcome = self.run.call(call);
+        match outcome.answer {
+            152 if entries > 0 && length == exactly => mark("a list into an output that is exactly long enough"),
+            152 if filled(&first) > filled(&second) => mark("a list whose first name is above its second"),
+            7 if length + 1 == exactly => mark("a list into an output one byte too short"),
+            4 if kind == SOUND && length < exactly => mark("4 stands before 7"),
+            _ => {}
+        }
+    }
+
+    /// A leaf that no legal name reaches leads elsewhere: look up cannot see it, the others refuse.
+    fn unreached_leaf(&mut self, file: &[u8]) {
+        let Kind::Sound(read) = kind(file) else { panic!("the file is sound") };
+        let Some(trie) = shaped(&mut self.chance, &read, Roots::Any) else { return };
+        let Some(changed) = unreached_leaf_changed(&mut self.chance, &trie, read.slots.len()) else { return };
+        let (file, trie) = (file.to_vec(), write_image(&changed));
+        let name = self.chance.pick(&self.names).clone();
+        let (f, t, n) = (file.clone(), trie.clone(), name.clone());
+        let outcome = self.run.call(Call::Put { file: f, trie: t, name: n, value: 1, run: 0, limit: 2 });
+        assert_eq!(outcome.answer, 4);
+        mark("a leaf that no legal name reaches was changed, put refuses");
+        let (f, t, n) = (file.clone(), trie.clone(), name.clone());
+        let outcome = self.run.call(Call::Remove { file: f, trie: t, name: n, limit: 2 });
+        assert_eq!(outcome.answer, 4);
+        mark("a leaf that no legal name reaches was changed, remove refuses");
+        let (f, t, n) = (file.clone(), trie.clone(), name.clone());
+        let outcome = self.run.call(Call::List { file: f, trie: t, first: n.clone(), second: n, output: vec![0; 32] });
+        assert_eq!(outcome.answer, 4);
+        mark("a leaf that no legal name reaches was changed, list refuses");
+        let outcome = self.run.call(Call::Lookup { file, trie, name });
+        assert!(outcome.answer == 100 || outcome.answer == 101);
+        mark("a leaf that no legal name reaches was changed, a lookup answers");
+    }
+}
+
+fn mark_growth(before: &[u8], after: &[u8], file: &[u8], file_after: &[u8]) {
+    let (old, new) = (read_image(before), read_image(after));
+    match new.count - old.count {
+        0 => {}
+        1 => mark("a split that adds one cell"),
+        24 => mark("a split that adds 24 cells"),
+        _ => mark("a split that adds several cells"),
+    }
+    if old.count == 0 {
+        mark("a split of a trie with count 0");
+    }
+    if new.count == CELLS {
+        mark("a split that fills all 256 cells");
+    }
+    let elsewhere = |old: Side, new: Side| matches!((old, new), (Side::Slot(_), Side::Slot(_))) && old != new;
+    let turned: usize = (0..old.count)
+        .map(|cell| {
+            let (old, new) = (&old.cells[cell], &new.cells[cell]);
+            elsewhere(old.left, new.left) as usize + elsewhere(old.right, new.right) as usize
+        })
+        .sum();
+    if new.count == old.count {
+        mark("a split that adds no cell");
+    }
+    if turned >= 2 {
+        mark("a split that leads two or more old leaves to the new slot");
+    }
+    let (Some(old), Some(new)) = (File::read(file), File::read(file_after)) else { return };
+    let new_slot = new.used().map(|(slot, _)| slot).find(|slot| old.used().all(|(used, _)| used != *slot));
+    if old.used().any(|(used, _)| new_slot.is_some_and(|new| new < used)) {
+        mark("a split into a slot below a used one");
+    }
+}
+
+fn mark_lookup(file: &[u8], kind: u64, trie: &[u8], name: &[u8], outcome: &Outcome) {
+    let answers = outcome.answer == 100 || outcome.answer == 101;
+    match kind {
+        CUT if answers => mark("a lookup that answers in a cut file"),
+        BAD if answers => mark("a lookup that answers in a bad file"),
+        SOUND if trie.len() == IMAGE && is_legal_name(name) => {
+            // "With a sound file and any trie at all, a lookup of a legal name gives the file's true entry, says absent
+            // truly, or refuses as stale."
+            let read = File::read(file).unwrap();
+            let truth = read.bucket_of(&filled(name)).1.value_of(&filled(name));
+            match truth {
+                _ if outcome.answer == 4 => {}
+                Some(value) => assert!(outcome.answer == 100 && outcome.out[0] == value),
+                None => assert_eq!(outcome.answer, 101),
+            }
+            if answers && strings(&read).len() > CELLS {
+                mark("a sound file with more than 256 strings, a lookup that answers");
+            }
+            if !agrees(&read_image(trie), &read) {
+                mark(if answers {
+                    "a stale trie that answers a lookup"
+                } else {
+                    "a stale trie that is refused by a lookup"
+                });
+            }
+        }
+        _ => {}
+    }
+}
+
+/// Notes which causes of refusal held together with the one that was given.
+fn mark_order(limit: u64, name: &[u8], kind: u64, file: &[u8], trie: &[u8], answer: u64) {
+    let illegal = !is_legal_name(name);
+    let stale = || {
+        trie.len() == IMAGE
+            && header(file).is_some_and(|(_, slots)| {
+                // A count above 256 or a first leaf that is no slot agrees with no file at all.
+                let trie = read_image(trie);
+                trie.count > CELLS || (trie.count > 0 && trie.first_leaf > 0) || trie.first_leaf >= slots
+            })
+    };
+    match answer {
+        8 if illegal => mark("8 stands before 1"),
+        8 if limit > 2 && kind == BAD => mark("8 stands before 2"),
+        8 if limit > 2 && kind == CUT => mark("8 stands before 3"),
+        8 if limit > 2 && stale() => mark("8 stands before 4"),
+        1 if kind == BAD => mark("1 stands before 2"),
+        1 if kind == CUT => mark("1 stands before 3"),
+        1 if stale() => mark("1 stands before 4"),
+        2 if stale() => mark("2 stands before 4"),
+        3 if stale() => mark("3 stands before 4"),
+        4 | 5 => {
+            let file = File::read(file).unwrap();
+            let (_, bucket) = file.bucket_of(&filled(name));
+            let splits = bucket.entries.len() == file.b && bucket.value_of(&filled(name)).is_none();
+            let full = file.used().count() == file.slots.len();
+            if answer == 4 && splits && full {
+                mark("4 stands before 5");
+            }
+            if answer == 5 && strings_after_a_split(&file, name) > CELLS {
+                mark("5 stands before 6");
+            }
+        }
+        _ => {}
+    }
+}
+
+/// How many strings the file would have after the split that a put of this name needs.
+fn strings_after_a_split(file: &File, name: &[u8]) -> usize {
+    let name = filled(name);
+    let (_, bucket) = file.bucket_of(&name);
+    let mut entries = bucket.entries.clone();
+    entries.push(Entry { name, value: 0 });
+    entries.sort_by_key(|entry| entry.name);
+    let mut after = strings(file);
+    after.extend(strings_of([&split(&entries).string].into_iter()));
+    after.len()
+}

@@ -1,0 +1,427 @@
+//! Sweeps: every value of something, where random choices might miss one.
+
+use crate::answers::mark;
+use crate::chance::Chance;
+use crate::door::{write_image, Call, IMAGE};
+use crate::make::{file_bytes, sound_file};
+use crate::model::file::{file_length, Bucket, Entry, File, Slot};
+use crate::model::names::{filled, is_in_range, Bound};
+use crate::model::trie::{rebuilt, Cell, Side, Trie, CELLS};
+use crate::run::Run;
+
+fn bound(digits: &str) -> Bound {
+    Bound(digits.as_bytes().to_vec())
+}
+
+fn entry(name: &str, value: u64) -> Entry {
+    Entry { name: filled(name.as_bytes()), value }
+}
+
+fn bucket(lower: &str, upper: &str, entries: &[(&str, u64)]) -> Slot {
+    let entries = entries.iter().map(|(name, value)| entry(name, *value)).collect();
+    Slot::Used(Bucket { lower: bound(lower), upper: bound(upper), entries })
+}
+
+fn image_of(file: &[u8]) -> Vec<u8> {
+    write_image(&rebuilt(&File::read(file).unwrap()).unwrap())
+}
+
+/// A sound file with two buckets and a free slot.
+fn small_sound() -> Vec<u8> {
+    file_bytes(2, &[bucket("", "h", &[("a", 7), ("gold", 8)]), Slot::Free, bucket("h", "", &[("i", 9)])])
+}
+
+/// The same file while a put of "cc" is stopped after its first store.
+fn small_cut() -> Vec<u8> {
+    file_bytes(
+        2,
+        &[bucket("", "h", &[("a", 7), ("gold", 8)]), bucket("c", "h", &[("gold", 8)]), bucket("h", "", &[("i", 9)])],
+    )
+}
+
+/// Create with every kind of version, b, slots and length.
+pub fn create_arguments(_: u64, run: &mut Run) {
+    let big = [255, 256, 258, 260, 1 << 16, (1 << 32) | 4, (1 << 63) | 4, u64::MAX];
+    let create = |run: &mut Run, length: usize, version: u64, b: u64, slots: u64| {
+        let file = vec![0xEE; length];
+        run.call(Call::Create { file, version, b, slots, trie: vec![0xDD; IMAGE] });
+    };
+    for b in (0..=20).chain(big) {
+        for slots in (0..=66).chain(big) {
+            // The length that would belong to it, if it is not out of all reason.
+            let slot = b.wrapping_mul(32).wrapping_add(64);
+            let length = (slots.wrapping_mul(slot).wrapping_add(16) % (1 << 16)) as usize;
+            create(run, length, 1, b, slots);
+            if slots % 5 == 0 || slots > 60 || b > 14 {
+                create(run, length + 1, 1, b, slots);
+                create(run, length.saturating_sub(1), 1, b, slots);
+            }
+        }
+    }
+    for version in [0, 1, 2, 3, 4, 255, 256, 257, (1 << 16) | 1, (1 << 32) | 1, u64::MAX] {
+        for (b, slots) in [(2, 1), (4, 8), (16, 64), (1, 8), (4, 0)] {
+            create(run, file_length(b, slots), version, b as u64, slots as u64);
+        }
+    }
+    for length in [0, 1, 15, 16, 17, 100] {
+        create(run, length, 1, 4, 8);
+        create(run, length, 1, 0, 0);
+    }
+    for length in [0, 1, 2, 4, 1539, 1541, IMAGE + 256, 3080, IMAGE + 65_536] {
+        let trie = vec![0xDD; length];
+        for b in [4, 99] {
+            run.call(Call::Create { file: vec![0xEE; file_length(4, 8)], version: 1, b, slots: 8, trie: trie.clone() });
+        }
+        for file in [small_sound(), small_cut(), vec![]] {
+            run.call(Call::Rebuild { file, trie: trie.clone() });
+        }
+    }
+}
+
+/// Every byte at every place of names of every length, and lengths far too great.
+pub fn bytes_of_a_name(_: u64, run: &mut Run) {
+    let file = small_sound();
+    let trie = image_of(&file);
+    for length in 1..=25 {
+        for place in 0..length {
+            for byte in 0..=255 {
+                let mut name = vec![b'g'; length];
+                name[place] = byte;
+                run.call(Call::Lookup { file: file.clone(), trie: trie.clone(), name: name.clone() });
+                if [0x00, 0x1F, 0x20, 0x21, 0x7D, 0x7E, 0x7F, 0x80, 0xA1, 0xFF].contains(&byte) {
+                    all_with_name(run, &file, &trie, &name);
+                }
+            }
+        }
+    }
+    for length in (0..=2).chain(23..=300).chain([511, 512, 513, 65_535, 65_536, 65_537, 65_560]) {
+        let name = vec![b'g'; length];
+        run.call(Call::Lookup { file: file.clone(), trie: trie.clone(), name: name.clone() });
+        all_with_name(run, &file, &trie, &name);
+    }
+}
+
+fn all_with_name(run: &mut Run, file: &[u8], trie: &[u8], name: &[u8]) {
+    let (f, t, n) = (file.to_vec(), trie.to_vec(), name.to_vec());
+    run.call(Call::Put { file: f.clone(), trie: t.clone(), name: n.clone(), value: 5, run: 6, limit: 2 });
+    run.call(Call::Remove { file: f.clone(), trie: t.clone(), name: n.clone(), limit: 2 });
+    let output = vec![0x99; 96];
+    let (first, second) = (n.clone(), b"z".to_vec());
+    run.call(Call::List { file: f.clone(), trie: t.clone(), first, second, output: output.clone() });
+    run.call(Call::List { file: f, trie: t, first: b"a".to_vec(), second: n, output });
+}
+
+/// All calls on one file and trie.
+fn all_calls(run: &mut Run, file: &[u8], trie: &[u8]) {
+    let (f, t) = (file.to_vec(), trie.to_vec());
+    run.call(Call::Check { file: f.clone() });
+    run.call(Call::Recover { file: f.clone(), limit: 1 });
+    run.call(Call::Rebuild { file: f.clone(), trie: t.clone() });
+    for name in [&b"a"[..], b"gold", b"i"] {
+        run.call(Call::Lookup { file: f.clone(), trie: t.clone(), name: name.to_vec() });
+    }
+    run.call(Call::Put { file: f.clone(), trie: t.clone(), name: b"cc".to_vec(), value: 5, run: 6, limit: 2 });
+    run.call(Call::Remove { file: f.clone(), trie: t.clone(), name: b"gold".to_vec(), limit: 1 });
+    let (first, second) = (b"!".to_vec(), b"}".to_vec());
+    run.call(Call::List { file: f, trie: t, first, second, output: vec![0x99; 100] });
+}
+
+/// Every single bit of a sound and a cut file, and every byte of what is not an entry.
+pub fn bits_of_a_file(_: u64, run: &mut Run) {
+    let trie = image_of(&small_sound());
+    for file in [small_sound(), small_cut()] {
+        for place in 0..file.len() {
+            for bit in 0..8 {
+                let mut damaged = file.clone();
+                damaged[place] ^= 1 << bit;
+                all_calls(run, &damaged, &trie);
+            }
+        }
+        for place in (0..16 + 64).chain(144..144 + 64) {
+            for byte in 0..=255 {
+                let mut damaged = file.clone();
+                damaged[place] = byte;
+                run.call(Call::Check { file: damaged.clone() });
+                run.call(Call::Lookup { file: damaged, trie: trie.clone(), name: b"gold".to_vec() });
+            }
+        }
+        let far = [file.len() + 256, file.len() + 65_536];
+        for length in (0..60).chain(file.len() - 3..file.len() + 4).chain(far) {
+            let mut damaged = file.clone();
+            damaged.resize(length, 0);
+            all_calls(run, &damaged, &trie);
+        }
+    }
+}
+
+/// Every single bit of a trie image, and every byte of its first cells.
+pub fn bits_of_a_trie(_: u64, run: &mut Run) {
+    let file = file_bytes(
+        2,
+        &[
+            bucket("", "ga", &[("a", 7)]),
+            bucket("ga", "gold", &[("gb", 8), ("gold", 9)]),
+            bucket("gold", "", &[("i", 10)]),
+            Slot::Free,
+        ],
+    );
+    let trie = image_of(&file);
+    let some = |run: &mut Run, trie: Vec<u8>| {
+        for name in [&b"a"[..], b"gold", b"i"] {
+            run.call(Call::Lookup { file: file.clone(), trie: trie.clone(), name: name.to_vec() });
+        }
+        run.call(Call::Put {
+            file: file.clone(),
+            trie: trie.clone(),
+            name: b"gc".to_vec(),
+            value: 5,
+            run: 6,
+            limit: 2,
+        });
+        let (first, second) = (b"!".to_vec(), b"}".to_vec());
+        run.call(Call::List { file: file.clone(), trie, first, second, output: vec![0x99; 100] });
+    };
+    for place in 0..IMAGE {
+        for bit in 0..8 {
+            let mut damaged = trie.clone();
+            damaged[place] ^= 1 << bit;
+            some(run, damaged);
+        }
+    }
+    for place in 0..4 + 6 * 7 {
+        for byte in 0..=255 {
+            let mut damaged = trie.clone();
+            damaged[place] = byte;
+            some(run, damaged);
+        }
+    }
+}
+
+/// Every order in which a few names can come, and every stop on the way. The story's number chooses the names.
+pub fn orders(story: u64, run: &mut Run) {
+    let sets: [&[&str]; 6] = [
+        &["rate1", "rate2", "rate3", "razz", "rz", "rb"],
+        &["a", "aa", "aaa", "aaaa", "aaaaa", "aaaaaa"],
+        &["!", "}", "!}", "}!", "!!", "}}"],
+        &["i", "in", "is", "it", "a", "o"],
+        &[
+            "vintage-of-1998-quarter1",
+            "vintage-of-1998-quarter2",
+            "vintage-of-1998-quarter",
+            "vintage-of-1998-quarter3",
+            "v",
+            "w",
+        ],
+        &["b", "a}", "a|", "a}}", "b!", "c"],
+    ];
+    let names = sets[story as usize % sets.len()];
+    let b = 2 + story / sets.len() as u64 % 2;
+    let mut order: Vec<usize> = (0..names.len()).collect();
+    each_order(&mut order, 0, &mut |order| {
+        let made = run.call(Call::Create {
+            file: vec![0x55; file_length(b as usize, 5)],
+            version: 1,
+            b,
+            slots: 5,
+            trie: vec![0x55; IMAGE],
+        });
+        let (mut file, mut trie) = (made.file, made.trie);
+        for place in order {
+            let name = names[*place].as_bytes().to_vec();
+            let value = *place as u64;
+            for limit in [0, 1] {
+                let (f, t, n) = (file.clone(), trie.clone(), name.clone());
+                let stopped = run.call(Call::Put { file: f, trie: t, name: n, value, run: 0, limit });
+                if stopped.answer == 112 && limit == 1 {
+                    let mended = run.call(Call::Recover { file: stopped.file, limit: 1 });
+                    assert!(mended.file == file, "recovery gives the file before the call");
+                }
+            }
+            let outcome = run.call(Call::Put { file, trie, name, value, run: 0, limit: 2 });
+            file = outcome.file;
+            trie = outcome.trie;
+        }
+        run.call(Call::Rebuild { file: file.clone(), trie: vec![0x55; IMAGE] });
+        let (first, second) = (b"!".to_vec(), b"}}}}".to_vec());
+        run.call(Call::List { file, trie, first, second, output: vec![0x99; 32 * names.len()] });
+    });
+}
+
+fn each_order(order: &mut Vec<usize>, from: usize, tell: &mut impl FnMut(&[usize])) {
+    if from == order.len() {
+        return tell(order);
+    }
+    for place in from..order.len() {
+        order.swap(from, place);
+        each_order(order, from + 1, tell);
+        order.swap(from, place);
+    }
+}
+
+/// Every file of three slots with few bounds and few names: check, recover and rebuild.
+pub fn small_files(_: u64, run: &mut Run) {
+    let bounds = ["", "a", "b"];
+    let entries: [&[(&str, u64)]; 8] = [
+        &[],
+        &[("a", 1)],
+        &[("b", 1)],
+        &[("b", 2)],
+        &[("c", 1)],
+        &[("a", 1), ("b", 1)],
+        &[("b", 1), ("c", 1)],
+        &[("a", 1), ("c", 1)],
+    ];
+    let mut slots = vec![Slot::Free];
+    for lower in bounds {
+        for upper in bounds {
+            for entries in entries {
+                let (low, high) = (bound(lower), bound(upper));
+                let ordered = lower.is_empty() || upper.is_empty() || low < high;
+                // One slot with an entry out of range is enough; the others are well formed.
+                let holds = entries.iter().all(|(name, _)| is_in_range(&filled(name.as_bytes()), &low, &high));
+                if ordered && (holds || (lower == "a" && upper == "b" && entries == [("c", 1)])) {
+                    slots.push(bucket(lower, upper, entries));
+                }
+            }
+        }
+    }
+    for one in &slots {
+        for two in &slots {
+            for three in &slots {
+                let file = file_bytes(2, &[one.clone(), two.clone(), three.clone()]);
+                let kind = run.call(Call::Check { file: file.clone() }).answer;
+                if kind != 142 {
+                    run.call(Call::Recover { file: file.clone(), limit: 2 });
+                    run.call(Call::Rebuild { file, trie: vec![0x55; IMAGE] });
+                }
+            }
+        }
+    }
+}
+
+/// Look ups with tries that no file agrees with: each word of look up's order on both sides.
+pub fn walks(_: u64, run: &mut Run) {
+    let slots = 5;
+    let file = file_bytes(
+        2,
+        &[
+            bucket("", "", &[("abcdefghijklmnopqrstuvwx", 1), ("az", 2)]),
+            Slot::Free,
+            bucket("a", "b", &[("b", 3)]),
+            bucket("", "az", &[("a", 4), ("az", 5)]),
+            Slot::Free,
+        ],
+    );
+    let look_up = |run: &mut Run, trie: &Trie, name: &[u8]| {
+        run.call(Call::Lookup { file: file.clone(), trie: write_image(trie), name: name.to_vec() }).answer
+    };
+    let names: [&[u8]; 4] = [b"abcdefghijklmnopqrstuvwx", b"az", b"b", b"a"];
+    // The first leaf with count 0, and the same with every count.
+    for first_leaf in (0..70).chain([255, 256, 259, 0x7FFF, 0x8000, 0xFFFF]) {
+        for count in [0, 1, 2, CELLS, CELLS + 1] {
+            let mut trie = Trie::empty(first_leaf);
+            trie.count = count;
+            for name in names {
+                look_up(run, &trie, name);
+            }
+        }
+    }
+    // A path of 24 digits, then a cell with any number.
+    for length in 20..=24 {
+        for number in 0..=255 {
+            let mut trie = Trie::empty(0);
+            trie.count = length + 1;
+            for place in 0..length {
+                let digit = b'a' + place as u8;
+                trie.cells[place] = Cell { digit, number: place, left: Side::Cell(place + 1), right: Side::Slot(1) };
+            }
+            trie.cells[length] = Cell { digit: b'~', number, left: Side::Slot(0), right: Side::Slot(3) };
+            for name in names {
+                let answer = look_up(run, &trie, name);
+                if length == 24 && number == 24 && name.len() == 24 {
+                    assert_eq!(answer, 4);
+                    mark("a digit number above 23 on a path of 24 digits");
+                }
+            }
+        }
+    }
+    // A walk that meets a cell twice and goes another way the second time: 4 visits. Only the count can refuse it.
+    for count in 3..=6 {
+        let mut trie = Trie::empty(0);
+        trie.count = count;
+        trie.cells[0] = Cell { digit: b'z', number: 0, left: Side::Cell(1), right: Side::Slot(1) };
+        trie.cells[1] = Cell { digit: b'!', number: 1, left: Side::Cell(2), right: Side::Slot(0) };
+        trie.cells[2] = Cell { digit: b'a', number: 0, left: Side::Cell(1), right: Side::Slot(1) };
+        let answer = look_up(run, &trie, b"az");
+        assert_eq!(answer, if count < 4 { 4 } else { 100 });
+        mark("a walk that meets a cell twice");
+        for name in names {
+            look_up(run, &trie, name);
+        }
+    }
+    // Chains of every length, with every count around it, left and right.
+    for length in (1..12).chain(250..=256) {
+        for count in [length - 1, length, length + 1, length + 7] {
+            for left in [true, false] {
+                let mut trie = Trie::empty(0);
+                trie.count = count;
+                for cell in 0..length {
+                    let next = if cell + 1 < length { Side::Cell(cell + 1) } else { Side::Slot(0) };
+                    trie.cells[cell] = match left {
+                        true => Cell { digit: b'}', number: 0, left: next, right: Side::Slot(1) },
+                        false => Cell { digit: b'!', number: 0, left: Side::Slot(1), right: next },
+                    };
+                }
+                for name in names {
+                    look_up(run, &trie, name);
+                }
+            }
+        }
+    }
+    // Every side that a cell can have.
+    for side in i16::MIN..=i16::MAX {
+        let near =
+            (-300..300).contains(&side) || side % 256 == 0 || side % 256 == 1 || !(-0x7FF0..0x7FF0).contains(&side);
+        if near {
+            let mut trie = Trie::empty(0);
+            trie.count = slots;
+            let mut image = write_image(&trie);
+            image[4] = b'm';
+            image[6..8].copy_from_slice(&side.to_le_bytes());
+            for name in [&b"az"[..], b"x"] {
+                run.call(Call::Lookup { file: file.clone(), trie: image.clone(), name: name.to_vec() });
+            }
+        }
+    }
+}
+
+/// Look ups with tries whose cells are thrown together, so that walks are long and odd.
+pub fn thrown_tries(story: u64, run: &mut Run) {
+    let mut chance = Chance::new(story);
+    let alphabet = [0x20, 0x21, b'a', b'b', b'c', 0x7D, 0xFF];
+    let mut names: Vec<Vec<u8>> = Vec::new();
+    for _ in 0..8 {
+        let length = chance.between(1, 4);
+        names.push((0..length).map(|_| *chance.pick(&alphabet[1..6])).collect());
+    }
+    let file = sound_file(&mut chance, 2, 4, 3, &names);
+    for _ in 0..20 {
+        let mut trie = Trie::empty(chance.below(5));
+        trie.count = chance.between(1, 12);
+        let count = trie.count;
+        for cell in trie.cells.iter_mut().take(count) {
+            let mut side = || match chance.below(100) {
+                0..=39 => Side::Slot(chance.below(4)),
+                40..=97 if count > 1 => Side::Cell(chance.between(1, count - 1)),
+                _ => Side::Cell(count),
+            };
+            let (left, right) = (side(), side());
+            *cell = Cell { digit: *chance.pick(&alphabet), number: chance.below(3), left, right };
+        }
+        let image = write_image(&trie);
+        for name in &names {
+            run.call(Call::Lookup { file: file.clone(), trie: image.clone(), name: name.clone() });
+        }
+        run.call(Call::Remove { file: file.clone(), trie: image, name: names[0].clone(), limit: 1 });
+    }
+}
