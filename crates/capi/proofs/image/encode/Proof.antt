@@ -1,0 +1,93 @@
+use Prim.Native.Nat.{ℕ, _≤_, _-_, _<_, _+_, _*_}
+use native.Mathlib.Omega.{arith}
+use mathlib.Core.Path.{_≡_, refl, sym, _∙_}
+use lib.ListN.{length, take, drop, getD, length-set}
+use borrow.Author.Needs.{needs}
+use Rattle.capi.proofs.image.encode.Statement.{statement}
+use Rattle.capi.proofs.image.encode.Tie as tie
+use Rattle.capi.proofs.image.encode.Reads as reads
+use Rattle.capi.proofs.image.encode.Lts as lts
+use Rattle.capi.proofs.image.high.Reads as high-reads
+use Rattle.capi.proofs.image.low.Reads as low-reads
+use Rattle.capi.proofs.image.write_cell.Reads as write-cell-reads
+
+abbrev Inv-loop : tie.InvT-loop
+Inv-loop image₀ trie i₀ image i = (i ≤ 256) × (length image ≡ 1540)
+
+abbrev μ-loop : tie.MeasureT-loop
+μ-loop image₀ trie i₀ image i = 256 - i
+
+low-requires : tie.Need-low-requires Inv-loop μ-loop
+low-requires c κs = search needs
+
+slice-write-image : tie.Need-slice-write-image Inv-loop μ-loop
+slice-write-image c = search needs
+
+high-requires : tie.Need-high-requires Inv-loop μ-loop
+high-requires c κs = search needs
+
+slice-write-image-2 : tie.Need-slice-write-image-2 Inv-loop μ-loop
+slice-write-image-2 c = simp length-set (omega arith)
+
+low-requires-2 : tie.Need-low-requires-2 Inv-loop μ-loop
+low-requires-2 c κs = search needs
+
+slice-write-image-3 : tie.Need-slice-write-image-3 Inv-loop μ-loop
+slice-write-image-3 c = simp length-set (omega arith)
+
+high-requires-2 : tie.Need-high-requires-2 Inv-loop μ-loop
+high-requires-2 c κs = search needs
+
+slice-write-image-4 : tie.Need-slice-write-image-4 Inv-loop μ-loop
+slice-write-image-4 c = simp length-set (omega arith)
+
+loop-holds : tie.Need-loop-holds Inv-loop μ-loop
+loop-holds c = search needs
+
+mul-cell : tie.Need-mul-cell Inv-loop μ-loop
+mul-cell c = search needs
+
+element-copy-out-cell : tie.Need-element-copy-out-cell Inv-loop μ-loop
+element-copy-out-cell c = search needs
+
+write-cell-requires : tie.Need-write-cell-requires Inv-loop μ-loop
+write-cell-requires c κs = search needs
+
+add-i : tie.Need-add-i Inv-loop μ-loop
+add-i c = search needs
+
+loop-less : tie.Need-loop-less Inv-loop μ-loop
+loop-less c = search needs
+
+loop-again : tie.Need-loop-again Inv-loop μ-loop
+loop-again c = search needs
+
+same-length : tie.Need-same-length Inv-loop μ-loop
+same-length c = search needs
+
+returns : tie.Need-returns Inv-loop μ-loop
+returns c = search needs
+
+pub encode-spec : {M : Type 1} → statement M
+encode-spec =
+    tie.close
+    (tie.spec
+    Inv-loop
+    μ-loop
+    low-requires
+    slice-write-image
+    high-requires
+    slice-write-image-2
+    low-requires-2
+    slice-write-image-3
+    high-requires-2
+    slice-write-image-4
+    loop-holds
+    mul-cell
+    element-copy-out-cell
+    write-cell-requires
+    add-i
+    loop-less
+    loop-again
+    same-length
+    returns)

@@ -1,0 +1,85 @@
+use Prim.Native.Nat.{ℕ, _≤_, _-_, _<_, _+_, _*_}
+use native.Mathlib.Omega.{arith}
+use mathlib.Core.Path.{_≡_, refl, sym, _∙_}
+use lib.ListN.{length, take, drop, getD}
+use borrow.Author.Needs.{needs}
+use Rattle.capi.proofs.image.with_cells.Statement.{statement}
+use Rattle.capi.proofs.image.with_cells.Tie as tie
+use Rattle.capi.proofs.image.with_cells.Reads as reads
+use Rattle.capi.proofs.image.with_cells.Lts as lts
+use Rattle.capi.proofs.image.cell_at.Reads as cell-at-reads
+use Rattle.capi.proofs.image.pair.Reads as pair-reads
+use Rattle.trie.proofs.lone.Reads as lone-reads
+
+abbrev Inv-loop : tie.InvT-loop
+Inv-loop image cells trie₀ i₀ trie i = (i ≤ cells) × (cells ≤ 256)
+
+abbrev μ-loop : tie.MeasureT-loop
+μ-loop image cells trie₀ i₀ trie i = cells - i
+
+shared-slice-read-pair : tie.Need-shared-slice-read-pair Inv-loop μ-loop
+shared-slice-read-pair c = search needs
+
+shared-slice-read-pair-2 : tie.Need-shared-slice-read-pair-2 Inv-loop μ-loop
+shared-slice-read-pair-2 c = search needs
+
+pair-requires : tie.Need-pair-requires Inv-loop μ-loop
+pair-requires c κs = search needs
+
+lone-requires : tie.Need-lone-requires Inv-loop μ-loop
+lone-requires c κs = search needs
+
+shared-slice-read-pair-3 : tie.Need-shared-slice-read-pair-3 Inv-loop μ-loop
+shared-slice-read-pair-3 c = search needs
+
+shared-slice-read-pair-4 : tie.Need-shared-slice-read-pair-4 Inv-loop μ-loop
+shared-slice-read-pair-4 c = search needs
+
+pair-requires-2 : tie.Need-pair-requires-2 Inv-loop μ-loop
+pair-requires-2 c κs = search needs
+
+loop-holds : tie.Need-loop-holds Inv-loop μ-loop
+loop-holds c = search needs
+
+cell-at-requires : tie.Need-cell-at-requires Inv-loop μ-loop
+cell-at-requires c κs = search needs
+
+mul-cell : tie.Need-mul-cell Inv-loop μ-loop
+mul-cell c = search needs
+
+element-set-from-cell : tie.Need-element-set-from-cell Inv-loop μ-loop
+element-set-from-cell c = search needs
+
+add-i : tie.Need-add-i Inv-loop μ-loop
+add-i c = search needs
+
+loop-less : tie.Need-loop-less Inv-loop μ-loop
+loop-less c = search needs
+
+loop-again : tie.Need-loop-again Inv-loop μ-loop
+loop-again c = search needs
+
+returns : tie.Need-returns Inv-loop μ-loop
+returns c = search needs
+
+pub with-cells-spec : {M : Type 1} → statement M
+with-cells-spec =
+    tie.close
+    (tie.spec
+    Inv-loop
+    μ-loop
+    shared-slice-read-pair
+    shared-slice-read-pair-2
+    pair-requires
+    lone-requires
+    shared-slice-read-pair-3
+    shared-slice-read-pair-4
+    pair-requires-2
+    loop-holds
+    cell-at-requires
+    mul-cell
+    element-set-from-cell
+    add-i
+    loop-less
+    loop-again
+    returns)
