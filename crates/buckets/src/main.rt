@@ -84,7 +84,8 @@ fn line_ended(file: &mut [u8], state: State) -> State
     let bytes = line.bytes;
     let trie = state.trie;
     let given = put_name(file, trie, &bytes, line.len, state.number);
-    let refused = refusal_of(given.answer);
+    let answer = given.answer;
+    let refused = refusal_of(answer);
     let after = given.trie;
     if refused != 0 {
         return State {

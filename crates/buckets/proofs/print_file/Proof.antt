@@ -1,0 +1,48 @@
+use Rattle.keeper.proofs.Laws.{right-sized}
+use Prim.Native.Nat.{ℕ, _≤_, _-_, _<_, _+_, _*_}
+use native.Mathlib.Omega.{arith}
+use mathlib.Core.Path.{_≡_, refl, sym, _∙_}
+use lib.ListN.{length, take, drop, getD}
+use borrow.Author.Needs.{needs}
+use Rattle.buckets.proofs.print_file.Statement.{statement}
+use Rattle.buckets.proofs.print_file.Tie as tie
+use Rattle.buckets.proofs.print_file.Reads as reads
+use Rattle.buckets.proofs.print_file.Lts as lts
+use Rattle.buckets.proofs.print_buckets.Reads as print-buckets-reads
+use Rattle.file.proofs.header_of.Reads as header-of-reads
+use Rattle.file.proofs.survey_of.Reads as survey-of-reads
+
+header-of-requires : tie.Need-header-of-requires
+header-of-requires c κs = search needs
+
+enum-known-size : tie.Need-enum-known-size
+enum-known-size c = search needs
+
+enum-told : tie.Need-enum-told
+enum-told c = search needs
+
+returns : tie.Need-returns
+returns c = search needs
+
+survey-of-requires : tie.Need-survey-of-requires
+survey-of-requires c κs = right-sized (c .before .size .given .1) (c .before .before .before .header-of .ensures)
+
+print-buckets-requires : tie.Need-print-buckets-requires
+print-buckets-requires c κs =
+    let v = c .before .before .survey-of .ensures in
+    (right-sized (c .before .before .before .before .size .given .1) (c .before .before .before .before .before .before .header-of .ensures), v .slots-inside, v .count-most)
+
+returns-2 : tie.Need-returns-2
+returns-2 c = search needs
+
+pub print-file-spec : {M : Type 1} → statement M
+print-file-spec =
+    tie.close
+    (tie.spec
+    header-of-requires
+    enum-known-size
+    enum-told
+    returns
+    survey-of-requires
+    print-buckets-requires
+    returns-2)
