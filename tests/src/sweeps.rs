@@ -78,6 +78,29 @@ pub fn create_arguments(_: u64, run: &mut Run) {
     }
 }
 
+/// Files whose header says any b, slots and version, with the length that belongs to it.
+pub fn headers(_: u64, run: &mut Run) {
+    let with_header = |b: usize, slots: usize, version: [u8; 2]| {
+        let mut file = vec![0; file_length(b, slots)];
+        file[..3].copy_from_slice(b"TKF");
+        file[3..5].copy_from_slice(&version);
+        file[5] = b as u8;
+        file[6] = slots as u8;
+        if slots > 0 {
+            file[16] = 1;
+        }
+        file
+    };
+    for b in (0..=20).chain([32, 128, 255]) {
+        for slots in (0..=5).chain([31, 32, 63, 64, 65, 66, 127, 128, 255]) {
+            all_calls(run, &with_header(b, slots, [1, 0]), &[0; IMAGE]);
+        }
+    }
+    for version in [[0, 0], [1, 0], [2, 0], [3, 0], [255, 0], [0, 1], [1, 1], [1, 255]] {
+        all_calls(run, &with_header(4, 3, version), &[0; IMAGE]);
+    }
+}
+
 /// Every byte at every place of names of every length, and lengths far too great.
 pub fn bytes_of_a_name(_: u64, run: &mut Run) {
     let file = small_sound();
