@@ -218,28 +218,41 @@ pub fn filled(name: &[u8]) -> [u8; 24] {
     digits
 }
 
-// 1 where x cannot stand after y in a filled name: no digit, or more than a blank behind a blank.
+// 1 where a blank is followed by more than a blank, else 0.
 fn fault_after(y: u8, x: u8) -> u8 {
-    if x == 0x20 {
+    if 0x20 < y {
         return 0;
     }
-    if y == 0x20 {
-        return 1;
+    if x < 0x21 {
+        return 0;
     }
-    fault(x, 0x21)
+    1
 }
 
-// Whether these 24 bytes are a legal name, filled.
-pub fn is_filled_name(s: &[u8]) -> bool
+// Whether no blank is followed by more than a blank.
+fn is_filled(s: &[u8]) -> bool
     requires { ⌜ length (now s) ≡ 24 ⌝ }
 {
-    let mut most = fault(s[0], 0x21);
+    let mut most = 0u8;
     let mut i = 1;
     while i < 24 {
         most = larger(most, fault_after(s[i - 1], s[i]));
         i += 1;
     }
     most == 0
+}
+
+// Whether these 24 bytes are a legal name, filled.
+pub fn is_filled_name(s: &[u8]) -> bool
+    requires { ⌜ length (now s) ≡ 24 ⌝ }
+{
+    if s[0] == 0x20 {
+        return false;
+    }
+    if !are_digits(s, 0x20) {
+        return false;
+    }
+    is_filled(s)
 }
 
 // Whether these 24 bytes are a bound of `len` digits: each 0x20 to 0x7D, and zero behind them.

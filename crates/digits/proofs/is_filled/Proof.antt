@@ -3,11 +3,10 @@ use native.Mathlib.Omega.{arith}
 use mathlib.Core.Path.{_≡_, refl, sym, _∙_}
 use lib.ListN.{length, take, drop, getD}
 use borrow.Author.Needs.{needs}
-use Rattle.digits.proofs.is_filled_name.Statement.{statement}
-use Rattle.digits.proofs.is_filled_name.Tie as tie
-use Rattle.digits.proofs.is_filled_name.Reads as reads
-use Rattle.digits.proofs.is_filled_name.Lts as lts
-use Rattle.digits.proofs.fault.Reads as fault-reads
+use Rattle.digits.proofs.is_filled.Statement.{statement}
+use Rattle.digits.proofs.is_filled.Tie as tie
+use Rattle.digits.proofs.is_filled.Reads as reads
+use Rattle.digits.proofs.is_filled.Lts as lts
 use Rattle.digits.proofs.fault_after.Reads as fault-after-reads
 use Rattle.digits.proofs.larger.Reads as larger-reads
 
@@ -16,12 +15,6 @@ Inv-loop s most₀ i₀ most i = (1 ≤ i) × (i ≤ 24)
 
 abbrev μ-loop : tie.MeasureT-loop
 μ-loop s most₀ i₀ most i = 24 - i
-
-shared-slice-read-fault : tie.Need-shared-slice-read-fault Inv-loop μ-loop
-shared-slice-read-fault c = search needs
-
-fault-requires : tie.Need-fault-requires Inv-loop μ-loop
-fault-requires c κs = search needs
 
 loop-holds : tie.Need-loop-holds Inv-loop μ-loop
 loop-holds c = search needs
@@ -53,14 +46,12 @@ loop-again c = search needs
 returns : tie.Need-returns Inv-loop μ-loop
 returns c = search needs
 
-pub is-filled-name-spec : {M : Type 1} → statement M
-is-filled-name-spec =
+pub is-filled-spec : {M : Type 1} → statement M
+is-filled-spec =
     tie.close
     (tie.spec
     Inv-loop
     μ-loop
-    shared-slice-read-fault
-    fault-requires
     loop-holds
     sub-fault-after
     shared-slice-read-fault-after
