@@ -1,0 +1,125 @@
+-- Growth: the leaf reached by the split key becomes a chain of cells.
+use mathlib.Core.Path.{_≡_, refl, sym, ap, _∙_, subst}
+use mathlib.Core.Logic.{_⊎_, inl, inr, _≢_}
+use Prim.Native.Nat.{ℕ, zero, suc, _+_, _-_, _≤_, _<_}
+use native.Mathlib.Nat.{add-zero, add-suc}
+use native.Mathlib.Numerals.{add-one}
+use mathlib.Core.List.{List, [], _∷_, _++_, append-assoc, append-nil, List·Memᴰ, List·Memᴰ·head, List·Memᴰ·tail, Memᴰ·append-left, Memᴰ·append-right}
+use native.Mathlib.Omega.{arith}
+use lib.ListN.{length, take, drop, length-append, getD, take-append-drop}
+use lib.Seq.{take-length, take-suc, drop-cons, length-take-le}
+use Rattle.model.specs.Order.{Str, _⊑_, _≺_, le?, le-refl, le-trans, lt-le, lt-or-ge, sandwich, snoc-lt, le-append, le-take, diff, split-lt, take-diff, diff-le-right, diff-lt-left, Low, none, at, _◁_, above, low-le, low-at, low-refl, _⊴_}
+use Rattle.model.specs.Trie.{Tree, leaf, node, cell, Trie, tip, cut, cut-at}
+
+-- one cell for each digit, each the left side of the one before, from digit number i on
+abbrev pub chain : ℕ → Str → ℕ → Tree
+chain i [] A = leaf A
+chain i (d ∷ ds) A = node d i (chain (suc i) ds A) (leaf A)
+
+-- the beginnings of p ++ ds that are longer than p, longest first
+abbrev pub longer : Str → Str → List Str
+longer p [] = []
+longer p (d ∷ ds) = longer (p ++ (d ∷ [])) ds ++ ((p ++ (d ∷ [])) ∷ [])
+
+-- the tree put in the place of a leaf with path p that leads to A
+abbrev pub grown : Str → Str → ℕ → Tree
+grown s p A = chain (diff s p) (drop (diff s p) s) A
+
+-- the strings that come new, ascending
+abbrev pub fresh : Str → Str → List Str
+fresh s p = longer (take (diff s p) s) (drop (diff s p) s)
+
+-- walk with c, and replace the leaf
+abbrev pub graft : Str → Str → Str → Tree → Tree
+graft c s p (leaf A) = grown s p A
+graft c s p (node d i L R) =
+    elim (le? c (cell d i p)) [ yes h ↦ node d i (graft c s (cell d i p) L) R | no h ↦ node d i L (graft c s p R) ]
+
+-- what holds at a leaf holds at a leaf of a part of its interval
+pub record Shrinks (P : Low → Str → ℕ → Type 0) : Type 0 where
+  pub shrink : {l m : Low} {u v : Str} {s : ℕ} → P l u s → l ⊴ m → v ⊑ u → P m v s
+
+module _ (P : Low → Str → ℕ → Type 0) (S : Shrinks P) where
+  pub chain-trie : (ds p : Str) {l : Low} {A : ℕ} → l ◁ (p ++ ds) → P l p A → Trie P l p (chain (length p) ds A) (longer p ds)
+  chain-trie [] p lo h = tip h
+  chain-trie (d ∷ ds) p {l} {A} lo h =
+      let q : Str = p ++ (d ∷ []) in
+      let e : q ++ ds ≡ p ++ (d ∷ ds) = append-assoc p (d ∷ []) ds in
+      let len : length q ≡ suc (length p) = length-append p (d ∷ []) ∙ add-one (length p) in
+      let lo′ : l ◁ q = low-le (rw (← e) at lo) (le-append q ds) in
+      cut-at P d (length p) (omega arith) (rw take-length) lo′ (snoc-lt p d)
+      (rw len at (chain-trie ds q (rw e lo) (S .shrink h (low-refl l) (lt-le (snoc-lt p d)))))
+      (tip (S .shrink h (low-at lo′) (le-refl p)))
+
+  pub grown-trie : (s : Str) {l : Low} {u : Str} {A : ℕ} → l ◁ s → s ≺ u → P l u A → Trie P l u (grown s u A) (fresh s u)
+  grown-trie s {l} {u} {A} lo up h =
+      let j : ℕ = diff s u in
+      let d : ℕ = getD s j 0 in
+      let ds : Str = drop (suc j) s in
+      let q : Str = take (suc j) s in
+      let inside : j < length s = diff-lt-left s u up in
+      let e : take j s ++ (d ∷ []) ≡ q = sym (take-suc s j 0 inside) in
+      let len : length q ≡ suc j = length-take-le (suc j) s inside in
+      let whole : q ++ ds ≡ s = take-append-drop (suc j) s in
+      let lo′ : l ◁ q = low-le lo (le-take (suc j) s) in
+      let up′ : q ≺ u = split-lt s u up in
+      let left : Trie P l q (chain (suc j) ds A) (longer q ds) =
+      rw len at (chain-trie ds q (rw whole lo) (S .shrink h (low-refl l) (lt-le up′))) in
+      let all : Trie P l u (node d j (chain (suc j) ds A) (leaf A)) (longer q ds ++ (q ∷ [])) =
+      cut-at P d j (diff-le-right s u) (rw (← take-diff s u) e) lo′ up′ left (tip (S .shrink h (low-at lo′) (le-refl u))) in
+      rw (drop-cons s j 0 inside) (rw e all)
+
+  -- the split string s is a beginning of the split key c, and no string of the trie begins with s
+  module _ (c s : Str) (k : ℕ) (hk : k ≤ length c) (es : take k c ≡ s) where
+    -- the strings before and after those that came new; the path of the leaf that was replaced
+    pub record Growth (l : Low) (u : Str) (t : Tree) (ss : List Str) : Type 0 where
+      pub path : Str
+      pub before : List Str
+      pub after : List Str
+      pub old : ss ≡ before ++ after
+      pub path-old : (path ≡ u) ⊎ List·Memᴰ path ss
+      pub trie : Trie P l u t (before ++ (fresh s path ++ after))
+
+    below-path : (u : Str) → c ⊑ u → take k u ≢ s → s ≺ u
+    below-path u h n = elim (lt-or-ge s u) [ inl p ↦ p | inr p ↦ absurd (n (sandwich k c h (rw es p) hk .0 ∙ es)) ]
+
+    pub grow-trie : {l : Low} {u : Str} {t : Tree} {ss : List Str} → Trie P l u t ss → l ◁ c → c ⊑ u
+        → take k u ≢ s → ((q : Str) → List·Memᴰ q ss → take k q ≢ s) → Growth l u (graft c s u t) ss
+    grow-trie {u = u} (tip h) lo up n all =
+        record {
+          path = u;
+          before = [];
+          after = [];
+          old = refl;
+          path-old = inl refl;
+          trie = rw append-nil (grown-trie s (low-le lo (rw es at (le-take k c))) (below-path u up n) h);
+        }
+    grow-trie {l} {u} (cut {d = d} {i = i} {L = L} {R = R} {xs = xs} {ys = ys} hi a b x y) lo up n all =
+        go (le? c (cell d i u))
+        (λ h. grow-trie x lo h (all (cell d i u) (Memᴰ·append-right xs (List·Memᴰ·head refl))) (λ q m. all q (Memᴰ·append-left (cell d i u ∷ ys) m)))
+        (λ h. grow-trie y (above h) up n (λ q m. all q (Memᴰ·append-right xs (List·Memᴰ·tail m))))
+      where
+        q : Str
+        q = cell d i u
+
+        go : (t : Dec (c ⊑ cell d i u)) → (c ⊑ cell d i u → Growth l (cell d i u) (graft c s (cell d i u) L) xs)
+            → (cell d i u ≺ c → Growth (at (cell d i u)) u (graft c s u R) ys)
+            → Growth l u (elim t [ yes h ↦ node d i (graft c s (cell d i u) L) R | no h ↦ node d i L (graft c s u R) ]) (xs ++ (cell d i u ∷ ys))
+        go (yes h) f g = let r = f h in
+            record {
+              path = r .path;
+              before = r .before;
+              after = r .after ++ (q ∷ ys);
+              old = ap (λ (zs : List Str). zs ++ (q ∷ ys)) (r .old) ∙ append-assoc (r .before) (r .after) (q ∷ ys);
+              path-old = elim (r .path-old) [ inl e ↦ inr (Memᴰ·append-right xs (List·Memᴰ·head e)) | inr m ↦ inr (Memᴰ·append-left (q ∷ ys) m) ];
+              trie = simp append-assoc at (cut hi a b (r .trie) y);
+            }
+        go (no h) f g = let r = g h in
+            record {
+              path = r .path;
+              before = xs ++ (q ∷ r .before);
+              after = r .after;
+              old = ap (λ (zs : List Str). xs ++ (q ∷ zs)) (r .old) ∙ sym (append-assoc xs (q ∷ r .before) (r .after));
+              path-old = elim (r .path-old) [ inl e ↦ inl e | inr m ↦ inr (Memᴰ·append-right xs (List·Memᴰ·tail m)) ];
+              trie = simp append-assoc (cut hi a b x (r .trie));
+            }
