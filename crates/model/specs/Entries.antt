@@ -1,225 +1,56 @@
--- The entries of one bucket: names strictly ascending in a range; find, insert, and keeping those that pass a test.
-use mathlib.Core.Path.{_≡_, refl, sym, ap, _∙_, subst}
-use mathlib.Core.Logic.{_⊎_, inl, inr, _≢_}
+-- The entries of one bucket: find, insert, keep.
 use mathlib.Core.Option.{Option, none as nothing, some}
-use Prim.Native.Nat.{ℕ, zero, suc, _+_, _-_, _≤_, _<_}
-use mathlib.Core.List.{List, [], _∷_, _++_}
-use native.Mathlib.Omega.{arith}
-use native.Mathlib.Decide.{decLt}
-use lib.ListN.{length, getD}
+use mathlib.Core.List.{List, [], _∷_}
+use Prim.Native.Nat.{ℕ}
+use lib.ListN.{getD}
+use Rattle.model.specs.Order.{Low, Str, _⊑_, _◁_, at, le?, str?}
 use Rattle.model.specs.Names.{Legal}
-use Rattle.model.specs.Order.{Str, _⊑_, _≺_, le?, str?, le-refl, le-trans, lt-le, le-antisym, lt-trans, le-lt-trans, Low, none, at, _◁_, above, over, _⊴_, low-le, low-lower, low-at, low-refl}
 
+-- "An entry is the filled name (24) and the value."
+abbrev pub Entry : Type 0
+Entry = Str × ℕ
+
+abbrev pub name-at : List Entry → ℕ → Str
+name-at es i = getD es i ([], 0) .0
+
+-- What a test chooses.
 unfoldable pub chosen : {X Y : Type 0} → Dec X → Y → Y → Y
 chosen (yes h) a b = a
 chosen (no h) a b = b
-
-pub chosen-yes : {X Y : Type 0} (d : Dec X) → X → (a b : Y) → chosen d a b ≡ a
-unfolding chosen
-chosen-yes (yes h) x a b = refl
-chosen-yes (no h) x a b = absurd (h x)
-
-pub chosen-no : {X Y : Type 0} (d : Dec X) → ¬ X → (a b : Y) → chosen d a b ≡ b
-unfolding chosen
-chosen-no (yes h) x a b = absurd (x h)
-chosen-no (no h) x a b = refl
 
 unfoldable pub not? : {X : Type 0} → Dec X → Dec (¬ X)
 not? (yes h) = no (λ n. n h)
 not? (no h) = yes h
 
-abbrev pub Entry : Type 0
-Entry = Str × ℕ
-
+-- "found with value, or absent"
 unfoldable pub find : Str → List Entry → Option ℕ
 find n [] = nothing
 find n (e ∷ es) = chosen (str? n (e .0)) (some (e .1)) (find n es)
 
+-- "The new name goes into its bucket", in order; "on a held name replaces the value".
 unfoldable pub insert : Str → ℕ → List Entry → List Entry
 insert n v [] = (n, v) ∷ []
-insert n v (e ∷ es) = chosen (le? n (e .0)) (chosen (str? n (e .0)) ((n, v) ∷ es) ((n, v) ∷ e ∷ es)) (e ∷ insert n v es)
+insert n v (e ∷ es) =
+    chosen (le? n (e .0)) (chosen (str? n (e .0)) ((n, v) ∷ es) ((n, v) ∷ e ∷ es)) (e ∷ insert n v es)
 
--- those whose names pass the test: what stays, what moves, what a removal leaves
+-- Those whose names pass a test.
 unfoldable pub keep : {P : Str → Type 0} → ((n : Str) → Dec (P n)) → List Entry → List Entry
 keep t [] = []
 keep t (e ∷ es) = chosen (t (e .0)) (e ∷ keep t es) (keep t es)
 
-pub find-insert-same : (n : Str) (v : ℕ) (es : List Entry) → find n (insert n v es) ≡ some v
-unfolding find insert
-find-insert-same n v [] = chosen-yes (str? n n) refl _ _
-find-insert-same n v (e ∷ es) = elim (le? n (e .0)) [
-  | no h ↦ rw (chosen-no (le? n (e .0)) h, chosen-no (str? n (e .0)) (λ q. h (rw (← q) (le-refl n)))) (find-insert-same n v es)
-  | yes h ↦ elim (str? n (e .0)) [
-    | yes q ↦ rw (chosen-yes (le? n (e .0)) h, chosen-yes (str? n (e .0)) q) (chosen-yes (str? n n) refl _ _)
-    | no q ↦ rw (chosen-yes (le? n (e .0)) h, chosen-no (str? n (e .0)) q) (chosen-yes (str? n n) refl _ _)
-  ]
-]
-
-pub find-insert-other : (m n : Str) (v : ℕ) (es : List Entry) → m ≢ n → find m (insert n v es) ≡ find m es
-unfolding find insert
-find-insert-other m n v [] d = chosen-no (str? m n) d _ _
-find-insert-other m n v (e ∷ es) d = elim (le? n (e .0)) [
-  | no h ↦ rw (chosen-no (le? n (e .0)) h, find-insert-other m n v es d)
-  | yes h ↦ elim (str? n (e .0)) [
-    | yes q ↦ rw (chosen-yes (le? n (e .0)) h, chosen-yes (str? n (e .0)) q, chosen-no (str? m n) d) (sym (chosen-no (str? m (e .0)) (λ r. d (r ∙ sym q)) _ _))
-    | no q ↦ rw (chosen-yes (le? n (e .0)) h, chosen-no (str? n (e .0)) q) (chosen-no (str? m n) d _ _)
-  ]
-]
-
-module _ {P : Str → Type 0} (t : (n : Str) → Dec (P n)) where
-  pub find-keep : (n : Str) (es : List Entry) → P n → find n (keep t es) ≡ find n es
-  unfolding find keep
-  find-keep n [] p = refl
-  find-keep n (e ∷ es) p = elim (t (e .0)) [
-    | yes h ↦ rw (chosen-yes (t (e .0)) h, find-keep n es p)
-    | no h ↦ rw (chosen-no (t (e .0)) h, find-keep n es p) (sym (chosen-no (str? n (e .0)) (λ q. h (rw q at p)) _ _))
-  ]
-
-  pub find-drop : (n : Str) (es : List Entry) → ¬ P n → find n (keep t es) ≡ nothing
-  unfolding find keep
-  find-drop n [] p = refl
-  find-drop n (e ∷ es) p = elim (t (e .0)) [
-    | yes h ↦ rw (chosen-yes (t (e .0)) h) (chosen-no (str? n (e .0)) (λ q. p (rw q h)) _ _ ∙ find-drop n es p)
-    | no h ↦ rw (chosen-no (t (e .0)) h) (find-drop n es p)
-  ]
-
-  pub keep-insert-out : (n : Str) (v : ℕ) (es : List Entry) → ¬ P n → keep t (insert n v es) ≡ keep t es
-  unfolding insert keep
-  keep-insert-out n v [] p = chosen-no (t n) p _ _
-  keep-insert-out n v (e ∷ es) p = elim (le? n (e .0)) [
-    | no h ↦ rw (chosen-no (le? n (e .0)) h, keep-insert-out n v es p)
-    | yes h ↦ elim (str? n (e .0)) [
-      | yes q ↦ rw (chosen-yes (le? n (e .0)) h, chosen-yes (str? n (e .0)) q, chosen-no (t n) p) (sym (chosen-no (t (e .0)) (λ r. p (rw q r)) _ _))
-      | no q ↦ rw (chosen-yes (le? n (e .0)) h, chosen-no (str? n (e .0)) q) (chosen-no (t n) p _ _)
-    ]
-  ]
-
-  pub length-keep : (es : List Entry) → length (keep t es) ≤ length es
-  unfolding keep
-  length-keep [] = omega arith
-  length-keep (e ∷ es) = elim (t (e .0)) [
-    | yes h ↦ rw (chosen-yes (t (e .0)) h) (omega (arith, length-keep es))
-    | no h ↦ rw (chosen-no (t (e .0)) h) (omega (arith, length-keep es))
-  ]
-
-  pub keep-parts : (es : List Entry) → length (keep t es) + length (keep (λ n. not? (t n)) es) ≡ length es
-  unfolding keep
-  keep-parts [] = omega arith
-  keep-parts (e ∷ es) = elim (t (e .0)) [
-    | yes h ↦ rw (chosen-yes (t (e .0)) h, chosen-no (not? (t (e .0))) (λ n. n h)) (omega (arith, keep-parts es))
-    | no h ↦ rw (chosen-no (t (e .0)) h, chosen-yes (not? (t (e .0))) h) (omega (arith, keep-parts es))
-  ]
-
-  -- one that passes is kept
-  pub keep-some : (es : List Entry) (i : ℕ) → i < length es → P (getD es i ([], 0) .0) → 0 < length (keep t es)
-  unfolding keep
-  keep-some [] i h p = absurd (omega arith)
-  keep-some (e ∷ es) zero h p = rw (chosen-yes (t (e .0)) p) (omega arith)
-  keep-some (e ∷ es) (suc i) h p = elim (t (e .0)) [
-    | yes q ↦ rw (chosen-yes (t (e .0)) q) (omega arith)
-    | no q ↦ rw (chosen-no (t (e .0)) q) (keep-some es i (omega arith) p)
-  ]
-
-module _ {P Q : Str → Type 0} (t : (n : Str) → Dec (P n)) (r : (n : Str) → Dec (Q n)) where
-  pub keep-comm : (es : List Entry) → keep t (keep r es) ≡ keep r (keep t es)
-  unfolding keep
-  keep-comm [] = refl
-  keep-comm (e ∷ es) = elim (t (e .0)) [
-    | yes p ↦ elim (r (e .0)) [
-      | yes q ↦ rw (chosen-yes (t (e .0)) p, chosen-yes (r (e .0)) q, chosen-yes (t (e .0)) p, chosen-yes (r (e .0)) q, keep-comm es)
-      | no q ↦ rw (chosen-yes (t (e .0)) p, chosen-no (r (e .0)) q, chosen-no (r (e .0)) q, keep-comm es)
-    ]
-    | no p ↦ elim (r (e .0)) [
-      | yes q ↦ rw (chosen-no (t (e .0)) p, chosen-yes (r (e .0)) q, chosen-no (t (e .0)) p, keep-comm es)
-      | no q ↦ rw (chosen-no (t (e .0)) p, chosen-no (r (e .0)) q, keep-comm es)
-    ]
-  ]
-
-pub length-insert : (n : Str) (v : ℕ) (es : List Entry) → length (insert n v es) ≤ suc (length es)
-unfolding insert
-length-insert n v [] = omega arith
-length-insert n v (e ∷ es) = elim (le? n (e .0)) [
-  | no h ↦ rw (chosen-no (le? n (e .0)) h) (omega (arith, length-insert n v es))
-  | yes h ↦ elim (str? n (e .0)) [
-    | yes q ↦ rw (chosen-yes (le? n (e .0)) h, chosen-yes (str? n (e .0)) q) (omega arith)
-    | no q ↦ rw (chosen-yes (le? n (e .0)) h, chosen-no (str? n (e .0)) q) (omega arith)
-  ]
-]
-
--- names strictly ascending, legal, above l and within u
-pub data Row : Low → List Entry → Str → Type 0 where
-  end : {l : Low} {u : Str} → Row l [] u
-  step : {l : Low} {u : Str} {e : Entry} {es : List Entry} → Legal (e .0) → l ◁ e .0 → e .0 ⊑ u → Row (at (e .0)) es u → Row l (e ∷ es) u
-
-pub row-under : {l m : Low} {u : Str} {es : List Entry} → l ⊴ m → Row m es u → Row l es u
-row-under h end = end
-row-under h (step g a b r) = step g (low-lower h a) b r
-
-pub row-insert : {l : Low} {u : Str} {es : List Entry} (n : Str) (v : ℕ) → Legal n → l ◁ n → n ⊑ u → Row l es u → Row l (insert n v es) u
-unfolding insert
-row-insert n v g a b end = step g a b end
-row-insert {l} {u} n v g a b (step {e = e} {es = es} g′ c d r) = elim (le? n (e .0)) [
-  | no h ↦ rw (chosen-no (le? n (e .0)) h) (step g′ c d (row-insert n v g (above h) b r))
-  | yes h ↦ elim (str? n (e .0)) [
-    | yes q ↦ rw (chosen-yes (le? n (e .0)) h, chosen-yes (str? n (e .0)) q) (step g a b (rw (← q) at r))
-    | no q ↦ rw (chosen-yes (le? n (e .0)) h, chosen-no (str? n (e .0)) q) (step g a b (step g′ (above (λ p. q (le-antisym h p))) d r))
-  ]
-]
-
-pub row-keep : {P : Str → Type 0} (t : (n : Str) → Dec (P n)) {l : Low} (l′ : Low) {u : Str} (u′ : Str) {es : List Entry} → Row l es u
-    → ((n : Str) → P n → l ◁ n → n ⊑ u → (l′ ◁ n) × (n ⊑ u′)) → Row l′ (keep t es) u′
-unfolding keep
-row-keep t l′ u′ end f = end
-row-keep t l′ u′ (step {e = e} g a b r) f = elim (t (e .0)) [
-  | yes h ↦ rw (chosen-yes (t (e .0)) h) (step g (f (e .0) h a b .0) (f (e .0) h a b .1)
-      (row-keep t (at (e .0)) u′ r (λ n p c d. (c, f n p (low-lower (low-at a) c) d .1))))
-  | no h ↦ rw (chosen-no (t (e .0)) h) (row-keep t l′ u′ r (λ n p c d. f n p (low-lower (low-at a) c) d))
-]
-
-abbrev pub name-at : List Entry → ℕ → Str
-name-at es i = getD es i ([], 0) .0
-
-pub row-at : {l : Low} {u : Str} {es : List Entry} → Row l es u → (i : ℕ) → i < length es → Legal (name-at es i) × (l ◁ name-at es i) × (name-at es i ⊑ u)
-row-at end i h = absurd (omega arith)
-row-at (step g a b r) zero h = (g, a, b)
-row-at (step g a b r) (suc i) h = let k = row-at r i (omega arith) in (k .0, low-lower (low-at a) (k .1), k .2)
-
-pub row-lt : {l : Low} {u : Str} {es : List Entry} → Row l es u → (i j : ℕ) → i < j → j < length es → name-at es i ≺ name-at es j
-row-lt end i j h k = absurd (omega arith)
-row-lt (step g a b r) i zero h k = absurd (omega arith)
-row-lt (step g a b r) zero (suc j) h k = over (row-at r j (omega arith) .1)
-row-lt (step g a b r) (suc i) (suc j) h k = row-lt r i j (omega arith) (omega arith)
-
-pub keep-all : {P : Str → Type 0} (t : (n : Str) → Dec (P n)) {l : Low} {u : Str} {es : List Entry} → Row l es u → ((k : Str) → l ◁ k → P k) → keep t es ≡ es
-unfolding keep
-keep-all t end f = refl
-keep-all t (step {e = e} g a b r) f = rw (chosen-yes (t (e .0)) (f (e .0) a), keep-all t r (λ k h. f k (low-lower (low-at a) h)))
-
--- entries that a removal leaves
+-- What a removal leaves.
 abbrev pub without : Str → List Entry → List Entry
 without n es = keep (λ k. not? (str? k n)) es
 
--- where an insertion adds an entry, the name was not there
-pub insert-new : {l : Low} {u : Str} {es : List Entry} (n : Str) (v : ℕ) → Row l es u → length es < length (insert n v es) → without n es ≡ es
-unfolding insert keep
-insert-new n v end h = refl
-insert-new n v (step {e = e} {es = es} g a b r) h = elim (le? n (e .0)) [
-  | no p ↦ rw (chosen-yes (not? (str? (e .0) n)) (λ q. p (rw (← q) (le-refl (e .0)))), insert-new n v r (shorter (rw (chosen-no (le? n (e .0)) p) at h)))
-  | yes p ↦ elim (str? n (e .0)) [
-    | yes q ↦ absurd (no-longer (rw (chosen-yes (le? n (e .0)) p, chosen-yes (str? n (e .0)) q) at h))
-    | no q ↦ rw (chosen-yes (not? (str? (e .0) n)) (λ e. q (sym e)), keep-all (λ k. not? (str? k n)) r (λ k c d. over c (rw d p)))
-  ]
-]
-  where
-    shorter : suc (length es) < suc (length (insert n v es)) → length es < length (insert n v es)
-    shorter h = omega arith
+-- "Names within s stay, the others move."
+abbrev pub stay : Str → List Entry → List Entry
+stay s es = keep (λ k. le? k s) es
 
-    no-longer : suc (length es) < suc (length es) → ⊥
-    no-longer h = omega arith
+abbrev pub move : Str → List Entry → List Entry
+move s es = keep (λ k. not? (le? k s)) es
 
-pub insert-held : {l : Low} {u : Str} {es : List Entry} (n : Str) (v w : ℕ) → Row l es u → find n es ≡ some w → length (insert n v es) ≤ length es
-insert-held {es = es} n v w r e = elim (decLt (length es) (length (insert n v es))) [
-  | no h ↦ omega arith
-  | yes h ↦ let z : _≡_ {A = Option ℕ} nothing (some w) = sym (find-drop (λ k. not? (str? k n)) n es (λ q. q refl)) ∙ ap (find n) (insert-new n v r h) ∙ e in
-      let y : _≡_ {A = ℕ} 0 1 = cc in absurd (omega arith)
-]
+-- "names are legal and strictly ascending, and every name is in the range", above l and within u.
+pub data Row : Low → List Entry → Str → Type 0 where
+  no-entries : {l : Low} {u : Str} → Row l [] u
+  entry : {l : Low} {u : Str} {e : Entry} {es : List Entry}
+      → Legal (e .0) → l ◁ e .0 → e .0 ⊑ u → Row (at (e .0)) es u → Row l (e ∷ es) u

@@ -1,81 +1,190 @@
--- A sound file's slots in range order; the slot of a leaf; rebuilding agrees.
-use mathlib.Core.Path.{_≡_, refl, sym, ap, _∙_, subst}
-use mathlib.Core.Logic.{_⊎_, inl, inr, _≢_}
-use Prim.Native.Nat.{ℕ, zero, suc, _+_, _-_, _≤_, _<_}
-use mathlib.Core.List.{List, [], _∷_, _++_, List·Memᴰ, List·Memᴰ·head, List·Memᴰ·tail, Memᴰ·cast}
+-- The file as a list of slots: well formed, sound, cut, bad; its range order, its bounds, its strings.
+use mathlib.Core.Path.{_≡_, ap, refl}
+use mathlib.Core.Option.{some}
+use mathlib.Core.List.{List, List·Memᴰ, [], _++_, _∷_}
+use Prim.Native.Nat.{_-_, _<_, _≤_, suc, zero, ℕ}
 use native.Mathlib.Omega.{arith}
-use lib.ListN.{length, take, getD}
-use lib.Seq.{take-length}
-use Rattle.model.specs.Order.{Str, _⊑_, _≺_, le?, le-refl, le-trans, lt-le, top, nil-not-le, lt-or-ge, Low, none, at, _◁_, free, above, over, _⊴_, not-over, low-le, low-lower, low-at, low-refl}
-use Rattle.model.specs.Trie.{Tree, leaf, node, cell, Trie, tip, cut, walk, walk-ends, Ends}
-use Rattle.model.specs.Relabel.{Ranges, Leads, Gap, relabel, relabel-trie}
-use Rattle.model.specs.Rebuild.{Asc, end, step, asc-mem, build, build-trie}
-use Rattle.model.specs.Bounds.{all, all-asc, all-closed, begins-all}
+use lib.ListN.{drop, getD, length, replicate, set, take}
+use Rattle.model.specs.Order.{Low, Str, _≺_, _⊑_, _◁_, at, below, diff, none, str?}
+use Rattle.model.specs.Names.{Bound, BoundLow}
+use Rattle.model.specs.Entries.{Entry, Row, chosen, move, name-at, without}
 
--- an element of the order with none at the bottom, decided
-unfoldable pub low? : (l : Low) (x : Str) → Dec (l ◁ x)
-low? none x = yes free
-low? (at l) x = elim (le? x l) [ yes p ↦ no (λ h. over h p) | no p ↦ yes (above p) ]
+-- A slot is free, or used with a lower and an upper bound and entries.
+pub data Slot : Type 0 where
+  free : Slot
+  used : Low → Str → List Entry → Slot
+
+abbrev pub entries-of : Slot → List Entry
+entries-of free = []
+entries-of (used l u es) = es
+
+-- The slot with a number. Behind the last there is none, which reads as free.
+abbrev pub slot-at : List Slot → ℕ → Slot
+slot-at fs B = getD fs B free
+
+-- What a slot's header says: no range, or the two bounds.
+pub data Head : Type 0 where
+  no-range : Head
+  range : Low → Str → Head
+
+abbrev pub head : Slot → Head
+head free = no-range
+head (used l u es) = range l u
+
+abbrev pub IsUsed : Head → Type 0
+IsUsed no-range = ⊥
+IsUsed (range l u) = Unit {0}
+
+abbrev pub lower-of : Head → Low
+lower-of no-range = none
+lower-of (range l u) = l
+
+abbrev pub upper-of : Head → Str
+upper-of no-range = []
+upper-of (range l u) = u
+
+-- "A bucket's range is the names within its upper bound and not within its lower."
+abbrev pub In : Head → Str → Type 0
+In h n = IsUsed h × (lower-of h ◁ n) × (n ⊑ upper-of h)
+
+-- All that a trie needs of a file: which slots are used, and their bounds.
+pub record Ranges : Type 1 where
+  pub Used : ℕ → Type 0
+  pub lower : ℕ → Low
+  pub upper : ℕ → Str
+
+abbrev pub by-heads : (ℕ → Head) → Ranges
+by-heads h = record { Used = λ B. IsUsed (h B); lower = λ B. lower-of (h B); upper = λ B. upper-of (h B) }
+
+abbrev pub ranges : List Slot → Ranges
+ranges fs = by-heads (λ B. head (slot-at fs B))
 
 module _ (F : Ranges) where
-  -- the used slots from the lower limit on, each lower the upper before it
+  -- "the used slots can be ordered so that the first has no lower limit, the last no upper, each lower equals the upper
+  -- before it and is not empty, and bounds strictly ascend": such an order, from a lower limit on.
   pub data Chain : Low → List ℕ → Type 0 where
     last : {l : Low} {B : ℕ} → F .Used B → F .lower B ≡ l → F .upper B ≡ [] → Chain l (B ∷ [])
-    next : {l : Low} {B : ℕ} {Bs : List ℕ} → F .Used B → F .lower B ≡ l → l ◁ F .upper B → F .upper B ≺ [] → Chain (at (F .upper B)) Bs → Chain l (B ∷ Bs)
+    next : {l : Low} {B : ℕ} {Bs : List ℕ} → F .Used B → F .lower B ≡ l → l ◁ F .upper B → F .upper B ≺ []
+        → Chain (at (F .upper B)) Bs → Chain l (B ∷ Bs)
 
-  pub chain-some : {l : Low} → Chain l [] → ⊥
-  chain-some c = elim c [ ]
-
-  -- the non-empty bounds
+  -- The non-empty bounds of slots in such an order, ascending: all uppers but the last.
   abbrev pub bounds : List ℕ → List Str
   bounds [] = []
   bounds (B ∷ []) = []
   bounds (B ∷ C ∷ Bs) = F .upper B ∷ bounds (C ∷ Bs)
 
-  pub bounds-asc : (Bs : List ℕ) (l : Low) → Chain l Bs → Asc l (bounds Bs) []
-  bounds-asc [] l c = end
-  bounds-asc (B ∷ []) l c = end
-  bounds-asc (B ∷ C ∷ Bs) l (next u e a b c) = step a b (bounds-asc (C ∷ Bs) (at (F .upper B)) c)
+-- "N's entries are exactly A's entries in N's range, or those and one more."
+pub data Copied (es : List Entry) : List Entry → Type 0 where
+  exactly : Copied es es
+  one-more : (i : ℕ) {ns : List Entry} → i < length ns → without (name-at ns i) ns ≡ es → Copied es ns
 
-  -- the first slot whose upper is above the lower limit
-  abbrev pub label : List ℕ → Low → ℕ
-  label [] l = 0
-  label (B ∷ []) l = B
-  label (B ∷ C ∷ Bs) l = elim (low? l (F .upper B)) [ yes h ↦ B | no h ↦ label (C ∷ Bs) l ]
+module _ (b : ℕ) where
+  -- "A used slot is well formed when this holds, lower is below upper where both are non-empty, names are legal and
+  -- strictly ascending, and every name is in the range." b is the bucket capacity.
+  pub data Well : Slot → Type 0 where
+    well-free : Well free
+    well-used : {l : Low} {u : Str} {es : List Entry} → BoundLow l → Bound u → l ◁ u → Row l es u → length es ≤ b
+        → Well (used l u es)
 
-  pub label-leads : (Bs : List ℕ) (m : Low) → Chain m Bs → (l : Low) (u : Str) → m ⊴ l → Gap (bounds Bs) l u → Leads F l u (label Bs l)
-  label-leads [] m c l u a gap = absurd (chain-some c)
-  label-leads (B ∷ []) m (last us e f) l u a gap = record { used = us; under = rw e a; within = rw f top }
-  label-leads (B ∷ []) m (next us e h b c) l u a gap = absurd (chain-some c)
-  label-leads (B ∷ C ∷ Bs) m (next us e h b c) l u a gap = go (low? l (F .upper B)) (λ a′. label-leads (C ∷ Bs) (at (F .upper B)) c l u a′ (λ x m. gap x (List·Memᴰ·tail m)))
-    where
-      go : (d : Dec (l ◁ F .upper B)) → (at (F .upper B) ⊴ l → Leads F l u (label (C ∷ Bs) l)) → Leads F l u (elim d [ yes h ↦ B | no h ↦ label (C ∷ Bs) l ])
-      go (yes h) f = record { used = us; under = rw e a; within = elim (lt-or-ge (F .upper B) u) [ inl p ↦ absurd (gap (F .upper B) (List·Memᴰ·head refl) h p) | inr p ↦ p ] }
-      go (no h) f = f (not-over l (F .upper B) h)
+  -- "A file is sound when .. each slot is free or well formed, at least one is used, and the used slots can be ordered."
+  pub record Sound (fs : List Slot) : Type 0 where
+    pub order : List ℕ
+    pub chain : Chain (ranges fs) none order
+    pub listed : (B : ℕ) → IsUsed (head (slot-at fs B)) → List·Memᴰ B order
+    pub well : (B : ℕ) → Well (slot-at fs B)
 
-  pub bounds-all : (Bs : List ℕ) (l : Low) → Chain l Bs → (x : Str) → List·Memᴰ x (bounds Bs) → List·Memᴰ x (all (bounds Bs))
-  bounds-all Bs l c [] m = absurd (asc-mem (bounds-asc Bs l c) m .1 top)
-  bounds-all Bs l c (d ∷ x) m = Memᴰ·cast (sym (take-length (d ∷ x))) (begins-all (bounds Bs) (d ∷ x) m (length (d ∷ x)) (omega arith) (omega arith))
+  -- "A file is cut when freeing one well-formed slot N leaves a sound file in which a slot A has N's upper, a lower below
+  -- N's (or none), and b entries; N's lower is not empty; and N's entries are exactly A's entries in N's range, or those
+  -- and one more."
+  pub record Cut (fs : List Slot) (N : ℕ) : Type 0 where
+    pub low : Str
+    pub up : Str
+    pub new : List Entry
+    pub n-is : slot-at fs N ≡ used (at low) up new
+    pub n-well : Well (slot-at fs N)
+    pub freed : Sound (set fs N free)
+    pub A : ℕ
+    pub a-low : Low
+    pub old : List Entry
+    pub a-is : slot-at (set fs N free) A ≡ used a-low up old
+    pub below : a-low ◁ low
+    pub full : length old ≡ b
+    pub copied : Copied (move low old) new
 
-  pub relabel-same : (p : Str) (t : Tree) → relabel (λ u B. B) p t ≡ t
-  relabel-same p (leaf s) = refl
-  relabel-same p (node d i L R) = rw (relabel-same (cell d i p) L, relabel-same p R)
+  -- "Each other file is bad."
+  abbrev pub Bad : List Slot → Type 0
+  Bad fs = (¬ Sound fs) × ((N : ℕ) → ¬ Cut fs N)
 
-  module _ (pick : List Str → ℕ)
-      (fits : (x : Str) (xs : List Str) → pick (x ∷ xs) < length (x ∷ xs))
-      (fewest : (ss : List Str) (x : Str) → List·Memᴰ x ss → length (getD ss (pick ss) []) ≤ length x) where
-    abbrev pub rebuilt : List ℕ → Tree
-    rebuilt Bs = build pick (λ l u. label Bs l) (length (all (bounds Bs))) none [] (all (bounds Bs))
+-- "slot 0 used, no limits, no entries", and the other slots free.
+abbrev pub created : ℕ → List Slot
+created slots = used none [] [] ∷ replicate (slots - 1) free
 
-    pub rebuilt-agrees : (Bs : List ℕ) → Chain none Bs → Trie (Leads F) none [] (rebuilt Bs) (all (bounds Bs))
-    rebuilt-agrees Bs c =
-        rw relabel-same at (relabel-trie (λ l u B. B ≡ label Bs l) (Leads F) (λ u B. B)
-        (build-trie pick (λ l u. label Bs l) fits fewest (length (all (bounds Bs))) (all (bounds Bs)) none [] (omega arith)
-        (all-asc (bounds Bs) none (bounds-asc Bs none c)) (all-closed (bounds Bs)))
-        free (λ l u B a b mv gap e. rw e (label-leads Bs none c l u free (λ x m. gap x (bounds-all Bs none c x m)))))
+-- The number of the first slot that passes a test; of none, the number of slots.
+unfoldable pub first : {P : Slot → Type 0} → ((x : Slot) → Dec (P x)) → List Slot → ℕ
+first t [] = 0
+first t (x ∷ xs) = chosen (t x) 0 (suc (first t xs))
 
-  -- each name within its walk's leaf lies in the range of the slot that the leaf leads to
-  pub walk-right : {t : Tree} {ss : List Str} → Trie (Leads F) none [] t ss → (n : Str)
-      → (F .Used (walk n [] t)) × (F .lower (walk n [] t) ◁ n) × (n ⊑ F .upper (walk n [] t))
-  walk-right T n = let e = walk-ends (Leads F) T n free top in
-      (e .holds .used, low-lower (e .holds .under) (e .over), le-trans (e .within) (e .holds .within))
+unfoldable pub low-same? : (l m : Low) → Dec (l ≡ m)
+low-same? none none = yes refl
+low-same? none (at y) = no (λ e. let z : _≡_ {A = ℕ} 0 1 = cc in absurd (omega arith))
+low-same? (at x) none = no (λ e. let z : _≡_ {A = ℕ} 0 1 = cc in absurd (omega arith))
+low-same? (at x) (at y) = elim (str? x y) [ yes e ↦ yes (ap at e) | no n ↦ no (λ e. n cc) ]
+
+abbrev pub Starts : Low → Slot → Type 0
+Starts l x = IsUsed (head x) × (lower-of (head x) ≡ l)
+
+unfoldable pub starts? : (l : Low) (x : Slot) → Dec (Starts l x)
+starts? l free = no (λ h. h .0)
+starts? l (used m u es) = elim (low-same? m l) [ yes e ↦ yes (tt, e) | no n ↦ no (λ h. n (h .1)) ]
+
+-- The range order, found: the slot with this lower limit, then the one whose lower is its upper, and so on.
+unfoldable pub order-from : ℕ → Low → List Slot → List ℕ
+order-from zero l fs = []
+order-from (suc f) l fs =
+    let B = first (starts? l) fs in
+    let u = upper-of (head (slot-at fs B)) in
+    let r = order-from f (at u) fs in
+    B ∷ chosen (str? u []) [] r
+
+abbrev pub order-of : List Slot → List ℕ
+order-of fs = order-from (length fs) none fs
+
+-- x is a non-empty beginning of s.
+pub record Begins (s x : Str) : Type 0 where
+  pub count : ℕ
+  pub some : 0 < count
+  pub fits : count ≤ length s
+  pub is : x ≡ take count s
+
+-- "the non-empty bounds of the file and all their non-empty beginnings"
+pub data BoundOf : Head → Str → Type 0 where
+  lower-bound : {l u : Str} → BoundOf (range (at l) u) l
+  upper-bound : {l : Low} {u : Str} → BoundOf (range l u) u
+
+pub record IsString (fs : List Slot) (x : Str) : Type 0 where
+  pub bucket : ℕ
+  pub bound : Str
+  pub is-bound : BoundOf (head (slot-at fs bucket)) bound
+  pub begins : Begins bound x
+
+-- The same, listed in ascending order. A beginning comes after all that it begins: the beginnings of p ++ ds that are
+-- longer than p, longest first;
+abbrev pub longer : Str → Str → List Str
+longer p [] = []
+longer p (d ∷ ds) = longer (p ++ (d ∷ [])) ds ++ ((p ++ (d ∷ [])) ∷ [])
+
+-- the beginnings of s that are longer than what s and p share;
+abbrev pub fresh : Str → Str → List Str
+fresh s p = longer (take (diff s p) s) (drop (diff s p) s)
+
+-- after a bound x, before the next: the beginnings of x longer than what the two share.
+abbrev pub all : List Str → List Str
+all [] = []
+all (x ∷ []) = fresh x []
+all (x ∷ y ∷ ys) = fresh x y ++ all (y ∷ ys)
+
+abbrev pub strings-of : List Slot → List Str
+strings-of fs = all (bounds (ranges fs) (order-of fs))
+
+unfoldable pub string-count : List Slot → ℕ
+string-count fs = length (strings-of fs)

@@ -1,0 +1,240 @@
+-- Growth and redirection in the cells: cells that agree before a split agree after it; rebuilt cells agree.
+use mathlib.Core.Path.{_∙_, _≡_, ap, refl, sym}
+use mathlib.Core.Logic.{_≢_, _⊎_, inl, inr}
+use mathlib.Core.List.{List, List·Memᴰ, [], _++_, _∷_}
+use Prim.Native.Nat.{_+_, _<_, _≤_, suc, ℕ}
+use native.Mathlib.Decide.{decLe, ℕ-discrete}
+use native.Mathlib.Omega.{arith}
+use lib.ListN.{List·getD-append, length, length-append, length-set, set, take}
+use lib.Seq.{getD-append-add, getD-set-other, getD-set-same}
+use Rattle.model.specs.declared.Cell.{Cell}
+use Rattle.model.specs.declared.Side.{Side}
+use Rattle.model.specs.declared.Side.the-variants.{Cell as further, Slot as slot}
+use Rattle.model.specs.Order.{Str, _≺_, _⊑_, _◁_, at, diff, digit, le?, none}
+use Rattle.model.specs.Files.{Chain, Ranges, all, bounds}
+use Rattle.model.specs.Tries.{Leads, Reads, Spans, Tree, at-cell, cell, here, leaf, node, occ, one-if, size, there, walk, zero-cell}
+use Rattle.model.specs.Rebuilding.{lay, rebuilt, side-of}
+use Rattle.model.specs.Growth.{Spot, cell-of, changed, graft, grow-cells, grown, left, path-at, relabel, right, root, spot, turn, turn-cell, turn-cells, turn-side}
+use Rattle.model.proofs.Cells.{Stands, each-once, laid-each, laid-reads, lay-reads, length-lay, not-visited, numbers-upto, occ-append, one-if-equal, reads-agree, reads-below, reads-set, reads-tree, there-at, upto, upto-above, upto-once}
+use Rattle.model.proofs.Rebuilding.{rebuilt-agrees}
+use Rattle.model.proofs.Agreement.{CellsAgree}
+use Rattle.model.proofs.Splitting.{SplitAt, split-agrees}
+
+-- The leaf that n reaches is replaced by X.
+abbrev pub replace : Str → Tree → Str → Tree → Tree
+replace n X p (leaf s) = X
+replace n X p (node d i L R) = elim (le? n (cell d i p)) [ yes h ↦ node d i (replace n X (cell d i p) L) R | no h ↦ node d i L (replace n X p R) ]
+
+abbrev pub placed : Side → Side → Side
+placed (slot s) x = x
+placed (further m) x = further m
+
+-- the spot lies among the cells visited, and the side stays; or no cell is visited, and the side is replaced
+abbrev pub Visited : Side → Spot → Spot → List ℕ → Type 0
+Visited a k sp vs = ((sp ≡ k) × ((x : Side) → placed a x ≡ x)) ⊎ ((0 < occ (cell-of sp) vs) × ((x : Side) → placed a x ≡ a))
+
+pub spot-visited : {cs : List Cell} {a : Side} {t : Tree} {vs : List ℕ} (n p : Str) (k : Spot) (r : Reads cs a t vs) → Visited a k (spot n p k r) vs
+spot-visited n p k here = inl (refl, λ x. refl)
+spot-visited {cs} n p k (there {n = m} {vs = vs} {ws = ws} h l r) = inr (go (le? n q) (spot-visited n q (left m) l) (spot-visited n p (right m) r), λ x. refl)
+  where
+    q : Str
+    q = cell (at-cell cs m .digit) (at-cell cs m .number) p
+    self : 0 < occ m (m ∷ (vs ++ ws))
+    self = omega (arith, one-if-equal refl (ℕ-discrete m m))
+    go : (d : Dec (n ⊑ q)) → Visited (at-cell cs m .left) (left m) (spot n q (left m) l) vs → Visited (at-cell cs m .right) (right m) (spot n p (right m) r) ws
+        → 0 < occ (cell-of (elim d [ yes h ↦ spot n q (left m) l | no h ↦ spot n p (right m) r ])) (m ∷ (vs ++ ws))
+    go (yes h) (inl e) g = rw (e .0) self
+    go (yes h) (inr o) g = omega (arith, o .0, occ-append (cell-of (spot n q (left m) l)) vs ws)
+    go (no h) f (inl e) = rw (e .0) self
+    go (no h) f (inr o) = omega (arith, o .0, occ-append (cell-of (spot n p (right m) r)) vs ws)
+
+-- cs′ is cs with the spot's side set to new, which there leads to X by the cells xs.
+module _ (cs cs′ : List Cell) (n : Str) (new : Side) (X : Tree) (xs : List ℕ) (sp : Spot)
+    (len : length cs ≤ length cs′)
+    (others : (m : ℕ) → m < length cs → m ≢ cell-of sp → at-cell cs′ m ≡ at-cell cs m)
+    (there′ : cell-of sp < length cs → at-cell cs′ (cell-of sp) ≡ changed (at-cell cs (cell-of sp)) sp new)
+    (rx : Reads cs′ new X xs) where
+  reads-other : {a : Side} {t : Tree} {vs : List ℕ} → occ (cell-of sp) vs ≡ 0 → Reads cs a t vs → Reads cs′ a t vs
+  reads-other o here = here
+  reads-other o (there {n = m} {vs = vs} {ws = ws} h l r) =
+      let a = not-visited (cell-of sp) m vs ws o in
+      there-at (omega arith) (others m h (a .0)) (reads-other (a .1) l) (reads-other (a .2) r)
+
+  pub record Grafted (a : Side) (t : Tree) (vs : List ℕ) : Type 0 where
+    pub visits : List ℕ
+    pub reads : Reads cs′ a t visits
+    pub counts : (m : ℕ) → occ m visits ≡ occ m vs + occ m xs
+
+  -- a visited spot stands at m or among vs, so not elsewhere
+  seen : (a : Side) (k : Spot) (vs : List ℕ) → Visited a k sp vs → 0 < one-if (ℕ-discrete (cell-of sp) (cell-of k)) + occ (cell-of sp) vs
+  seen a k vs (inl e) = omega (arith, one-if-equal (ap cell-of (e .0)) (ℕ-discrete (cell-of sp) (cell-of k)))
+  seen a k vs (inr o) = omega (arith, o .0)
+
+  -- the cell k is as it was, but for the side that was walked
+  moved : (m : ℕ) (a : Side) (vs : List ℕ) (k : Spot) (f : Side → Cell) → cell-of k ≡ m → changed (at-cell cs m) k new ≡ f new → at-cell cs m ≡ f a
+      → m < length cs → one-if (ℕ-discrete (cell-of sp) m) + occ (cell-of sp) vs ≤ 1 → Visited a k sp vs → at-cell cs′ m ≡ f (placed a new)
+  moved m a vs k f em ec ea h once (inl e) =
+      let es : cell-of sp ≡ m = ap cell-of (e .0) ∙ em in
+      rw (e .1 new) (rw (es, e .0, ec) at (there′ (rw es h)))
+  moved m a vs k f em ec ea h once (inr o) =
+      rw (o .1 new) (others m h (λ e. omega (arith, o .0, one-if-equal (sym e) (ℕ-discrete (cell-of sp) m))) ∙ ea)
+
+  pub graft-reads : {a : Side} {t : Tree} {vs : List ℕ} (p : Str) (k : Spot) (r : Reads cs a t vs) → spot n p k r ≡ sp → ((m : ℕ) → occ m vs ≤ 1)
+      → Grafted (placed a new) (replace n X p t) vs
+  graft-reads p k here e once = record { visits = xs; reads = rx; counts = λ m. omega arith }
+  graft-reads p k (there {n = m} {L = L} {R = R} {vs = vs} {ws = ws} h l r) e once =
+      go (le? n q) e (λ e. graft-reads q (left m) l e (λ i. omega (arith, once i, occ-append i vs ws)))
+        (λ e. graft-reads p (right m) r e (λ i. omega (arith, once i, occ-append i vs ws)))
+    where
+      c : Cell
+      c = at-cell cs m
+      q : Str
+      q = cell (c .digit) (c .number) p
+      go : (d : Dec (n ⊑ q)) → elim d [ yes h ↦ spot n q (left m) l | no h ↦ spot n p (right m) r ] ≡ sp
+          → (spot n q (left m) l ≡ sp → Grafted (placed (c .left) new) (replace n X q L) vs)
+          → (spot n p (right m) r ≡ sp → Grafted (placed (c .right) new) (replace n X p R) ws)
+          → Grafted (further m) (elim d [ yes h ↦ node (c .digit) (c .number) (replace n X q L) R | no h ↦ node (c .digit) (c .number) L (replace n X p R) ]) (m ∷ (vs ++ ws))
+      go (yes h′) e f g =
+          let s = f e in
+          let v : Visited (c .left) (left m) sp vs = rw e at (spot-visited n q (left m) l) in
+          let o : one-if (ℕ-discrete (cell-of sp) m) + occ (cell-of sp) vs + occ (cell-of sp) ws ≤ 1 = omega (arith, once (cell-of sp), occ-append (cell-of sp) vs ws) in
+          record { visits = m ∷ (s .visits ++ ws)
+                 ; reads = there-at (omega arith) (moved m (c .left) vs (left m) (λ x. record { digit = c .digit; number = c .number; left = x; right = c .right }) refl refl refl h (omega arith) v)
+                     (s .reads) (reads-other (omega (arith, seen (c .left) (left m) vs v)) r)
+                 ; counts = λ i. omega (arith, s .counts i, occ-append i (s .visits) ws, occ-append i vs ws) }
+      go (no h′) e f g =
+          let s = g e in
+          let v : Visited (c .right) (right m) sp ws = rw e at (spot-visited n p (right m) r) in
+          let o : one-if (ℕ-discrete (cell-of sp) m) + occ (cell-of sp) vs + occ (cell-of sp) ws ≤ 1 = omega (arith, once (cell-of sp), occ-append (cell-of sp) vs ws) in
+          record { visits = m ∷ (vs ++ s .visits)
+                 ; reads = there-at (omega arith) (moved m (c .right) ws (right m) (λ x. record { digit = c .digit; number = c .number; left = c .left; right = x }) refl refl refl h (omega arith) v)
+                     (reads-other (omega (arith, seen (c .right) (right m) ws v)) l) (s .reads)
+                 ; counts = λ i. omega (arith, s .counts i, occ-append i vs (s .visits), occ-append i vs ws) }
+
+module _ (f : Str → ℕ → ℕ) where
+  pub record Turned (cs cs′ : List Cell) (p : Str) (a : Side) (t : Tree) (vs : List ℕ) : Type 0 where
+    pub size : length cs′ ≡ length cs
+    pub rest : (m : ℕ) → occ m vs ≡ 0 → at-cell cs′ m ≡ at-cell cs m
+    pub reads : Reads cs′ (turn-side f p a) (relabel f p t) vs
+
+  pub turn-reads : (t : Tree) {cs : List Cell} {a : Side} {vs : List ℕ} (p : Str) → Reads cs a t vs → ((m : ℕ) → occ m vs ≤ 1)
+      → Turned cs (turn-cells f t p a cs) p a t vs
+  turn-reads (leaf s) p here once = record { size = refl; rest = λ m o. refl; reads = here }
+  turn-reads (node d i L R) {cs} p (there {n = m} {vs = vs} {ws = ws} h l r) once =
+      let c : Cell = at-cell cs m in
+      let q : Str = cell d i p in
+      let cs₁ : List Cell = set cs m (turn-cell f p c) in
+      let one : (i : ℕ) → one-if (ℕ-discrete i m) + occ i vs + occ i ws ≤ 1 = λ i. omega (arith, once i, occ-append i vs ws) in
+      let self : one-if (ℕ-discrete m m) ≡ 1 = one-if-equal refl (ℕ-discrete m m) in
+      let out : (occ m vs ≡ 0) × (occ m ws ≡ 0) = omega (arith, one m) in
+      let cs₂ : List Cell = turn-cells f L q (c .left) cs₁ in
+      let cs₃ : List Cell = turn-cells f R p (c .right) cs₂ in
+      let l₁ : Reads cs₁ (c .left) L vs = reads-set m (turn-cell f p c) (out .0) l in
+      let x : Turned cs₁ cs₂ q (c .left) L vs = turn-reads L q l₁ (λ i. omega (arith, one i)) in
+      let r₂ : Reads cs₂ (c .right) R ws =
+            reads-agree (omega (arith, x .size)) (λ i o. x .rest i (omega (arith, one i, o))) (reads-set m (turn-cell f p c) (out .1) r) in
+      let y : Turned cs₂ cs₃ p (c .right) R ws = turn-reads R p r₂ (λ i. omega (arith, one i)) in
+      let size : length cs₃ ≡ length cs = y .size ∙ x .size ∙ length-set cs m (turn-cell f p c) in
+      let mid : at-cell cs₃ m ≡ turn-cell f p c = y .rest m (out .1) ∙ x .rest m (out .0) ∙ getD-set-same cs m (turn-cell f p c) zero-cell h in
+      record { size = size
+             ; rest = λ i o. let a = not-visited i m vs ws o in y .rest i (a .2) ∙ x .rest i (a .1) ∙ getD-set-other cs m i (turn-cell f p c) zero-cell (λ e. a .0 (sym e))
+             ; reads = there-at (omega (arith, size)) mid (reads-agree (omega (arith, y .size)) (λ i o. y .rest i (omega (arith, one i, o))) (x .reads)) (y .reads) }
+
+pub graft-replace : (c s p : Str) (t : Tree) → graft c s p t ≡ replace c (grown s (path-at c p t) (walk c p t)) p t
+graft-replace c s p (leaf A) = refl
+graft-replace c s p (node d i L R) = go (le? c q) (graft-replace c s q L) (graft-replace c s p R)
+  where
+    q : Str
+    q = cell d i p
+    go : (x : Dec (c ⊑ q)) → graft c s q L ≡ replace c (grown s (path-at c q L) (walk c q L)) q L → graft c s p R ≡ replace c (grown s (path-at c p R) (walk c p R)) p R
+        → _≡_ {A = Tree} (elim x [ yes h ↦ node d i (graft c s q L) R | no h ↦ node d i L (graft c s p R) ])
+          (let X : Tree = grown s (elim x [ yes h ↦ path-at c q L | no h ↦ path-at c p R ]) (elim x [ yes h ↦ walk c q L | no h ↦ walk c p R ]) in
+            elim x [ yes h ↦ node d i (replace c X q L) R | no h ↦ node d i L (replace c X p R) ])
+    go (yes h) e f = ap (λ (Y : Tree). node d i Y R) e
+    go (no h) e f = ap (λ (Y : Tree). node d i L Y) f
+
+pub grow-reads : (cs : List Cell) (c : Str) (X t : Tree) (a : ℕ) (vs : List ℕ) (r : Reads cs (further a) t vs)
+    → ((i : ℕ) → i < length cs → occ i vs ≡ 1)
+    → (ws : List ℕ) × Reads (grow-cells cs (spot c [] root r) X) (further a) (replace c X [] t) ws
+      × ((i : ℕ) → i < length (grow-cells cs (spot c [] root r) X) → occ i ws ≡ 1)
+grow-reads cs c X t a vs r each = (g .visits, g .reads, count)
+  where
+    sp : Spot
+    sp = spot c [] root r
+    new : Side
+    new = side-of (length cs) X
+    top′ : List Cell
+    top′ = set cs (cell-of sp) (changed (at-cell cs (cell-of sp)) sp new)
+    cs′ : List Cell
+    cs′ = top′ ++ lay (length cs) X
+    len : length top′ ≡ length cs
+    len = length-set cs (cell-of sp) (changed (at-cell cs (cell-of sp)) sp new)
+    len′ : length cs′ ≡ length cs + size X
+    len′ = rw (length-append, len, length-lay)
+    stands : Stands cs′ (length cs) (lay (length cs) X)
+    stands = (omega (arith, len′, length-lay (length cs) X), λ j h. rw len at (getD-append-add top′ (lay (length cs) X) j zero-cell))
+    rx : Reads cs′ new X (upto (length cs) (size X))
+    rx = rw numbers-upto at (lay-reads X cs′ (length cs) stands)
+    others : (i : ℕ) → i < length cs → i ≢ cell-of sp → at-cell cs′ i ≡ at-cell cs i
+    others i h n = List·getD-append top′ (lay (length cs) X) zero-cell i (omega (arith, len)) ∙ getD-set-other cs (cell-of sp) i _ zero-cell n
+    there′ : cell-of sp < length cs → at-cell cs′ (cell-of sp) ≡ changed (at-cell cs (cell-of sp)) sp new
+    there′ h = List·getD-append top′ (lay (length cs) X) zero-cell (cell-of sp) (omega (arith, len)) ∙ getD-set-same cs (cell-of sp) _ zero-cell h
+    g : Grafted cs cs′ c new X (upto (length cs) (size X)) sp (omega (arith, len′)) others there′ rx (further a) (replace c X [] t) vs
+    g = graft-reads cs cs′ c new X (upto (length cs) (size X)) sp (omega (arith, len′)) others there′ rx [] root r refl (each-once r each)
+    count : (i : ℕ) → i < length cs′ → occ i (g .visits) ≡ 1
+    count i h = elim (decLe (length cs) i)
+        [ yes b ↦ omega (arith, g .counts i, reads-below i b r, upto-once (size X) (length cs) i b (omega (arith, len′)))
+        | no b ↦ omega (arith, g .counts i, each i (omega arith), upto-above (size X) (length cs) i (omega arith)) ]
+
+-- c is the split key, z the last name, both in A's range.
+module _ (F G : Ranges) (A N : ℕ) (Xs Ys : List ℕ) (c z : Str) (chain : Chain F none (Xs ++ (A ∷ Ys)))
+    (lo : F .lower A ◁ c) (cz : c ≺ z) (up : z ⊑ F .upper A) (S : SplitAt F G (take (suc (diff c z)) c) A N) where
+  module _ (cs : List Cell) (a : ℕ) (agrees : CellsAgree F (Xs ++ (A ∷ Ys)) cs (further a)) where
+    -- cells are appended, a side is set, and leaves are redirected
+    grown-cells : List Cell
+    grown-cells = grow-cells cs (spot c [] root (agrees .reads)) (grown (take (suc (diff c z)) c) (path-at c [] (agrees .tree)) (walk c [] (agrees .tree)))
+
+    pub turned-cells : List Cell
+    turned-cells = turn-cells (turn (take (suc (diff c z)) c) A N) (graft c (take (suc (diff c z)) c) [] (agrees .tree)) [] (further a) grown-cells
+
+    pub grows : ¬ List·Memᴰ (take (suc (diff c z)) c) (all (bounds F (Xs ++ (A ∷ Ys)))) → CellsAgree G (Xs ++ (A ∷ N ∷ Ys)) turned-cells (further a)
+    unfolding grown-cells turned-cells
+    grows new =
+        let k : Str = take (suc (diff c z)) c in
+        let t : Tree = agrees .tree in
+        let X : Tree = grown k (path-at c [] t) (walk c [] t) in
+        let g = grow-reads cs c X t a (agrees .visits) (agrees .reads) (agrees .each) in
+        let r : Reads grown-cells (further a) (graft c k [] t) (g .0) = rw (graft-replace c k [] t) (g .1) in
+        let u = turn-reads (turn k A N) (graft c k [] t) [] r (each-once r (g .2)) in
+        record { tree = relabel (turn k A N) [] (graft c k [] t); visits = g .0; reads = u .reads; each = λ i h. g .2 i (omega (arith, u .size, h))
+               ; trie = split-agrees F G A N Xs Ys c z t chain lo cz up S (agrees .trie) (no new) }
+
+  -- s is a string already: leaves are redirected, no cell is added.
+  pub redirects : (cs : List Cell) (a : Side) (agrees : CellsAgree F (Xs ++ (A ∷ Ys)) cs a)
+      → List·Memᴰ (take (suc (diff c z)) c) (all (bounds F (Xs ++ (A ∷ Ys))))
+      → CellsAgree G (Xs ++ (A ∷ N ∷ Ys)) (turn-cells (turn (take (suc (diff c z)) c) A N) (agrees .tree) [] a cs) (turn-side (turn (take (suc (diff c z)) c) A N) [] a)
+  redirects cs a g m =
+      let k : Str = take (suc (diff c z)) c in
+      let u = turn-reads (turn k A N) (g .tree) [] (g .reads) (each-once (g .reads) (g .each)) in
+      record { tree = relabel (turn k A N) [] (g .tree); visits = g .visits; reads = u .reads; each = λ i h. g .each i (omega (arith, u .size, h))
+             ; trie = split-agrees F G A N Xs Ys c z (g .tree) chain lo cz up S (g .trie) (yes m) }
+
+  -- the first split, of a trie with count 0
+  pub grows-first : (B : ℕ) (agrees : CellsAgree F (Xs ++ (A ∷ Ys)) [] (slot B))
+      → ¬ List·Memᴰ (take (suc (diff c z)) c) (all (bounds F (Xs ++ (A ∷ Ys))))
+      → (let k : Str = take (suc (diff c z)) c in let X : Tree = grown k [] B in
+          CellsAgree G (Xs ++ (A ∷ N ∷ Ys)) (turn-cells (turn k A N) X [] (side-of 0 X) (lay 0 X)) (turn-side (turn k A N) [] (side-of 0 X)))
+  grows-first B g new =
+      let k : Str = take (suc (diff c z)) c in
+      let X : Tree = grown k [] B in
+      let e : g .tree ≡ leaf B = reads-tree (g .reads) here in
+      let T : Spans (Leads F) none [] (leaf B) (all (bounds F (Xs ++ (A ∷ Ys)))) = rw e at (g .trie) in
+      let r : Reads (lay 0 X) (side-of 0 X) X (upto 0 (size X)) = laid-reads X in
+      let u = turn-reads (turn k A N) X [] r (each-once r (laid-each X)) in
+      record { tree = relabel (turn k A N) [] X; visits = upto 0 (size X); reads = u .reads; each = λ i h. laid-each X i (omega (arith, u .size, h))
+             ; trie = split-agrees F G A N Xs Ys c z (leaf B) chain lo cz up S T (no new) }
+
+pub rebuilds : (F : Ranges) (Bs : List ℕ) → Chain F none Bs → CellsAgree F Bs (lay 0 (rebuilt F Bs)) (side-of 0 (rebuilt F Bs))
+rebuilds F Bs chain =
+    let t : Tree = rebuilt F Bs in
+    record { tree = t; visits = upto 0 (size t); reads = laid-reads t; each = laid-each t; trie = rebuilt-agrees F Bs chain }

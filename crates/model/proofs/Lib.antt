@@ -1,0 +1,13 @@
+pub mod Order
+pub mod Entries
+pub mod Tries
+pub mod Growth
+pub mod Strings
+pub mod Ranges
+pub mod Cells
+pub mod Rebuilding
+pub mod Files
+pub mod Passing
+pub mod Agreement
+pub mod Splitting
+pub mod GrownCells

@@ -1,0 +1,96 @@
+-- Growth: what a split makes of the trie, as a tree and in its cells.
+use mathlib.Core.List.{List, [], _++_, _∷_}
+use Prim.Native.Nat.{suc, ℕ}
+use native.Mathlib.Decide.{ℕ-discrete}
+use lib.ListN.{drop, length, set}
+use Rattle.model.specs.declared.Cell.{Cell}
+use Rattle.model.specs.declared.Side.{Side}
+use Rattle.model.specs.declared.Side.the-variants.{Cell as further, Slot as slot}
+use Rattle.model.specs.Order.{Str, diff, digit, le?}
+use Rattle.model.specs.Tries.{Reads, Tree, at-cell, cell, here, leaf, node, there}
+use Rattle.model.specs.Rebuilding.{lay, side-of}
+
+-- "one cell for each later digit of s, first digit first, each the left side of the one before", from digit number i on.
+-- Every new leaf leads to A until leaves are redirected.
+abbrev pub chain-of : ℕ → Str → ℕ → Tree
+chain-of i [] A = leaf A
+chain-of i (d ∷ ds) A = node d i (chain-of (suc i) ds A) (leaf A)
+
+-- "take the longest beginning shared by s and C": what stands at the old leaf, whose path is p and slot A.
+abbrev pub grown : Str → Str → ℕ → Tree
+grown s p A = chain-of (diff s p) (drop (diff s p) s) A
+
+-- "walk with the split key to a leaf", and put that there.
+abbrev pub graft : Str → Str → Str → Tree → Tree
+graft c s p (leaf A) = grown s p A
+graft c s p (node d i L R) =
+    elim (le? c (cell d i p)) [ yes h ↦ node d i (graft c s (cell d i p) L) R | no h ↦ node d i L (graft c s p R) ]
+
+-- Leaves lead to other slots, by their path and the slot that they led to.
+abbrev pub relabel : (Str → ℕ → ℕ) → Str → Tree → Tree
+relabel f p (leaf B) = leaf (f p B)
+relabel f p (node d i L R) = node d i (relabel f (cell d i p) L) (relabel f p R)
+
+-- "each leaf that led to A and whose path is above s leads to the new slot, and so do all the new cells' right sides":
+-- their paths are above s too.
+abbrev pub turned : {X Y : Type 0} → Dec X → Dec Y → ℕ → ℕ → ℕ
+turned (no h) y B N = B
+turned (yes h) (yes k) B N = B
+turned (yes h) (no k) B N = N
+
+abbrev pub turn : Str → ℕ → ℕ → Str → ℕ → ℕ
+turn s A N p B = turned (ℕ-discrete B A) (le? p s) B N
+
+-- "If s is already a cell's string, no cell is added."
+abbrev pub grow : {X : Type 0} → Dec X → Str → Str → ℕ → ℕ → Tree → Tree
+grow (yes m) c s A N t = relabel (turn s A N) [] t
+grow (no n) c s A N t = relabel (turn s A N) [] (graft c s [] t)
+
+-- In the cells. The path of the leaf that c reaches;
+abbrev pub path-at : Str → Str → Tree → Str
+path-at c p (leaf s) = p
+path-at c p (node d i L R) = elim (le? c (cell d i p)) [ yes h ↦ path-at c (cell d i p) L | no h ↦ path-at c p R ]
+
+-- the last cell walked, and the side taken there;
+pub data Spot : Type 0 where
+  root : Spot
+  left right : ℕ → Spot
+
+abbrev pub spot : {cs : List Cell} {a : Side} {t : Tree} {vs : List ℕ} → Str → Str → Spot → Reads cs a t vs → Spot
+spot n p k here = k
+spot {cs} n p k (there {n = m} h l r) =
+    elim (le? n (cell (at-cell cs m .digit) (at-cell cs m .number) p))
+      [ yes h ↦ spot n (cell (at-cell cs m .digit) (at-cell cs m .number) p) (left m) l | no h ↦ spot n p (right m) r ]
+
+abbrev pub cell-of : Spot → ℕ
+cell-of root = 0
+cell-of (left m) = m
+cell-of (right m) = m
+
+abbrev pub changed : Cell → Spot → Side → Cell
+changed c root x = c
+changed c (left m) x = record { digit = c .digit; number = c .number; left = x; right = c .right }
+changed c (right m) x = record { digit = c .digit; number = c .number; left = c .left; right = x }
+
+-- that side leads to the new cells, which are appended;
+abbrev pub grow-cells : List Cell → Spot → Tree → List Cell
+grow-cells cs sp X =
+    set cs (cell-of sp) (changed (at-cell cs (cell-of sp)) sp (side-of (length cs) X)) ++ lay (length cs) X
+
+-- and leaves are redirected, cell by cell: the cell, its left part, its right part.
+module _ (f : Str → ℕ → ℕ) where
+  abbrev pub turn-side : Str → Side → Side
+  turn-side p (slot s) = slot (f p s)
+  turn-side p (further m) = further m
+
+  abbrev pub turn-cell : Str → Cell → Cell
+  turn-cell p c =
+      record { digit = c .digit; number = c .number; left = turn-side (cell (c .digit) (c .number) p) (c .left)
+             ; right = turn-side p (c .right) }
+
+  abbrev pub turn-cells : Tree → Str → Side → List Cell → List Cell
+  turn-cells (leaf s) p a cs = cs
+  turn-cells (node d i L R) p (slot s) cs = cs
+  turn-cells (node d i L R) p (further m) cs =
+      turn-cells R p (at-cell cs m .right)
+        (turn-cells L (cell d i p) (at-cell cs m .left) (set cs m (turn-cell p (at-cell cs m))))
