@@ -6,12 +6,14 @@ use mathlib.Core.List.{List, [], _∷_}
 use Prim.Native.Nat.{_+_, _<_, _≤_, suc, zero, ℕ}
 use native.Mathlib.Decide.{decLt}
 use native.Mathlib.Omega.{arith}
-use lib.ListN.{getD, length}
-use Rattle.model.specs.Order.{Low, Str, _≺_, _⊑_, _◁_, above, at, le?, over, str?}
-use Rattle.model.specs.Names.{Legal}
+use lib.ListN.{getD, length, take}
+use Rattle.model.specs.Order.{Low, Str, _≺_, _⊑_, _◁_, above, at, diff, le?, over, str?}
+use Rattle.model.specs.Names.{Bound, Legal}
 use Rattle.model.specs.Entries.{Entry, Row, chosen, entry, find, insert, keep, name-at, no-entries, not?, without}
 use Rattle.model.specs.Files.{next}
-use Rattle.model.proofs.Order.{le-antisym, le-refl, low-at, low-lower}
+use Rattle.model.specs.Changes.{split-string}
+use Rattle.model.proofs.Order.{le-antisym, le-refl, le-take, low-at, low-le, low-lower, lt-le-trans, split-lt}
+use Rattle.model.proofs.Names.{legal-bound, legal-length, split-is}
 
 pub chosen-yes : {X Y : Type 0} (d : Dec X) → X → (a b : Y) → chosen d a b ≡ a
 unfolding chosen
@@ -181,3 +183,27 @@ at-find (e ∷ es) zero h = (e .1, chosen-yes (str? (e .0) (e .0)) refl _ _)
 at-find (e ∷ es) (suc i) h = elim (str? (name-at es i) (e .0))
     [ yes q ↦ (e .1, chosen-yes (str? (name-at es i) (e .0)) q _ _)
     | no q ↦ let r = at-find es i (omega arith) in (r .0, chosen-no (str? (name-at es i) (e .0)) q _ _ ∙ r .1) ]
+
+-- The split string of two entries lies strictly inside the range, from the first of them on and below the second: for a
+-- split key at any place before the last name.
+module _ {l : Low} {u : Str} {ws : List Entry} (R : Row l ws u) (i j : ℕ) (i-lt : i < j) (j-lt : j < length ws) where
+  i-in : i < length ws
+  i-in = omega arith
+
+  pub split-take : split-string i j ws ≡ take (suc (diff (name-at ws i) (name-at ws j))) (name-at ws i)
+  split-take = split-is (name-at ws i) (name-at ws j) (row-lt R i j i-lt j-lt) (legal-length (row-at R i i-in .0) ∙ sym (legal-length (row-at R j j-lt .0)))
+
+  pub split-key : name-at ws i ⊑ split-string i j ws
+  split-key = rw split-take (le-take (suc (diff (name-at ws i) (name-at ws j))) (name-at ws i))
+
+  pub split-last : split-string i j ws ≺ name-at ws j
+  split-last = rw split-take (split-lt (name-at ws i) (name-at ws j) (row-lt R i j i-lt j-lt))
+
+  pub split-over : l ◁ split-string i j ws
+  split-over = low-le (row-at R i i-in .1) split-key
+
+  pub split-under : split-string i j ws ≺ u
+  split-under = lt-le-trans split-last (row-at R j j-lt .2)
+
+  pub split-bound : Bound (split-string i j ws)
+  split-bound = rw split-take (legal-bound (row-at R i i-in .0) (suc (diff (name-at ws i) (name-at ws j))))

@@ -1,4 +1,5 @@
 pub mod Order
+pub mod Names
 pub mod Entries
 pub mod Tries
 pub mod Growth
@@ -11,3 +12,5 @@ pub mod Passing
 pub mod Agreement
 pub mod Splitting
 pub mod GrownCells
+pub mod Changes
+pub mod Calls
