@@ -112,18 +112,22 @@ module _ (F : Ranges) (Bs : List ℕ) (chain : Chain F none Bs) (listed : (B : �
     agree-sound ws e marked =
         let r = pass-sound cs (suc (length cs)) [] a (expect (label F Bs) none (all (bounds F Bs)), []) ([], ws) e in
         let v : ws ≡ r .visits = r .seen in
-        record { tree = r .tree; visits = r .visits; reads = r .reads
-               ; each = λ i h. rw (← v) (omega (arith, marked i h, r .once (λ j. omega arith) i))
-               ; trie = leading (r .tree)
-                   (expect-trie (label F Bs) (r .tree) none [] (all (bounds F Bs)) (r .numbers) (all-asc (bounds F Bs) none (bounds-asc F Bs none chain))
-                     (sym (r .tokens ∙ append-nil (inorder [] (r .tree))))) }
+        record {
+          tree = r .tree;
+          visits = r .visits;
+          reads = r .reads;
+          each = λ i h. rw (← v) (omega (arith, marked i h, r .once (λ j. omega arith) i));
+          trie = leading (r .tree)
+              (expect-trie (label F Bs) (r .tree) none [] (all (bounds F Bs)) (r .numbers) (all-asc (bounds F Bs) none (bounds-asc F Bs none chain))
+              (sym (r .tokens ∙ append-nil (inorder [] (r .tree)))));
+        }
 
     pub agree-complete : (A : CellsAgree F Bs cs a) → agrees? ≡ some ([], A .visits)
     agree-complete A =
         let T = labelled (A .tree) (A .trie) in
         let e : inorder [] (A .tree) ++ [] ≡ expect (label F Bs) none (all (bounds F Bs)) = append-nil (inorder [] (A .tree)) ∙ trie-expect (label F Bs) T in
         rw e at (pass-complete cs (suc (length cs)) [] [] [] (A .reads) (trie-flat (λ l u B. B ≡ label F Bs l) T .0)
-          (omega (arith, reads-height (A .reads), visits-count (A .reads) (A .each))) (each-once (A .reads) (A .each)))
+        (omega (arith, reads-height (A .reads), visits-count (A .reads) (A .each))) (each-once (A .reads) (A .each)))
 
 -- The expected strings and slots as a cursor gives them: a slot, and a length that goes down.
 -- the beginnings of x with j + n, …, j + 1 digits
@@ -220,8 +224,8 @@ module _ (F : Ranges) where
       let up : F .upper B ≺ F .upper C = over a′ in
       tokens-append lab (fresh (F .upper B) (F .upper C)) (all (bounds F (C ∷ D ∷ Bs)))
       ∙ ap₂ (λ (xs ys : List Token). xs ++ ys)
-          (bring lab C (F .upper B) (F .upper C) up (λ x h k. f x h (lt-le-trans k top) ∙ label-here C (D ∷ Bs) x k))
-          (tokens-after lab (D ∷ Bs) C (at (F .upper B)) (next u′ e′ a′ b′ c) (λ x h k. f x (le-trans (lt-le up) h) k ∙ label-skip C D Bs x h))
+      (bring lab C (F .upper B) (F .upper C) up (λ x h k. f x h (lt-le-trans k top) ∙ label-here C (D ∷ Bs) x k))
+      (tokens-after lab (D ∷ Bs) C (at (F .upper B)) (next u′ e′ a′ b′ c) (λ x h k. f x (le-trans (lt-le up) h) k ∙ label-skip C D Bs x h))
 
   -- the pass that decides agreement eats exactly this
   pub expect-cursor : (B : ℕ) (Bs : List ℕ) → Chain F none (B ∷ Bs) → expect (label F (B ∷ Bs)) none (all (bounds F (B ∷ Bs))) ≡ leads B ∷ coming B Bs

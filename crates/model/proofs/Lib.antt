@@ -14,3 +14,6 @@ pub mod Splitting
 pub mod GrownCells
 pub mod Changes
 pub mod Calls
+pub mod Checks
+pub mod GrownTries
+pub mod Histories

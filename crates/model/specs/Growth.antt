@@ -1,12 +1,14 @@
 -- Growth: what a split makes of the trie, as a tree and in its cells.
-use mathlib.Core.List.{List, [], _++_, _∷_}
+use mathlib.Core.Path.{_≡_}
+use mathlib.Core.Logic.{inl, inr}
+use mathlib.Core.List.{List, List·Memᴰ, List·Memᴰ·cases-cons, List·Memᴰ·head, List·Memᴰ·not-nil, List·Memᴰ·tail, [], _++_, _∷_}
 use Prim.Native.Nat.{suc, ℕ}
 use native.Mathlib.Decide.{ℕ-discrete}
 use lib.ListN.{drop, length, set}
 use Rattle.model.specs.declared.Cell.{Cell}
 use Rattle.model.specs.declared.Side.{Side}
 use Rattle.model.specs.declared.Side.the-variants.{Cell as further, Slot as slot}
-use Rattle.model.specs.Order.{Str, diff, digit, le?}
+use Rattle.model.specs.Order.{Str, diff, digit, le?, str?}
 use Rattle.model.specs.Tries.{Reads, Tree, at-cell, cell, here, leaf, node, there}
 use Rattle.model.specs.Rebuilding.{lay, side-of}
 
@@ -41,6 +43,15 @@ turned (yes h) (no k) B N = N
 abbrev pub turn : Str → ℕ → ℕ → Str → ℕ → ℕ
 turn s A N p B = turned (ℕ-discrete B A) (le? p s) B N
 
+unfoldable pub string? : (x : Str) (xs : List Str) → Dec (List·Memᴰ x xs)
+string? x [] = no (λ m. List·Memᴰ·not-nil m)
+string? x (y ∷ ys) = go (str? x y) (string? x ys)
+  where
+    go : Dec (x ≡ y) → Dec (List·Memᴰ x ys) → Dec (List·Memᴰ x (y ∷ ys))
+    go (yes e) d = yes (List·Memᴰ·head e)
+    go (no n) (yes m) = yes (List·Memᴰ·tail m)
+    go (no n) (no k) = no (λ m. elim (List·Memᴰ·cases-cons m) [ inl e ↦ n e | inr m ↦ k m ])
+
 -- "If s is already a cell's string, no cell is added."
 abbrev pub grow : {X : Type 0} → Dec X → Str → Str → ℕ → ℕ → Tree → Tree
 grow (yes m) c s A N t = relabel (turn s A N) [] t
@@ -60,7 +71,7 @@ abbrev pub spot : {cs : List Cell} {a : Side} {t : Tree} {vs : List ℕ} → Str
 spot n p k here = k
 spot {cs} n p k (there {n = m} h l r) =
     elim (le? n (cell (at-cell cs m .digit) (at-cell cs m .number) p))
-      [ yes h ↦ spot n (cell (at-cell cs m .digit) (at-cell cs m .number) p) (left m) l | no h ↦ spot n p (right m) r ]
+    [ yes h ↦ spot n (cell (at-cell cs m .digit) (at-cell cs m .number) p) (left m) l | no h ↦ spot n p (right m) r ]
 
 abbrev pub cell-of : Spot → ℕ
 cell-of root = 0
@@ -85,12 +96,16 @@ module _ (f : Str → ℕ → ℕ) where
 
   abbrev pub turn-cell : Str → Cell → Cell
   turn-cell p c =
-      record { digit = c .digit; number = c .number; left = turn-side (cell (c .digit) (c .number) p) (c .left)
-             ; right = turn-side p (c .right) }
+      record {
+        digit = c .digit;
+        number = c .number;
+        left = turn-side (cell (c .digit) (c .number) p) (c .left);
+        right = turn-side p (c .right);
+      }
 
   abbrev pub turn-cells : Tree → Str → Side → List Cell → List Cell
   turn-cells (leaf s) p a cs = cs
   turn-cells (node d i L R) p (slot s) cs = cs
   turn-cells (node d i L R) p (further m) cs =
       turn-cells R p (at-cell cs m .right)
-        (turn-cells L (cell d i p) (at-cell cs m .left) (set cs m (turn-cell p (at-cell cs m))))
+      (turn-cells L (cell d i p) (at-cell cs m .left) (set cs m (turn-cell p (at-cell cs m))))

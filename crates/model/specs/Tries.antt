@@ -94,9 +94,10 @@ abbrev pub walk-cells : List Cell → Str → ℕ → Str → Side → ℕ
 walk-cells cs n zero p a = 0
 walk-cells cs n (suc fuel) p (slot s) = s
 walk-cells cs n (suc fuel) p (further m) =
-    elim (le? n (cell (at-cell cs m .digit) (at-cell cs m .number) p))
-      [ yes h ↦ walk-cells cs n fuel (cell (at-cell cs m .digit) (at-cell cs m .number) p) (at-cell cs m .left)
-      | no h ↦ walk-cells cs n fuel p (at-cell cs m .right) ]
+    elim (le? n (cell (at-cell cs m .digit) (at-cell cs m .number) p)) [
+      | yes h ↦ walk-cells cs n fuel (cell (at-cell cs m .digit) (at-cell cs m .number) p) (at-cell cs m .left)
+      | no h ↦ walk-cells cs n fuel p (at-cell cs m .right)
+    ]
 
 -- "Cell 0 is the root." "With count 0 the walk ends at the first leaf at once."
 abbrev pub root-side : ℕ → ℕ → Side
