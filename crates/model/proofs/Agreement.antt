@@ -2,22 +2,26 @@
 use mathlib.Core.Path.{_∙_, _≡_, ap, ap₂, refl, sym}
 use mathlib.Core.Option.{Option, some}
 use mathlib.Core.List.{List, List·Memᴰ, List·Memᴰ·head, List·Memᴰ·tail, [], _++_, _∷_, append-assoc, append-nil}
-use Prim.Native.Nat.{_+_, _-_, _<_, suc, zero, ℕ}
+use Prim.Native.Nat.{_+_, _-_, _<_, _≤_, suc, zero, ℕ}
 use native.Mathlib.Numerals.{add-one}
 use native.Mathlib.Omega.{arith}
-use lib.ListN.{drop, length, length-append, length-drop, take, take-append-drop}
-use lib.Seq.{length-take-le, take-append-add}
+use lib.ListN.{drop, length, length-append, length-drop, length-replicate, length-take, replicate, take, take-append-drop}
+use lib.Seq.{length-take-le, take-append-add, take-append-seam}
 use Rattle.model.specs.declared.Cell.{Cell}
 use Rattle.model.specs.declared.Side.{Side}
+use Rattle.model.specs.declared.Trie.{Trie}
 use Rattle.model.specs.Order.{Asc, Low, Str, _≺_, _⊑_, _◁_, above, at, diff, end, least, low?, none, over, step, top}
-use Rattle.model.specs.Files.{Chain, Ranges, all, bounds, fresh, last, longer, next}
-use Rattle.model.specs.Tries.{Leads, Leaves, Numbers, Reads, Spans, Tree, cell, cut, leaf, leaf-last, leaf-next, leaves, node, occ, strings, tip}
-use Rattle.model.specs.Rebuilding.{label}
+use Rattle.model.specs.Files.{Chain, In, Ranges, Slot, Sound, all, bounds, first, fresh, head, last, longer, next, ranges, slot-at, string-count, strings-of}
+use Rattle.model.specs.Tries.{Agrees, Leads, Leaves, Numbers, Reads, Spans, Tree, cell, cut, leaf, leaf-last, leaf-next, leaves, node, occ, root-side, size, strings, tip, walk-trie, zero-cell}
+use Rattle.model.specs.Rebuilding.{first-of, label, laid, lay, rebuilt, rebuilt-trie, side-of}
+use Rattle.model.specs.Growth.{root}
 use Rattle.model.proofs.Order.{diff-lt-left, le-take, le-trans, lt-le, lt-le-trans}
-use Rattle.model.proofs.Tries.{flat-trie, relabel-same, relabel-trie, trie-flat}
-use Rattle.model.proofs.Strings.{all-asc, asc-mem, fresh-asc, fresh-begins}
+use Rattle.model.proofs.Tries.{cast, cells-count, flat-trie, relabel-same, relabel-trie, strings-are, trie-flat}
+use Rattle.model.proofs.Strings.{all-asc, asc-mem, asc-unique, fresh-asc, fresh-begins, trie-asc}
 use Rattle.model.proofs.Ranges.{bounds-all, bounds-asc, chain-some, label-leads, leads-unique}
-use Rattle.model.proofs.Cells.{each-once, visits-count}
+use Rattle.model.proofs.Cells.{each-once, laid-each, laid-reads, length-lay, reads-append, upto, visits-count, walk-reads}
+use Rattle.model.proofs.Rebuilding.{rebuilt-agrees, walk-right}
+use Rattle.model.proofs.Files.{count-right, order-right, strings-asc, strings-every, strings-only, strings-right}
 use Rattle.model.proofs.Passing.{Passing, Token, inorder, leads, pass, pass-complete, pass-sound, reads-height, string}
 
 -- The cells, from this side on, are a trie of these slots' bounds and their beginnings, each leaf leading to its bucket.
@@ -234,3 +238,88 @@ module _ (F : Ranges) where
   expect-cursor B (C ∷ Bs) c =
       expect-tokens (label F (B ∷ C ∷ Bs)) none (all (bounds F (B ∷ C ∷ Bs)))
       ∙ ap (λ (es : List Token). leads B ∷ es) (tokens-after (label F (B ∷ C ∷ Bs)) (C ∷ Bs) B none c (λ x h k. label-skip B C Bs x h))
+
+-- Document 01's agreement of a trie with a sound file is the cells' agreement with its ranges.
+module _ (b : ℕ) {fs : List Slot} (S : Sound b fs) where
+  pub agrees-cells : {t : Trie} → Agrees fs t → CellsAgree (ranges fs) (S .order) (take (t .count) (t .cells)) (root-side (t .count) (t .first))
+  agrees-cells {t} A = record {
+    tree = A .tree;
+    visits = A .visits;
+    reads = A .reads;
+    each = λ i h. A .once i (omega (arith, h, length-take (t .count) (t .cells)));
+    trie = cast (Leads (ranges fs)) (strings-same ∙ strings-right b S) flat;
+  }
+    where
+      flat : Spans (Leads (ranges fs)) none [] (A .tree) (strings [] (A .tree))
+      flat = flat-trie (Leads (ranges fs)) (A .tree) (A .numbers) (A .leading)
+
+      strings-same : strings [] (A .tree) ≡ strings-of fs
+      strings-same = asc-unique (trie-asc flat) (strings-asc b S) (λ x m. strings-every b S x (A .only x m)) (λ x m. A .every x (strings-only b S x m))
+
+  pub cells-agree : {t : Trie} → t .count ≤ 256 → length (t .cells) ≡ 256
+      → t .cells ≡ take (t .count) (t .cells) ++ replicate (256 - t .count) zero-cell → (0 < t .count → t .first ≡ 0)
+      → CellsAgree (ranges fs) (S .order) (take (t .count) (t .cells)) (root-side (t .count) (t .first)) → Agrees fs t
+  cells-agree {t} few long past first A = record {
+    few = few;
+    past = past;
+    first-leaf = first;
+    tree = A .tree;
+    visits = A .visits;
+    reads = A .reads;
+    once = λ i h. A .each i (omega (arith, h, long, few, length-take (t .count) (t .cells)));
+    numbers = flat .0;
+    only = λ x m. strings-only b S x (rw (same, ← strings-right b S) at m);
+    every = λ x k. rw (same, ← strings-right b S) (strings-every b S x k);
+    leading = rw same (flat .1);
+  }
+    where
+      same : strings [] (A .tree) ≡ all (bounds (ranges fs) (S .order))
+      same = strings-are (Leads (ranges fs)) (A .trie)
+
+      flat : Numbers [] (A .tree) × Leaves (Leads (ranges fs)) none (all (bounds (ranges fs) (S .order))) [] (leaves (A .tree))
+      flat = trie-flat (Leads (ranges fs)) (A .trie)
+
+  -- A tree of the file's strings, laid out in cells, agrees.
+  pub laid-agrees : (t : Tree) → size t ≤ 256 → Spans (Leads (ranges fs)) none [] t (all (bounds (ranges fs) (S .order))) → Agrees fs (laid t)
+  laid-agrees t few T = cells-agree {t = laid t} few long past first
+      (rw (front, root t) (record { tree = t; visits = upto 0 (size t); reads = laid-reads t; each = laid-each t; trie = T }))
+    where
+      front : take (size t) (lay 0 t ++ replicate (256 - size t) zero-cell) ≡ lay 0 t
+      front = rw (length-lay 0 t) at (take-append-seam (lay 0 t) (replicate (256 - size t) zero-cell))
+
+      long : length (lay 0 t ++ replicate (256 - size t) zero-cell) ≡ 256
+      long = omega (arith, few, length-append (lay 0 t) (replicate (256 - size t) zero-cell), length-lay 0 t, length-replicate (256 - size t) zero-cell)
+
+      past : lay 0 t ++ replicate (256 - size t) zero-cell ≡ take (size t) (lay 0 t ++ replicate (256 - size t) zero-cell) ++ replicate (256 - size t) zero-cell
+      past = ap (λ (cs : List Cell). cs ++ replicate (256 - size t) zero-cell) (sym front)
+
+      first : 0 < size t → first-of t ≡ 0
+      first h = go t h
+        where
+          go : (t : Tree) → 0 < size t → first-of t ≡ 0
+          go (leaf s) h = absurd (omega arith)
+          go (node d i L R) h = refl
+
+      root : (t : Tree) → root-side (size t) (first-of t) ≡ side-of 0 t
+      root (leaf s) = refl
+      root (node d i L R) = refl
+
+  -- The rebuilt trie agrees where its strings are few enough.
+  pub rebuilt-trie-agrees : string-count fs ≤ 256 → Agrees fs (rebuilt-trie fs)
+  rebuilt-trie-agrees few = rw (order-right b S) (laid-agrees (rebuilt (ranges fs) (S .order)) (omega (arith, few, cells-count T, count-right b S)) T)
+    where
+      T : Spans (Leads (ranges fs)) none [] (rebuilt (ranges fs) (S .order)) (all (bounds (ranges fs) (S .order)))
+      T = rebuilt-agrees (ranges fs) (S .order) (S .chain)
+
+  -- "So each name arrives at the bucket whose range holds it."
+  pub agrees-walk : {t : Trie} → Agrees fs t → (n : Str) → In (head (slot-at fs (walk-trie t n))) n
+  agrees-walk {t} A n = rw (walk-reads n (suc (t .count)) [] whole short) (walk-right (ranges fs) (C .trie) n)
+    where
+      C : CellsAgree (ranges fs) (S .order) (take (t .count) (t .cells)) (root-side (t .count) (t .first))
+      C = agrees-cells A
+
+      whole : Reads (t .cells) (root-side (t .count) (t .first)) (C .tree) (C .visits)
+      whole = rw take-append-drop at (reads-append (drop (t .count) (t .cells)) (C .reads))
+
+      short : length (C .visits) < suc (t .count)
+      short = omega (arith, visits-count (C .reads) (C .each), length-take (t .count) (t .cells))

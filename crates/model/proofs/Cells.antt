@@ -33,6 +33,11 @@ pub there-at : {cs : List Cell} {n : ℕ} {c : Cell} {L R : Tree} {vs ws : List 
     → Reads cs (further n) (node (c .digit) (c .number) L R) (n ∷ (vs ++ ws))
 there-at h e l r = rw (← e) (there h (rw (← e) at l) (rw (← e) at r))
 
+pub reads-append : {cs : List Cell} {a : Side} {t : Tree} {vs : List ℕ} (ds : List Cell) → Reads cs a t vs → Reads (cs ++ ds) a t vs
+reads-append ds here = here
+reads-append {cs} ds (there {n = n} h l r) =
+    there-at (rw length-append (omega arith)) (List·getD-append cs ds zero-cell n h) (reads-append ds l) (reads-append ds r)
+
 pub reads-set : {cs : List Cell} {a : Side} {t : Tree} {vs : List ℕ} (m : ℕ) (c : Cell) → occ m vs ≡ 0 → Reads cs a t vs → Reads (set cs m c) a t vs
 reads-set m c o here = here
 reads-set {cs} m c o (there {n = n} {vs = vs} {ws = ws} h l r) =

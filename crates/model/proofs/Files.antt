@@ -1,22 +1,23 @@
 -- A name has one bucket; sound and cut exclude each other; the slot to free and the range order are determined; the strings.
-use mathlib.Core.Path.{_∙_, _≡_, ap, subst, sym}
-use mathlib.Core.Logic.{_≢_}
-use mathlib.Core.List.{List, [], _∷_}
+use mathlib.Core.Path.{_∙_, _≡_, ap, refl, subst, sym}
+use mathlib.Core.Logic.{_≢_, _⊎_, inl, inr}
+use mathlib.Core.List.{List, List·Memᴰ, [], _∷_}
 use Prim.Native.Nat.{_+_, _<_, _≤_, suc, zero, ℕ}
 use native.Mathlib.Decide.{decLt, ℕ-discrete}
 use native.Mathlib.Omega.{arith}
 use lib.ListN.{List·getD-eq-default, length, set}
 use lib.Seq.{getD-set-other, getD-set-same, set-out}
-use Rattle.model.specs.Order.{Low, Str, _◁_, at, le?, over, str?}
+use Rattle.model.specs.Order.{Asc, Low, Str, _≺_, _◁_, at, le?, nil-not-le, none, over, str?}
 use Rattle.model.specs.Names.{Bound, BoundLow}
 use Rattle.model.specs.Entries.{Entry, Row}
-use Rattle.model.specs.Files.{Chain, Cut, In, IsUsed, Ranges, Slot, Sound, Starts, Well, all, bounds, first, free, head, last, lower-of, next, order-from, order-of, ranges, slot-at, starts?, string-count, strings-of, upper-of, used, well-free, well-used}
+use Rattle.model.specs.Files.{Begins, BoundOf, Chain, Cut, Head, In, IsString, IsUsed, Ranges, Slot, Sound, Starts, Well, all, bounds, first, free, head, last, lower-bound, lower-of, next, no-range, order-from, order-of, range, ranges, slot-at, starts?, string-count, strings-of, upper-bound, upper-of, used, well-free, well-used}
 use Rattle.model.specs.Tries.{occ, one-if, walk}
 use Rattle.model.specs.Rebuilding.{rebuilt}
 use Rattle.model.specs.Changes.{Map, Means}
 use Rattle.model.proofs.Order.{le-refl, low-at, low-lower, lt-le}
 use Rattle.model.proofs.Entries.{chosen-no, chosen-yes}
-use Rattle.model.proofs.Ranges.{chain-other, chain-unique, chain-used, range-unique}
+use Rattle.model.proofs.Strings.{all-asc, all-begins, begins-in}
+use Rattle.model.proofs.Ranges.{bounds-asc, bounds-from, bounds-to, chain-lower, chain-other, chain-unique, chain-used, range-unique}
 use Rattle.model.proofs.Cells.{occ-mem, total-all, total-le}
 use Rattle.model.proofs.Rebuilding.{rebuilt-agrees, walk-right}
 
@@ -183,3 +184,38 @@ module _ (b : ℕ) where
     pub count-right : string-count fs ≡ length (all (bounds (ranges fs) (S .order)))
     unfolding string-count
     count-right = ap length strings-right
+
+    -- The strings are ascending, and exactly document 01's.
+    pub strings-asc : Asc none (strings-of fs) []
+    strings-asc = rw strings-right (all-asc (bounds (ranges fs) (S .order)) none (bounds-asc (ranges fs) (S .order) none (S .chain)))
+
+    pub strings-only : (x : Str) → List·Memᴰ x (strings-of fs) → IsString fs x
+    strings-only x m = go (all-begins (bounds (ranges fs) (S .order)) x (rw strings-right at m))
+      where
+        upper : (h : Head) → IsUsed h → BoundOf h (upper-of h)
+        upper no-range u = absurd u
+        upper (range l u) h = upper-bound
+
+        by : (y : Str) → Begins y x → (B : ℕ) × List·Memᴰ B (S .order) × (y ≡ upper-of (head (slot-at fs B))) → IsString fs x
+        by y g (B, k, e) =
+            record { bucket = B; bound = y; is-bound = rw e (upper (head (slot-at fs B)) (chain-used (ranges fs) (S .chain) B k)); begins = g }
+
+        go : (y : Str) × List·Memᴰ y (bounds (ranges fs) (S .order)) × Begins y x → IsString fs x
+        go (y, k, g) = by y g (bounds-from (ranges fs) (S .order) y k)
+
+    pub strings-every : (x : Str) → IsString fs x → List·Memᴰ x (strings-of fs)
+    strings-every x i = rw strings-right (begins-in (bounds (ranges fs) (S .order)) (i .bound) x (go (parts (head (slot-at fs (i .bucket))) (i .bound) (i .is-bound))) (i .begins))
+      where
+        parts : (h : Head) (y : Str) → BoundOf h y → IsUsed h × ((lower-of h ≡ at y) ⊎ (y ≡ upper-of h))
+        parts (range (at l) u) y lower-bound = (tt, inl refl)
+        parts (range l u) y upper-bound = (tt, inr refl)
+
+        some-digit : (y : Str) → Begins y x → y ≺ []
+        some-digit [] k = absurd (omega (arith, k .some, k .fits))
+        some-digit (d ∷ y) k = nil-not-le
+
+        go : IsUsed (head (slot-at fs (i .bucket))) × ((lower-of (head (slot-at fs (i .bucket))) ≡ at (i .bound)) ⊎ (i .bound ≡ upper-of (head (slot-at fs (i .bucket)))))
+            → List·Memᴰ (i .bound) (bounds (ranges fs) (S .order))
+        go (u, inr e) = bounds-to (ranges fs) (S .order) none (S .chain) (i .bound) (i .bucket) (S .listed (i .bucket) u) e (some-digit (i .bound) (i .begins))
+        go (u, inl e) = elim (chain-lower (ranges fs) (S .order) none (S .chain) (i .bucket) (i .bound) (S .listed (i .bucket) u) e)
+            [ inl q ↦ (let z : _≡_ {A = ℕ} 0 1 = cc in absurd (omega arith)) | inr m ↦ m ]

@@ -98,6 +98,19 @@ module _ (F : Ranges) where
   bounds-to (C ∷ D ∷ Bs) l (next u e′ a b c) x B (List·Memᴰ·head p) e h = List·Memᴰ·head (rw p at e)
   bounds-to (C ∷ D ∷ Bs) l (next u e′ a b c) x B (List·Memᴰ·tail m) e h = List·Memᴰ·tail (bounds-to (D ∷ Bs) (at (F .upper C)) c x B m e h)
 
+  -- A lower limit that is a string is a bound, or the limit that the order starts from.
+  pub chain-lower : (Bs : List ℕ) (m : Low) → Chain F m Bs → (B : ℕ) (y : Str) → List·Memᴰ B Bs → F .lower B ≡ at y → (m ≡ at y) ⊎ List·Memᴰ y (bounds F Bs)
+  chain-lower [] m c B y k e = absurd (List·Memᴰ·not-nil k)
+  chain-lower (C ∷ []) m (last u q f) B y (List·Memᴰ·head p) e = inl (sym q ∙ ap (F .lower) (sym p) ∙ e)
+  chain-lower (C ∷ []) m (next u q a b c) B y (List·Memᴰ·head p) e = inl (sym q ∙ ap (F .lower) (sym p) ∙ e)
+  chain-lower (C ∷ []) m c B y (List·Memᴰ·tail k) e = absurd (List·Memᴰ·not-nil k)
+  chain-lower (C ∷ D ∷ Bs) m (next u q a b c) B y (List·Memᴰ·head p) e = inl (sym q ∙ ap (F .lower) (sym p) ∙ e)
+  chain-lower (C ∷ D ∷ Bs) m (next u q a b c) B y (List·Memᴰ·tail k) e = go (chain-lower (D ∷ Bs) (at (F .upper C)) c B y k e)
+    where
+      go : (at (F .upper C) ≡ at y) ⊎ List·Memᴰ y (bounds F (D ∷ Bs)) → (m ≡ at y) ⊎ List·Memᴰ y (bounds F (C ∷ D ∷ Bs))
+      go (inl e) = let p : y ≡ F .upper C = cc in inr (List·Memᴰ·head p)
+      go (inr k) = inr (List·Memᴰ·tail k)
+
 pub chain-unique : (F : Ranges) {l : Low} {Bs Cs : List ℕ} → Chain F l Bs → Chain F l Cs
     → ((B C : ℕ) → F .Used B → F .Used C → F .lower B ≡ F .lower C → B ≡ C) → Bs ≡ Cs
 chain-unique F (last {B = B} u e f) (last {B = C} u′ e′ f′) g = ap (λ D. D ∷ []) (g B C u u′ (e ∙ sym e′))

@@ -15,7 +15,7 @@ use Rattle.model.specs.Growth.{graft, grow, relabel, turn, turned}
 use Rattle.model.proofs.Order.{diff-le-right, diff-lt-left, le-take, le-trans, low-le, low-trans, lt-le-trans, not-over, split-lt}
 use Rattle.model.proofs.Tries.{Gap, cast, relabel-trie}
 use Rattle.model.proofs.Growth.{Growth, Shrinks, grow-trie}
-use Rattle.model.proofs.Strings.{Closed, all-asc, all-begins, all-closed, asc-mem, asc-unique, begins, begins-all, fresh-begins, not-top, trie-asc}
+use Rattle.model.proofs.Strings.{Closed, all-asc, all-begins, all-closed, asc-mem, asc-unique, begins, begins-in, fresh-begins, not-top, trie-asc}
 use Rattle.model.proofs.Ranges.{bounds-asc, bounds-from, bounds-to, chain-other, chain-used}
 use Rattle.model.proofs.Files.{other}
 
@@ -104,9 +104,6 @@ pub record Adds (bs bs′ : List Str) (s : Str) : Type 0 where
   pub keeps : (x : Str) → List·Memᴰ x bs → List·Memᴰ x bs′
   pub gains : List·Memᴰ s bs′
   pub only : (x : Str) → List·Memᴰ x bs′ → List·Memᴰ x bs ⊎ (x ≡ s)
-
-pub begins-in : (bs : List Str) (x z : Str) → List·Memᴰ x bs → Begins x z → List·Memᴰ z (all bs)
-begins-in bs x z m b = Memᴰ·cast (b .is) (begins-all bs x m (b .count) (b .some) (b .fits))
 
 module _ (F G : Ranges) (c s : Str) (k : ℕ) (pos : 0 < k) (hk : k ≤ length c) (es : take k c ≡ s) (A N : ℕ)
     (S : SplitAt F G s A N) (t : Tree) (bs bs′ : List Str) (add : Adds bs bs′ s) (T : Spans (Leads F) none [] t (all bs)) where

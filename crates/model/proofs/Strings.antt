@@ -146,3 +146,6 @@ all-closed xs z m (suc n) = inl (go (all-begins xs z m))
       | yes h ↦ Memᴰ·cast (ap (take k) (b .is) ∙ take-take k (b .count) x h) (begins-all xs x mx k (omega arith) (omega (arith, h, b .fits)))
       | no h ↦ Memᴰ·cast (take-all k z (omega (arith, h, ap length (b .is), length-take (b .count) x))) m
     ]
+
+pub begins-in : (bs : List Str) (x z : Str) → List·Memᴰ x bs → Begins x z → List·Memᴰ z (all bs)
+begins-in bs x z m b = Memᴰ·cast (b .is) (begins-all bs x m (b .count) (b .some) (b .fits))

@@ -104,6 +104,10 @@ abbrev pub root-side : ℕ → ℕ → Side
 root-side zero f = slot f
 root-side (suc n) f = further 0
 
+-- The slot that a name leads to.
+abbrev pub walk-trie : Trie → Str → ℕ
+walk-trie t n = walk-cells (t .cells) n (suc (t .count)) [] (root-side (t .count) (t .first))
+
 -- "A trie agrees with a sound file when .."
 pub record Agrees (fs : List Slot) (t : Trie) : Type 0 where
   -- "its count is at most 256 and what lies past the count, and the first leaf, are as said above"
