@@ -11,10 +11,9 @@ use Rattle.model.specs.declared.Cell.{Cell}
 use Rattle.model.specs.declared.Side.{Side}
 use Rattle.model.specs.declared.Trie.{Trie}
 use Rattle.model.specs.Order.{Asc, Low, Str, _≺_, _⊑_, _◁_, above, at, diff, end, least, low?, none, over, step, top}
-use Rattle.model.specs.Files.{Chain, In, Ranges, Slot, Sound, all, bounds, first, fresh, head, last, longer, next, ranges, slot-at, string-count, strings-of}
+use Rattle.model.specs.Files.{Chain, In, Ranges, Slot, Sound, all, bounds, fresh, head, last, longer, next, ranges, slot-at, string-count, strings-of}
 use Rattle.model.specs.Tries.{Agrees, Leads, Leaves, Numbers, Reads, Spans, Tree, cell, cut, leaf, leaf-last, leaf-next, leaves, node, occ, root-side, size, strings, tip, walk-trie, zero-cell}
 use Rattle.model.specs.Rebuilding.{first-of, label, laid, lay, rebuilt, rebuilt-trie, side-of}
-use Rattle.model.specs.Growth.{root}
 use Rattle.model.proofs.Order.{diff-lt-left, le-take, le-trans, lt-le, lt-le-trans}
 use Rattle.model.proofs.Tries.{cast, cells-count, flat-trie, relabel-same, relabel-trie, strings-are, trie-flat}
 use Rattle.model.proofs.Strings.{all-asc, asc-mem, asc-unique, fresh-asc, fresh-begins, trie-asc}
@@ -116,22 +115,18 @@ module _ (F : Ranges) (Bs : List ℕ) (chain : Chain F none Bs) (listed : (B : �
     agree-sound ws e marked =
         let r = pass-sound cs (suc (length cs)) [] a (expect (label F Bs) none (all (bounds F Bs)), []) ([], ws) e in
         let v : ws ≡ r .visits = r .seen in
-        record {
-          tree = r .tree;
-          visits = r .visits;
-          reads = r .reads;
-          each = λ i h. rw (← v) (omega (arith, marked i h, r .once (λ j. omega arith) i));
-          trie = leading (r .tree)
-              (expect-trie (label F Bs) (r .tree) none [] (all (bounds F Bs)) (r .numbers) (all-asc (bounds F Bs) none (bounds-asc F Bs none chain))
-              (sym (r .tokens ∙ append-nil (inorder [] (r .tree)))));
-        }
+        record { tree = r .tree; visits = r .visits; reads = r .reads
+               ; each = λ i h. rw (← v) (omega (arith, marked i h, r .once (λ j. omega arith) i))
+               ; trie = leading (r .tree)
+                   (expect-trie (label F Bs) (r .tree) none [] (all (bounds F Bs)) (r .numbers) (all-asc (bounds F Bs) none (bounds-asc F Bs none chain))
+                     (sym (r .tokens ∙ append-nil (inorder [] (r .tree))))) }
 
     pub agree-complete : (A : CellsAgree F Bs cs a) → agrees? ≡ some ([], A .visits)
     agree-complete A =
         let T = labelled (A .tree) (A .trie) in
         let e : inorder [] (A .tree) ++ [] ≡ expect (label F Bs) none (all (bounds F Bs)) = append-nil (inorder [] (A .tree)) ∙ trie-expect (label F Bs) T in
         rw e at (pass-complete cs (suc (length cs)) [] [] [] (A .reads) (trie-flat (λ l u B. B ≡ label F Bs l) T .0)
-        (omega (arith, reads-height (A .reads), visits-count (A .reads) (A .each))) (each-once (A .reads) (A .each)))
+          (omega (arith, reads-height (A .reads), visits-count (A .reads) (A .each))) (each-once (A .reads) (A .each)))
 
 -- The expected strings and slots as a cursor gives them: a slot, and a length that goes down.
 -- the beginnings of x with j + n, …, j + 1 digits
@@ -228,8 +223,8 @@ module _ (F : Ranges) where
       let up : F .upper B ≺ F .upper C = over a′ in
       tokens-append lab (fresh (F .upper B) (F .upper C)) (all (bounds F (C ∷ D ∷ Bs)))
       ∙ ap₂ (λ (xs ys : List Token). xs ++ ys)
-      (bring lab C (F .upper B) (F .upper C) up (λ x h k. f x h (lt-le-trans k top) ∙ label-here C (D ∷ Bs) x k))
-      (tokens-after lab (D ∷ Bs) C (at (F .upper B)) (next u′ e′ a′ b′ c) (λ x h k. f x (le-trans (lt-le up) h) k ∙ label-skip C D Bs x h))
+          (bring lab C (F .upper B) (F .upper C) up (λ x h k. f x h (lt-le-trans k top) ∙ label-here C (D ∷ Bs) x k))
+          (tokens-after lab (D ∷ Bs) C (at (F .upper B)) (next u′ e′ a′ b′ c) (λ x h k. f x (le-trans (lt-le up) h) k ∙ label-skip C D Bs x h))
 
   -- the pass that decides agreement eats exactly this
   pub expect-cursor : (B : ℕ) (Bs : List ℕ) → Chain F none (B ∷ Bs) → expect (label F (B ∷ Bs)) none (all (bounds F (B ∷ Bs))) ≡ leads B ∷ coming B Bs
@@ -242,40 +237,30 @@ module _ (F : Ranges) where
 -- Document 01's agreement of a trie with a sound file is the cells' agreement with its ranges.
 module _ (b : ℕ) {fs : List Slot} (S : Sound b fs) where
   pub agrees-cells : {t : Trie} → Agrees fs t → CellsAgree (ranges fs) (S .order) (take (t .count) (t .cells)) (root-side (t .count) (t .first))
-  agrees-cells {t} A = record {
-    tree = A .tree;
-    visits = A .visits;
-    reads = A .reads;
-    each = λ i h. A .once i (omega (arith, h, length-take (t .count) (t .cells)));
-    trie = cast (Leads (ranges fs)) (strings-same ∙ strings-right b S) flat;
-  }
+  agrees-cells {t} A = record
+      { tree = A .tree; visits = A .visits; reads = A .reads
+      ; each = λ i h. A .once i (omega (arith, h, length-take (t .count) (t .cells)))
+      ; trie = cast (Leads (ranges fs)) (strings-same ∙ strings-right b S) flat }
     where
       flat : Spans (Leads (ranges fs)) none [] (A .tree) (strings [] (A .tree))
       flat = flat-trie (Leads (ranges fs)) (A .tree) (A .numbers) (A .leading)
-
       strings-same : strings [] (A .tree) ≡ strings-of fs
       strings-same = asc-unique (trie-asc flat) (strings-asc b S) (λ x m. strings-every b S x (A .only x m)) (λ x m. A .every x (strings-only b S x m))
 
   pub cells-agree : {t : Trie} → t .count ≤ 256 → length (t .cells) ≡ 256
       → t .cells ≡ take (t .count) (t .cells) ++ replicate (256 - t .count) zero-cell → (0 < t .count → t .first ≡ 0)
       → CellsAgree (ranges fs) (S .order) (take (t .count) (t .cells)) (root-side (t .count) (t .first)) → Agrees fs t
-  cells-agree {t} few long past first A = record {
-    few = few;
-    past = past;
-    first-leaf = first;
-    tree = A .tree;
-    visits = A .visits;
-    reads = A .reads;
-    once = λ i h. A .each i (omega (arith, h, long, few, length-take (t .count) (t .cells)));
-    numbers = flat .0;
-    only = λ x m. strings-only b S x (rw (same, ← strings-right b S) at m);
-    every = λ x k. rw (same, ← strings-right b S) (strings-every b S x k);
-    leading = rw same (flat .1);
-  }
+  cells-agree {t} few long past first A = record
+      { few = few; past = past; first-leaf = first
+      ; tree = A .tree; visits = A .visits; reads = A .reads
+      ; once = λ i h. A .each i (omega (arith, h, long, few, length-take (t .count) (t .cells)))
+      ; numbers = flat .0
+      ; only = λ x m. strings-only b S x (rw (same, ← strings-right b S) at m)
+      ; every = λ x k. rw (same, ← strings-right b S) (strings-every b S x k)
+      ; leading = rw same (flat .1) }
     where
       same : strings [] (A .tree) ≡ all (bounds (ranges fs) (S .order))
       same = strings-are (Leads (ranges fs)) (A .trie)
-
       flat : Numbers [] (A .tree) × Leaves (Leads (ranges fs)) none (all (bounds (ranges fs) (S .order))) [] (leaves (A .tree))
       flat = trie-flat (Leads (ranges fs)) (A .trie)
 
@@ -286,20 +271,16 @@ module _ (b : ℕ) {fs : List Slot} (S : Sound b fs) where
     where
       front : take (size t) (lay 0 t ++ replicate (256 - size t) zero-cell) ≡ lay 0 t
       front = rw (length-lay 0 t) at (take-append-seam (lay 0 t) (replicate (256 - size t) zero-cell))
-
       long : length (lay 0 t ++ replicate (256 - size t) zero-cell) ≡ 256
       long = omega (arith, few, length-append (lay 0 t) (replicate (256 - size t) zero-cell), length-lay 0 t, length-replicate (256 - size t) zero-cell)
-
       past : lay 0 t ++ replicate (256 - size t) zero-cell ≡ take (size t) (lay 0 t ++ replicate (256 - size t) zero-cell) ++ replicate (256 - size t) zero-cell
       past = ap (λ (cs : List Cell). cs ++ replicate (256 - size t) zero-cell) (sym front)
-
       first : 0 < size t → first-of t ≡ 0
       first h = go t h
         where
           go : (t : Tree) → 0 < size t → first-of t ≡ 0
           go (leaf s) h = absurd (omega arith)
           go (node d i L R) h = refl
-
       root : (t : Tree) → root-side (size t) (first-of t) ≡ side-of 0 t
       root (leaf s) = refl
       root (node d i L R) = refl
@@ -317,9 +298,7 @@ module _ (b : ℕ) {fs : List Slot} (S : Sound b fs) where
     where
       C : CellsAgree (ranges fs) (S .order) (take (t .count) (t .cells)) (root-side (t .count) (t .first))
       C = agrees-cells A
-
       whole : Reads (t .cells) (root-side (t .count) (t .first)) (C .tree) (C .visits)
       whole = rw take-append-drop at (reads-append (drop (t .count) (t .cells)) (C .reads))
-
       short : length (C .visits) < suc (t .count)
       short = omega (arith, visits-count (C .reads) (C .each), length-take (t .count) (t .cells))

@@ -10,7 +10,7 @@ use lib.Seq.{getD-append-add, getD-set-other, getD-set-same}
 use Rattle.model.specs.declared.Cell.{Cell}
 use Rattle.model.specs.declared.Side.{Side}
 use Rattle.model.specs.declared.Side.the-variants.{Cell as further, Slot as slot}
-use Rattle.model.specs.Order.{Str, _≺_, _⊑_, _◁_, at, diff, digit, le?, none}
+use Rattle.model.specs.Order.{Str, _≺_, _⊑_, _◁_, at, diff, le?, none}
 use Rattle.model.specs.Files.{Chain, Ranges, all, bounds}
 use Rattle.model.specs.Tries.{Leads, Reads, Spans, Tree, at-cell, cell, here, leaf, node, occ, one-if, size, there, walk, zero-cell}
 use Rattle.model.specs.Rebuilding.{lay, rebuilt, side-of}
@@ -39,10 +39,8 @@ spot-visited {cs} n p k (there {n = m} {vs = vs} {ws = ws} h l r) = inr (go (le?
   where
     q : Str
     q = cell (at-cell cs m .digit) (at-cell cs m .number) p
-
     self : 0 < occ m (m ∷ (vs ++ ws))
     self = omega (arith, one-if-equal refl (ℕ-discrete m m))
-
     go : (d : Dec (n ⊑ q)) → Visited (at-cell cs m .left) (left m) (spot n q (left m) l) vs → Visited (at-cell cs m .right) (right m) (spot n p (right m) r) ws
         → 0 < occ (cell-of (elim d [ yes h ↦ spot n q (left m) l | no h ↦ spot n p (right m) r ])) (m ∷ (vs ++ ws))
     go (yes h) (inl e) g = rw (e .0) self
@@ -86,14 +84,12 @@ module _ (cs cs′ : List Cell) (n : Str) (new : Side) (X : Tree) (xs : List ℕ
   graft-reads p k here e once = record { visits = xs; reads = rx; counts = λ m. omega arith }
   graft-reads p k (there {n = m} {L = L} {R = R} {vs = vs} {ws = ws} h l r) e once =
       go (le? n q) e (λ e. graft-reads q (left m) l e (λ i. omega (arith, once i, occ-append i vs ws)))
-      (λ e. graft-reads p (right m) r e (λ i. omega (arith, once i, occ-append i vs ws)))
+        (λ e. graft-reads p (right m) r e (λ i. omega (arith, once i, occ-append i vs ws)))
     where
       c : Cell
       c = at-cell cs m
-
       q : Str
       q = cell (c .digit) (c .number) p
-
       go : (d : Dec (n ⊑ q)) → elim d [ yes h ↦ spot n q (left m) l | no h ↦ spot n p (right m) r ] ≡ sp
           → (spot n q (left m) l ≡ sp → Grafted (placed (c .left) new) (replace n X q L) vs)
           → (spot n p (right m) r ≡ sp → Grafted (placed (c .right) new) (replace n X p R) ws)
@@ -102,22 +98,18 @@ module _ (cs cs′ : List Cell) (n : Str) (new : Side) (X : Tree) (xs : List ℕ
           let s = f e in
           let v : Visited (c .left) (left m) sp vs = rw e at (spot-visited n q (left m) l) in
           let o : one-if (ℕ-discrete (cell-of sp) m) + occ (cell-of sp) vs + occ (cell-of sp) ws ≤ 1 = omega (arith, once (cell-of sp), occ-append (cell-of sp) vs ws) in
-          record {
-            visits = m ∷ (s .visits ++ ws);
-            reads = there-at (omega arith) (moved m (c .left) vs (left m) (λ x. record { digit = c .digit; number = c .number; left = x; right = c .right }) refl refl refl h (omega arith) v)
-                (s .reads) (reads-other (omega (arith, seen (c .left) (left m) vs v)) r);
-            counts = λ i. omega (arith, s .counts i, occ-append i (s .visits) ws, occ-append i vs ws);
-          }
+          record { visits = m ∷ (s .visits ++ ws)
+                 ; reads = there-at (omega arith) (moved m (c .left) vs (left m) (λ x. record { digit = c .digit; number = c .number; left = x; right = c .right }) refl refl refl h (omega arith) v)
+                     (s .reads) (reads-other (omega (arith, seen (c .left) (left m) vs v)) r)
+                 ; counts = λ i. omega (arith, s .counts i, occ-append i (s .visits) ws, occ-append i vs ws) }
       go (no h′) e f g =
           let s = g e in
           let v : Visited (c .right) (right m) sp ws = rw e at (spot-visited n p (right m) r) in
           let o : one-if (ℕ-discrete (cell-of sp) m) + occ (cell-of sp) vs + occ (cell-of sp) ws ≤ 1 = omega (arith, once (cell-of sp), occ-append (cell-of sp) vs ws) in
-          record {
-            visits = m ∷ (vs ++ s .visits);
-            reads = there-at (omega arith) (moved m (c .right) ws (right m) (λ x. record { digit = c .digit; number = c .number; left = c .left; right = x }) refl refl refl h (omega arith) v)
-                (reads-other (omega (arith, seen (c .right) (right m) ws v)) l) (s .reads);
-            counts = λ i. omega (arith, s .counts i, occ-append i vs (s .visits), occ-append i vs ws);
-          }
+          record { visits = m ∷ (vs ++ s .visits)
+                 ; reads = there-at (omega arith) (moved m (c .right) ws (right m) (λ x. record { digit = c .digit; number = c .number; left = c .left; right = x }) refl refl refl h (omega arith) v)
+                     (reads-other (omega (arith, seen (c .right) (right m) ws v)) l) (s .reads)
+                 ; counts = λ i. omega (arith, s .counts i, occ-append i vs (s .visits), occ-append i vs ws) }
 
 module _ (f : Str → ℕ → ℕ) where
   pub record Turned (cs cs′ : List Cell) (p : Str) (a : Side) (t : Tree) (vs : List ℕ) : Type 0 where
@@ -140,15 +132,13 @@ module _ (f : Str → ℕ → ℕ) where
       let l₁ : Reads cs₁ (c .left) L vs = reads-set m (turn-cell f p c) (out .0) l in
       let x : Turned cs₁ cs₂ q (c .left) L vs = turn-reads L q l₁ (λ i. omega (arith, one i)) in
       let r₂ : Reads cs₂ (c .right) R ws =
-      reads-agree (omega (arith, x .size)) (λ i o. x .rest i (omega (arith, one i, o))) (reads-set m (turn-cell f p c) (out .1) r) in
+            reads-agree (omega (arith, x .size)) (λ i o. x .rest i (omega (arith, one i, o))) (reads-set m (turn-cell f p c) (out .1) r) in
       let y : Turned cs₂ cs₃ p (c .right) R ws = turn-reads R p r₂ (λ i. omega (arith, one i)) in
       let size : length cs₃ ≡ length cs = y .size ∙ x .size ∙ length-set cs m (turn-cell f p c) in
       let mid : at-cell cs₃ m ≡ turn-cell f p c = y .rest m (out .1) ∙ x .rest m (out .0) ∙ getD-set-same cs m (turn-cell f p c) zero-cell h in
-      record {
-        size = size;
-        rest = λ i o. let a = not-visited i m vs ws o in y .rest i (a .2) ∙ x .rest i (a .1) ∙ getD-set-other cs m i (turn-cell f p c) zero-cell (λ e. a .0 (sym e));
-        reads = there-at (omega (arith, size)) mid (reads-agree (omega (arith, y .size)) (λ i o. y .rest i (omega (arith, one i, o))) (x .reads)) (y .reads);
-      }
+      record { size = size
+             ; rest = λ i o. let a = not-visited i m vs ws o in y .rest i (a .2) ∙ x .rest i (a .1) ∙ getD-set-other cs m i (turn-cell f p c) zero-cell (λ e. a .0 (sym e))
+             ; reads = there-at (omega (arith, size)) mid (reads-agree (omega (arith, y .size)) (λ i o. y .rest i (omega (arith, one i, o))) (x .reads)) (y .reads) }
 
 pub graft-replace : (c s p : Str) (t : Tree) → graft c s p t ≡ replace c (grown s (path-at c p t) (walk c p t)) p t
 graft-replace c s p (leaf A) = refl
@@ -156,58 +146,45 @@ graft-replace c s p (node d i L R) = go (le? c q) (graft-replace c s q L) (graft
   where
     q : Str
     q = cell d i p
-
     go : (x : Dec (c ⊑ q)) → graft c s q L ≡ replace c (grown s (path-at c q L) (walk c q L)) q L → graft c s p R ≡ replace c (grown s (path-at c p R) (walk c p R)) p R
         → _≡_ {A = Tree} (elim x [ yes h ↦ node d i (graft c s q L) R | no h ↦ node d i L (graft c s p R) ])
-        (let X : Tree = grown s (elim x [ yes h ↦ path-at c q L | no h ↦ path-at c p R ]) (elim x [ yes h ↦ walk c q L | no h ↦ walk c p R ]) in
-        elim x [ yes h ↦ node d i (replace c X q L) R | no h ↦ node d i L (replace c X p R) ])
+          (let X : Tree = grown s (elim x [ yes h ↦ path-at c q L | no h ↦ path-at c p R ]) (elim x [ yes h ↦ walk c q L | no h ↦ walk c p R ]) in
+            elim x [ yes h ↦ node d i (replace c X q L) R | no h ↦ node d i L (replace c X p R) ])
     go (yes h) e f = ap (λ (Y : Tree). node d i Y R) e
     go (no h) e f = ap (λ (Y : Tree). node d i L Y) f
 
 pub grow-reads : (cs : List Cell) (c : Str) (X t : Tree) (a : ℕ) (vs : List ℕ) (r : Reads cs (further a) t vs)
     → ((i : ℕ) → i < length cs → occ i vs ≡ 1)
     → (ws : List ℕ) × Reads (grow-cells cs (spot c [] root r) X) (further a) (replace c X [] t) ws
-    × ((i : ℕ) → i < length (grow-cells cs (spot c [] root r) X) → occ i ws ≡ 1)
+      × ((i : ℕ) → i < length (grow-cells cs (spot c [] root r) X) → occ i ws ≡ 1)
 grow-reads cs c X t a vs r each = (g .visits, g .reads, count)
   where
     sp : Spot
     sp = spot c [] root r
-
     new : Side
     new = side-of (length cs) X
-
     top′ : List Cell
     top′ = set cs (cell-of sp) (changed (at-cell cs (cell-of sp)) sp new)
-
     cs′ : List Cell
     cs′ = top′ ++ lay (length cs) X
-
     len : length top′ ≡ length cs
     len = length-set cs (cell-of sp) (changed (at-cell cs (cell-of sp)) sp new)
-
     len′ : length cs′ ≡ length cs + size X
     len′ = rw (length-append, len, length-lay)
-
     stands : Stands cs′ (length cs) (lay (length cs) X)
     stands = (omega (arith, len′, length-lay (length cs) X), λ j h. rw len at (getD-append-add top′ (lay (length cs) X) j zero-cell))
-
     rx : Reads cs′ new X (upto (length cs) (size X))
     rx = rw numbers-upto at (lay-reads X cs′ (length cs) stands)
-
     others : (i : ℕ) → i < length cs → i ≢ cell-of sp → at-cell cs′ i ≡ at-cell cs i
     others i h n = List·getD-append top′ (lay (length cs) X) zero-cell i (omega (arith, len)) ∙ getD-set-other cs (cell-of sp) i _ zero-cell n
-
     there′ : cell-of sp < length cs → at-cell cs′ (cell-of sp) ≡ changed (at-cell cs (cell-of sp)) sp new
     there′ h = List·getD-append top′ (lay (length cs) X) zero-cell (cell-of sp) (omega (arith, len)) ∙ getD-set-same cs (cell-of sp) _ zero-cell h
-
     g : Grafted cs cs′ c new X (upto (length cs) (size X)) sp (omega (arith, len′)) others there′ rx (further a) (replace c X [] t) vs
     g = graft-reads cs cs′ c new X (upto (length cs) (size X)) sp (omega (arith, len′)) others there′ rx [] root r refl (each-once r each)
-
     count : (i : ℕ) → i < length cs′ → occ i (g .visits) ≡ 1
-    count i h = elim (decLe (length cs) i) [
-      | yes b ↦ omega (arith, g .counts i, reads-below i b r, upto-once (size X) (length cs) i b (omega (arith, len′)))
-      | no b ↦ omega (arith, g .counts i, each i (omega arith), upto-above (size X) (length cs) i (omega arith))
-    ]
+    count i h = elim (decLe (length cs) i)
+        [ yes b ↦ omega (arith, g .counts i, reads-below i b r, upto-once (size X) (length cs) i b (omega (arith, len′)))
+        | no b ↦ omega (arith, g .counts i, each i (omega arith), upto-above (size X) (length cs) i (omega arith)) ]
 
 -- c is the split key, z the last name, both in A's range.
 module _ (F G : Ranges) (A N : ℕ) (Xs Ys : List ℕ) (c z : Str) (chain : Chain F none (Xs ++ (A ∷ Ys)))
@@ -229,13 +206,8 @@ module _ (F G : Ranges) (A N : ℕ) (Xs Ys : List ℕ) (c z : Str) (chain : Chai
         let g = grow-reads cs c X t a (agrees .visits) (agrees .reads) (agrees .each) in
         let r : Reads grown-cells (further a) (graft c k [] t) (g .0) = rw (graft-replace c k [] t) (g .1) in
         let u = turn-reads (turn k A N) (graft c k [] t) [] r (each-once r (g .2)) in
-        record {
-          tree = relabel (turn k A N) [] (graft c k [] t);
-          visits = g .0;
-          reads = u .reads;
-          each = λ i h. g .2 i (omega (arith, u .size, h));
-          trie = split-agrees F G A N Xs Ys c z t chain lo cz up S (agrees .trie) (no new);
-        }
+        record { tree = relabel (turn k A N) [] (graft c k [] t); visits = g .0; reads = u .reads; each = λ i h. g .2 i (omega (arith, u .size, h))
+               ; trie = split-agrees F G A N Xs Ys c z t chain lo cz up S (agrees .trie) (no new) }
 
   -- s is a string already: leaves are redirected, no cell is added.
   pub redirects : (cs : List Cell) (a : Side) (agrees : CellsAgree F (Xs ++ (A ∷ Ys)) cs a)
@@ -244,19 +216,14 @@ module _ (F G : Ranges) (A N : ℕ) (Xs Ys : List ℕ) (c z : Str) (chain : Chai
   redirects cs a g m =
       let k : Str = take (suc (diff c z)) c in
       let u = turn-reads (turn k A N) (g .tree) [] (g .reads) (each-once (g .reads) (g .each)) in
-      record {
-        tree = relabel (turn k A N) [] (g .tree);
-        visits = g .visits;
-        reads = u .reads;
-        each = λ i h. g .each i (omega (arith, u .size, h));
-        trie = split-agrees F G A N Xs Ys c z (g .tree) chain lo cz up S (g .trie) (yes m);
-      }
+      record { tree = relabel (turn k A N) [] (g .tree); visits = g .visits; reads = u .reads; each = λ i h. g .each i (omega (arith, u .size, h))
+             ; trie = split-agrees F G A N Xs Ys c z (g .tree) chain lo cz up S (g .trie) (yes m) }
 
   -- the first split, of a trie with count 0
   pub grows-first : (B : ℕ) (agrees : CellsAgree F (Xs ++ (A ∷ Ys)) [] (slot B))
       → ¬ List·Memᴰ (take (suc (diff c z)) c) (all (bounds F (Xs ++ (A ∷ Ys))))
       → (let k : Str = take (suc (diff c z)) c in let X : Tree = grown k [] B in
-      CellsAgree G (Xs ++ (A ∷ N ∷ Ys)) (turn-cells (turn k A N) X [] (side-of 0 X) (lay 0 X)) (turn-side (turn k A N) [] (side-of 0 X)))
+          CellsAgree G (Xs ++ (A ∷ N ∷ Ys)) (turn-cells (turn k A N) X [] (side-of 0 X) (lay 0 X)) (turn-side (turn k A N) [] (side-of 0 X)))
   grows-first B g new =
       let k : Str = take (suc (diff c z)) c in
       let X : Tree = grown k [] B in
@@ -264,13 +231,8 @@ module _ (F G : Ranges) (A N : ℕ) (Xs Ys : List ℕ) (c z : Str) (chain : Chai
       let T : Spans (Leads F) none [] (leaf B) (all (bounds F (Xs ++ (A ∷ Ys)))) = rw e at (g .trie) in
       let r : Reads (lay 0 X) (side-of 0 X) X (upto 0 (size X)) = laid-reads X in
       let u = turn-reads (turn k A N) X [] r (each-once r (laid-each X)) in
-      record {
-        tree = relabel (turn k A N) [] X;
-        visits = upto 0 (size X);
-        reads = u .reads;
-        each = λ i h. laid-each X i (omega (arith, u .size, h));
-        trie = split-agrees F G A N Xs Ys c z (leaf B) chain lo cz up S T (no new);
-      }
+      record { tree = relabel (turn k A N) [] X; visits = upto 0 (size X); reads = u .reads; each = λ i h. laid-each X i (omega (arith, u .size, h))
+             ; trie = split-agrees F G A N Xs Ys c z (leaf B) chain lo cz up S T (no new) }
 
 pub rebuilds : (F : Ranges) (Bs : List ℕ) → Chain F none Bs → CellsAgree F Bs (lay 0 (rebuilt F Bs)) (side-of 0 (rebuilt F Bs))
 rebuilds F Bs chain =

@@ -8,7 +8,7 @@ use Rattle.model.specs.Order.{Low, Str, _⊑_, _◁_, at, diff, none, st
 use Rattle.model.specs.Names.{Legal}
 use Rattle.model.specs.Entries.{Entry, Row, insert, name-at, not?, without}
 use Rattle.model.specs.Files.{Slot, Sound, all, bounds, by-heads, ranges, slot-at, used}
-use Rattle.model.specs.Tries.{Leads, Spans, Tree, size}
+use Rattle.model.specs.Tries.{Leads, Spans, Tree}
 use Rattle.model.specs.Growth.{grow, string?}
 use Rattle.model.specs.Changes.{Change, Lowest, Request, Store, absent, fits, removes, split-string, splits, stored}
 use Rattle.model.proofs.Entries.{length-keep, row-at, row-insert, row-keep, row-lt, split-take}
@@ -34,32 +34,25 @@ module _ (b : ℕ) where
       where
         gs : List Slot
         gs = after-second b fs S A l u es is n v legal lo up big i i-lt N lowest
-
         row : Row l (insert n v es) u
         row = row-all b fs S A l u es is n v legal lo up big i i-lt N lowest
-
         size : length (insert n v es) ≡ suc b
         size = length-all b fs S A l u es is n v legal lo up big i i-lt N lowest
-
         c : Str
         c = name-at (insert n v es) i
-
         z : Str
         z = name-at (insert n v es) b
-
         s-is : split-string i b (insert n v es) ≡ take (suc (diff c z)) c
         s-is = split-take row i b i-lt (omega (arith, size))
-
         Grows : List ℕ → List ℕ → Str → Type 0
         Grows Bs Cs s = Spans (Leads (ranges fs)) none [] t (all (bounds (ranges fs) Bs)) → (old : Dec (List·Memᴰ s (all (bounds (ranges fs) Bs))))
             → Spans (Leads (ranges gs)) none [] (grow old c s A N t) (all (bounds (ranges gs) Cs))
-
         go : (p : (Xs : List ℕ) × (Ys : List ℕ) × (S .order ≡ Xs ++ (A ∷ Ys))) → Grows (S .order) (p .0 ++ (A ∷ N ∷ p .1)) (split-string i b (insert n v es))
         go (Xs, Ys, e) = subst (λ Bs. Grows Bs (Xs ++ (A ∷ N ∷ Ys)) (split-string i b (insert n v es))) (sym e)
             (subst (λ s. Grows (Xs ++ (A ∷ Ys)) (Xs ++ (A ∷ N ∷ Ys)) s) (sym s-is)
-            (λ T old. split-agrees (ranges fs) (ranges gs) A N Xs Ys c z t
-            (rw e at (S .chain)) (rw is (row-at row i (omega (arith, size)) .1)) (row-lt row i b i-lt (omega (arith, size))) (rw is (row-at row b (omega (arith, size)) .2))
-            (subst (λ s. SplitAt (ranges fs) (ranges gs) s A N) s-is (is-split b fs S A l u es is n v legal lo up big i i-lt N lowest)) T old))
+              (λ T old. split-agrees (ranges fs) (ranges gs) A N Xs Ys c z t
+                (rw e at (S .chain)) (rw is (row-at row i (omega (arith, size)) .1)) (row-lt row i b i-lt (omega (arith, size))) (rw is (row-at row b (omega (arith, size)) .2))
+                (subst (λ s. SplitAt (ranges fs) (ranges gs) s A N) s-is (is-split b fs S A l u es is n v legal lo up big i i-lt N lowest)) T old))
 
   -- agreement asks for the order, and that is determined
   agreeing-any : {fs : List Slot} (S T : Sound b fs) {t : Tree} → Agreeing S t → Agreeing T t
@@ -81,7 +74,7 @@ module _ (b : ℕ) where
       agreeing-any (one-sound b fs S A l u es is (insert n v es) r k) T (kept-agrees fs S A l u es is (insert n v es) r k t h)
   change-agrees b-two {fs} S (splits {A = A} {N = N} {l = l} {u = u} {es = es} {n = n} {v = v} is g lo up big low few) t h T =
       agreeing-any (second-sound b fs S A l u es is n v g lo up big (b / 2) (half b b-two) N low) T
-      (grown-agrees fs S A l u es is n v g lo up big (b / 2) (half b b-two) N low t h (string? (split-string (b / 2) b (insert n v es)) (all (bounds (ranges fs) (S .order)))))
+        (grown-agrees fs S A l u es is n v g lo up big (b / 2) (half b b-two) N low t h (string? (split-string (b / 2) b (insert n v es)) (all (bounds (ranges fs) (S .order)))))
   change-agrees b-two {fs} S (removes {A = A} {l = l} {u = u} {es = es} {n = n} is lo up e) t h T =
       let w = well-a b fs S A l u es is in
       let r = row-keep (λ k. not? (str? k n)) l u (w .3) (λ k p c d. (c, d)) in

@@ -7,8 +7,7 @@ use native.Mathlib.Omega.{arith}
 use lib.ListN.{length}
 use lib.Seq.{take-length}
 use Rattle.model.specs.Order.{Asc, Low, Str, _≺_, _⊑_, _⊴_, _◁_, at, end, low?, over, step, top}
-use Rattle.model.specs.Names.{within}
-use Rattle.model.specs.Files.{Chain, Ranges, all, bounds, last, next, used}
+use Rattle.model.specs.Files.{Chain, Ranges, all, bounds, last, next}
 use Rattle.model.specs.Tries.{Leads}
 use Rattle.model.specs.Rebuilding.{label}
 use Rattle.model.proofs.Order.{le-refl, low-at, low-lower, low-refl, low-trans, lt-or-ge, not-over}

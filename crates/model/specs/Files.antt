@@ -1,11 +1,10 @@
 -- The file as a list of slots: well formed, sound, cut, bad; its range order, its bounds, its strings.
 use mathlib.Core.Path.{_≡_, ap, refl}
-use mathlib.Core.Option.{some}
 use mathlib.Core.List.{List, List·Memᴰ, [], _++_, _∷_}
 use Prim.Native.Nat.{_-_, _<_, _≤_, suc, zero, ℕ}
 use native.Mathlib.Omega.{arith}
 use lib.ListN.{drop, getD, length, replicate, set, take}
-use Rattle.model.specs.Order.{Low, Str, _≺_, _⊑_, _◁_, at, below, diff, none, str?}
+use Rattle.model.specs.Order.{Low, Str, _≺_, _⊑_, _◁_, at, diff, none, str?}
 use Rattle.model.specs.Names.{Bound, BoundLow}
 use Rattle.model.specs.Entries.{Entry, Row, chosen, move, name-at, without}
 

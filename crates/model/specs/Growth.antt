@@ -8,7 +8,7 @@ use lib.ListN.{drop, length, set}
 use Rattle.model.specs.declared.Cell.{Cell}
 use Rattle.model.specs.declared.Side.{Side}
 use Rattle.model.specs.declared.Side.the-variants.{Cell as further, Slot as slot}
-use Rattle.model.specs.Order.{Str, diff, digit, le?, str?}
+use Rattle.model.specs.Order.{Str, diff, le?, str?}
 use Rattle.model.specs.Tries.{Reads, Tree, at-cell, cell, here, leaf, node, there}
 use Rattle.model.specs.Rebuilding.{lay, side-of}
 
@@ -71,7 +71,7 @@ abbrev pub spot : {cs : List Cell} {a : Side} {t : Tree} {vs : List ℕ} → Str
 spot n p k here = k
 spot {cs} n p k (there {n = m} h l r) =
     elim (le? n (cell (at-cell cs m .digit) (at-cell cs m .number) p))
-    [ yes h ↦ spot n (cell (at-cell cs m .digit) (at-cell cs m .number) p) (left m) l | no h ↦ spot n p (right m) r ]
+      [ yes h ↦ spot n (cell (at-cell cs m .digit) (at-cell cs m .number) p) (left m) l | no h ↦ spot n p (right m) r ]
 
 abbrev pub cell-of : Spot → ℕ
 cell-of root = 0
@@ -96,16 +96,12 @@ module _ (f : Str → ℕ → ℕ) where
 
   abbrev pub turn-cell : Str → Cell → Cell
   turn-cell p c =
-      record {
-        digit = c .digit;
-        number = c .number;
-        left = turn-side (cell (c .digit) (c .number) p) (c .left);
-        right = turn-side p (c .right);
-      }
+      record { digit = c .digit; number = c .number; left = turn-side (cell (c .digit) (c .number) p) (c .left)
+             ; right = turn-side p (c .right) }
 
   abbrev pub turn-cells : Tree → Str → Side → List Cell → List Cell
   turn-cells (leaf s) p a cs = cs
   turn-cells (node d i L R) p (slot s) cs = cs
   turn-cells (node d i L R) p (further m) cs =
       turn-cells R p (at-cell cs m .right)
-      (turn-cells L (cell d i p) (at-cell cs m .left) (set cs m (turn-cell p (at-cell cs m))))
+        (turn-cells L (cell d i p) (at-cell cs m .left) (set cs m (turn-cell p (at-cell cs m))))

@@ -1,7 +1,6 @@
 -- Names and bounds, as document 01's first section has them.
 use mathlib.Core.Path.{_≡_}
 use mathlib.Core.Bool.{Bool, _&&_, cond, false, true}
-use mathlib.Core.Option.{some}
 use mathlib.Core.List.{List, [], _++_, _∷_}
 use Prim.Native.Nat.{_<_, _≤_, suc, zero, ℕ}
 use lib.Dec.{eqb, leb, ltb}

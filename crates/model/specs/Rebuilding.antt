@@ -7,8 +7,8 @@ use Rattle.model.specs.declared.Cell.{Cell}
 use Rattle.model.specs.declared.Side.{Side}
 use Rattle.model.specs.declared.Side.the-variants.{Cell as further, Slot as slot}
 use Rattle.model.specs.declared.Trie.{Trie}
-use Rattle.model.specs.Order.{Low, Str, at, digit, low?, none}
-use Rattle.model.specs.Files.{Ranges, Slot, all, bounds, first, order-of, ranges}
+use Rattle.model.specs.Order.{Low, Str, at, low?, none}
+use Rattle.model.specs.Files.{Ranges, Slot, all, bounds, order-of, ranges}
 use Rattle.model.specs.Tries.{Tree, leaf, node, size, zero-cell}
 
 -- "the strings with fewest digits": how many digits they have,
@@ -46,7 +46,7 @@ build pick label (suc n) l u (x ∷ xs) =
     let m = pick (x ∷ xs) in
     let r = getD (x ∷ xs) m [] in
     node (last-digit r) (length r - 1) (build pick label n l r (take m (x ∷ xs)))
-    (build pick label n (at r) u (drop (suc m) (x ∷ xs)))
+      (build pick label n (at r) u (drop (suc m) (x ∷ xs)))
 
 module _ (F : Ranges) where
   -- The slot of a leaf: in range order, the first whose upper is above the string just left of the leaf.
@@ -68,7 +68,7 @@ abbrev pub lay : ℕ → Tree → List Cell
 lay k (leaf s) = []
 lay k (node d i L R) =
     record { digit = d; number = i; left = side-of (suc k) L; right = side-of (suc k + size L) R }
-    ∷ (lay (suc k) L ++ lay (suc k + size L) R)
+      ∷ (lay (suc k) L ++ lay (suc k + size L) R)
 
 -- "a first leaf that is used only when the count is 0 (otherwise 0)"
 abbrev pub first-of : Tree → ℕ

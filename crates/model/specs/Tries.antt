@@ -8,9 +8,8 @@ use Rattle.model.specs.declared.Cell.{Cell}
 use Rattle.model.specs.declared.Side.{Side}
 use Rattle.model.specs.declared.Side.the-variants.{Cell as further, Slot as slot}
 use Rattle.model.specs.declared.Trie.{Trie}
-use Rattle.model.specs.Order.{Low, Str, _≺_, _⊑_, _⊴_, _◁_, at, digit, le?, none}
-use Rattle.model.specs.Names.{within}
-use Rattle.model.specs.Files.{IsString, Ranges, Slot, ranges, used}
+use Rattle.model.specs.Order.{Low, Str, _≺_, _⊑_, _⊴_, _◁_, at, le?, none}
+use Rattle.model.specs.Files.{IsString, Ranges, Slot, ranges}
 
 -- A side, unfolded: a leaf that leads to a slot, or a cell with a digit, a digit number and two sides.
 pub data Tree : Type 0 where
@@ -94,10 +93,9 @@ abbrev pub walk-cells : List Cell → Str → ℕ → Str → Side → ℕ
 walk-cells cs n zero p a = 0
 walk-cells cs n (suc fuel) p (slot s) = s
 walk-cells cs n (suc fuel) p (further m) =
-    elim (le? n (cell (at-cell cs m .digit) (at-cell cs m .number) p)) [
-      | yes h ↦ walk-cells cs n fuel (cell (at-cell cs m .digit) (at-cell cs m .number) p) (at-cell cs m .left)
-      | no h ↦ walk-cells cs n fuel p (at-cell cs m .right)
-    ]
+    elim (le? n (cell (at-cell cs m .digit) (at-cell cs m .number) p))
+      [ yes h ↦ walk-cells cs n fuel (cell (at-cell cs m .digit) (at-cell cs m .number) p) (at-cell cs m .left)
+      | no h ↦ walk-cells cs n fuel p (at-cell cs m .right) ]
 
 -- "Cell 0 is the root." "With count 0 the walk ends at the first leaf at once."
 abbrev pub root-side : ℕ → ℕ → Side
