@@ -6,19 +6,20 @@ use Prim.Native.Nat.{_+_, _-_, _<_, _≤_, suc, zero, ℕ}
 use native.Mathlib.Numerals.{add-one}
 use native.Mathlib.Omega.{arith}
 use lib.ListN.{drop, length, length-append, length-drop, length-replicate, length-take, replicate, take, take-append-drop}
-use lib.Seq.{length-take-le, take-append-add, take-append-seam}
+use lib.Seq.{getD-append-add, length-take-le, take-append-add, take-append-seam}
 use Rattle.model.specs.declared.Cell.{Cell}
 use Rattle.model.specs.declared.Side.{Side}
+use Rattle.model.specs.declared.Side.the-variants.{Cell as further, Slot as slot}
 use Rattle.model.specs.declared.Trie.{Trie}
 use Rattle.model.specs.Order.{Asc, Low, Str, _≺_, _⊑_, _◁_, above, at, diff, end, least, low?, none, over, step, top}
 use Rattle.model.specs.Files.{Chain, In, Ranges, Slot, Sound, all, bounds, fresh, head, last, longer, next, ranges, slot-at, string-count, strings-of}
-use Rattle.model.specs.Tries.{Agrees, Leads, Leaves, Numbers, Reads, Spans, Tree, cell, cut, leaf, leaf-last, leaf-next, leaves, node, occ, root-side, size, strings, tip, walk-trie, zero-cell}
-use Rattle.model.specs.Rebuilding.{first-of, label, laid, lay, rebuilt, rebuilt-trie, side-of}
+use Rattle.model.specs.Tries.{Agrees, Leads, Leaves, Numbers, Reads, Spans, Tree, at-cell, cell, cut, first-leaf-of, leaf, leaf-last, leaf-next, leaves, node, occ, root-side, size, strings, tip, trie-of, walk-trie, zero-cell}
+use Rattle.model.specs.Rebuilding.{label, laid, lay, rebuilt, rebuilt-trie, side-of}
 use Rattle.model.proofs.Order.{diff-lt-left, le-take, le-trans, lt-le, lt-le-trans}
 use Rattle.model.proofs.Tries.{cast, cells-count, flat-trie, relabel-same, relabel-trie, strings-are, trie-flat}
 use Rattle.model.proofs.Strings.{all-asc, asc-mem, asc-unique, fresh-asc, fresh-begins, trie-asc}
 use Rattle.model.proofs.Ranges.{bounds-all, bounds-asc, chain-some, label-leads, leads-unique}
-use Rattle.model.proofs.Cells.{each-once, laid-each, laid-reads, length-lay, reads-append, upto, visits-count, walk-reads}
+use Rattle.model.proofs.Cells.{each-once, laid-each, laid-reads, reads-append, reads-size, upto, visits-count, walk-reads}
 use Rattle.model.proofs.Rebuilding.{rebuilt-agrees, walk-right}
 use Rattle.model.proofs.Files.{count-right, order-right, strings-asc, strings-every, strings-only, strings-right}
 use Rattle.model.proofs.Passing.{Passing, Token, inorder, leads, pass, pass-complete, pass-sound, reads-height, string}
@@ -115,18 +116,22 @@ module _ (F : Ranges) (Bs : List ℕ) (chain : Chain F none Bs) (listed : (B : �
     agree-sound ws e marked =
         let r = pass-sound cs (suc (length cs)) [] a (expect (label F Bs) none (all (bounds F Bs)), []) ([], ws) e in
         let v : ws ≡ r .visits = r .seen in
-        record { tree = r .tree; visits = r .visits; reads = r .reads
-               ; each = λ i h. rw (← v) (omega (arith, marked i h, r .once (λ j. omega arith) i))
-               ; trie = leading (r .tree)
-                   (expect-trie (label F Bs) (r .tree) none [] (all (bounds F Bs)) (r .numbers) (all-asc (bounds F Bs) none (bounds-asc F Bs none chain))
-                     (sym (r .tokens ∙ append-nil (inorder [] (r .tree))))) }
+        record {
+          tree = r .tree;
+          visits = r .visits;
+          reads = r .reads;
+          each = λ i h. rw (← v) (omega (arith, marked i h, r .once (λ j. omega arith) i));
+          trie = leading (r .tree)
+              (expect-trie (label F Bs) (r .tree) none [] (all (bounds F Bs)) (r .numbers) (all-asc (bounds F Bs) none (bounds-asc F Bs none chain))
+              (sym (r .tokens ∙ append-nil (inorder [] (r .tree)))));
+        }
 
     pub agree-complete : (A : CellsAgree F Bs cs a) → agrees? ≡ some ([], A .visits)
     agree-complete A =
         let T = labelled (A .tree) (A .trie) in
         let e : inorder [] (A .tree) ++ [] ≡ expect (label F Bs) none (all (bounds F Bs)) = append-nil (inorder [] (A .tree)) ∙ trie-expect (label F Bs) T in
         rw e at (pass-complete cs (suc (length cs)) [] [] [] (A .reads) (trie-flat (λ l u B. B ≡ label F Bs l) T .0)
-          (omega (arith, reads-height (A .reads), visits-count (A .reads) (A .each))) (each-once (A .reads) (A .each)))
+        (omega (arith, reads-height (A .reads), visits-count (A .reads) (A .each))) (each-once (A .reads) (A .each)))
 
 -- The expected strings and slots as a cursor gives them: a slot, and a length that goes down.
 -- the beginnings of x with j + n, …, j + 1 digits
@@ -223,8 +228,8 @@ module _ (F : Ranges) where
       let up : F .upper B ≺ F .upper C = over a′ in
       tokens-append lab (fresh (F .upper B) (F .upper C)) (all (bounds F (C ∷ D ∷ Bs)))
       ∙ ap₂ (λ (xs ys : List Token). xs ++ ys)
-          (bring lab C (F .upper B) (F .upper C) up (λ x h k. f x h (lt-le-trans k top) ∙ label-here C (D ∷ Bs) x k))
-          (tokens-after lab (D ∷ Bs) C (at (F .upper B)) (next u′ e′ a′ b′ c) (λ x h k. f x (le-trans (lt-le up) h) k ∙ label-skip C D Bs x h))
+      (bring lab C (F .upper B) (F .upper C) up (λ x h k. f x h (lt-le-trans k top) ∙ label-here C (D ∷ Bs) x k))
+      (tokens-after lab (D ∷ Bs) C (at (F .upper B)) (next u′ e′ a′ b′ c) (λ x h k. f x (le-trans (lt-le up) h) k ∙ label-skip C D Bs x h))
 
   -- the pass that decides agreement eats exactly this
   pub expect-cursor : (B : ℕ) (Bs : List ℕ) → Chain F none (B ∷ Bs) → expect (label F (B ∷ Bs)) none (all (bounds F (B ∷ Bs))) ≡ leads B ∷ coming B Bs
@@ -237,57 +242,88 @@ module _ (F : Ranges) where
 -- Document 01's agreement of a trie with a sound file is the cells' agreement with its ranges.
 module _ (b : ℕ) {fs : List Slot} (S : Sound b fs) where
   pub agrees-cells : {t : Trie} → Agrees fs t → CellsAgree (ranges fs) (S .order) (take (t .count) (t .cells)) (root-side (t .count) (t .first))
-  agrees-cells {t} A = record
-      { tree = A .tree; visits = A .visits; reads = A .reads
-      ; each = λ i h. A .once i (omega (arith, h, length-take (t .count) (t .cells)))
-      ; trie = cast (Leads (ranges fs)) (strings-same ∙ strings-right b S) flat }
+  agrees-cells {t} A = record {
+    tree = A .tree;
+    visits = A .visits;
+    reads = A .reads;
+    each = λ i h. A .once i (omega (arith, h, length-take (t .count) (t .cells)));
+    trie = cast (Leads (ranges fs)) (strings-same ∙ strings-right b S) flat;
+  }
     where
       flat : Spans (Leads (ranges fs)) none [] (A .tree) (strings [] (A .tree))
       flat = flat-trie (Leads (ranges fs)) (A .tree) (A .numbers) (A .leading)
+
       strings-same : strings [] (A .tree) ≡ strings-of fs
       strings-same = asc-unique (trie-asc flat) (strings-asc b S) (λ x m. strings-every b S x (A .only x m)) (λ x m. A .every x (strings-only b S x m))
 
-  pub cells-agree : {t : Trie} → t .count ≤ 256 → length (t .cells) ≡ 256
-      → t .cells ≡ take (t .count) (t .cells) ++ replicate (256 - t .count) zero-cell → (0 < t .count → t .first ≡ 0)
+  pub cells-agree : {t : Trie} → length (t .cells) ≡ 256 → t .count ≤ 256
+      → ((i : ℕ) → t .count ≤ i → at-cell (t .cells) i ≡ zero-cell) → (0 < t .count → t .first ≡ 0)
       → CellsAgree (ranges fs) (S .order) (take (t .count) (t .cells)) (root-side (t .count) (t .first)) → Agrees fs t
-  cells-agree {t} few long past first A = record
-      { few = few; past = past; first-leaf = first
-      ; tree = A .tree; visits = A .visits; reads = A .reads
-      ; once = λ i h. A .each i (omega (arith, h, long, few, length-take (t .count) (t .cells)))
-      ; numbers = flat .0
-      ; only = λ x m. strings-only b S x (rw (same, ← strings-right b S) at m)
-      ; every = λ x k. rw (same, ← strings-right b S) (strings-every b S x k)
-      ; leading = rw same (flat .1) }
+  cells-agree {t} whole few past first A = record {
+    whole = whole;
+    few = few;
+    past = past;
+    first-leaf = first;
+    tree = A .tree;
+    visits = A .visits;
+    reads = A .reads;
+    once = λ i h. A .each i (omega (arith, h, whole, few, length-take (t .count) (t .cells)));
+    numbers = flat .0;
+    only = λ x m. strings-only b S x (rw (same, ← strings-right b S) at m);
+    every = λ x k. rw (same, ← strings-right b S) (strings-every b S x k);
+    leading = rw same (flat .1);
+  }
     where
       same : strings [] (A .tree) ≡ all (bounds (ranges fs) (S .order))
       same = strings-are (Leads (ranges fs)) (A .trie)
+
       flat : Numbers [] (A .tree) × Leaves (Leads (ranges fs)) none (all (bounds (ranges fs) (S .order))) [] (leaves (A .tree))
       flat = trie-flat (Leads (ranges fs)) (A .trie)
 
-  -- A tree of the file's strings, laid out in cells, agrees.
-  pub laid-agrees : (t : Tree) → size t ≤ 256 → Spans (Leads (ranges fs)) none [] t (all (bounds (ranges fs) (S .order))) → Agrees fs (laid t)
-  laid-agrees t few T = cells-agree {t = laid t} few long past first
-      (rw (front, root t) (record { tree = t; visits = upto 0 (size t); reads = laid-reads t; each = laid-each t; trie = T }))
+  -- Cells that agree, held as a trie.
+  pub trie-of-agrees : (cs : List Cell) (a : Side) → CellsAgree (ranges fs) (S .order) cs a → (a ≡ root-side (length cs) (first-leaf-of a)) → string-count fs ≤ 256
+      → Agrees fs (trie-of cs a)
+  trie-of-agrees cs a A root few =
+      cells-agree {t = trie-of cs a} whole small (λ i h. past i h) (first a root) (rw (front, ← root) A)
     where
-      front : take (size t) (lay 0 t ++ replicate (256 - size t) zero-cell) ≡ lay 0 t
-      front = rw (length-lay 0 t) at (take-append-seam (lay 0 t) (replicate (256 - size t) zero-cell))
-      long : length (lay 0 t ++ replicate (256 - size t) zero-cell) ≡ 256
-      long = omega (arith, few, length-append (lay 0 t) (replicate (256 - size t) zero-cell), length-lay 0 t, length-replicate (256 - size t) zero-cell)
-      past : lay 0 t ++ replicate (256 - size t) zero-cell ≡ take (size t) (lay 0 t ++ replicate (256 - size t) zero-cell) ++ replicate (256 - size t) zero-cell
-      past = ap (λ (cs : List Cell). cs ++ replicate (256 - size t) zero-cell) (sym front)
-      first : 0 < size t → first-of t ≡ 0
-      first h = go t h
+      small : length cs ≤ 256
+      small = omega (arith, few, count-right b S, cells-count (A .trie), reads-size (A .reads), visits-count (A .reads) (A .each))
+
+      front : take (length cs) (cs ++ replicate (256 - length cs) zero-cell) ≡ cs
+      front = take-append-seam cs (replicate (256 - length cs) zero-cell)
+
+      whole : length (cs ++ replicate (256 - length cs) zero-cell) ≡ 256
+      whole = omega (arith, small, length-append cs (replicate (256 - length cs) zero-cell), length-replicate (256 - length cs) zero-cell)
+
+      zeros : (k j : ℕ) → at-cell (replicate k zero-cell) j ≡ zero-cell
+      zeros zero j = refl
+      zeros (suc k) zero = refl
+      zeros (suc k) (suc j) = zeros k j
+
+      past : (i : ℕ) → length cs ≤ i → at-cell (cs ++ replicate (256 - length cs) zero-cell) i ≡ zero-cell
+      past i h =
+          let e : i ≡ length cs + (i - length cs) = omega arith in
+          ap (λ (k : ℕ). at-cell (cs ++ replicate (256 - length cs) zero-cell) k) e ∙ getD-append-add cs (replicate (256 - length cs) zero-cell) (i - length cs) zero-cell ∙ zeros (256 - length cs) (i - length cs)
+
+      first : (a : Side) → a ≡ root-side (length cs) (first-leaf-of a) → 0 < length cs → first-leaf-of a ≡ 0
+      first (further m) e h = refl
+      first (slot s) e h = go cs e h
         where
-          go : (t : Tree) → 0 < size t → first-of t ≡ 0
-          go (leaf s) h = absurd (omega arith)
-          go (node d i L R) h = refl
-      root : (t : Tree) → root-side (size t) (first-of t) ≡ side-of 0 t
+          go : (cs : List Cell) → slot s ≡ root-side (length cs) s → 0 < length cs → s ≡ 0
+          go [] e h = absurd (omega arith)
+          go (x ∷ xs) e h = cc
+
+  -- A tree of the file's strings, laid out in cells, agrees.
+  pub laid-agrees : (t : Tree) → string-count fs ≤ 256 → Spans (Leads (ranges fs)) none [] t (all (bounds (ranges fs) (S .order))) → Agrees fs (laid t)
+  laid-agrees t few T = trie-of-agrees (lay 0 t) (side-of 0 t) (record { tree = t; visits = upto 0 (size t); reads = laid-reads t; each = laid-each t; trie = T }) (root t) few
+    where
+      root : (t : Tree) → side-of 0 t ≡ root-side (length (lay 0 t)) (first-leaf-of (side-of 0 t))
       root (leaf s) = refl
       root (node d i L R) = refl
 
   -- The rebuilt trie agrees where its strings are few enough.
   pub rebuilt-trie-agrees : string-count fs ≤ 256 → Agrees fs (rebuilt-trie fs)
-  rebuilt-trie-agrees few = rw (order-right b S) (laid-agrees (rebuilt (ranges fs) (S .order)) (omega (arith, few, cells-count T, count-right b S)) T)
+  rebuilt-trie-agrees few = rw (order-right b S) (laid-agrees (rebuilt (ranges fs) (S .order)) few T)
     where
       T : Spans (Leads (ranges fs)) none [] (rebuilt (ranges fs) (S .order)) (all (bounds (ranges fs) (S .order)))
       T = rebuilt-agrees (ranges fs) (S .order) (S .chain)
@@ -298,7 +334,9 @@ module _ (b : ℕ) {fs : List Slot} (S : Sound b fs) where
     where
       C : CellsAgree (ranges fs) (S .order) (take (t .count) (t .cells)) (root-side (t .count) (t .first))
       C = agrees-cells A
+
       whole : Reads (t .cells) (root-side (t .count) (t .first)) (C .tree) (C .visits)
       whole = rw take-append-drop at (reads-append (drop (t .count) (t .cells)) (C .reads))
+
       short : length (C .visits) < suc (t .count)
       short = omega (arith, visits-count (C .reads) (C .each), length-take (t .count) (t .cells))

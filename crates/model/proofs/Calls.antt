@@ -15,9 +15,10 @@ use Rattle.model.proofs.Entries.{chosen-no, chosen-yes, insert-held}
 use Rattle.model.proofs.Files.{bucket, first-before, first-passes, first-right, one-range, well-parts}
 
 pub lowest-unique : {fs : List Slot} {M N : ℕ} → Lowest fs M → Lowest fs N → M ≡ N
-lowest-unique {fs} {M} {N} L K = elim (decLt M N)
-    [ yes h ↦ absurd (K .lowest M h (L .is-free))
-    | no h ↦ elim (decLt N M) [ yes k ↦ absurd (L .lowest N k (K .is-free)) | no k ↦ omega arith ] ]
+lowest-unique {fs} {M} {N} L K = elim (decLt M N) [
+  | yes h ↦ absurd (K .lowest M h (L .is-free))
+  | no h ↦ elim (decLt N M) [ yes k ↦ absurd (L .lowest N k (K .is-free)) | no k ↦ omega arith ]
+]
 
 module _ (b : ℕ) where
   module _ {fs : List Slot} (S : Sound b fs) where
@@ -109,17 +110,20 @@ module _ (b : ℕ) (fs : List Slot) where
       where
         go : (A : ℕ) (x : Slot) → slot-at fs A ≡ x → In (head x) n → Answered (put n v) (put-in b fs n v A x)
         go A free e h = absurd (h .0)
-        go A (used l u es) e h = elim (decLe (length (insert n v es)) b)
-            [ yes k ↦ rw (chosen-yes (decLe (length (insert n v es)) b) k) (is-made (fits e g (h .1) (h .2) k))
-            | no k ↦ rw (chosen-no (decLe (length (insert n v es)) b) k) (elim (decLt (first free? fs) (length fs))
-                [ no j ↦ rw (chosen-no (decLt (first free? fs) (length fs)) j) (let m : b < length (insert n v es) = omega arith in is-denied (no-room A es e (h .1) (h .2) m (λ B i. first-before free? fs B (omega arith))))
-                | yes j ↦ rw (chosen-yes (decLt (first free? fs) (length fs)) j) (split (omega arith) j) ]) ]
+        go A (used l u es) e h = elim (decLe (length (insert n v es)) b) [
+          | yes k ↦ rw (chosen-yes (decLe (length (insert n v es)) b) k) (is-made (fits e g (h .1) (h .2) k))
+          | no k ↦ rw (chosen-no (decLe (length (insert n v es)) b) k) (elim (decLt (first free? fs) (length fs)) [
+            | no j ↦ rw (chosen-no (decLt (first free? fs) (length fs)) j) (let m : b < length (insert n v es) = omega arith in is-denied (no-room A es e (h .1) (h .2) m (λ B i. first-before free? fs B (omega arith))))
+            | yes j ↦ rw (chosen-yes (decLt (first free? fs) (length fs)) j) (split (omega arith) j)
+          ])
+        ]
           where
             split : b < length (insert n v es) → (j : first free? fs < length fs)
                 → Answered (put n v) (chosen (decLe (string-count (stored (halves b (first free? fs) A l u (insert n v es)) fs)) 256) (stores (halves b (first free? fs) A l u (insert n v es))) (refuse 6))
             split k j =
-                elim (decLe (string-count (stored (halves b (first free? fs) A l u (insert n v es)) fs)) 256)
-                  [ yes i ↦ rw (chosen-yes (decLe (string-count (stored (halves b (first free? fs) A l u (insert n v es)) fs)) 256) i)
+                elim (decLe (string-count (stored (halves b (first free? fs) A l u (insert n v es)) fs)) 256) [
+                  | yes i ↦ rw (chosen-yes (decLe (string-count (stored (halves b (first free? fs) A l u (insert n v es)) fs)) 256) i)
                       (is-made (splits e g (h .1) (h .2) k (free-lowest j) i))
                   | no i ↦ rw (chosen-no (decLe (string-count (stored (halves b (first free? fs) A l u (insert n v es)) fs)) 256) i)
-                      (let m : 256 < string-count (stored (halves b (first free? fs) A l u (insert n v es)) fs) = omega arith in is-denied (too-many A (first free? fs) es e (h .1) (h .2) k (free-lowest j) m)) ]
+                      (let m : 256 < string-count (stored (halves b (first free? fs) A l u (insert n v es)) fs) = omega arith in is-denied (too-many A (first free? fs) es e (h .1) (h .2) k (free-lowest j) m))
+                ]

@@ -49,8 +49,8 @@ pub reads-agree : {cs cs′ : List Cell} {a : Side} {t : Tree} {vs : List ℕ} �
 reads-agree len f here = here
 reads-agree len f (there {n = m} {vs = vs} {ws = ws} h l r) =
     there-at (omega arith) (f m (omega (arith, one-if-equal refl (ℕ-discrete m m))))
-      (reads-agree len (λ i o. f i (omega (arith, o, occ-append i vs ws))) l)
-      (reads-agree len (λ i o. f i (omega (arith, o, occ-append i vs ws))) r)
+    (reads-agree len (λ i o. f i (omega (arith, o, occ-append i vs ws))) l)
+    (reads-agree len (λ i o. f i (omega (arith, o, occ-append i vs ws))) r)
 
 pub walk-reads : {cs : List Cell} {a : Side} {t : Tree} {vs : List ℕ} (n : Str) (fuel : ℕ) (p : Str) → Reads cs a t vs → length vs < fuel → walk-cells cs n fuel p a ≡ walk n p t
 walk-reads n zero p r h = absurd (omega arith)
@@ -60,6 +60,7 @@ walk-reads {cs} n (suc fuel) p (there {n = m} {L = L} {R = R} {vs = vs} {ws = ws
   where
     q : Str
     q = cell (at-cell cs m .digit) (at-cell cs m .number) p
+
     go : (d : Dec (n ⊑ q)) → walk-cells cs n fuel q (at-cell cs m .left) ≡ walk n q L → walk-cells cs n fuel p (at-cell cs m .right) ≡ walk n p R
         → _≡_ {A = ℕ} (elim d [ yes h ↦ walk-cells cs n fuel q (at-cell cs m .left) | no h ↦ walk-cells cs n fuel p (at-cell cs m .right) ]) (elim d [ yes h ↦ walk n q L | no h ↦ walk n p R ])
     go (yes h) e f = e
@@ -69,6 +70,10 @@ walk-reads {cs} n (suc fuel) p (there {n = m} {L = L} {R = R} {vs = vs} {ws = ws
 pub reads-tree : {cs : List Cell} {a : Side} {t t′ : Tree} {vs vs′ : List ℕ} → Reads cs a t vs → Reads cs a t′ vs′ → t ≡ t′
 reads-tree here here = refl
 reads-tree {cs} (there {n = m} h l r) (there h′ l′ r′) = ap₂ (λ (x y : Tree). node (at-cell cs m .digit) (at-cell cs m .number) x y) (reads-tree l l′) (reads-tree r r′)
+
+pub reads-size : {cs : List Cell} {a : Side} {t : Tree} {vs : List ℕ} → Reads cs a t vs → length vs ≡ size t
+reads-size here = refl
+reads-size (there {vs = vs} {ws = ws} h l r) = omega (arith, reads-size l, reads-size r, length-append vs ws)
 
 pub reads-below : {cs : List Cell} {a : Side} {t : Tree} {vs : List ℕ} (m : ℕ) → length cs ≤ m → Reads cs a t vs → occ m vs ≡ 0
 reads-below m h here = refl
@@ -150,14 +155,20 @@ abbrev pub Stands : List Cell → ℕ → List Cell → Type 0
 Stands cs k xs = (k + length xs ≤ length cs) × ((j : ℕ) → j < length xs → at-cell cs (k + j) ≡ at-cell xs j)
 
 stands-left : (cs : List Cell) (k : ℕ) (c : Cell) (xs ys : List Cell) → Stands cs k (c ∷ (xs ++ ys)) → Stands cs (suc k) xs
-stands-left cs k c xs ys s = (omega (arith, s .0, length-append xs ys), λ j h.
-    let e : suc k + j ≡ k + suc j = omega arith in
-    rw e (s .1 (suc j) (omega (arith, length-append xs ys)) ∙ List·getD-append xs ys zero-cell j h))
+stands-left cs k c xs ys s = (
+  omega (arith, s .0, length-append xs ys),
+  λ j h.
+      let e : suc k + j ≡ k + suc j = omega arith in
+      rw e (s .1 (suc j) (omega (arith, length-append xs ys)) ∙ List·getD-append xs ys zero-cell j h),
+)
 
 stands-right : (cs : List Cell) (k : ℕ) (c : Cell) (xs ys : List Cell) → Stands cs k (c ∷ (xs ++ ys)) → Stands cs (suc k + length xs) ys
-stands-right cs k c xs ys s = (omega (arith, s .0, length-append xs ys), λ j h.
-    let e : suc k + length xs + j ≡ k + suc (length xs + j) = omega arith in
-    rw e (s .1 (suc (length xs + j)) (omega (arith, length-append xs ys)) ∙ getD-append-add xs ys j zero-cell))
+stands-right cs k c xs ys s = (
+  omega (arith, s .0, length-append xs ys),
+  λ j h.
+      let e : suc k + length xs + j ≡ k + suc (length xs + j) = omega arith in
+      rw e (s .1 (suc (length xs + j)) (omega (arith, length-append xs ys)) ∙ getD-append-add xs ys j zero-cell),
+)
 
 abbrev pub numbers : ℕ → Tree → List ℕ
 numbers k (leaf s) = []
@@ -170,8 +181,8 @@ lay-reads (node d i L R) cs k st =
     let ys : List Cell = lay (suc k + size L) R in
     let c : Cell = record { digit = d; number = i; left = side-of (suc k) L; right = side-of (suc k + size L) R } in
     there-at {c = c} (omega (arith, st .0)) (rw add-zero at (st .1 0 (omega arith)))
-      (lay-reads L cs (suc k) (stands-left cs k c xs ys st))
-      (lay-reads R cs (suc k + size L) (rw (length-lay (suc k) L) at (stands-right cs k c xs ys st)))
+    (lay-reads L cs (suc k) (stands-left cs k c xs ys st))
+    (lay-reads R cs (suc k + size L) (rw (length-lay (suc k) L) at (stands-right cs k c xs ys st)))
 
 -- the cells are visited in the order of their numbers, each once
 abbrev pub upto : ℕ → ℕ → List ℕ

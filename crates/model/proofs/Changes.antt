@@ -21,9 +21,10 @@ use Rattle.model.proofs.Splitting.{SplitAt, chain-split}
 
 -- what a store at A leaves: the new slot-at at A, the old ones elsewhere
 pub at-set : (P : ℕ → Slot → Type 0) (fs : List Slot) (A : ℕ) (x : Slot) → A < length fs → P A x → ((B : ℕ) → B ≢ A → P B (slot-at fs B)) → (B : ℕ) → P B (slot-at (set fs A x) B)
-at-set P fs A x h p f B = elim (ℕ-discrete B A)
-    [ yes e ↦ subst (λ C. P C (slot-at (set fs A x) C)) (sym e) (rw (getD-set-same fs A x free h) p)
-    | no e ↦ rw (getD-set-other fs A B x free e) (f B e) ]
+at-set P fs A x h p f B = elim (ℕ-discrete B A) [
+  | yes e ↦ subst (λ C. P C (slot-at (set fs A x) C)) (sym e) (rw (getD-set-same fs A x free h) p)
+  | no e ↦ rw (getD-set-other fs A B x free e) (f B e)
+]
 
 pub mem-parts : {B : ℕ} {Bs : List ℕ} → List·Memᴰ B Bs → (Xs : List ℕ) × (Ys : List ℕ) × (Bs ≡ Xs ++ (B ∷ Ys))
 mem-parts {B} {Bs} m = go Bs m
@@ -37,9 +38,10 @@ mem-parts {B} {Bs} m = go Bs m
         by (inr m) f = (C ∷ f m .0, f m .1, ap (λ xs. C ∷ xs) (f m .2))
 
 pub widen : (Xs Ys : List ℕ) (A N : ℕ) {B : ℕ} → List·Memᴰ B (Xs ++ (A ∷ Ys)) → List·Memᴰ B (Xs ++ (A ∷ N ∷ Ys))
-widen Xs Ys A N m = elim (List·Memᴰ·append-cases Xs m)
-    [ inl m ↦ Memᴰ·append-left (A ∷ N ∷ Ys) m
-    | inr m ↦ Memᴰ·append-right Xs (elim (List·Memᴰ·cases-cons m) [ inl e ↦ List·Memᴰ·head e | inr m ↦ List·Memᴰ·tail (List·Memᴰ·tail m) ]) ]
+widen Xs Ys A N m = elim (List·Memᴰ·append-cases Xs m) [
+  | inl m ↦ Memᴰ·append-left (A ∷ N ∷ Ys) m
+  | inr m ↦ Memᴰ·append-right Xs (elim (List·Memᴰ·cases-cons m) [ inl e ↦ List·Memᴰ·head e | inr m ↦ List·Memᴰ·tail (List·Memᴰ·tail m) ])
+]
 
 module _ (b : ℕ) where
   module _ (fs : List Slot) (S : Sound b fs) (A : ℕ) (l : Low) (u : Str) (es : List Entry) (is : slot-at fs A ≡ used l u es) where
@@ -55,11 +57,12 @@ module _ (b : ℕ) where
       same-heads = at-set (λ B x. head x ≡ head (slot-at fs B)) fs A (used l u es′) inside-a (rw is) (λ B n. refl)
 
       unfoldable pub one-sound : Row l es′ u → length es′ ≤ b → Sound b (set fs A (used l u es′))
-      one-sound r k = record
-          { order = S .order
-          ; chain = subst (λ h. Chain (by-heads h) none (S .order)) (sym (fun-ext same-heads)) (S .chain)
-          ; listed = λ B h. S .listed B (subst IsUsed (same-heads B) h)
-          ; well = at-set (λ B x. Well b x) fs A (used l u es′) inside-a (well-used (well-a .0) (well-a .1) (well-a .2) r k) (λ B n. S .well B) }
+      one-sound r k = record {
+        order = S .order;
+        chain = subst (λ h. Chain (by-heads h) none (S .order)) (sym (fun-ext same-heads)) (S .chain);
+        listed = λ B h. S .listed B (subst IsUsed (same-heads B) h);
+        well = at-set (λ B x. Well b x) fs A (used l u es′) inside-a (well-used (well-a .0) (well-a .1) (well-a .2) r k) (λ B n. S .well B);
+      }
 
       pub one-means : (m m′ : Map) → Means fs m → ((k : Str) → l ◁ k → k ⊑ u → find k es′ ≡ m′ k) → ((k : Str) → ¬ (In (range l u) k) → m k ≡ m′ k)
           → Means (set fs A (used l u es′)) m′
@@ -70,17 +73,19 @@ module _ (b : ℕ) where
     -- What a put makes of the names in the range, and that it makes nothing of the others.
     module _ (n : Str) (v : ℕ) (lo : l ◁ n) (up : n ⊑ u) where
       pub put-find : (m : Map) → Means fs m → (k : Str) → l ◁ k → k ⊑ u → find k (insert n v es) ≡ meant (put n v) m k
-      put-find m M k a c = elim (str? k n)
-          [ yes e ↦ rw e (find-insert-same n v es ∙ sym (chosen-yes (str? n n) refl _ _))
-          | no e ↦ find-insert-other k n v es e ∙ (rw is at (M k A (rw is (tt, a, c)))) ∙ sym (chosen-no (str? k n) e _ _) ]
+      put-find m M k a c = elim (str? k n) [
+        | yes e ↦ rw e (find-insert-same n v es ∙ sym (chosen-yes (str? n n) refl _ _))
+        | no e ↦ find-insert-other k n v es e ∙ (rw is at (M k A (rw is (tt, a, c)))) ∙ sym (chosen-no (str? k n) e _ _)
+      ]
 
       pub put-outside : (m : Map) (k : Str) → ¬ (In (range l u) k) → m k ≡ meant (put n v) m k
       put-outside m k h = sym (chosen-no (str? k n) (λ e. h (rw e (tt, lo, up))) _ _)
 
       pub remove-find : (m : Map) → Means fs m → (k : Str) → l ◁ k → k ⊑ u → find k (without n es) ≡ meant (remove n) m k
-      remove-find m M k a c = elim (str? k n)
-          [ yes e ↦ rw e (find-drop (λ k. not? (str? k n)) n es (λ d. d refl) ∙ sym (chosen-yes (str? n n) refl _ _))
-          | no e ↦ find-keep (λ k. not? (str? k n)) k es e ∙ (rw is at (M k A (rw is (tt, a, c)))) ∙ sym (chosen-no (str? k n) e _ _) ]
+      remove-find m M k a c = elim (str? k n) [
+        | yes e ↦ rw e (find-drop (λ k. not? (str? k n)) n es (λ d. d refl) ∙ sym (chosen-yes (str? n n) refl _ _))
+        | no e ↦ find-keep (λ k. not? (str? k n)) k es e ∙ (rw is at (M k A (rw is (tt, a, c)))) ∙ sym (chosen-no (str? k n) e _ _)
+      ]
 
       pub remove-outside : (m : Map) (k : Str) → ¬ (In (range l u) k) → m k ≡ meant (remove n) m k
       remove-outside m k h = sym (chosen-no (str? k n) (λ e. h (rw e (tt, lo, up))) _ _)
@@ -150,27 +155,36 @@ module _ (b : ℕ) where
       full = omega (arith, length-insert n v es, well-a .4, big)
 
       copied : Copied (move s es) (move s (insert n v es))
-      copied = elim (le? n s)
-          [ yes h ↦ subst (λ x. Copied (move s es) x) (sym (keep-insert-out (λ k. not? (le? k s)) n v es (λ q. q h))) exactly
-          | no h ↦ more (find-at n (move s (insert n v es)) v (find-keep (λ k. not? (le? k s)) n (insert n v es) h ∙ find-insert-same n v es)) ]
+      copied = elim (le? n s) [
+        | yes h ↦ subst (λ x. Copied (move s es) x) (sym (keep-insert-out (λ k. not? (le? k s)) n v es (λ q. q h))) exactly
+        | no h ↦ more (find-at n (move s (insert n v es)) v (find-keep (λ k. not? (le? k s)) n (insert n v es) h ∙ find-insert-same n v es))
+      ]
         where
           rest : without n (move s (insert n v es)) ≡ move s es
           rest = keep-comm (λ k. not? (str? k n)) (λ k. not? (le? k s)) (insert n v es)
               ∙ ap (move s) (keep-insert-out (λ k. not? (str? k n)) n v es (λ d. d refl) ∙ insert-new n v (well-a .3) (omega (arith, full, big)))
+
           more : (j : ℕ) × (j < length (move s (insert n v es))) × (name-at (move s (insert n v es)) j ≡ n) → Copied (move s es) (move s (insert n v es))
           more (j, h, e) =
               let r : without (name-at (move s (insert n v es)) j) (move s (insert n v es)) ≡ move s es = rw e rest in
               one-more j h r
 
       pub first-cut : Cut b after-first N
-      first-cut = record
-          { low = s; up = u; new = move s (insert n v es)
-          ; n-is = getD-set-same fs N new-slot free (lowest .inside)
-          ; n-well = rw (getD-set-same fs N new-slot free (lowest .inside)) new-well
-          ; freed = rw first-back S
-          ; A = A; a-low = l; old = es
-          ; a-is = rw first-back is
-          ; below = s-above; full = full; copied = copied }
+      first-cut = record {
+        low = s;
+        up = u;
+        new = move s (insert n v es);
+        n-is = getD-set-same fs N new-slot free (lowest .inside);
+        n-well = rw (getD-set-same fs N new-slot free (lowest .inside)) new-well;
+        freed = rw first-back S;
+        A = A;
+        a-low = l;
+        old = es;
+        a-is = rw first-back is;
+        below = s-above;
+        full = full;
+        copied = copied;
+      }
 
       pub in-second : (P : ℕ → Slot → Type 0) → P N new-slot → P A old-slot → ((B : ℕ) → B ≢ A → B ≢ N → P B (slot-at fs B)) → (B : ℕ) → P B (slot-at after-second B)
       in-second P p q f = at-set P after-first A old-slot (rw (length-set fs N new-slot) inside-a) q
@@ -183,25 +197,31 @@ module _ (b : ℕ) where
       slot-n = getD-set-other after-first A N old-slot free n-not-a ∙ getD-set-same fs N new-slot free (lowest .inside)
 
       pub is-split : SplitAt (ranges fs) (ranges after-second) s A N
-      is-split = record
-          { new-used = rw slot-n tt; new-lower = rw slot-n; new-upper = rw (slot-n, is)
-          ; old-used = rw slot-a tt; old-lower = rw (slot-a, is); old-upper = rw slot-a
-          ; other = λ B d h. let e : slot-at after-second B ≡ slot-at fs B = getD-set-other after-first A B old-slot free d
-                ∙ getD-set-other fs N B new-slot free (λ q. absurd (subst (λ x. IsUsed (head x)) (ap (slot-at fs) q ∙ lowest .is-free) h)) in
-              (rw e h, rw e, rw e) }
+      is-split = record {
+        new-used = rw slot-n tt;
+        new-lower = rw slot-n;
+        new-upper = rw (slot-n, is);
+        old-used = rw slot-a tt;
+        old-lower = rw (slot-a, is);
+        old-upper = rw slot-a;
+        other = λ B d h. let e : slot-at after-second B ≡ slot-at fs B = getD-set-other after-first A B old-slot free d
+            ∙ getD-set-other fs N B new-slot free (λ q. absurd (subst (λ x. IsUsed (head x)) (ap (slot-at fs) q ∙ lowest .is-free) h)) in
+            (rw e h, rw e, rw e);
+      }
 
       unfoldable pub second-sound : Sound b after-second
       second-sound = go (mem-parts (S .listed A (rw is tt)))
         where
           go : (Xs : List ℕ) × (Ys : List ℕ) × (S .order ≡ Xs ++ (A ∷ Ys)) → Sound b after-second
-          go (Xs, Ys, e) = record
-              { order = Xs ++ (A ∷ N ∷ Ys)
-              ; chain = chain-split (ranges fs) (ranges after-second) s A N is-split Xs Ys (rw e at (S .chain)) (rw is s-above) (rw is s-below)
-              ; listed = in-second (λ B x. IsUsed (head x) → List·Memᴰ B (Xs ++ (A ∷ N ∷ Ys)))
-                  (λ h. Memᴰ·append-right Xs (List·Memᴰ·tail (List·Memᴰ·head refl)))
-                  (λ h. Memᴰ·append-right Xs (List·Memᴰ·head refl))
-                  (λ B d c h. widen Xs Ys A N (rw e at (S .listed B h)))
-              ; well = in-second (λ B x. Well b x) new-well old-well (λ B d c. S .well B) }
+          go (Xs, Ys, e) = record {
+            order = Xs ++ (A ∷ N ∷ Ys);
+            chain = chain-split (ranges fs) (ranges after-second) s A N is-split Xs Ys (rw e at (S .chain)) (rw is s-above) (rw is s-below);
+            listed = in-second (λ B x. IsUsed (head x) → List·Memᴰ B (Xs ++ (A ∷ N ∷ Ys)))
+                (λ h. Memᴰ·append-right Xs (List·Memᴰ·tail (List·Memᴰ·head refl)))
+                (λ h. Memᴰ·append-right Xs (List·Memᴰ·head refl))
+                (λ B d c h. widen Xs Ys A N (rw e at (S .listed B h)));
+            well = in-second (λ B x. Well b x) new-well old-well (λ B d c. S .well B);
+          }
 
       pub second-means : (m : Map) → Means fs m → Means after-second (meant (put n v) m)
       second-means m M k = in-second (λ B x. In (head x) k → find k (entries-of x) ≡ meant (put n v) m k)
@@ -228,27 +248,32 @@ module _ (b : ℕ) where
 
     pub change-made : {fs : List Slot} {m : Map} {q : Request} {ss : List Store} → Fine fs m → Change b fs q ss → Fine (stored ss fs) (meant q m)
     change-made {fs} {m} F (fits {A = A} {l = l} {u = u} {es = es} {n = n} {v = v} is g lo up k) =
-        let r = row-insert n v g lo up (well-a fs (F .sound) A l u es is .3) in record
-        { sound = one-sound fs (F .sound) A l u es is (insert n v es) r k
-        ; means = one-means fs (F .sound) A l u es is (insert n v es) m (meant (put n v) m) (F .means) (put-find fs (F .sound) A l u es is n v lo up m (F .means)) (put-outside fs (F .sound) A l u es is n v lo up m)
-        ; few = rw (one-count fs (F .sound) A l u es is (insert n v es) r k) (F .few) }
-    change-made {fs} {m} F (splits {A = A} {N = N} {l = l} {u = u} {es = es} {n = n} {v = v} is g lo up big low few) = record
-        { sound = second-sound fs (F .sound) A l u es is n v g lo up big (b / 2) half N low
-        ; means = second-means fs (F .sound) A l u es is n v g lo up big (b / 2) half N low m (F .means)
-        ; few = few }
+        let r = row-insert n v g lo up (well-a fs (F .sound) A l u es is .3) in record {
+          sound = one-sound fs (F .sound) A l u es is (insert n v es) r k;
+          means = one-means fs (F .sound) A l u es is (insert n v es) m (meant (put n v) m) (F .means) (put-find fs (F .sound) A l u es is n v lo up m (F .means)) (put-outside fs (F .sound) A l u es is n v lo up m);
+          few = rw (one-count fs (F .sound) A l u es is (insert n v es) r k) (F .few);
+        }
+    change-made {fs} {m} F (splits {A = A} {N = N} {l = l} {u = u} {es = es} {n = n} {v = v} is g lo up big low few) = record {
+      sound = second-sound fs (F .sound) A l u es is n v g lo up big (b / 2) half N low;
+      means = second-means fs (F .sound) A l u es is n v g lo up big (b / 2) half N low m (F .means);
+      few = few;
+    }
     change-made {fs} {m} F (removes {A = A} {l = l} {u = u} {es = es} {n = n} is lo up e) =
         let w = well-a fs (F .sound) A l u es is in
         let r = row-keep (λ k. not? (str? k n)) l u (w .3) (λ k p c d. (c, d)) in
-        let k : length (without n es) ≤ b = omega (arith, length-keep (λ k. not? (str? k n)) es, w .4) in record
-        { sound = one-sound fs (F .sound) A l u es is (without n es) r k
-        ; means = one-means fs (F .sound) A l u es is (without n es) m (meant (remove n) m) (F .means) (remove-find fs (F .sound) A l u es is n 0 lo up m (F .means)) (remove-outside fs (F .sound) A l u es is n 0 lo up m)
-        ; few = rw (one-count fs (F .sound) A l u es is (without n es) r k) (F .few) }
-    change-made {fs} {m} F (absent A {n = n} is lo up e) = record
-        { sound = F .sound
-        ; means = λ k B h. F .means k B h ∙ elim (str? k n)
-            [ yes q ↦ rw q (sym (F .means n A (rw is (tt, lo, up))) ∙ rw is e ∙ sym (chosen-yes (str? n n) refl _ _))
-            | no q ↦ sym (chosen-no (str? k n) q _ _) ]
-        ; few = F .few }
+        let k : length (without n es) ≤ b = omega (arith, length-keep (λ k. not? (str? k n)) es, w .4) in record {
+          sound = one-sound fs (F .sound) A l u es is (without n es) r k;
+          means = one-means fs (F .sound) A l u es is (without n es) m (meant (remove n) m) (F .means) (remove-find fs (F .sound) A l u es is n 0 lo up m (F .means)) (remove-outside fs (F .sound) A l u es is n 0 lo up m);
+          few = rw (one-count fs (F .sound) A l u es is (without n es) r k) (F .few);
+        }
+    change-made {fs} {m} F (absent A {n = n} is lo up e) = record {
+      sound = F .sound;
+      means = λ k B h. F .means k B h ∙ elim (str? k n) [
+        | yes q ↦ rw q (sym (F .means n A (rw is (tt, lo, up))) ∙ rw is e ∙ sym (chosen-yes (str? n n) refl _ _))
+        | no q ↦ sym (chosen-no (str? k n) q _ _)
+      ];
+      few = F .few;
+    }
 
     -- stopped: nothing changed, or the file is cut and freeing its one slot-at gives back what was there
     pub change-stopped : {fs : List Slot} {m : Map} {q : Request} {ss : List Store} → Fine fs m → Change b fs q ss → (k : ℕ) → k < length ss
@@ -288,7 +313,11 @@ module _ (b : ℕ) where
         k = row-at (row-all fs S A l u es is n v legal lo up big i i-lt N lowest) b (omega (arith, length-all fs S A l u es is n v legal lo up big i i-lt N lowest))
 
     pub cut-first-bad : Bad b cut-first
-    cut-first-bad = (λ T. let B = bucket b T z in homeless (B .0) (B .1), λ M C. let B = bucket b (C .freed) z in
-        elim (ℕ-discrete (B .0) M)
-          [ yes e ↦ (rw (e, slot-freed b cut-first M) at (B .1)) .0
-          | no e ↦ homeless (B .0) (rw (getD-set-other cut-first M (B .0) free free e) at (B .1)) ])
+    cut-first-bad = (
+      λ T. let B = bucket b T z in homeless (B .0) (B .1),
+      λ M C. let B = bucket b (C .freed) z in
+          elim (ℕ-discrete (B .0) M) [
+            | yes e ↦ (rw (e, slot-freed b cut-first M) at (B .1)) .0
+            | no e ↦ homeless (B .0) (rw (getD-set-other cut-first M (B .0) free free e) at (B .1))
+          ],
+    )

@@ -177,7 +177,7 @@ listed-used i Bs [] e B h = absurd h
 listed-used i Bs (x ∷ fs) e zero h =
     let p = both-true (not (isUsed x) || isIn i Bs) (isListed (suc i) Bs fs) e .0 in
     rw add-zero (elim (either-true (not (isUsed x)) (isIn i Bs) p)
-      [ inl q ↦ absurd (clash (not-false (isUsed x) q) (used-isUsed x h)) | inr q ↦ isIn-mem i Bs q ])
+    [ inl q ↦ absurd (clash (not-false (isUsed x) q) (used-isUsed x h)) | inr q ↦ isIn-mem i Bs q ])
   where
     clash : isUsed x ≡ false → isUsed x ≡ true → ⊥
     clash e f = let z : _≡_ {A = ℕ} 0 1 = cc in absurd (omega arith)
@@ -198,8 +198,12 @@ module _ (b : ℕ) where
   isSound-sound fs e =
       let p = both-true (allWell b fs && isChain fs none (order-of fs)) (isListed 0 (order-of fs) fs) e in
       let q = both-true (allWell b fs) (isChain fs none (order-of fs)) (p .0) in
-      record { order = order-of fs; chain = isChain-chain fs none (order-of fs) (q .1)
-             ; listed = λ B h. rw zero-add at (listed-used 0 (order-of fs) fs (p .1) B h); well = allWell-well b fs (q .0) }
+      record {
+        order = order-of fs;
+        chain = isChain-chain fs none (order-of fs) (q .1);
+        listed = λ B h. rw zero-add at (listed-used 0 (order-of fs) fs (p .1) B h);
+        well = allWell-well b fs (q .0);
+      }
 
   pub sound-isSound : {fs : List Slot} → Sound b fs → isSound b fs ≡ true
   unfolding isSound
@@ -231,9 +235,10 @@ oneMore-copied (suc i) es ns h e = elim (either-true (sameEntries (without (name
 copied-oneMore : (k i : ℕ) (es ns : List Entry) → i < k → without (name-at ns i) ns ≡ es → oneMore k es ns ≡ true
 unfolding oneMore
 copied-oneMore zero i es ns h e = absurd (omega arith)
-copied-oneMore (suc k) i es ns h e = elim (ℕ-discrete i k)
-    [ yes q ↦ true-left (sameEntries (without (name-at ns k) ns) es) (oneMore k es ns) (rw (← q, e) (sameEntries-self es))
-    | no q ↦ true-right (sameEntries (without (name-at ns k) ns) es) (oneMore k es ns) (copied-oneMore k i es ns (omega arith) e) ]
+copied-oneMore (suc k) i es ns h e = elim (ℕ-discrete i k) [
+  | yes q ↦ true-left (sameEntries (without (name-at ns k) ns) es) (oneMore k es ns) (rw (← q, e) (sameEntries-self es))
+  | no q ↦ true-right (sameEntries (without (name-at ns k) ns) es) (oneMore k es ns) (copied-oneMore k i es ns (omega arith) e)
+]
 
 pub isCopied-copied : (es ns : List Entry) → isCopied es ns ≡ true → Copied es ns
 unfolding isCopied
@@ -294,8 +299,21 @@ module _ (b : ℕ) where
       where
         make : Well b (used (at low) up ns) → Sound b (set fs N free) → (A : ℕ) (x : Slot) → slot-at (set fs N free) A ≡ x → Twin low up ns x → Cut b fs N
         make w S A free j t = absurd t
-        make w S A (used l u es) j t = record { low = low; up = up; new = ns; n-is = i; n-well = rw i w; freed = S; A = A; a-low = l; old = es
-            ; a-is = j ∙ ap (λ v. used l v es) (t .0 .0); below = t .0 .1; full = t .1 .0; copied = t .1 .1 }
+        make w S A (used l u es) j t = record {
+          low = low;
+          up = up;
+          new = ns;
+          n-is = i;
+          n-well = rw i w;
+          freed = S;
+          A = A;
+          a-low = l;
+          old = es;
+          a-is = j ∙ ap (λ v. used l v es) (t .0 .0);
+          below = t .0 .1;
+          full = t .1 .0;
+          copied = t .1 .1;
+        }
 
     pub cut-isCutBy : Cut b fs N → isCutBy b fs N (slot-at fs N) ≡ true
     unfolding isCutBy
@@ -334,5 +352,6 @@ module _ (b : ℕ) where
         where
           clash : isSound b fs ≡ true → isSound b fs ≡ false → ⊥
           clash e f = let z : _≡_ {A = ℕ} 0 1 = cc in absurd (omega arith)
+
           inside : (N : ℕ) → length fs ≤ N → Cut b fs N → ⊥
           inside N h C = omega (arith, used-inside fs N (rw (C .n-is) tt))

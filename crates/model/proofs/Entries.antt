@@ -27,106 +27,125 @@ chosen-no (no h) x a b = refl
 pub find-insert-same : (n : Str) (v : ℕ) (es : List Entry) → find n (insert n v es) ≡ some v
 unfolding find insert
 find-insert-same n v [] = chosen-yes (str? n n) refl _ _
-find-insert-same n v (e ∷ es) = elim (le? n (e .0))
-    [ no h ↦ rw (chosen-no (le? n (e .0)) h, chosen-no (str? n (e .0)) (λ q. h (rw (← q) (le-refl n)))) (find-insert-same n v es)
-    | yes h ↦ elim (str? n (e .0))
-        [ yes q ↦ rw (chosen-yes (le? n (e .0)) h, chosen-yes (str? n (e .0)) q) (chosen-yes (str? n n) refl _ _)
-        | no q ↦ rw (chosen-yes (le? n (e .0)) h, chosen-no (str? n (e .0)) q) (chosen-yes (str? n n) refl _ _) ] ]
+find-insert-same n v (e ∷ es) = elim (le? n (e .0)) [
+  | no h ↦ rw (chosen-no (le? n (e .0)) h, chosen-no (str? n (e .0)) (λ q. h (rw (← q) (le-refl n)))) (find-insert-same n v es)
+  | yes h ↦ elim (str? n (e .0)) [
+    | yes q ↦ rw (chosen-yes (le? n (e .0)) h, chosen-yes (str? n (e .0)) q) (chosen-yes (str? n n) refl _ _)
+    | no q ↦ rw (chosen-yes (le? n (e .0)) h, chosen-no (str? n (e .0)) q) (chosen-yes (str? n n) refl _ _)
+  ]
+]
 
 pub find-insert-other : (m n : Str) (v : ℕ) (es : List Entry) → m ≢ n → find m (insert n v es) ≡ find m es
 unfolding find insert
 find-insert-other m n v [] d = chosen-no (str? m n) d _ _
-find-insert-other m n v (e ∷ es) d = elim (le? n (e .0))
-    [ no h ↦ rw (chosen-no (le? n (e .0)) h, find-insert-other m n v es d)
-    | yes h ↦ elim (str? n (e .0))
-        [ yes q ↦ rw (chosen-yes (le? n (e .0)) h, chosen-yes (str? n (e .0)) q, chosen-no (str? m n) d) (sym (chosen-no (str? m (e .0)) (λ r. d (r ∙ sym q)) _ _))
-        | no q ↦ rw (chosen-yes (le? n (e .0)) h, chosen-no (str? n (e .0)) q) (chosen-no (str? m n) d _ _) ] ]
+find-insert-other m n v (e ∷ es) d = elim (le? n (e .0)) [
+  | no h ↦ rw (chosen-no (le? n (e .0)) h, find-insert-other m n v es d)
+  | yes h ↦ elim (str? n (e .0)) [
+    | yes q ↦ rw (chosen-yes (le? n (e .0)) h, chosen-yes (str? n (e .0)) q, chosen-no (str? m n) d) (sym (chosen-no (str? m (e .0)) (λ r. d (r ∙ sym q)) _ _))
+    | no q ↦ rw (chosen-yes (le? n (e .0)) h, chosen-no (str? n (e .0)) q) (chosen-no (str? m n) d _ _)
+  ]
+]
 
 module _ {P : Str → Type 0} (t : (n : Str) → Dec (P n)) where
   pub find-keep : (n : Str) (es : List Entry) → P n → find n (keep t es) ≡ find n es
   unfolding find keep
   find-keep n [] p = refl
-  find-keep n (e ∷ es) p = elim (t (e .0))
-      [ yes h ↦ rw (chosen-yes (t (e .0)) h, find-keep n es p)
-      | no h ↦ rw (chosen-no (t (e .0)) h, find-keep n es p) (sym (chosen-no (str? n (e .0)) (λ q. h (rw q at p)) _ _)) ]
+  find-keep n (e ∷ es) p = elim (t (e .0)) [
+    | yes h ↦ rw (chosen-yes (t (e .0)) h, find-keep n es p)
+    | no h ↦ rw (chosen-no (t (e .0)) h, find-keep n es p) (sym (chosen-no (str? n (e .0)) (λ q. h (rw q at p)) _ _))
+  ]
 
   pub find-drop : (n : Str) (es : List Entry) → ¬ P n → find n (keep t es) ≡ nothing
   unfolding find keep
   find-drop n [] p = refl
-  find-drop n (e ∷ es) p = elim (t (e .0))
-      [ yes h ↦ rw (chosen-yes (t (e .0)) h) (chosen-no (str? n (e .0)) (λ q. p (rw q h)) _ _ ∙ find-drop n es p)
-      | no h ↦ rw (chosen-no (t (e .0)) h) (find-drop n es p) ]
+  find-drop n (e ∷ es) p = elim (t (e .0)) [
+    | yes h ↦ rw (chosen-yes (t (e .0)) h) (chosen-no (str? n (e .0)) (λ q. p (rw q h)) _ _ ∙ find-drop n es p)
+    | no h ↦ rw (chosen-no (t (e .0)) h) (find-drop n es p)
+  ]
 
   pub keep-insert-out : (n : Str) (v : ℕ) (es : List Entry) → ¬ P n → keep t (insert n v es) ≡ keep t es
   unfolding insert keep
   keep-insert-out n v [] p = chosen-no (t n) p _ _
-  keep-insert-out n v (e ∷ es) p = elim (le? n (e .0))
-    [ no h ↦ rw (chosen-no (le? n (e .0)) h, keep-insert-out n v es p)
-    | yes h ↦ elim (str? n (e .0))
-        [ yes q ↦ rw (chosen-yes (le? n (e .0)) h, chosen-yes (str? n (e .0)) q, chosen-no (t n) p) (sym (chosen-no (t (e .0)) (λ r. p (rw q r)) _ _))
-        | no q ↦ rw (chosen-yes (le? n (e .0)) h, chosen-no (str? n (e .0)) q) (chosen-no (t n) p _ _) ] ]
+  keep-insert-out n v (e ∷ es) p = elim (le? n (e .0)) [
+    | no h ↦ rw (chosen-no (le? n (e .0)) h, keep-insert-out n v es p)
+    | yes h ↦ elim (str? n (e .0)) [
+      | yes q ↦ rw (chosen-yes (le? n (e .0)) h, chosen-yes (str? n (e .0)) q, chosen-no (t n) p) (sym (chosen-no (t (e .0)) (λ r. p (rw q r)) _ _))
+      | no q ↦ rw (chosen-yes (le? n (e .0)) h, chosen-no (str? n (e .0)) q) (chosen-no (t n) p _ _)
+    ]
+  ]
 
   pub length-keep : (es : List Entry) → length (keep t es) ≤ length es
   unfolding keep
   length-keep [] = omega arith
-  length-keep (e ∷ es) = elim (t (e .0))
-      [ yes h ↦ rw (chosen-yes (t (e .0)) h) (omega (arith, length-keep es))
-      | no h ↦ rw (chosen-no (t (e .0)) h) (omega (arith, length-keep es)) ]
+  length-keep (e ∷ es) = elim (t (e .0)) [
+    | yes h ↦ rw (chosen-yes (t (e .0)) h) (omega (arith, length-keep es))
+    | no h ↦ rw (chosen-no (t (e .0)) h) (omega (arith, length-keep es))
+  ]
 
   pub keep-parts : (es : List Entry) → length (keep t es) + length (keep (λ n. not? (t n)) es) ≡ length es
   unfolding keep
   keep-parts [] = omega arith
-  keep-parts (e ∷ es) = elim (t (e .0))
-      [ yes h ↦ rw (chosen-yes (t (e .0)) h, chosen-no (not? (t (e .0))) (λ n. n h)) (omega (arith, keep-parts es))
-      | no h ↦ rw (chosen-no (t (e .0)) h, chosen-yes (not? (t (e .0))) h) (omega (arith, keep-parts es)) ]
+  keep-parts (e ∷ es) = elim (t (e .0)) [
+    | yes h ↦ rw (chosen-yes (t (e .0)) h, chosen-no (not? (t (e .0))) (λ n. n h)) (omega (arith, keep-parts es))
+    | no h ↦ rw (chosen-no (t (e .0)) h, chosen-yes (not? (t (e .0))) h) (omega (arith, keep-parts es))
+  ]
 
   -- one that passes is kept
   pub keep-some : (es : List Entry) (i : ℕ) → i < length es → P (getD es i ([], 0) .0) → 0 < length (keep t es)
   unfolding keep
   keep-some [] i h p = absurd (omega arith)
   keep-some (e ∷ es) zero h p = rw (chosen-yes (t (e .0)) p) (omega arith)
-  keep-some (e ∷ es) (suc i) h p = elim (t (e .0))
-      [ yes q ↦ rw (chosen-yes (t (e .0)) q) (omega arith)
-      | no q ↦ rw (chosen-no (t (e .0)) q) (keep-some es i (omega arith) p) ]
+  keep-some (e ∷ es) (suc i) h p = elim (t (e .0)) [
+    | yes q ↦ rw (chosen-yes (t (e .0)) q) (omega arith)
+    | no q ↦ rw (chosen-no (t (e .0)) q) (keep-some es i (omega arith) p)
+  ]
 
 module _ {P Q : Str → Type 0} (t : (n : Str) → Dec (P n)) (r : (n : Str) → Dec (Q n)) where
   pub keep-comm : (es : List Entry) → keep t (keep r es) ≡ keep r (keep t es)
   unfolding keep
   keep-comm [] = refl
-  keep-comm (e ∷ es) = elim (t (e .0))
-      [ yes p ↦ elim (r (e .0))
-          [ yes q ↦ rw (chosen-yes (t (e .0)) p, chosen-yes (r (e .0)) q, chosen-yes (t (e .0)) p, chosen-yes (r (e .0)) q, keep-comm es)
-          | no q ↦ rw (chosen-yes (t (e .0)) p, chosen-no (r (e .0)) q, chosen-no (r (e .0)) q, keep-comm es) ]
-      | no p ↦ elim (r (e .0))
-          [ yes q ↦ rw (chosen-no (t (e .0)) p, chosen-yes (r (e .0)) q, chosen-no (t (e .0)) p, keep-comm es)
-          | no q ↦ rw (chosen-no (t (e .0)) p, chosen-no (r (e .0)) q, keep-comm es) ] ]
+  keep-comm (e ∷ es) = elim (t (e .0)) [
+    | yes p ↦ elim (r (e .0)) [
+      | yes q ↦ rw (chosen-yes (t (e .0)) p, chosen-yes (r (e .0)) q, chosen-yes (t (e .0)) p, chosen-yes (r (e .0)) q, keep-comm es)
+      | no q ↦ rw (chosen-yes (t (e .0)) p, chosen-no (r (e .0)) q, chosen-no (r (e .0)) q, keep-comm es)
+    ]
+    | no p ↦ elim (r (e .0)) [
+      | yes q ↦ rw (chosen-no (t (e .0)) p, chosen-yes (r (e .0)) q, chosen-no (t (e .0)) p, keep-comm es)
+      | no q ↦ rw (chosen-no (t (e .0)) p, chosen-no (r (e .0)) q, keep-comm es)
+    ]
+  ]
 
 pub length-insert : (n : Str) (v : ℕ) (es : List Entry) → length (insert n v es) ≤ suc (length es)
 unfolding insert
 length-insert n v [] = omega arith
-length-insert n v (e ∷ es) = elim (le? n (e .0))
-    [ no h ↦ rw (chosen-no (le? n (e .0)) h) (omega (arith, length-insert n v es))
-    | yes h ↦ elim (str? n (e .0))
-        [ yes q ↦ rw (chosen-yes (le? n (e .0)) h, chosen-yes (str? n (e .0)) q) (omega arith)
-        | no q ↦ rw (chosen-yes (le? n (e .0)) h, chosen-no (str? n (e .0)) q) (omega arith) ] ]
+length-insert n v (e ∷ es) = elim (le? n (e .0)) [
+  | no h ↦ rw (chosen-no (le? n (e .0)) h) (omega (arith, length-insert n v es))
+  | yes h ↦ elim (str? n (e .0)) [
+    | yes q ↦ rw (chosen-yes (le? n (e .0)) h, chosen-yes (str? n (e .0)) q) (omega arith)
+    | no q ↦ rw (chosen-yes (le? n (e .0)) h, chosen-no (str? n (e .0)) q) (omega arith)
+  ]
+]
 
 pub row-insert : {l : Low} {u : Str} {es : List Entry} (n : Str) (v : ℕ) → Legal n → l ◁ n → n ⊑ u → Row l es u → Row l (insert n v es) u
 unfolding insert
 row-insert n v g a b no-entries = entry g a b no-entries
-row-insert {l} {u} n v g a b (entry {e = e} {es = es} g′ c d r) = elim (le? n (e .0))
-    [ no h ↦ rw (chosen-no (le? n (e .0)) h) (entry g′ c d (row-insert n v g (above h) b r))
-    | yes h ↦ elim (str? n (e .0))
-        [ yes q ↦ rw (chosen-yes (le? n (e .0)) h, chosen-yes (str? n (e .0)) q) (entry g a b (rw (← q) at r))
-        | no q ↦ rw (chosen-yes (le? n (e .0)) h, chosen-no (str? n (e .0)) q) (entry g a b (entry g′ (above (λ p. q (le-antisym h p))) d r)) ] ]
+row-insert {l} {u} n v g a b (entry {e = e} {es = es} g′ c d r) = elim (le? n (e .0)) [
+  | no h ↦ rw (chosen-no (le? n (e .0)) h) (entry g′ c d (row-insert n v g (above h) b r))
+  | yes h ↦ elim (str? n (e .0)) [
+    | yes q ↦ rw (chosen-yes (le? n (e .0)) h, chosen-yes (str? n (e .0)) q) (entry g a b (rw (← q) at r))
+    | no q ↦ rw (chosen-yes (le? n (e .0)) h, chosen-no (str? n (e .0)) q) (entry g a b (entry g′ (above (λ p. q (le-antisym h p))) d r))
+  ]
+]
 
 pub row-keep : {P : Str → Type 0} (t : (n : Str) → Dec (P n)) {l : Low} (l′ : Low) {u : Str} (u′ : Str) {es : List Entry} → Row l es u
     → ((n : Str) → P n → l ◁ n → n ⊑ u → (l′ ◁ n) × (n ⊑ u′)) → Row l′ (keep t es) u′
 unfolding keep
 row-keep t l′ u′ no-entries f = no-entries
-row-keep t l′ u′ (entry {e = e} g a b r) f = elim (t (e .0))
-    [ yes h ↦ rw (chosen-yes (t (e .0)) h) (entry g (f (e .0) h a b .0) (f (e .0) h a b .1)
-        (row-keep t (at (e .0)) u′ r (λ n p c d. (c, f n p (low-lower (low-at a) c) d .1))))
-    | no h ↦ rw (chosen-no (t (e .0)) h) (row-keep t l′ u′ r (λ n p c d. f n p (low-lower (low-at a) c) d)) ]
+row-keep t l′ u′ (entry {e = e} g a b r) f = elim (t (e .0)) [
+  | yes h ↦ rw (chosen-yes (t (e .0)) h) (entry g (f (e .0) h a b .0) (f (e .0) h a b .1)
+      (row-keep t (at (e .0)) u′ r (λ n p c d. (c, f n p (low-lower (low-at a) c) d .1))))
+  | no h ↦ rw (chosen-no (t (e .0)) h) (row-keep t l′ u′ r (λ n p c d. f n p (low-lower (low-at a) c) d))
+]
 
 pub row-at : {l : Low} {u : Str} {es : List Entry} → Row l es u → (i : ℕ) → i < length es → Legal (name-at es i) × (l ◁ name-at es i) × (name-at es i ⊑ u)
 row-at no-entries i h = absurd (omega arith)
@@ -148,29 +167,34 @@ keep-all t (entry {e = e} g a b r) f = rw (chosen-yes (t (e .0)) (f (e .0) a), k
 pub insert-new : {l : Low} {u : Str} {es : List Entry} (n : Str) (v : ℕ) → Row l es u → length es < length (insert n v es) → without n es ≡ es
 unfolding insert keep
 insert-new n v no-entries h = refl
-insert-new n v (entry {e = e} {es = es} g a b r) h = elim (le? n (e .0))
-    [ no p ↦ rw (chosen-yes (not? (str? (e .0) n)) (λ q. p (rw (← q) (le-refl (e .0)))), insert-new n v r (shorter (rw (chosen-no (le? n (e .0)) p) at h)))
-    | yes p ↦ elim (str? n (e .0))
-        [ yes q ↦ absurd (no-longer (rw (chosen-yes (le? n (e .0)) p, chosen-yes (str? n (e .0)) q) at h))
-        | no q ↦ rw (chosen-yes (not? (str? (e .0) n)) (λ e. q (sym e)), keep-all (λ k. not? (str? k n)) r (λ k c d. over c (rw d p))) ] ]
+insert-new n v (entry {e = e} {es = es} g a b r) h = elim (le? n (e .0)) [
+  | no p ↦ rw (chosen-yes (not? (str? (e .0) n)) (λ q. p (rw (← q) (le-refl (e .0)))), insert-new n v r (shorter (rw (chosen-no (le? n (e .0)) p) at h)))
+  | yes p ↦ elim (str? n (e .0)) [
+    | yes q ↦ absurd (no-longer (rw (chosen-yes (le? n (e .0)) p, chosen-yes (str? n (e .0)) q) at h))
+    | no q ↦ rw (chosen-yes (not? (str? (e .0) n)) (λ e. q (sym e)), keep-all (λ k. not? (str? k n)) r (λ k c d. over c (rw d p)))
+  ]
+]
   where
     shorter : suc (length es) < suc (length (insert n v es)) → length es < length (insert n v es)
     shorter h = omega arith
+
     no-longer : suc (length es) < suc (length es) → ⊥
     no-longer h = omega arith
 
 pub insert-held : {l : Low} {u : Str} {es : List Entry} (n : Str) (v w : ℕ) → Row l es u → find n es ≡ some w → length (insert n v es) ≤ length es
-insert-held {es = es} n v w r e = elim (decLt (length es) (length (insert n v es)))
-    [ no h ↦ omega arith
-    | yes h ↦ let z : _≡_ {A = Option ℕ} nothing (some w) = sym (find-drop (λ k. not? (str? k n)) n es (λ q. q refl)) ∙ ap (find n) (insert-new n v r h) ∙ e in
-        let y : _≡_ {A = ℕ} 0 1 = cc in absurd (omega arith) ]
+insert-held {es = es} n v w r e = elim (decLt (length es) (length (insert n v es))) [
+  | no h ↦ omega arith
+  | yes h ↦ let z : _≡_ {A = Option ℕ} nothing (some w) = sym (find-drop (λ k. not? (str? k n)) n es (λ q. q refl)) ∙ ap (find n) (insert-new n v r h) ∙ e in
+      let y : _≡_ {A = ℕ} 0 1 = cc in absurd (omega arith)
+]
 
 pub find-at : (n : Str) (es : List Entry) (v : ℕ) → find n es ≡ some v → (i : ℕ) × (i < length es) × (name-at es i ≡ n)
 unfolding find
 find-at n [] v h = let y : _≡_ {A = ℕ} 0 1 = cc in absurd (omega arith)
-find-at n (e ∷ es) v h = elim (str? n (e .0))
-    [ yes q ↦ (0, omega arith, sym q)
-    | no q ↦ next (find-at n es v (sym (chosen-no (str? n (e .0)) q _ _) ∙ h)) ]
+find-at n (e ∷ es) v h = elim (str? n (e .0)) [
+  | yes q ↦ (0, omega arith, sym q)
+  | no q ↦ next (find-at n es v (sym (chosen-no (str? n (e .0)) q _ _) ∙ h))
+]
   where
     next : (i : ℕ) × (i < length es) × (name-at es i ≡ n) → (i : ℕ) × (i < suc (length es)) × (name-at (e ∷ es) i ≡ n)
     next (i, h, p) = (suc i, omega arith, p)
@@ -179,9 +203,10 @@ pub at-find : (es : List Entry) (i : ℕ) → i < length es → (v : ℕ) × (fi
 unfolding find
 at-find [] i h = absurd (omega arith)
 at-find (e ∷ es) zero h = (e .1, chosen-yes (str? (e .0) (e .0)) refl _ _)
-at-find (e ∷ es) (suc i) h = elim (str? (name-at es i) (e .0))
-    [ yes q ↦ (e .1, chosen-yes (str? (name-at es i) (e .0)) q _ _)
-    | no q ↦ let r = at-find es i (omega arith) in (r .0, chosen-no (str? (name-at es i) (e .0)) q _ _ ∙ r .1) ]
+at-find (e ∷ es) (suc i) h = elim (str? (name-at es i) (e .0)) [
+  | yes q ↦ (e .1, chosen-yes (str? (name-at es i) (e .0)) q _ _)
+  | no q ↦ let r = at-find es i (omega arith) in (r .0, chosen-no (str? (name-at es i) (e .0)) q _ _ ∙ r .1)
+]
 
 -- The split string of two entries lies strictly inside the range, from the first of them on and below the second: for a
 -- split key at any place before the last name.

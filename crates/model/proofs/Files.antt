@@ -28,16 +28,18 @@ pub first-right : {P : Slot → Type 0} (t : (x : Slot) → Dec (P x)) (fs : Lis
 unfolding first
 first-right t [] B p n = absurd (n p)
 first-right t (x ∷ xs) zero p n = rw (chosen-yes (t x) p) p
-first-right t (x ∷ xs) (suc B) p n = elim (t x)
-    [ yes h ↦ rw (chosen-yes (t x) h) h
-    | no h ↦ rw (chosen-no (t x) h) (first-right t xs B p n) ]
+first-right t (x ∷ xs) (suc B) p n = elim (t x) [
+  | yes h ↦ rw (chosen-yes (t x) h) h
+  | no h ↦ rw (chosen-no (t x) h) (first-right t xs B p n)
+]
 
 pub first-passes : {P : Slot → Type 0} (t : (x : Slot) → Dec (P x)) (fs : List Slot) → first t fs < length fs → P (slot-at fs (first t fs))
 unfolding first
 first-passes t [] h = absurd (omega arith)
-first-passes t (x ∷ xs) h = elim (t x)
-    [ yes p ↦ rw (chosen-yes (t x) p) p
-    | no p ↦ rw (chosen-no (t x) p) (first-passes t xs (lower (first t xs) (length xs) (rw (chosen-no (t x) p) at h))) ]
+first-passes t (x ∷ xs) h = elim (t x) [
+  | yes p ↦ rw (chosen-yes (t x) p) p
+  | no p ↦ rw (chosen-no (t x) p) (first-passes t xs (lower (first t xs) (length xs) (rw (chosen-no (t x) p) at h)))
+]
   where
     lower : (i j : ℕ) → suc i < suc j → i < j
     lower i j h = omega arith
@@ -49,12 +51,14 @@ first-before t (x ∷ xs) zero h = λ p. none-below (rw (chosen-yes (t x) p) at 
   where
     none-below : 0 < 0 → ⊥
     none-below h = omega arith
-first-before t (x ∷ xs) (suc B) h = elim (t x)
-    [ yes p ↦ absurd (none-below (rw (chosen-yes (t x) p) at h))
-    | no p ↦ first-before t xs B (lower (first t xs) (rw (chosen-no (t x) p) at h)) ]
+first-before t (x ∷ xs) (suc B) h = elim (t x) [
+  | yes p ↦ absurd (none-below (rw (chosen-yes (t x) p) at h))
+  | no p ↦ first-before t xs B (lower (first t xs) (rw (chosen-no (t x) p) at h))
+]
   where
     none-below : suc B < 0 → ⊥
     none-below h = omega arith
+
     lower : (i : ℕ) → suc B < suc i → B < i
     lower i h = omega arith
 
@@ -68,9 +72,10 @@ chain-once F (B ∷ Bs) (next u e a b c) i = go (ℕ-discrete i B) (chain-once F
   where
     go : (d : Dec (i ≡ B)) → occ i Bs ≤ 1 → one-if d + occ i Bs ≤ 1
     go (no n) h = omega arith
-    go (yes q) h = elim (ℕ-discrete (occ i Bs) 0)
-        [ yes z ↦ omega arith
-        | no z ↦ absurd (chain-other F B Bs (next u e a b c) i (occ-mem i Bs (omega arith)) q) ]
+    go (yes q) h = elim (ℕ-discrete (occ i Bs) 0) [
+      | yes z ↦ omega arith
+      | no z ↦ absurd (chain-other F B Bs (next u e a b c) i (occ-mem i Bs (omega arith)) q)
+    ]
 
 module _ (b : ℕ) where
   -- a name lies in the range of one slot-at only
@@ -83,9 +88,10 @@ module _ (b : ℕ) where
   one-upper S {u = u} e f h k = one-range S u (rw e (tt, h, le-refl u)) (rw f (tt, k, le-refl u))
 
   pub slot-freed : (fs : List Slot) (N : ℕ) → slot-at (set fs N free) N ≡ free
-  slot-freed fs N = elim (decLt N (length fs))
-      [ yes h ↦ getD-set-same fs N free free h
-      | no h ↦ rw (set-out fs N free (omega arith)) (List·getD-eq-default fs free (omega arith)) ]
+  slot-freed fs N = elim (decLt N (length fs)) [
+    | yes h ↦ getD-set-same fs N free free h
+    | no h ↦ rw (set-out fs N free (omega arith)) (List·getD-eq-default fs free (omega arith))
+  ]
 
   pub well-low : {l : Low} {u : Str} {es : List Entry} → Well b (used l u es) → l ◁ u
   well-low (well-used a c h r k) = h
@@ -109,17 +115,19 @@ module _ (b : ℕ) where
 
     -- freeing another slot-at leaves the pair: so that slot-at is A
     pub other-freed : (M : ℕ) → M ≢ N → Sound b (set fs M free) → C .A ≡ M
-    other-freed M d S = elim (ℕ-discrete (C .A) M)
-        [ yes e ↦ e
-        | no e ↦ absurd (other (one-upper S (getD-set-other fs M (C .A) free free e ∙ a-there) (getD-set-other fs M N free free (λ q. d (sym q)) ∙ C .n-is) a-below n-low)) ]
+    other-freed M d S = elim (ℕ-discrete (C .A) M) [
+      | yes e ↦ e
+      | no e ↦ absurd (other (one-upper S (getD-set-other fs M (C .A) free free e ∙ a-there) (getD-set-other fs M N free free (λ q. d (sym q)) ∙ C .n-is) a-below n-low))
+    ]
 
   low-is : {fs : List Slot} {M N : ℕ} (C : Cut b fs M) (D : Cut b fs N) → C .A ≡ N → C .a-low ≡ at (D .low)
   low-is {fs} C D p = ap (λ x. lower-of (head x)) (sym (a-there C) ∙ ap (slot-at fs) p ∙ D .n-is)
 
   pub cut-unique : {fs : List Slot} {M N : ℕ} → Cut b fs M → Cut b fs N → M ≡ N
-  cut-unique {fs} {M} {N} C D = elim (ℕ-discrete M N)
-      [ yes e ↦ e
-      | no e ↦ absurd (go (other-freed C N (λ q. e (sym q)) (D .freed)) (other-freed D M e (C .freed))) ]
+  cut-unique {fs} {M} {N} C D = elim (ℕ-discrete M N) [
+    | yes e ↦ e
+    | no e ↦ absurd (go (other-freed C N (λ q. e (sym q)) (D .freed)) (other-freed D M e (C .freed)))
+  ]
     where
       go : C .A ≡ N → D .A ≡ M → ⊥
       go p q = over (rw (low-is C D p) at (C .below)) (lt-le (over (rw (low-is D C q) at (D .below))))
@@ -133,9 +141,10 @@ module _ (b : ℕ) where
 
   module _ {fs : List Slot} (S : Sound b fs) where
     pub one-lower : (B C : ℕ) → IsUsed (head (slot-at fs B)) → IsUsed (head (slot-at fs C)) → lower-of (head (slot-at fs B)) ≡ lower-of (head (slot-at fs C)) → B ≡ C
-    one-lower B C u v e = elim (le? (upper-of (head (slot-at fs B))) (upper-of (head (slot-at fs C))))
-        [ yes p ↦ one-range S (upper-of (head (slot-at fs B))) (u, well-head (S .well B) u, le-refl _) (v, subst (λ l. l ◁ upper-of (head (slot-at fs B))) e (well-head (S .well B) u), p)
-        | no p ↦ one-range S (upper-of (head (slot-at fs C))) (u, subst (λ l. l ◁ upper-of (head (slot-at fs C))) (sym e) (well-head (S .well C) v), lt-le p) (v, well-head (S .well C) v, le-refl _) ]
+    one-lower B C u v e = elim (le? (upper-of (head (slot-at fs B))) (upper-of (head (slot-at fs C)))) [
+      | yes p ↦ one-range S (upper-of (head (slot-at fs B))) (u, well-head (S .well B) u, le-refl _) (v, subst (λ l. l ◁ upper-of (head (slot-at fs B))) e (well-head (S .well B) u), p)
+      | no p ↦ one-range S (upper-of (head (slot-at fs C))) (u, subst (λ l. l ◁ upper-of (head (slot-at fs C))) (sym e) (well-head (S .well C) v), lt-le p) (v, well-head (S .well C) v, le-refl _)
+    ]
 
     -- the order is determined
     pub one-order : (T : Sound b fs) → S .order ≡ T .order
@@ -186,9 +195,11 @@ module _ (b : ℕ) where
         upper : (h : Head) → IsUsed h → BoundOf h (upper-of h)
         upper no-range u = absurd u
         upper (range l u) h = upper-bound
+
         by : (y : Str) → Begins y x → (B : ℕ) × List·Memᴰ B (S .order) × (y ≡ upper-of (head (slot-at fs B))) → IsString fs x
         by y g (B, k, e) =
             record { bucket = B; bound = y; is-bound = rw e (upper (head (slot-at fs B)) (chain-used (ranges fs) (S .chain) B k)); begins = g }
+
         go : (y : Str) × List·Memᴰ y (bounds (ranges fs) (S .order)) × Begins y x → IsString fs x
         go (y, k, g) = by y g (bounds-from (ranges fs) (S .order) y k)
 
@@ -198,9 +209,11 @@ module _ (b : ℕ) where
         parts : (h : Head) (y : Str) → BoundOf h y → IsUsed h × ((lower-of h ≡ at y) ⊎ (y ≡ upper-of h))
         parts (range (at l) u) y lower-bound = (tt, inl refl)
         parts (range l u) y upper-bound = (tt, inr refl)
+
         some-digit : (y : Str) → Begins y x → y ≺ []
         some-digit [] k = absurd (omega (arith, k .some, k .fits))
         some-digit (d ∷ y) k = nil-not-le
+
         go : IsUsed (head (slot-at fs (i .bucket))) × ((lower-of (head (slot-at fs (i .bucket))) ≡ at (i .bound)) ⊎ (i .bound ≡ upper-of (head (slot-at fs (i .bucket)))))
             → List·Memᴰ (i .bound) (bounds (ranges fs) (S .order))
         go (u, inr e) = bounds-to (ranges fs) (S .order) none (S .chain) (i .bound) (i .bucket) (S .listed (i .bucket) u) e (some-digit (i .bound) (i .begins))

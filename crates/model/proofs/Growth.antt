@@ -27,11 +27,11 @@ module _ (P : Low → Str → ℕ → Type 0) (S : Shrinks P) where
       let len : length q ≡ suc (length p) = length-append p (d ∷ []) ∙ add-one (length p) in
       let lo′ : l ◁ q = low-le (rw (← e) at lo) (le-append q ds) in
       cut-at P d (length p) (omega arith) (rw take-length) lo′ (snoc-lt p d)
-        (rw len at (chain-trie ds q (rw e lo) (S .shrink h (low-refl l) (lt-le (snoc-lt p d)))))
-        (tip (S .shrink h (low-at lo′) (le-refl p)))
+      (rw len at (chain-trie ds q (rw e lo) (S .shrink h (low-refl l) (lt-le (snoc-lt p d)))))
+      (tip (S .shrink h (low-at lo′) (le-refl p)))
 
-  pub grown-trie : (s : Str) {l : Low} {u : Str} {A : ℕ} → l ◁ s → s ≺ u → P l u A → Spans P l u (grown s u A) (fresh s u)
-  grown-trie s {l} {u} {A} lo up h =
+  pub chain-at-leaf : (s : Str) {l : Low} {u : Str} {A : ℕ} → l ◁ s → s ≺ u → P l u A → Spans P l u (grown s u A) (fresh s u)
+  chain-at-leaf s {l} {u} {A} lo up h =
       let j : ℕ = diff s u in
       let d : ℕ = getD s j 0 in
       let ds : Str = drop (suc j) s in
@@ -43,9 +43,9 @@ module _ (P : Low → Str → ℕ → Type 0) (S : Shrinks P) where
       let lo′ : l ◁ q = low-le lo (le-take (suc j) s) in
       let up′ : q ≺ u = split-lt s u up in
       let left : Spans P l q (chain-of (suc j) ds A) (longer q ds) =
-            rw len at (chain-trie ds q (rw whole lo) (S .shrink h (low-refl l) (lt-le up′))) in
+      rw len at (chain-trie ds q (rw whole lo) (S .shrink h (low-refl l) (lt-le up′))) in
       let all : Spans P l u (node d j (chain-of (suc j) ds A) (leaf A)) (longer q ds ++ (q ∷ [])) =
-            cut-at P d j (diff-le-right s u) (rw (← take-diff s u) e) lo′ up′ left (tip (S .shrink h (low-at lo′) (le-refl u))) in
+      cut-at P d j (diff-le-right s u) (rw (← take-diff s u) e) lo′ up′ left (tip (S .shrink h (low-at lo′) (le-refl u))) in
       rw (drop-cons s j 0 inside) (rw e all)
 
   -- The split string s is a beginning of the split key c, and no string of the trie begins with s.
@@ -65,12 +65,18 @@ module _ (P : Low → Str → ℕ → Type 0) (S : Shrinks P) where
     pub grow-trie : {l : Low} {u : Str} {t : Tree} {ss : List Str} → Spans P l u t ss → l ◁ c → c ⊑ u
         → take k u ≢ s → ((q : Str) → List·Memᴰ q ss → take k q ≢ s) → Growth l u (graft c s u t) ss
     grow-trie {u = u} (tip h) lo up n all =
-        record { path = u; before = []; after = []; old = refl; path-old = inl refl
-               ; trie = rw append-nil (grown-trie s (low-le lo (rw es at (le-take k c))) (below-path u up n) h) }
+        record {
+          path = u;
+          before = [];
+          after = [];
+          old = refl;
+          path-old = inl refl;
+          trie = rw append-nil (chain-at-leaf s (low-le lo (rw es at (le-take k c))) (below-path u up n) h);
+        }
     grow-trie {l} {u} (cut {d = d} {i = i} {L = L} {R = R} {xs = xs} {ys = ys} hi a b x y) lo up n all =
         go (le? c (cell d i u))
-          (λ h. grow-trie x lo h (all (cell d i u) (Memᴰ·append-right xs (List·Memᴰ·head refl))) (λ q m. all q (Memᴰ·append-left (cell d i u ∷ ys) m)))
-          (λ h. grow-trie y (above h) up n (λ q m. all q (Memᴰ·append-right xs (List·Memᴰ·tail m))))
+        (λ h. grow-trie x lo h (all (cell d i u) (Memᴰ·append-right xs (List·Memᴰ·head refl))) (λ q m. all q (Memᴰ·append-left (cell d i u ∷ ys) m)))
+        (λ h. grow-trie y (above h) up n (λ q m. all q (Memᴰ·append-right xs (List·Memᴰ·tail m))))
       where
         q : Str
         q = cell d i u
@@ -79,12 +85,20 @@ module _ (P : Low → Str → ℕ → Type 0) (S : Shrinks P) where
             → (cell d i u ≺ c → Growth (at (cell d i u)) u (graft c s u R) ys)
             → Growth l u (elim t [ yes h ↦ node d i (graft c s (cell d i u) L) R | no h ↦ node d i L (graft c s u R) ]) (xs ++ (cell d i u ∷ ys))
         go (yes h) f g = let r = f h in
-            record { path = r .path; before = r .before; after = r .after ++ (q ∷ ys)
-                   ; old = ap (λ (zs : List Str). zs ++ (q ∷ ys)) (r .old) ∙ append-assoc (r .before) (r .after) (q ∷ ys)
-                   ; path-old = elim (r .path-old) [ inl e ↦ inr (Memᴰ·append-right xs (List·Memᴰ·head e)) | inr m ↦ inr (Memᴰ·append-left (q ∷ ys) m) ]
-                   ; trie = simp append-assoc at (cut hi a b (r .trie) y) }
+            record {
+              path = r .path;
+              before = r .before;
+              after = r .after ++ (q ∷ ys);
+              old = ap (λ (zs : List Str). zs ++ (q ∷ ys)) (r .old) ∙ append-assoc (r .before) (r .after) (q ∷ ys);
+              path-old = elim (r .path-old) [ inl e ↦ inr (Memᴰ·append-right xs (List·Memᴰ·head e)) | inr m ↦ inr (Memᴰ·append-left (q ∷ ys) m) ];
+              trie = simp append-assoc at (cut hi a b (r .trie) y);
+            }
         go (no h) f g = let r = g h in
-            record { path = r .path; before = xs ++ (q ∷ r .before); after = r .after
-                   ; old = ap (λ (zs : List Str). xs ++ (q ∷ zs)) (r .old) ∙ sym (append-assoc xs (q ∷ r .before) (r .after))
-                   ; path-old = elim (r .path-old) [ inl e ↦ inl e | inr m ↦ inr (Memᴰ·append-right xs (List·Memᴰ·tail m)) ]
-                   ; trie = simp append-assoc (cut hi a b x (r .trie)) }
+            record {
+              path = r .path;
+              before = xs ++ (q ∷ r .before);
+              after = r .after;
+              old = ap (λ (zs : List Str). xs ++ (q ∷ zs)) (r .old) ∙ sym (append-assoc xs (q ∷ r .before) (r .after));
+              path-old = elim (r .path-old) [ inl e ↦ inl e | inr m ↦ inr (Memᴰ·append-right xs (List·Memᴰ·tail m)) ];
+              trie = simp append-assoc (cut hi a b x (r .trie));
+            }

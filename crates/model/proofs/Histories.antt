@@ -38,11 +38,14 @@ module _ (b slots : ℕ) where
       listed : (B : ℕ) → IsUsed (head (slot-at (created slots) B)) → List·Memᴰ B (0 ∷ [])
       listed zero h = List·Memᴰ·head refl
       listed (suc B) h = absurd (rw (free-all (slots - 1) B) at h)
+
       well : (B : ℕ) → Well b (slot-at (created slots) B)
       well zero = let z : 0 ≤ 24 = omega arith in let y : 0 ≤ b = omega arith in well-used unlimited (record { fits = z; digits = tt }) least no-entries y
       well (suc B) = rw (free-all (slots - 1) B) well-free
+
       sound : Sound b (created slots)
       sound = record { order = 0 ∷ []; chain = last tt refl refl; listed = listed; well = well }
+
       means : Means (created slots) (λ k. nothing)
       means k zero h = refl
       means k (suc B) h = rw (free-all (slots - 1) B)
@@ -53,9 +56,11 @@ module _ (b slots : ℕ) where
   looks-up {fs} F {t} T k = F .means k (walk k [] t) (walk-right (ranges fs) T k)
 
   pub fine-demand : {fs : List Slot} {m : Map} → Fine b fs m → Demand3 b slots m fs
-  fine-demand {fs} F = record
-      { sound = F .sound; few = F .few
-      ; lookup = looks-up F (rebuilt-agrees (ranges fs) (order-of fs) (rw (order-right b (F .sound)) (F .sound .chain))) }
+  fine-demand {fs} F = record {
+    sound = F .sound;
+    few = F .few;
+    lookup = looks-up F (rebuilt-agrees (ranges fs) (order-of fs) (rw (order-right b (F .sound)) (F .sound .chain)));
+  }
 
   -- Ready: fine. Down: fine, or one recovery away from it.
   abbrev pub Good : World → Type 0
@@ -70,11 +75,13 @@ module _ (b slots : ℕ) where
     answered-good : {fs : List Slot} {m : Map} (q : Request) (j : ℕ) {r : Result} → Fine b fs m → Answered b fs q r → Good (answered q j fs m r)
     unfolding answered
     answered-good q j F (is-denied d) = F
-    answered-good {fs} {m} q j F (is-made {ss = ss} c) = elim (decLt j (length ss))
-        [ no h ↦ rw (le-ltb j (length ss) (omega arith)) (change-made b b-two F c)
-        | yes h ↦ rw (lt-ltb j (length ss) h) (elim (change-stopped b b-two F c j h)
-            [ inl e ↦ inl (rw e F)
-            | inr x ↦ inr (x .0, x .1, rw (x .2) F) ]) ]
+    answered-good {fs} {m} q j F (is-made {ss = ss} c) = elim (decLt j (length ss)) [
+      | no h ↦ rw (le-ltb j (length ss) (omega arith)) (change-made b b-two F c)
+      | yes h ↦ rw (lt-ltb j (length ss) h) (elim (change-stopped b b-two F c j h) [
+        | inl e ↦ inl (rw e F)
+        | inr x ↦ inr (x .0, x .1, rw (x .2) F)
+      ])
+    ]
 
     recovered-good : (fs : List Slot) (m : Map) (j : ℕ) (k : Kind) → Checked b fs k → Good (down fs m) → Good (recovered fs m j k)
     unfolding recovered

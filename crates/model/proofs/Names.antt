@@ -94,7 +94,7 @@ unfolding filled
 filled-short n h =
     let e : 24 ≡ length n + (24 - length n) = omega arith in
     ap (λ (k : ℕ). take k (n ++ replicate 24 0x20)) e ∙ take-append-add n (replicate 24 0x20) (24 - length n)
-      ∙ ap (λ (r : Str). n ++ r) (take-replicate (24 - length n) 24 (omega arith))
+    ∙ ap (λ (r : Str). n ++ r) (take-replicate (24 - length n) 24 (omega arith))
 
 pub legal-length : {n : Str} → Legal n → length n ≡ 24
 legal-length g = ap length (g .is) ∙ length-filled (g .name)
@@ -112,9 +112,10 @@ digits-take (suc k) (d ∷ x) h = (h .0, h .1, digits-take k x (h .2))
 -- A beginning of a name is a bound.
 pub legal-bound : {n : Str} → Legal n → (k : ℕ) → Bound (take k n)
 unfolding filled
-legal-bound {n} g k = record
-    { fits = omega (arith, length-take k n, legal-length g)
-    ; digits = digits-take k n (rw (g .is) (digits-take 24 (g .name ++ replicate 24 0x20) (digits-fill (g .name) 24 (g .digits)))) }
+legal-bound {n} g k = record {
+  fits = omega (arith, length-take k n, legal-length g);
+  digits = digits-take k n (rw (g .is) (digits-take 24 (g .name ++ replicate 24 0x20) (digits-fill (g .name) 24 (g .digits))));
+}
 
 pub areDigits-digits : (lo : ℕ) (x : Str) → areDigits lo x ≡ true → Digits lo x
 unfolding areDigits
@@ -170,9 +171,10 @@ record Ended (n : Str) : Type 0 where
 ended : (n : Str) → blankEnded n ≡ true → Ended n
 unfolding blankEnded
 ended [] e = record { name = []; digits = tt; behind = 0; is = refl }
-ended (d ∷ n) e = elim (ℕ-discrete d 0x20)
-    [ yes q ↦ record { name = []; digits = tt; behind = suc (length n); is = ap₂ (λ (a : ℕ) (x : Str). a ∷ x) q (blanks-are n (rw (eq-eqb d 0x20 q) at e)) }
-    | no q ↦ go q (rw (ne-eqb d 0x20 q) at e) (ended n) ]
+ended (d ∷ n) e = elim (ℕ-discrete d 0x20) [
+  | yes q ↦ record { name = []; digits = tt; behind = suc (length n); is = ap₂ (λ (a : ℕ) (x : Str). a ∷ x) q (blanks-are n (rw (eq-eqb d 0x20 q) at e)) }
+  | no q ↦ go q (rw (ne-eqb d 0x20 q) at e) (ended n)
+]
   where
     go : (d ≡ 0x20 → ⊥) → (leb 0x21 d && leb d 0x7D && blankEnded n) ≡ true → (blankEnded n ≡ true → Ended n) → Ended (d ∷ n)
     go q e f =
@@ -190,12 +192,16 @@ legalFilled-legal (d ∷ n) e =
     let s = both-true (eqb (length n) 23) (leb 0x21 d) (q .0) in
     let r = ended n (p .1) in
     let len : length (r .name) + r .behind ≡ 23 =
-          sym (length-append (r .name) (replicate (r .behind) 0x20) ∙ ap (λ (k : ℕ). length (r .name) + k) (length-replicate {A = ℕ} (r .behind) 0x20))
-            ∙ sym (ap length (r .is)) ∙ eqb-true (length n) 23 (s .0) in
+    sym (length-append (r .name) (replicate (r .behind) 0x20) ∙ ap (λ (k : ℕ). length (r .name) + k) (length-replicate {A = ℕ} (r .behind) 0x20))
+    ∙ sym (ap length (r .is)) ∙ eqb-true (length n) 23 (s .0) in
     let b : 24 - suc (length (r .name)) ≡ r .behind = omega arith in
-    record { name = d ∷ r .name; some = omega arith; fits = omega arith
-           ; digits = (leb-true 0x21 d (s .1), leb-true d 0x7D (q .1), r .digits)
-           ; is = ap (λ (x : Str). d ∷ x) (r .is) ∙ sym (filled-short (d ∷ r .name) (omega arith) ∙ ap (λ (k : ℕ). d ∷ (r .name ++ replicate k 0x20)) b) }
+    record {
+      name = d ∷ r .name;
+      some = omega arith;
+      fits = omega arith;
+      digits = (leb-true 0x21 d (s .1), leb-true d 0x7D (q .1), r .digits);
+      is = ap (λ (x : Str). d ∷ x) (r .is) ∙ sym (filled-short (d ∷ r .name) (omega arith) ∙ ap (λ (k : ℕ). d ∷ (r .name ++ replicate k 0x20)) b);
+    }
 
 pub legal-legalFilled : {n : Str} → Legal n → legalFilled n ≡ true
 unfolding legalFilled blankEnded blanks
@@ -205,6 +211,7 @@ legal-legalFilled {n} g = rw (g .is, filled-short (g .name) (g .fits)) (go (g .n
     ends [] zero h = refl
     ends [] (suc k) h = are-blanks k
     ends (d ∷ x) k h = rw (ne-eqb d 0x20 (λ e. absurd (omega (arith, h .0))), le-leb 0x21 d (h .0), le-leb d 0x7D (h .1)) (ends x k (h .2))
+
     go : (x : Str) → 0 < length x → length x ≤ 24 → Digits 0x21 x → legalFilled (x ++ replicate (24 - length x) 0x20) ≡ true
     go [] a b h = absurd (omega arith)
     go (d ∷ x) a b h =
@@ -236,9 +243,10 @@ split-from : (f i : ℕ) (c z : Str) → c ≺ z → length c ≡ length z → i
     → splitFrom f i c z ≡ take (suc (diff c z)) c
 unfolding splitFrom
 split-from zero i c z p h lo up = let e : i ≡ suc (diff c z) = omega arith in rw e
-split-from (suc f) i c z p h lo up = elim (decLe i (diff c z))
-    [ yes k ↦ rw (split-shortest c z i k, smaller-same (take i z)) (split-from f (suc i) c z p h (omega arith) (omega arith))
-    | no k ↦ let e : i ≡ suc (diff c z) = omega arith in rw (e, smaller-first c z p h) ]
+split-from (suc f) i c z p h lo up = elim (decLe i (diff c z)) [
+  | yes k ↦ rw (split-shortest c z i k, smaller-same (take i z)) (split-from f (suc i) c z p h (omega arith) (omega arith))
+  | no k ↦ let e : i ≡ suc (diff c z) = omega arith in rw (e, smaller-first c z p h)
+]
 
 pub split-is : (c z : Str) → c ≺ z → length c ≡ length z → splitString c z ≡ take (suc (diff c z)) c
 unfolding splitString

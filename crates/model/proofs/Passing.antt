@@ -105,7 +105,7 @@ module _ (cs : List Cell) where
       let c = at-cell cs m in
       let q = cell (c .digit) (c .number) p in
       when-all (decLt m (length cs)) (decLe (c .number) (length p)) (ℕ-discrete (occ m (s .1)) 0)
-        (then (pass f q (c .left) (s .0, s .1 ++ (m ∷ []))) (λ s. then (eat-string q (s .0)) (λ es. pass f p (c .right) (es, s .1))))
+      (then (pass f q (c .left) (s .0, s .1 ++ (m ∷ []))) (λ s. then (eat-string q (s .0)) (λ es. pass f p (c .right) (es, s .1))))
 
   pub record Passed (p : Str) (a : Side) (s r : Passing) : Type 0 where
     pub tree : Tree
@@ -125,39 +125,57 @@ module _ (cs : List Cell) where
       go (some es) x y =
           let e₀ : es ≡ r .0 = cc in
           let e₁ : s .1 ≡ r .1 = cc in
-          record { tree = leaf B; visits = []; reads = here; numbers = tt; tokens = slot-eaten B (s .0) es x ∙ ap (λ (z : List Token). leads B ∷ z) e₀
-                 ; seen = sym e₁ ∙ sym (append-nil (s .1)); once = λ h i. rw (← e₁) (h i) }
+          record {
+            tree = leaf B;
+            visits = [];
+            reads = here;
+            numbers = tt;
+            tokens = slot-eaten B (s .0) es x ∙ ap (λ (z : List Token). leads B ∷ z) e₀;
+            seen = sym e₁ ∙ sym (append-nil (s .1));
+            once = λ h i. rw (← e₁) (h i);
+          }
   pass-sound (suc f) p (further m) s r e =
       both (decLt m (length cs)) (decLe (c .number) (length p)) (ℕ-discrete (occ m (s .1)) 0)
-        (λ s₁ e. pass-sound f q (c .left) (s .0, s .1 ++ (m ∷ [])) s₁ e) (λ s₂ e. pass-sound f p (c .right) s₂ r e) e
+      (λ s₁ e. pass-sound f q (c .left) (s .0, s .1 ++ (m ∷ [])) s₁ e) (λ s₂ e. pass-sound f p (c .right) s₂ r e) e
     where
       c : Cell
       c = at-cell cs m
+
       q : Str
       q = cell (c .digit) (c .number) p
+
       s₀ : Passing
       s₀ = (s .0, s .1 ++ (m ∷ []))
+
       Left : Type 0
       Left = (s₁ : Passing) → pass f q (c .left) s₀ ≡ some s₁ → Passed q (c .left) s₀ s₁
+
       Right : Type 0
       Right = (s₂ : Passing) → pass f p (c .right) s₂ ≡ some r → Passed p (c .right) s₂ r
+
       join : m < length cs → c .number ≤ length p → occ m (s .1) ≡ 0 → (s₁ : Passing) (es : List Token) → Passed q (c .left) s₀ s₁
           → s₁ .0 ≡ string q ∷ es → Passed p (c .right) (es, s₁ .1) r → Passed p (further m) s r
-      join h n o s₁ es l e r′ = record
-        { tree = node (c .digit) (c .number) (l .tree) (r′ .tree); visits = m ∷ (l .visits ++ r′ .visits); reads = there h (l .reads) (r′ .reads)
-        ; numbers = (n, l .numbers, r′ .numbers)
-        ; tokens = l .tokens ∙ ap (λ (z : List Token). inorder q (l .tree) ++ z) (e ∙ ap (λ (z : List Token). string q ∷ z) (r′ .tokens))
-              ∙ sym (append-assoc (inorder q (l .tree)) (string q ∷ inorder p (r′ .tree)) (r .0))
-        ; seen = r′ .seen ∙ ap (λ (z : List ℕ). z ++ r′ .visits) (l .seen) ∙ simp append-assoc
-        ; once = λ k. r′ .once (l .once (occ-snoc m (s .1) o k)) }
+      join h n o s₁ es l e r′ = record {
+        tree = node (c .digit) (c .number) (l .tree) (r′ .tree);
+        visits = m ∷ (l .visits ++ r′ .visits);
+        reads = there h (l .reads) (r′ .reads);
+        numbers = (n, l .numbers, r′ .numbers);
+        tokens = l .tokens ∙ ap (λ (z : List Token). inorder q (l .tree) ++ z) (e ∙ ap (λ (z : List Token). string q ∷ z) (r′ .tokens))
+            ∙ sym (append-assoc (inorder q (l .tree)) (string q ∷ inorder p (r′ .tree)) (r .0));
+        seen = r′ .seen ∙ ap (λ (z : List ℕ). z ++ r′ .visits) (l .seen) ∙ simp append-assoc;
+        once = λ k. r′ .once (l .once (occ-snoc m (s .1) o k));
+      }
+
       third : m < length cs → c .number ≤ length p → occ m (s .1) ≡ 0 → (s₁ : Passing) → Passed q (c .left) s₀ s₁ → Right
           → (o : Option (List Token)) → eat-string q (s₁ .0) ≡ o → then o (λ es. pass f p (c .right) (es, s₁ .1)) ≡ some r → Passed p (further m) s r
       third h n o s₁ l R nothing x y = let z : _≡_ {A = ℕ} 0 1 = cc in absurd (omega arith)
       third h n o s₁ l R (some es) x y = join h n o s₁ es l (string-eaten q (s₁ .0) es x) (R (es, s₁ .1) y)
+
       second : m < length cs → c .number ≤ length p → occ m (s .1) ≡ 0 → Left → Right
           → (o : Option Passing) → pass f q (c .left) s₀ ≡ o → then o (λ s. then (eat-string q (s .0)) (λ es. pass f p (c .right) (es, s .1))) ≡ some r → Passed p (further m) s r
       second h n o L R nothing x y = let z : _≡_ {A = ℕ} 0 1 = cc in absurd (omega arith)
       second h n o L R (some s₁) x y = third h n o s₁ (L s₁ x) R (eat-string q (s₁ .0)) refl y
+
       both : (d : Dec (m < length cs)) (n : Dec (c .number ≤ length p)) (o : Dec (occ m (s .1) ≡ 0)) → Left → Right
           → when-all d n o (then (pass f q (c .left) s₀) (λ s. then (eat-string q (s .0)) (λ es. pass f p (c .right) (es, s .1)))) ≡ some r → Passed p (further m) s r
       both (yes h) (yes n) (yes o) L R e = second h n o L R (pass f q (c .left) s₀) refl e

@@ -20,20 +20,24 @@ use Rattle.model.proofs.Ranges.{bounds-all, bounds-asc, label-leads}
 module _ {l : Low} {u : Str} (xs : List Str) (r : Str) (ys : List Str)
     (asc : Asc l (xs ++ (r ∷ ys)) u) (closed : Closed (xs ++ (r ∷ ys)) u) where
   closed-left : Closed xs r
-  closed-left x m k = elim (closed x (Memᴰ·append-left (r ∷ ys) m) k)
-      [ inl m ↦ elim (List·Memᴰ·append-cases xs m)
-          [ inl m ↦ inl m
-          | inr m ↦ inr (elim (List·Memᴰ·cases-cons m) [ inl e ↦ rw e (le-refl r) | inr m ↦ lt-le (over (asc-mem (asc-split xs asc .3) m .0)) ]) ]
-      | inr h ↦ inr (le-trans (lt-le (asc-split xs asc .2)) h) ]
+  closed-left x m k = elim (closed x (Memᴰ·append-left (r ∷ ys) m) k) [
+    | inl m ↦ elim (List·Memᴰ·append-cases xs m) [
+      | inl m ↦ inl m
+      | inr m ↦ inr (elim (List·Memᴰ·cases-cons m) [ inl e ↦ rw e (le-refl r) | inr m ↦ lt-le (over (asc-mem (asc-split xs asc .3) m .0)) ])
+    ]
+    | inr h ↦ inr (le-trans (lt-le (asc-split xs asc .2)) h)
+  ]
 
   closed-right : Closed ys u
   closed-right x m k =
       let up : r ≺ take k x = lt-le-trans (over (asc-mem (asc-split xs asc .3) m .0)) (le-take k x) in
-      elim (closed x (Memᴰ·append-right xs (List·Memᴰ·tail m)) k)
-      [ inl m ↦ elim (List·Memᴰ·append-cases xs m)
-          [ inl m ↦ absurd (asc-mem (asc-split xs asc .0) m .1 (lt-le up))
-          | inr m ↦ elim (List·Memᴰ·cases-cons m) [ inl e ↦ absurd (up (rw e (le-refl r))) | inr m ↦ inl m ] ]
-      | inr h ↦ inr h ]
+      elim (closed x (Memᴰ·append-right xs (List·Memᴰ·tail m)) k) [
+        | inl m ↦ elim (List·Memᴰ·append-cases xs m) [
+          | inl m ↦ absurd (asc-mem (asc-split xs asc .0) m .1 (lt-le up))
+          | inr m ↦ elim (List·Memᴰ·cases-cons m) [ inl e ↦ absurd (up (rw e (le-refl r))) | inr m ↦ inl m ]
+        ]
+        | inr h ↦ inr h
+      ]
 
 -- the cell of a root r with fewest digits has the string r under the path u
 root-cell : (r u : Str) → r ≺ u → u ⊑ take (length r - 1) r → (cell (last-digit r) (length r - 1) u ≡ r) × (length r - 1 ≤ length u)
@@ -68,12 +72,12 @@ module _ (pick : List Str → ℕ) (label : Low → Str → ℕ)
       let closed′ : Closed (take m ss ++ (r ∷ drop (suc m) ss)) u = rw e at closed in
       let s = asc-split (take m ss) asc′ in
       let parent : u ⊑ take (length r - 1) r =
-            parent-above ss r u (subst (λ (zs : List Str). List·Memᴰ r zs) (sym e) (Memᴰ·append-right (take m ss) (List·Memᴰ·head refl))) (s .2) (fewest ss) closed in
+      parent-above ss r u (subst (λ (zs : List Str). List·Memᴰ r zs) (sym e) (Memᴰ·append-right (take m ss) (List·Memᴰ·head refl))) (s .2) (fewest ss) closed in
       let c = root-cell r u (s .2) parent in
       cast (λ l u B. B ≡ label l u) (sym e)
-           (cut-at (λ l u B. B ≡ label l u) (last-digit r) (length r - 1) (c .1) (c .0) (s .1) (s .2)
-              (build-trie n (take m ss) l r (rw length-take (omega arith)) (s .0) (closed-left (take m ss) r (drop (suc m) ss) asc′ closed′))
-              (build-trie n (drop (suc m) ss) (at r) u (rw length-drop (omega arith)) (s .3) (closed-right (take m ss) r (drop (suc m) ss) asc′ closed′)))
+      (cut-at (λ l u B. B ≡ label l u) (last-digit r) (length r - 1) (c .1) (c .0) (s .1) (s .2)
+      (build-trie n (take m ss) l r (rw length-take (omega arith)) (s .0) (closed-left (take m ss) r (drop (suc m) ss) asc′ closed′))
+      (build-trie n (drop (suc m) ss) (at r) u (rw length-drop (omega arith)) (s .3) (closed-right (take m ss) r (drop (suc m) ss) asc′ closed′)))
 
 fewest-le : (x : Str) (xs : List Str) (y : Str) → List·Memᴰ y (x ∷ xs) → fewest x xs ≤ length y
 fewest-le x [] y m = elim (List·Memᴰ·cases-cons m) [ inl e ↦ omega (arith, ap length e) | inr m ↦ absurd (List·Memᴰ·not-nil m) ]
@@ -135,9 +139,9 @@ module _ (F : Ranges) where
   pub rebuilt-agrees : (Bs : List ℕ) → Chain F none Bs → Spans (Leads F) none [] (rebuilt F Bs) (all (bounds F Bs))
   rebuilt-agrees Bs c =
       rw relabel-same at (relabel-trie (λ l u B. B ≡ label F Bs l) (Leads F) (λ u B. B)
-        (build-trie pick (λ l u. label F Bs l) pick-fits pick-fewest (length (all (bounds F Bs))) (all (bounds F Bs)) none [] (omega arith)
-          (all-asc (bounds F Bs) none (bounds-asc F Bs none c)) (all-closed (bounds F Bs)))
-        least (λ l u B a b mv gap e. rw e (label-leads F Bs none c l u least (λ x m. gap x (bounds-all F Bs none c x m)))))
+      (build-trie pick (λ l u. label F Bs l) pick-fits pick-fewest (length (all (bounds F Bs))) (all (bounds F Bs)) none [] (omega arith)
+      (all-asc (bounds F Bs) none (bounds-asc F Bs none c)) (all-closed (bounds F Bs)))
+      least (λ l u B a b mv gap e. rw e (label-leads F Bs none c l u least (λ x m. gap x (bounds-all F Bs none c x m)))))
 
   -- each name within its walk's leaf lies in the range of the slot that the leaf leads to
   pub walk-right : {t : Tree} {ss : List Str} → Spans (Leads F) none [] t ss → (n : Str)

@@ -11,7 +11,7 @@ use Rattle.model.specs.Order.{Asc, Low, Str, _≺_, _⊑_, _◁_, above,
 use Rattle.model.specs.Files.{Begins, all, fresh, longer}
 use Rattle.model.specs.Tries.{Spans, Tree, cut, tip}
 use Rattle.model.proofs.Order.{diff-le-right, le-antisym, le-refl, low-at, low-lower, lt-le, lt-trans, take-diff}
-use Rattle.model.proofs.Growth.{grown-trie}
+use Rattle.model.proofs.Growth.{chain-at-leaf}
 
 pub asc-split : (xs : List Str) {r : Str} {ys : List Str} {l : Low} {u : Str} → Asc l (xs ++ (r ∷ ys)) u → (Asc l xs r) × (l ◁ r) × (r ≺ u) × (Asc (at r) ys u)
 asc-split [] (step a b s) = (end, a, b, s)
@@ -45,6 +45,7 @@ asc-unique {u = u} (step {x = x} {xs = xs} a b s) (step {x = y} {xs = ys} c d t)
   where
     first : {v w : Str} {vs : List Str} → Asc (at v) vs u → List·Memᴰ w (v ∷ vs) → v ⊑ w
     first {v} s m = elim (List·Memᴰ·cases-cons m) [ inl e ↦ rw e (le-refl v) | inr m ↦ lt-le (over (asc-mem s m .0)) ]
+
     rest : {v w : Str} {vs ws : List Str} → Asc (at v) vs u → v ≡ w → ((z : Str) → List·Memᴰ z (v ∷ vs) → List·Memᴰ z (w ∷ ws)) → (z : Str) → List·Memᴰ z vs → List·Memᴰ z ws
     rest {v} s e f z m = elim (List·Memᴰ·cases-cons (f z (List·Memᴰ·tail m))) [ inl e′ ↦ absurd (over (asc-mem s m .0) (rw (e′ ∙ sym e) (le-refl v))) | inr m ↦ m ]
 
@@ -88,6 +89,7 @@ begins s u k h hk = by (decLe k (diff s u))
   where
     j : ℕ
     j = diff s u
+
     by : Dec (k ≤ j) → List·Memᴰ (take k s) (fresh s u) ⊎ ((k ≤ j) × (take k s ≡ take k u))
     by (yes l) = inr (l, sym (take-take k j s l) ∙ ap (take k) (take-diff s u) ∙ take-take k j u l)
     by (no n) = let e : k ≡ j + suc (k - suc j) = omega arith in inl (Memᴰ·cast (ap (λ (m : ℕ). take m s) e ∙ take-add j (suc (k - suc j)) s) (longer-mem (drop j s) (take j s) (k - suc j) (rw length-drop (omega arith))))
@@ -97,7 +99,7 @@ abbrev pub Closed : List Str → Str → Type 0
 Closed ss u = (x : Str) → List·Memᴰ x ss → (k : ℕ) → List·Memᴰ (take k x) ss ⊎ (u ⊑ take k x)
 
 pub fresh-asc : (x u : Str) (l : Low) → l ◁ x → x ≺ u → Asc l (fresh x u) u
-fresh-asc x u l a b = trie-asc (grown-trie (λ l u B. Unit {0}) (record { shrink = λ h i j. tt }) x {A = 0} a b tt)
+fresh-asc x u l a b = trie-asc (chain-at-leaf (λ l u B. Unit {0}) (record { shrink = λ h i j. tt }) x {A = 0} a b tt)
 
 pub all-asc : (xs : List Str) (l : Low) → Asc l xs [] → Asc l (all xs) []
 all-asc [] l s = end
@@ -116,17 +118,19 @@ all-begins (x ∷ y ∷ ys) z m = go (List·Memᴰ·append-cases (fresh x y) m) 
 
 pub begins-all : (xs : List Str) (x : Str) → List·Memᴰ x xs → (k : ℕ) → 0 < k → k ≤ length x → List·Memᴰ (take k x) (all xs)
 begins-all [] x m k a b = absurd (List·Memᴰ·not-nil m)
-begins-all (x ∷ []) v m k a b = elim (List·Memᴰ·cases-cons m)
-    [ inl e ↦ Memᴰ·cast (ap (take k) e) (elim (begins x [] k a (rw e at b)) [ inl m ↦ m | inr h ↦ absurd (omega (arith, h .0, diff-le-right x [])) ])
-    | inr m ↦ absurd (List·Memᴰ·not-nil m) ]
+begins-all (x ∷ []) v m k a b = elim (List·Memᴰ·cases-cons m) [
+  | inl e ↦ Memᴰ·cast (ap (take k) e) (elim (begins x [] k a (rw e at b)) [ inl m ↦ m | inr h ↦ absurd (omega (arith, h .0, diff-le-right x [])) ])
+  | inr m ↦ absurd (List·Memᴰ·not-nil m)
+]
 begins-all (x ∷ y ∷ ys) v m k a b = go (List·Memᴰ·cases-cons m) (λ v m b. begins-all (y ∷ ys) v m k a b)
   where
     go : (v ≡ x) ⊎ List·Memᴰ v (y ∷ ys) → ((w : Str) → List·Memᴰ w (y ∷ ys) → k ≤ length w → List·Memᴰ (take k w) (all (y ∷ ys)))
         → List·Memᴰ (take k v) (fresh x y ++ all (y ∷ ys))
     go (inr m) f = Memᴰ·append-right (fresh x y) (f v m b)
-    go (inl e) f = Memᴰ·cast (ap (take k) e) (elim (begins x y k a (rw e at b))
-        [ inl m ↦ Memᴰ·append-left (all (y ∷ ys)) m
-        | inr h ↦ Memᴰ·append-right (fresh x y) (Memᴰ·cast (h .1) (f y (List·Memᴰ·head refl) (omega (arith, h .0, diff-le-right x y)))) ])
+    go (inl e) f = Memᴰ·cast (ap (take k) e) (elim (begins x y k a (rw e at b)) [
+      | inl m ↦ Memᴰ·append-left (all (y ∷ ys)) m
+      | inr h ↦ Memᴰ·append-right (fresh x y) (Memᴰ·cast (h .1) (f y (List·Memᴰ·head refl) (omega (arith, h .0, diff-le-right x y))))
+    ])
 
 pub all-closed : (xs : List Str) → Closed (all xs) []
 all-closed xs z m zero = inr top
@@ -134,10 +138,12 @@ all-closed xs z m (suc n) = inl (go (all-begins xs z m))
   where
     k : ℕ
     k = suc n
+
     go : (x : Str) × List·Memᴰ x xs × Begins x z → List·Memᴰ (take k z) (all xs)
-    go (x, mx, b) = elim (decLe k (b .count))
-        [ yes h ↦ Memᴰ·cast (ap (take k) (b .is) ∙ take-take k (b .count) x h) (begins-all xs x mx k (omega arith) (omega (arith, h, b .fits)))
-        | no h ↦ Memᴰ·cast (take-all k z (omega (arith, h, ap length (b .is), length-take (b .count) x))) m ]
+    go (x, mx, b) = elim (decLe k (b .count)) [
+      | yes h ↦ Memᴰ·cast (ap (take k) (b .is) ∙ take-take k (b .count) x h) (begins-all xs x mx k (omega arith) (omega (arith, h, b .fits)))
+      | no h ↦ Memᴰ·cast (take-all k z (omega (arith, h, ap length (b .is), length-take (b .count) x))) m
+    ]
 
 pub begins-in : (bs : List Str) (x z : Str) → List·Memᴰ x bs → Begins x z → List·Memᴰ z (all bs)
 begins-in bs x z m b = Memᴰ·cast (b .is) (begins-all bs x m (b .count) (b .some) (b .fits))

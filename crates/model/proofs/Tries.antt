@@ -51,6 +51,7 @@ inside {P} {l} {u} (cut {d = d} {i = i} {xs = xs} {ys = ys} hi a b L R) x m =
   where
     q : Str
     q = cell d i u
+
     by : List·Memᴰ x xs ⊎ List·Memᴰ x (q ∷ ys) → (List·Memᴰ x xs → (l ◁ x) × (x ≺ q)) → (List·Memᴰ x ys → (at q ◁ x) × (x ≺ u)) → (l ◁ x) × (x ≺ u)
     by (inl m) f g = (f m .0, lt-trans (f m .1) b)
     by (inr m) f g = elim (List·Memᴰ·cases-cons m) [ inl e ↦ rw e (a, b) | inr m ↦ (low-lower (low-at a) (g m .0), g m .1) ]
@@ -70,17 +71,21 @@ module _ (P P′ : Low → Str → ℕ → Type 0) (f : Str → ℕ → ℕ) whe
     where
       q : Str
       q = cell d i u
+
       left : Turns l q xs
       left m v B lm vq mv gap = w m v B lm (le-trans vq (lt-le b)) mv λ x mx ax bx.
-          elim (List·Memᴰ·append-cases xs mx)
-            [ inl n ↦ gap x n ax bx
-            | inr n ↦ lt-le-trans bx vq (elim (List·Memᴰ·cases-cons n) [ inl e ↦ rw e (le-refl q) | inr n ↦ lt-le (over (inside R x n .0)) ]) ]
+          elim (List·Memᴰ·append-cases xs mx) [
+            | inl n ↦ gap x n ax bx
+            | inr n ↦ lt-le-trans bx vq (elim (List·Memᴰ·cases-cons n) [ inl e ↦ rw e (le-refl q) | inr n ↦ lt-le (over (inside R x n .0)) ])
+          ]
+
       right : Turns (at q) u ys
       right m v B lm vu mv gap = w m v B (low-trans (low-at a) lm) vu mv λ x mx ax bx.
           let qx : q ≺ x = over (low-lower lm ax) in
-          elim (List·Memᴰ·append-cases xs mx)
-            [ inl n ↦ inside L x n .1 (lt-le qx)
-            | inr n ↦ elim (List·Memᴰ·cases-cons n) [ inl e ↦ qx (rw e (le-refl q)) | inr n ↦ gap x n ax bx ] ]
+          elim (List·Memᴰ·append-cases xs mx) [
+            | inl n ↦ inside L x n .1 (lt-le qx)
+            | inr n ↦ elim (List·Memᴰ·cases-cons n) [ inl e ↦ qx (rw e (le-refl q)) | inr n ↦ gap x n ax bx ]
+          ]
 
 pub relabel-same : (p : Str) (t : Tree) → relabel (λ u B. B) p t ≡ t
 relabel-same p (leaf s) = refl

@@ -7,10 +7,12 @@ use Prim.Native.Nat.{_/_, _<_, _≤_, ℕ}
 use native.Mathlib.Decide.{decLe, decLt}
 use native.Mathlib.Omega.{arith}
 use lib.ListN.{length, set}
+use Rattle.model.specs.declared.Trie.{Trie}
 use Rattle.model.specs.Order.{Low, Str, _⊑_, _◁_, at, le?, low?, str?}
 use Rattle.model.specs.Names.{Legal, splitString}
 use Rattle.model.specs.Entries.{Entry, chosen, find, insert, move, name-at, stay, without}
 use Rattle.model.specs.Files.{In, Slot, entries-of, first, free, head, slot-at, string-count, used}
+use Rattle.model.specs.Growth.{grown-trie}
 
 pub data Request : Type 0 where
   put : Str → ℕ → Request
@@ -62,6 +64,14 @@ module _ (b : ℕ) where
         → find n es ≡ some w → Change fs (remove n) ((A, used l u (without n es)) ∷ [])
     absent : (A : ℕ) {l : Low} {u : Str} {es : List Entry} {n : Str} → slot-at fs A ≡ used l u es → l ◁ n → n ⊑ u
         → find n es ≡ nothing → Change fs (remove n) []
+
+  -- "The trie grows with the last store."
+  unfoldable pub trie-after : {fs : List Slot} {q : Request} {ss : List Store} → Change fs q ss → Trie → Trie
+  trie-after (fits is g lo up k) t = t
+  trie-after (splits {A = A} {N = N} {es = es} {n = n} {v = v} is g lo up k f c) t =
+      grown-trie t (name-at (insert n v es) (b / 2)) (split-of (insert n v es)) A N
+  trie-after (removes is lo up e) t = t
+  trie-after (absent A is lo up e) t = t
 
   -- "5: split needed, no free slot"; "6: the bounds and their beginnings, after the change, exceed 256 strings".
   pub data Denied (fs : List Slot) : Request → ℕ → Type 0 where

@@ -56,7 +56,7 @@ isChain fs l (B ∷ []) =
 isChain fs l (B ∷ C ∷ Bs) =
     let u = upper-of (head (slot-at fs B)) in
     isUsed (slot-at fs B) && sameLow (lower-of (head (slot-at fs B))) l && isAbove l u && not (atMost [] u)
-      && isChain fs (at u) (C ∷ Bs)
+    && isChain fs (at u) (C ∷ Bs)
 
 -- Each used slot is in the order; slots are counted from i.
 unfoldable pub isIn : ℕ → List ℕ → Bool

@@ -2,14 +2,14 @@
 use mathlib.Core.List.{List, [], _++_, _∷_}
 use Prim.Native.Nat.{_+_, _-_, _/_, min, suc, zero, ℕ}
 use native.Mathlib.Decide.{ℕ-discrete}
-use lib.ListN.{drop, getD, length, replicate, take}
+use lib.ListN.{drop, getD, length, take}
 use Rattle.model.specs.declared.Cell.{Cell}
 use Rattle.model.specs.declared.Side.{Side}
 use Rattle.model.specs.declared.Side.the-variants.{Cell as further, Slot as slot}
 use Rattle.model.specs.declared.Trie.{Trie}
 use Rattle.model.specs.Order.{Low, Str, at, low?, none}
 use Rattle.model.specs.Files.{Ranges, Slot, all, bounds, order-of, ranges}
-use Rattle.model.specs.Tries.{Tree, leaf, node, size, zero-cell}
+use Rattle.model.specs.Tries.{Tree, leaf, node, size, trie-of}
 
 -- "the strings with fewest digits": how many digits they have,
 abbrev pub fewest : Str → List Str → ℕ
@@ -46,7 +46,7 @@ build pick label (suc n) l u (x ∷ xs) =
     let m = pick (x ∷ xs) in
     let r = getD (x ∷ xs) m [] in
     node (last-digit r) (length r - 1) (build pick label n l r (take m (x ∷ xs)))
-      (build pick label n (at r) u (drop (suc m) (x ∷ xs)))
+    (build pick label n (at r) u (drop (suc m) (x ∷ xs)))
 
 module _ (F : Ranges) where
   -- The slot of a leaf: in range order, the first whose upper is above the string just left of the leaf.
@@ -68,15 +68,10 @@ abbrev pub lay : ℕ → Tree → List Cell
 lay k (leaf s) = []
 lay k (node d i L R) =
     record { digit = d; number = i; left = side-of (suc k) L; right = side-of (suc k + size L) R }
-      ∷ (lay (suc k) L ++ lay (suc k + size L) R)
-
--- "a first leaf that is used only when the count is 0 (otherwise 0)"
-abbrev pub first-of : Tree → ℕ
-first-of (leaf s) = s
-first-of (node d i L R) = 0
+    ∷ (lay (suc k) L ++ lay (suc k + size L) R)
 
 abbrev pub laid : Tree → Trie
-laid t = record { cells = lay 0 t ++ replicate (256 - size t) zero-cell; count = size t; first = first-of t }
+laid t = trie-of (lay 0 t) (side-of 0 t)
 
 -- The trie that rebuild gives.
 abbrev pub rebuilt-trie : List Slot → Trie

@@ -9,7 +9,7 @@ use Rattle.model.specs.declared.Side.{Side}
 use Rattle.model.specs.declared.Side.the-variants.{Cell as further, Slot as slot}
 use Rattle.model.specs.declared.Trie.{Trie}
 use Rattle.model.specs.Order.{Low, Str, _≺_, _⊑_, _⊴_, _◁_, at, le?, none}
-use Rattle.model.specs.Files.{IsString, Ranges, Slot, ranges}
+use Rattle.model.specs.Files.{IsString, Ranges, Slot, first, ranges}
 
 -- A side, unfolded: a leaf that leads to a slot, or a cell with a digit, a digit number and two sides.
 pub data Tree : Type 0 where
@@ -93,14 +93,23 @@ abbrev pub walk-cells : List Cell → Str → ℕ → Str → Side → ℕ
 walk-cells cs n zero p a = 0
 walk-cells cs n (suc fuel) p (slot s) = s
 walk-cells cs n (suc fuel) p (further m) =
-    elim (le? n (cell (at-cell cs m .digit) (at-cell cs m .number) p))
-      [ yes h ↦ walk-cells cs n fuel (cell (at-cell cs m .digit) (at-cell cs m .number) p) (at-cell cs m .left)
-      | no h ↦ walk-cells cs n fuel p (at-cell cs m .right) ]
+    elim (le? n (cell (at-cell cs m .digit) (at-cell cs m .number) p)) [
+      | yes h ↦ walk-cells cs n fuel (cell (at-cell cs m .digit) (at-cell cs m .number) p) (at-cell cs m .left)
+      | no h ↦ walk-cells cs n fuel p (at-cell cs m .right)
+    ]
 
 -- "Cell 0 is the root." "With count 0 the walk ends at the first leaf at once."
 abbrev pub root-side : ℕ → ℕ → Side
 root-side zero f = slot f
 root-side (suc n) f = further 0
+
+abbrev pub first-leaf-of : Side → ℕ
+first-leaf-of (slot s) = s
+first-leaf-of (further m) = 0
+
+-- Cells from the root on, as the trie that holds them.
+abbrev pub trie-of : List Cell → Side → Trie
+trie-of cs a = record { cells = cs ++ replicate (256 - length cs) zero-cell; count = length cs; first = first-leaf-of a }
 
 -- The slot that a name leads to.
 abbrev pub walk-trie : Trie → Str → ℕ
@@ -109,8 +118,9 @@ walk-trie t n = walk-cells (t .cells) n (suc (t .count)) [] (root-side (t .count
 -- "A trie agrees with a sound file when .."
 pub record Agrees (fs : List Slot) (t : Trie) : Type 0 where
   -- "its count is at most 256 and what lies past the count, and the first leaf, are as said above"
+  pub whole : length (t .cells) ≡ 256
   pub few : t .count ≤ 256
-  pub past : t .cells ≡ take (t .count) (t .cells) ++ replicate (256 - t .count) zero-cell
+  pub past : (i : ℕ) → t .count ≤ i → at-cell (t .cells) i ≡ zero-cell
   pub first-leaf : 0 < t .count → t .first ≡ 0
   -- "every cell below the count is reached once from the root"
   pub tree : Tree
