@@ -1,0 +1,342 @@
+-- Cells that agree with ranges in order: decided by the pass, fed by a cursor.
+use mathlib.Core.Path.{_∙_, _≡_, ap, ap₂, refl, sym}
+use mathlib.Core.Option.{Option, some}
+use mathlib.Core.List.{List, List·Memᴰ, List·Memᴰ·head, List·Memᴰ·tail, [], _++_, _∷_, append-assoc, append-nil}
+use Prim.Native.Nat.{_+_, _-_, _<_, _≤_, suc, zero, ℕ}
+use native.Mathlib.Numerals.{add-one}
+use native.Mathlib.Omega.{arith}
+use lib.ListN.{drop, length, length-append, length-drop, length-replicate, length-take, replicate, take, take-append-drop}
+use lib.Seq.{getD-append-add, length-take-le, take-append-add, take-append-seam}
+use Rattle.model.specs.declared.Cell.{Cell}
+use Rattle.model.specs.declared.Side.{Side}
+use Rattle.model.specs.declared.Side.the-variants.{Cell as further, Slot as slot}
+use Rattle.model.specs.declared.Trie.{Trie}
+use Rattle.model.specs.Order.{Asc, Low, Str, _≺_, _⊑_, _◁_, above, at, diff, end, least, low?, none, over, step, top}
+use Rattle.model.specs.Files.{Chain, In, Ranges, Slot, Sound, all, bounds, fresh, head, last, longer, next, ranges, slot-at, string-count, strings-of}
+use Rattle.model.specs.Tries.{Agrees, Leads, Leaves, Numbers, Reads, Spans, Tree, at-cell, cell, cut, first-leaf-of, leaf, leaf-last, leaf-next, leaves, node, occ, root-side, size, strings, tip, trie-of, walk-trie, zero-cell}
+use Rattle.model.specs.Rebuilding.{label, laid, lay, rebuilt, rebuilt-trie, side-of}
+use Rattle.model.proofs.Order.{diff-lt-left, le-take, le-trans, lt-le, lt-le-trans}
+use Rattle.model.proofs.Tries.{cast, cells-count, flat-trie, relabel-same, relabel-trie, strings-are, trie-flat}
+use Rattle.model.proofs.Strings.{all-asc, asc-mem, asc-unique, fresh-asc, fresh-begins, trie-asc}
+use Rattle.model.proofs.Ranges.{bounds-all, bounds-asc, chain-some, label-leads, leads-unique}
+use Rattle.model.proofs.Cells.{each-once, laid-each, laid-reads, reads-append, reads-size, upto, visits-count, walk-reads}
+use Rattle.model.proofs.Rebuilding.{rebuilt-agrees, walk-right}
+use Rattle.model.proofs.Files.{count-right, order-right, strings-asc, strings-every, strings-only, strings-right}
+use Rattle.model.proofs.Passing.{Passing, Token, inorder, leads, pass, pass-complete, pass-sound, reads-height, string}
+
+-- The cells, from this side on, are a trie of these slots' bounds and their beginnings, each leaf leading to its bucket.
+pub record CellsAgree (F : Ranges) (Bs : List ℕ) (cs : List Cell) (a : Side) : Type 0 where
+  pub tree : Tree
+  pub visits : List ℕ
+  pub reads : Reads cs a tree visits
+  pub each : (i : ℕ) → i < length cs → occ i visits ≡ 1
+  pub trie : Spans (Leads F) none [] tree (all (bounds F Bs))
+
+-- What the pass expects: the strings, and the slot of each gap by its label.
+module _ (lab : Low → ℕ) where
+  abbrev pub expect : Low → List Str → List Token
+  expect l [] = leads (lab l) ∷ []
+  expect l (x ∷ xs) = leads (lab l) ∷ string x ∷ expect (at x) xs
+
+  expect-join : (xs : List Str) (l : Low) (q : Str) (ys : List Str) → expect l xs ++ (string q ∷ expect (at q) ys) ≡ expect l (xs ++ (q ∷ ys))
+  expect-join [] l q ys = refl
+  expect-join (x ∷ xs) l q ys = ap (λ (es : List Token). leads (lab l) ∷ string x ∷ es) (expect-join xs (at x) q ys)
+
+  pub trie-expect : {l : Low} {u : Str} {t : Tree} {ss : List Str} → Spans (λ l u B. B ≡ lab l) l u t ss → inorder u t ≡ expect l ss
+  trie-expect (tip e) = ap (λ (B : ℕ). leads B ∷ []) e
+  trie-expect {l} (cut {u = u} {d = d} {i = i} {xs = xs} {ys = ys} hi a b L R) =
+      rw (trie-expect L, trie-expect R) (expect-join xs l (cell d i u) ys)
+
+  abbrev labels : Low → List Str → List ℕ
+  labels l [] = lab l ∷ []
+  labels l (x ∷ xs) = lab l ∷ labels (at x) xs
+
+  row-labels : {l : Low} {ss : List Str} {u : Str} → Asc l ss u → Leaves (λ l u B. B ≡ lab l) l ss u (labels l ss)
+  row-labels end = leaf-last refl
+  row-labels (step a b s) = leaf-next a b refl (row-labels s)
+
+  abbrev to-strings : List Token → List Str
+  to-strings [] = []
+  to-strings (leads B ∷ es) = to-strings es
+  to-strings (string q ∷ es) = q ∷ to-strings es
+
+  abbrev to-slots : List Token → List ℕ
+  to-slots [] = []
+  to-slots (leads B ∷ es) = B ∷ to-slots es
+  to-slots (string q ∷ es) = to-slots es
+
+  to-strings-append : (xs ys : List Token) → to-strings (xs ++ ys) ≡ to-strings xs ++ to-strings ys
+  to-strings-append [] ys = refl
+  to-strings-append (leads B ∷ xs) ys = to-strings-append xs ys
+  to-strings-append (string q ∷ xs) ys = ap (λ (r : List Str). q ∷ r) (to-strings-append xs ys)
+
+  to-slots-append : (xs ys : List Token) → to-slots (xs ++ ys) ≡ to-slots xs ++ to-slots ys
+  to-slots-append [] ys = refl
+  to-slots-append (leads B ∷ xs) ys = ap (λ (r : List ℕ). B ∷ r) (to-slots-append xs ys)
+  to-slots-append (string q ∷ xs) ys = to-slots-append xs ys
+
+  inorder-strings : (p : Str) (t : Tree) → to-strings (inorder p t) ≡ strings p t
+  inorder-strings p (leaf s) = refl
+  inorder-strings p (node d i L R) = simp (to-strings-append, inorder-strings (cell d i p) L, inorder-strings p R)
+
+  inorder-slots : (p : Str) (t : Tree) → to-slots (inorder p t) ≡ leaves t
+  inorder-slots p (leaf s) = refl
+  inorder-slots p (node d i L R) = simp (to-slots-append, inorder-slots (cell d i p) L, inorder-slots p R)
+
+  expect-strings : (l : Low) (ss : List Str) → to-strings (expect l ss) ≡ ss
+  expect-strings l [] = refl
+  expect-strings l (x ∷ xs) = ap (λ (r : List Str). x ∷ r) (expect-strings (at x) xs)
+
+  expect-slots : (l : Low) (ss : List Str) → to-slots (expect l ss) ≡ labels l ss
+  expect-slots l [] = refl
+  expect-slots l (x ∷ xs) = ap (λ (r : List ℕ). lab l ∷ r) (expect-slots (at x) xs)
+
+  pub expect-trie : (t : Tree) (l : Low) (u : Str) (ss : List Str) → Numbers u t → Asc l ss u → inorder u t ≡ expect l ss
+      → Spans (λ l u B. B ≡ lab l) l u t ss
+  expect-trie t l u ss n asc e =
+      let es : strings u t ≡ ss = sym (inorder-strings u t) ∙ ap to-strings e ∙ expect-strings l ss in
+      let el : leaves t ≡ labels l ss = sym (inorder-slots u t) ∙ ap to-slots e ∙ expect-slots l ss in
+      rw es at (flat-trie (λ l u B. B ≡ lab l) t {l = l} {u = u} n (rw (es, el) (row-labels asc)))
+
+module _ (F : Ranges) (Bs : List ℕ) (chain : Chain F none Bs) (listed : (B : ℕ) → F .Used B → List·Memᴰ B Bs) where
+  pub labelled : (t : Tree) → Spans (Leads F) none [] t (all (bounds F Bs)) → Spans (λ l u B. B ≡ label F Bs l) none [] t (all (bounds F Bs))
+  labelled t T = rw (relabel-same) at (relabel-trie (Leads F) (λ l u B. B ≡ label F Bs l) (λ u B. B) T least λ l u B x y mv gap h.
+      let k : Leads F l u (label F Bs l) = label-leads F Bs none chain l u least (λ x m. gap x (bounds-all F Bs none chain x m)) in
+      leads-unique F chain mv (listed B (h .used)) (listed (label F Bs l) (k .used)) h k)
+
+  pub leading : (t : Tree) → Spans (λ l u B. B ≡ label F Bs l) none [] t (all (bounds F Bs)) → Spans (Leads F) none [] t (all (bounds F Bs))
+  leading t T = rw (relabel-same) at (relabel-trie (λ l u B. B ≡ label F Bs l) (Leads F) (λ u B. B) T least λ l u B x y mv gap e.
+      rw e (label-leads F Bs none chain l u least (λ x m. gap x (bounds-all F Bs none chain x m))))
+
+  module _ (cs : List Cell) (a : Side) where
+    abbrev pub agrees? : Option Passing
+    agrees? = pass cs (suc (length cs)) [] a (expect (label F Bs) none (all (bounds F Bs)), [])
+
+    pub agree-sound : (ws : List ℕ) → agrees? ≡ some ([], ws) → ((i : ℕ) → i < length cs → 0 < occ i ws) → CellsAgree F Bs cs a
+    agree-sound ws e marked =
+        let r = pass-sound cs (suc (length cs)) [] a (expect (label F Bs) none (all (bounds F Bs)), []) ([], ws) e in
+        let v : ws ≡ r .visits = r .seen in
+        record {
+          tree = r .tree;
+          visits = r .visits;
+          reads = r .reads;
+          each = λ i h. rw (← v) (omega (arith, marked i h, r .once (λ j. omega arith) i));
+          trie = leading (r .tree)
+              (expect-trie (label F Bs) (r .tree) none [] (all (bounds F Bs)) (r .numbers) (all-asc (bounds F Bs) none (bounds-asc F Bs none chain))
+              (sym (r .tokens ∙ append-nil (inorder [] (r .tree)))));
+        }
+
+    pub agree-complete : (A : CellsAgree F Bs cs a) → agrees? ≡ some ([], A .visits)
+    agree-complete A =
+        let T = labelled (A .tree) (A .trie) in
+        let e : inorder [] (A .tree) ++ [] ≡ expect (label F Bs) none (all (bounds F Bs)) = append-nil (inorder [] (A .tree)) ∙ trie-expect (label F Bs) T in
+        rw e at (pass-complete cs (suc (length cs)) [] [] [] (A .reads) (trie-flat (λ l u B. B ≡ label F Bs l) T .0)
+        (omega (arith, reads-height (A .reads), visits-count (A .reads) (A .each))) (each-once (A .reads) (A .each)))
+
+-- The expected strings and slots as a cursor gives them: a slot, and a length that goes down.
+-- the beginnings of x with j + n, …, j + 1 digits
+abbrev pub shorter : Str → ℕ → ℕ → List Str
+shorter x j zero = []
+shorter x j (suc n) = take (j + suc n) x ∷ shorter x j n
+
+shorter-snoc : (x : Str) (j n : ℕ) → shorter x j (suc n) ≡ shorter x (suc j) n ++ (take (suc j) x ∷ [])
+shorter-snoc x j zero = rw add-one
+shorter-snoc x j (suc n) =
+    let e : j + suc (suc n) ≡ suc j + suc n = omega arith in
+    rw (← shorter-snoc x j n, e)
+
+-- the digits ds behind p, where p ++ ds is x
+longer-shorter : (ds p : Str) → longer p ds ≡ shorter (p ++ ds) (length p) (length ds)
+longer-shorter [] p = refl
+longer-shorter (d ∷ ds) p =
+    let q : Str = p ++ (d ∷ []) in
+    let X : Str = p ++ (d ∷ ds) in
+    let e : q ++ ds ≡ X = append-assoc p (d ∷ []) ds in
+    let len : length q ≡ suc (length p) = length-append p (d ∷ []) ∙ add-one (length p) in
+    let tq : take (suc (length p)) X ≡ q = rw add-one at (take-append-add p (d ∷ ds) 1) in
+    let ih : longer q ds ≡ shorter X (suc (length p)) (length ds) = rw (e, len) at (longer-shorter ds q) in
+    rw (ih, shorter-snoc X (length p) (length ds), tq)
+
+pub fresh-shorter : (x y : Str) → x ≺ y → fresh x y ≡ shorter x (diff x y) (length x - diff x y)
+fresh-shorter x y h =
+    let j : ℕ = diff x y in
+    let k : j < length x = diff-lt-left x y h in
+    rw (take-append-drop j x, length-take-le j x (omega arith), length-drop j x) at (longer-shorter (drop j x) (take j x))
+
+-- how many strings come with a bound x before the bound y
+pub length-fresh : (x y : Str) → x ≺ y → length (fresh x y) ≡ length x - diff x y
+length-fresh x y h = ap length (fresh-shorter x y h) ∙ count x (diff x y) (length x - diff x y)
+  where
+    count : (x : Str) (j n : ℕ) → length (shorter x j n) ≡ n
+    count x j zero = refl
+    count x j (suc n) = ap suc (count x j n)
+
+abbrev pub follow : ℕ → List Str → List Token
+follow C [] = []
+follow C (q ∷ qs) = string q ∷ leads C ∷ follow C qs
+
+module _ (lab : Low → ℕ) where
+  abbrev tokens : List Str → List Token
+  tokens [] = []
+  tokens (x ∷ xs) = string x ∷ leads (lab (at x)) ∷ tokens xs
+
+  expect-tokens : (l : Low) (ss : List Str) → expect lab l ss ≡ leads (lab l) ∷ tokens ss
+  expect-tokens l [] = refl
+  expect-tokens l (x ∷ xs) = ap (λ (es : List Token). leads (lab l) ∷ string x ∷ es) (expect-tokens (at x) xs)
+
+  tokens-append : (xs ys : List Str) → tokens (xs ++ ys) ≡ tokens xs ++ tokens ys
+  tokens-append [] ys = refl
+  tokens-append (x ∷ xs) ys = ap (λ (es : List Token). string x ∷ leads (lab (at x)) ∷ es) (tokens-append xs ys)
+
+  tokens-follow : (C : ℕ) (xs : List Str) → ((x : Str) → List·Memᴰ x xs → lab (at x) ≡ C) → tokens xs ≡ follow C xs
+  tokens-follow C [] f = refl
+  tokens-follow C (x ∷ xs) f =
+      ap₂ (λ (B : ℕ) (es : List Token). string x ∷ leads B ∷ es) (f x (List·Memᴰ·head refl)) (tokens-follow C xs (λ y m. f y (List·Memᴰ·tail m)))
+
+module _ (F : Ranges) where
+  -- coming the slot B's leaf: the strings that its upper brings, each followed by a leaf of the next slot
+  abbrev pub coming : ℕ → List ℕ → List Token
+  coming B [] = []
+  coming B (C ∷ Bs) = follow C (fresh (F .upper B) (F .upper C)) ++ coming C Bs
+
+  label-skip : (B C : ℕ) (Bs : List ℕ) (x : Str) → F .upper B ⊑ x → label F (B ∷ C ∷ Bs) (at x) ≡ label F (C ∷ Bs) (at x)
+  label-skip B C Bs x h = go (low? (at x) (F .upper B))
+    where
+      go : (d : Dec (at x ◁ F .upper B)) → _≡_ {A = ℕ} (elim d [ yes h ↦ B | no h ↦ label F (C ∷ Bs) (at x) ]) (label F (C ∷ Bs) (at x))
+      go (yes k) = absurd (over k h)
+      go (no k) = refl
+
+  label-here : (C : ℕ) (Bs : List ℕ) (x : Str) → x ≺ F .upper C → label F (C ∷ Bs) (at x) ≡ C
+  label-here C [] x h = refl
+  label-here C (D ∷ Bs) x h = go (low? (at x) (F .upper C))
+    where
+      go : (d : Dec (at x ◁ F .upper C)) → _≡_ {A = ℕ} (elim d [ yes h ↦ C | no h ↦ label F (D ∷ Bs) (at x) ]) C
+      go (yes k) = refl
+      go (no k) = absurd (k (above h))
+
+  bring : (lab : Low → ℕ) (C : ℕ) (x y : Str) → x ≺ y → ((q : Str) → x ⊑ q → q ≺ y → lab (at q) ≡ C) → tokens lab (fresh x y) ≡ follow C (fresh x y)
+  bring lab C x y h f = tokens-follow lab C (fresh x y) (λ q m. let b = fresh-begins x y q m in
+      f q (rw (b .is) (le-take (b .count) x)) (asc-mem (fresh-asc x y none least h) m .1))
+
+  tokens-after : (lab : Low → ℕ) (Bs : List ℕ) (B : ℕ) (l : Low) → Chain F l (B ∷ Bs) → ((x : Str) → F .upper B ⊑ x → x ≺ [] → lab (at x) ≡ label F Bs (at x))
+      → tokens lab (all (bounds F (B ∷ Bs))) ≡ coming B Bs
+  tokens-after lab [] B l c f = refl
+  tokens-after lab (C ∷ []) B l (next u e a b (last u′ e′ f′)) f =
+      rw (append-nil, f′) (bring lab C (F .upper B) [] b (λ x h k. f x h k))
+  tokens-after lab (C ∷ []) B l (next u e a b (next u′ e′ a′ b′ c)) f = absurd (chain-some F c)
+  tokens-after lab (C ∷ D ∷ Bs) B l (next u e a b (next u′ e′ a′ b′ c)) f =
+      let up : F .upper B ≺ F .upper C = over a′ in
+      tokens-append lab (fresh (F .upper B) (F .upper C)) (all (bounds F (C ∷ D ∷ Bs)))
+      ∙ ap₂ (λ (xs ys : List Token). xs ++ ys)
+      (bring lab C (F .upper B) (F .upper C) up (λ x h k. f x h (lt-le-trans k top) ∙ label-here C (D ∷ Bs) x k))
+      (tokens-after lab (D ∷ Bs) C (at (F .upper B)) (next u′ e′ a′ b′ c) (λ x h k. f x (le-trans (lt-le up) h) k ∙ label-skip C D Bs x h))
+
+  -- the pass that decides agreement eats exactly this
+  pub expect-cursor : (B : ℕ) (Bs : List ℕ) → Chain F none (B ∷ Bs) → expect (label F (B ∷ Bs)) none (all (bounds F (B ∷ Bs))) ≡ leads B ∷ coming B Bs
+  unfolding low?
+  expect-cursor B [] c = refl
+  expect-cursor B (C ∷ Bs) c =
+      expect-tokens (label F (B ∷ C ∷ Bs)) none (all (bounds F (B ∷ C ∷ Bs)))
+      ∙ ap (λ (es : List Token). leads B ∷ es) (tokens-after (label F (B ∷ C ∷ Bs)) (C ∷ Bs) B none c (λ x h k. label-skip B C Bs x h))
+
+-- Document 01's agreement of a trie with a sound file is the cells' agreement with its ranges.
+module _ (b : ℕ) {fs : List Slot} (S : Sound b fs) where
+  pub agrees-cells : {t : Trie} → Agrees fs t → CellsAgree (ranges fs) (S .order) (take (t .count) (t .cells)) (root-side (t .count) (t .first))
+  agrees-cells {t} A = record {
+    tree = A .tree;
+    visits = A .visits;
+    reads = A .reads;
+    each = λ i h. A .once i (omega (arith, h, length-take (t .count) (t .cells)));
+    trie = cast (Leads (ranges fs)) (strings-same ∙ strings-right b S) flat;
+  }
+    where
+      flat : Spans (Leads (ranges fs)) none [] (A .tree) (strings [] (A .tree))
+      flat = flat-trie (Leads (ranges fs)) (A .tree) (A .numbers) (A .leading)
+
+      strings-same : strings [] (A .tree) ≡ strings-of fs
+      strings-same = asc-unique (trie-asc flat) (strings-asc b S) (λ x m. strings-every b S x (A .only x m)) (λ x m. A .every x (strings-only b S x m))
+
+  pub cells-agree : {t : Trie} → length (t .cells) ≡ 256 → t .count ≤ 256
+      → ((i : ℕ) → t .count ≤ i → at-cell (t .cells) i ≡ zero-cell) → (0 < t .count → t .first ≡ 0)
+      → CellsAgree (ranges fs) (S .order) (take (t .count) (t .cells)) (root-side (t .count) (t .first)) → Agrees fs t
+  cells-agree {t} whole few past first A = record {
+    whole = whole;
+    few = few;
+    past = past;
+    first-leaf = first;
+    tree = A .tree;
+    visits = A .visits;
+    reads = A .reads;
+    once = λ i h. A .each i (omega (arith, h, whole, few, length-take (t .count) (t .cells)));
+    numbers = flat .0;
+    only = λ x m. strings-only b S x (rw (same, ← strings-right b S) at m);
+    every = λ x k. rw (same, ← strings-right b S) (strings-every b S x k);
+    leading = rw same (flat .1);
+  }
+    where
+      same : strings [] (A .tree) ≡ all (bounds (ranges fs) (S .order))
+      same = strings-are (Leads (ranges fs)) (A .trie)
+
+      flat : Numbers [] (A .tree) × Leaves (Leads (ranges fs)) none (all (bounds (ranges fs) (S .order))) [] (leaves (A .tree))
+      flat = trie-flat (Leads (ranges fs)) (A .trie)
+
+  -- Cells that agree, held as a trie.
+  pub trie-of-agrees : (cs : List Cell) (a : Side) → CellsAgree (ranges fs) (S .order) cs a → (a ≡ root-side (length cs) (first-leaf-of a)) → string-count fs ≤ 256
+      → Agrees fs (trie-of cs a)
+  trie-of-agrees cs a A root few =
+      cells-agree {t = trie-of cs a} whole small (λ i h. past i h) (first a root) (rw (front, ← root) A)
+    where
+      small : length cs ≤ 256
+      small = omega (arith, few, count-right b S, cells-count (A .trie), reads-size (A .reads), visits-count (A .reads) (A .each))
+
+      front : take (length cs) (cs ++ replicate (256 - length cs) zero-cell) ≡ cs
+      front = take-append-seam cs (replicate (256 - length cs) zero-cell)
+
+      whole : length (cs ++ replicate (256 - length cs) zero-cell) ≡ 256
+      whole = omega (arith, small, length-append cs (replicate (256 - length cs) zero-cell), length-replicate (256 - length cs) zero-cell)
+
+      zeros : (k j : ℕ) → at-cell (replicate k zero-cell) j ≡ zero-cell
+      zeros zero j = refl
+      zeros (suc k) zero = refl
+      zeros (suc k) (suc j) = zeros k j
+
+      past : (i : ℕ) → length cs ≤ i → at-cell (cs ++ replicate (256 - length cs) zero-cell) i ≡ zero-cell
+      past i h =
+          let e : i ≡ length cs + (i - length cs) = omega arith in
+          ap (λ (k : ℕ). at-cell (cs ++ replicate (256 - length cs) zero-cell) k) e ∙ getD-append-add cs (replicate (256 - length cs) zero-cell) (i - length cs) zero-cell ∙ zeros (256 - length cs) (i - length cs)
+
+      first : (a : Side) → a ≡ root-side (length cs) (first-leaf-of a) → 0 < length cs → first-leaf-of a ≡ 0
+      first (further m) e h = refl
+      first (slot s) e h = go cs e h
+        where
+          go : (cs : List Cell) → slot s ≡ root-side (length cs) s → 0 < length cs → s ≡ 0
+          go [] e h = absurd (omega arith)
+          go (x ∷ xs) e h = cc
+
+  -- A tree of the file's strings, laid out in cells, agrees.
+  pub laid-agrees : (t : Tree) → string-count fs ≤ 256 → Spans (Leads (ranges fs)) none [] t (all (bounds (ranges fs) (S .order))) → Agrees fs (laid t)
+  laid-agrees t few T = trie-of-agrees (lay 0 t) (side-of 0 t) (record { tree = t; visits = upto 0 (size t); reads = laid-reads t; each = laid-each t; trie = T }) (root t) few
+    where
+      root : (t : Tree) → side-of 0 t ≡ root-side (length (lay 0 t)) (first-leaf-of (side-of 0 t))
+      root (leaf s) = refl
+      root (node d i L R) = refl
+
+  -- The rebuilt trie agrees where its strings are few enough.
+  pub rebuilt-trie-agrees : string-count fs ≤ 256 → Agrees fs (rebuilt-trie fs)
+  rebuilt-trie-agrees few = rw (order-right b S) (laid-agrees (rebuilt (ranges fs) (S .order)) few T)
+    where
+      T : Spans (Leads (ranges fs)) none [] (rebuilt (ranges fs) (S .order)) (all (bounds (ranges fs) (S .order)))
+      T = rebuilt-agrees (ranges fs) (S .order) (S .chain)
+
+  -- "So each name arrives at the bucket whose range holds it."
+  pub agrees-walk : {t : Trie} → Agrees fs t → (n : Str) → In (head (slot-at fs (walk-trie t n))) n
+  agrees-walk {t} A n = rw (walk-reads n (suc (t .count)) [] whole short) (walk-right (ranges fs) (C .trie) n)
+    where
+      C : CellsAgree (ranges fs) (S .order) (take (t .count) (t .cells)) (root-side (t .count) (t .first))
+      C = agrees-cells A
+
+      whole : Reads (t .cells) (root-side (t .count) (t .first)) (C .tree) (C .visits)
+      whole = rw take-append-drop at (reads-append (drop (t .count) (t .cells)) (C .reads))
+
+      short : length (C .visits) < suc (t .count)
+      short = omega (arith, visits-count (C .reads) (C .each), length-take (t .count) (t .cells))

@@ -1,0 +1,323 @@
+-- All stores of a change made, the file is sound and says what was asked; a part of them, it is as before or cut, and
+-- recovers to what it was.
+use mathlib.Core.Path.{_∙_, _≡_, ap, fun-ext, refl, subst, sym}
+use mathlib.Core.Logic.{_≢_, _⊎_, inl, inr}
+use mathlib.Core.Option.{none as nothing}
+use mathlib.Core.List.{List, List·Memᴰ, List·Memᴰ·append-cases, List·Memᴰ·cases-cons, List·Memᴰ·head, List·Memᴰ·not-nil, List·Memᴰ·tail, Memᴰ·append-left, Memᴰ·append-right, [], _++_, _∷_}
+use Prim.Native.Nat.{_/_, _<_, _≤_, suc, zero, ℕ}
+use native.Mathlib.Decide.{ℕ-discrete}
+use native.Mathlib.Omega.{arith}
+use lib.ListN.{length, length-set, set, take}
+use lib.Seq.{getD-set-other, getD-set-same, set-getD, set-set}
+use Rattle.model.specs.Order.{Low, Str, _≺_, _⊑_, _◁_, above, at, le?, none, over, str?}
+use Rattle.model.specs.Names.{Bound, BoundLow, Legal, limit}
+use Rattle.model.specs.Entries.{Entry, Row, find, insert, move, name-at, not?, stay, without}
+use Rattle.model.specs.Files.{Bad, Chain, Copied, Cut, In, IsUsed, Slot, Sound, Well, all, bounds, by-heads, entries-of, exactly, free, head, one-more, range, ranges, slot-at, string-count, used, well-used}
+use Rattle.model.specs.Changes.{Change, Lowest, Map, Means, Request, Store, absent, fits, meant, put, remove, removes, split-string, splits, stored}
+use Rattle.model.proofs.Order.{le-trans, low-at, low-lower, lt-le}
+use Rattle.model.proofs.Entries.{chosen-no, chosen-yes, find-at, find-drop, find-insert-other, find-insert-same, find-keep, insert-new, keep-comm, keep-insert-out, keep-parts, keep-some, length-insert, length-keep, row-at, row-insert, row-keep, split-bound, split-key, split-last, split-over, split-under}
+use Rattle.model.proofs.Files.{bucket, count-right, one-range, slot-freed, used-inside, well-parts}
+use Rattle.model.proofs.Splitting.{SplitAt, chain-split}
+
+-- what a store at A leaves: the new slot-at at A, the old ones elsewhere
+pub at-set : (P : ℕ → Slot → Type 0) (fs : List Slot) (A : ℕ) (x : Slot) → A < length fs → P A x → ((B : ℕ) → B ≢ A → P B (slot-at fs B)) → (B : ℕ) → P B (slot-at (set fs A x) B)
+at-set P fs A x h p f B = elim (ℕ-discrete B A) [
+  | yes e ↦ subst (λ C. P C (slot-at (set fs A x) C)) (sym e) (rw (getD-set-same fs A x free h) p)
+  | no e ↦ rw (getD-set-other fs A B x free e) (f B e)
+]
+
+pub mem-parts : {B : ℕ} {Bs : List ℕ} → List·Memᴰ B Bs → (Xs : List ℕ) × (Ys : List ℕ) × (Bs ≡ Xs ++ (B ∷ Ys))
+mem-parts {B} {Bs} m = go Bs m
+  where
+    go : (Bs : List ℕ) → List·Memᴰ B Bs → (Xs : List ℕ) × (Ys : List ℕ) × (Bs ≡ Xs ++ (B ∷ Ys))
+    go [] m = absurd (List·Memᴰ·not-nil m)
+    go (C ∷ Bs) m = by (List·Memᴰ·cases-cons m) (go Bs)
+      where
+        by : (B ≡ C) ⊎ List·Memᴰ B Bs → (List·Memᴰ B Bs → (Xs : List ℕ) × (Ys : List ℕ) × (Bs ≡ Xs ++ (B ∷ Ys))) → (Xs : List ℕ) × (Ys : List ℕ) × (C ∷ Bs ≡ Xs ++ (B ∷ Ys))
+        by (inl e) f = ([], Bs, ap (λ x. x ∷ Bs) (sym e))
+        by (inr m) f = (C ∷ f m .0, f m .1, ap (λ xs. C ∷ xs) (f m .2))
+
+pub widen : (Xs Ys : List ℕ) (A N : ℕ) {B : ℕ} → List·Memᴰ B (Xs ++ (A ∷ Ys)) → List·Memᴰ B (Xs ++ (A ∷ N ∷ Ys))
+widen Xs Ys A N m = elim (List·Memᴰ·append-cases Xs m) [
+  | inl m ↦ Memᴰ·append-left (A ∷ N ∷ Ys) m
+  | inr m ↦ Memᴰ·append-right Xs (elim (List·Memᴰ·cases-cons m) [ inl e ↦ List·Memᴰ·head e | inr m ↦ List·Memᴰ·tail (List·Memᴰ·tail m) ])
+]
+
+module _ (b : ℕ) where
+  module _ (fs : List Slot) (S : Sound b fs) (A : ℕ) (l : Low) (u : Str) (es : List Entry) (is : slot-at fs A ≡ used l u es) where
+    pub well-a : BoundLow l × Bound u × (l ◁ u) × Row l es u × (length es ≤ b)
+    well-a = well-parts b (rw is at (S .well A))
+
+    pub inside-a : A < length fs
+    inside-a = used-inside fs A (rw is tt)
+
+    -- One store that keeps the range.
+    module _ (es′ : List Entry) where
+      pub same-heads : (B : ℕ) → head (slot-at (set fs A (used l u es′)) B) ≡ head (slot-at fs B)
+      same-heads = at-set (λ B x. head x ≡ head (slot-at fs B)) fs A (used l u es′) inside-a (rw is) (λ B n. refl)
+
+      unfoldable pub one-sound : Row l es′ u → length es′ ≤ b → Sound b (set fs A (used l u es′))
+      one-sound r k = record {
+        order = S .order;
+        chain = subst (λ h. Chain (by-heads h) none (S .order)) (sym (fun-ext same-heads)) (S .chain);
+        listed = λ B h. S .listed B (subst IsUsed (same-heads B) h);
+        well = at-set (λ B x. Well b x) fs A (used l u es′) inside-a (well-used (well-a .0) (well-a .1) (well-a .2) r k) (λ B n. S .well B);
+      }
+
+      pub one-means : (m m′ : Map) → Means fs m → ((k : Str) → l ◁ k → k ⊑ u → find k es′ ≡ m′ k) → ((k : Str) → ¬ (In (range l u) k) → m k ≡ m′ k)
+          → Means (set fs A (used l u es′)) m′
+      one-means m m′ M f g k = at-set (λ B x. In (head x) k → find k (entries-of x) ≡ m′ k) fs A (used l u es′) inside-a
+          (λ h. f k (h .1) (h .2))
+          (λ B n h. M k B h ∙ g k (λ q. n (one-range b S k h (rw is q))))
+
+    -- What a put makes of the names in the range, and that it makes nothing of the others.
+    module _ (n : Str) (v : ℕ) (lo : l ◁ n) (up : n ⊑ u) where
+      pub put-find : (m : Map) → Means fs m → (k : Str) → l ◁ k → k ⊑ u → find k (insert n v es) ≡ meant (put n v) m k
+      put-find m M k a c = elim (str? k n) [
+        | yes e ↦ rw e (find-insert-same n v es ∙ sym (chosen-yes (str? n n) refl _ _))
+        | no e ↦ find-insert-other k n v es e ∙ (rw is at (M k A (rw is (tt, a, c)))) ∙ sym (chosen-no (str? k n) e _ _)
+      ]
+
+      pub put-outside : (m : Map) (k : Str) → ¬ (In (range l u) k) → m k ≡ meant (put n v) m k
+      put-outside m k h = sym (chosen-no (str? k n) (λ e. h (rw e (tt, lo, up))) _ _)
+
+      pub remove-find : (m : Map) → Means fs m → (k : Str) → l ◁ k → k ⊑ u → find k (without n es) ≡ meant (remove n) m k
+      remove-find m M k a c = elim (str? k n) [
+        | yes e ↦ rw e (find-drop (λ k. not? (str? k n)) n es (λ d. d refl) ∙ sym (chosen-yes (str? n n) refl _ _))
+        | no e ↦ find-keep (λ k. not? (str? k n)) k es e ∙ (rw is at (M k A (rw is (tt, a, c)))) ∙ sym (chosen-no (str? k n) e _ _)
+      ]
+
+      pub remove-outside : (m : Map) (k : Str) → ¬ (In (range l u) k) → m k ≡ meant (remove n) m k
+      remove-outside m k h = sym (chosen-no (str? k n) (λ e. h (rw e (tt, lo, up))) _ _)
+
+    -- The split, for a split key at any place i but the last.
+    module _ (n : Str) (v : ℕ) (legal : Legal n) (lo : l ◁ n) (up : n ⊑ u) (big : b < length (insert n v es)) (i : ℕ) (i-lt : i < b)
+        (N : ℕ) (lowest : Lowest fs N) where
+      abbrev pub s : Str
+      s = split-string i b (insert n v es)
+
+      pub length-all : length (insert n v es) ≡ suc b
+      length-all = omega (arith, length-insert n v es, well-a .4, big)
+
+      pub row-all : Row l (insert n v es) u
+      row-all = row-insert n v legal lo up (well-a .3)
+
+      pub last-in : b < length (insert n v es)
+      last-in = omega (arith, length-all)
+
+      pub s-above : l ◁ s
+      s-above = split-over row-all i b i-lt last-in
+
+      pub s-last : s ≺ name-at (insert n v es) b
+      s-last = split-last row-all i b i-lt last-in
+
+      pub s-below : s ≺ u
+      s-below = split-under row-all i b i-lt last-in
+
+      s-bound : Bound s
+      s-bound = split-bound row-all i b i-lt last-in
+
+      pub stay-some : 0 < length (stay s (insert n v es))
+      stay-some = keep-some (λ k. le? k s) (insert n v es) i (omega (arith, length-all)) (split-key row-all i b i-lt last-in)
+
+      pub move-some : 0 < length (move s (insert n v es))
+      move-some = keep-some (λ k. not? (le? k s)) (insert n v es) b (omega (arith, length-all)) s-last
+
+      pub new-well : Well b (used (at s) u (move s (insert n v es)))
+      new-well = well-used (limit s-bound) (well-a .1) (above s-below)
+          (row-keep (λ k. not? (le? k s)) (at s) u row-all (λ k p c d. (above p, d)))
+          (omega (arith, keep-parts (λ k. le? k s) (insert n v es), stay-some, length-all))
+
+      pub old-well : Well b (used l s (stay s (insert n v es)))
+      old-well = well-used (well-a .0) s-bound s-above
+          (row-keep (λ k. le? k s) l s row-all (λ k p c d. (c, p)))
+          (omega (arith, keep-parts (λ k. le? k s) (insert n v es), move-some, length-all))
+
+      abbrev pub new-slot : Slot
+      new-slot = used (at s) u (move s (insert n v es))
+
+      abbrev pub old-slot : Slot
+      old-slot = used l s (stay s (insert n v es))
+
+      abbrev pub after-first : List Slot
+      after-first = set fs N new-slot
+
+      abbrev pub after-second : List Slot
+      after-second = set after-first A old-slot
+
+      pub n-not-a : N ≢ A
+      n-not-a e = absurd (subst (λ x. IsUsed (head x)) (sym is ∙ ap (slot-at fs) (sym e) ∙ lowest .is-free) tt)
+
+      pub first-back : set after-first N free ≡ fs
+      first-back = set-set fs N new-slot free ∙ subst (λ x. set fs N x ≡ fs) (lowest .is-free) (set-getD fs N free)
+
+      pub full : length es ≡ b
+      full = omega (arith, length-insert n v es, well-a .4, big)
+
+      copied : Copied (move s es) (move s (insert n v es))
+      copied = elim (le? n s) [
+        | yes h ↦ subst (λ x. Copied (move s es) x) (sym (keep-insert-out (λ k. not? (le? k s)) n v es (λ q. q h))) exactly
+        | no h ↦ more (find-at n (move s (insert n v es)) v (find-keep (λ k. not? (le? k s)) n (insert n v es) h ∙ find-insert-same n v es))
+      ]
+        where
+          rest : without n (move s (insert n v es)) ≡ move s es
+          rest = keep-comm (λ k. not? (str? k n)) (λ k. not? (le? k s)) (insert n v es)
+              ∙ ap (move s) (keep-insert-out (λ k. not? (str? k n)) n v es (λ d. d refl) ∙ insert-new n v (well-a .3) (omega (arith, full, big)))
+
+          more : (j : ℕ) × (j < length (move s (insert n v es))) × (name-at (move s (insert n v es)) j ≡ n) → Copied (move s es) (move s (insert n v es))
+          more (j, h, e) =
+              let r : without (name-at (move s (insert n v es)) j) (move s (insert n v es)) ≡ move s es = rw e rest in
+              one-more j h r
+
+      pub first-cut : Cut b after-first N
+      first-cut = record {
+        low = s;
+        up = u;
+        new = move s (insert n v es);
+        n-is = getD-set-same fs N new-slot free (lowest .inside);
+        n-well = rw (getD-set-same fs N new-slot free (lowest .inside)) new-well;
+        freed = rw first-back S;
+        A = A;
+        a-low = l;
+        old = es;
+        a-is = rw first-back is;
+        below = s-above;
+        full = full;
+        copied = copied;
+      }
+
+      pub in-second : (P : ℕ → Slot → Type 0) → P N new-slot → P A old-slot → ((B : ℕ) → B ≢ A → B ≢ N → P B (slot-at fs B)) → (B : ℕ) → P B (slot-at after-second B)
+      in-second P p q f = at-set P after-first A old-slot (rw (length-set fs N new-slot) inside-a) q
+          (λ B d. at-set (λ C x. C ≢ A → P C x) fs N new-slot (lowest .inside) (λ e. p) (λ C e d. f C d e) B d)
+
+      slot-a : slot-at after-second A ≡ old-slot
+      slot-a = getD-set-same after-first A old-slot free (rw (length-set fs N new-slot) inside-a)
+
+      slot-n : slot-at after-second N ≡ new-slot
+      slot-n = getD-set-other after-first A N old-slot free n-not-a ∙ getD-set-same fs N new-slot free (lowest .inside)
+
+      pub is-split : SplitAt (ranges fs) (ranges after-second) s A N
+      is-split = record {
+        new-used = rw slot-n tt;
+        new-lower = rw slot-n;
+        new-upper = rw (slot-n, is);
+        old-used = rw slot-a tt;
+        old-lower = rw (slot-a, is);
+        old-upper = rw slot-a;
+        other = λ B d h. let e : slot-at after-second B ≡ slot-at fs B = getD-set-other after-first A B old-slot free d
+            ∙ getD-set-other fs N B new-slot free (λ q. absurd (subst (λ x. IsUsed (head x)) (ap (slot-at fs) q ∙ lowest .is-free) h)) in
+            (rw e h, rw e, rw e);
+      }
+
+      unfoldable pub second-sound : Sound b after-second
+      second-sound = go (mem-parts (S .listed A (rw is tt)))
+        where
+          go : (Xs : List ℕ) × (Ys : List ℕ) × (S .order ≡ Xs ++ (A ∷ Ys)) → Sound b after-second
+          go (Xs, Ys, e) = record {
+            order = Xs ++ (A ∷ N ∷ Ys);
+            chain = chain-split (ranges fs) (ranges after-second) s A N is-split Xs Ys (rw e at (S .chain)) (rw is s-above) (rw is s-below);
+            listed = in-second (λ B x. IsUsed (head x) → List·Memᴰ B (Xs ++ (A ∷ N ∷ Ys)))
+                (λ h. Memᴰ·append-right Xs (List·Memᴰ·tail (List·Memᴰ·head refl)))
+                (λ h. Memᴰ·append-right Xs (List·Memᴰ·head refl))
+                (λ B d c h. widen Xs Ys A N (rw e at (S .listed B h)));
+            well = in-second (λ B x. Well b x) new-well old-well (λ B d c. S .well B);
+          }
+
+      pub second-means : (m : Map) → Means fs m → Means after-second (meant (put n v) m)
+      second-means m M k = in-second (λ B x. In (head x) k → find k (entries-of x) ≡ meant (put n v) m k)
+          (λ h. find-keep (λ k. not? (le? k s)) k (insert n v es) (over (h .1)) ∙ put-find n v lo up m M k (low-lower (low-at s-above) (h .1)) (h .2))
+          (λ h. find-keep (λ k. le? k s) k (insert n v es) (h .2) ∙ put-find n v lo up m M k (h .1) (le-trans (h .2) (lt-le s-below)))
+          (λ B d c h. M k B h ∙ put-outside n v lo up m k (λ q. d (one-range b S k h (rw is q))))
+
+  -- Sound, with the map's entries, and few enough strings for a trie.
+  pub record Fine (fs : List Slot) (m : Map) : Type 0 where
+    pub sound : Sound b fs
+    pub means : Means fs m
+    pub few : string-count fs ≤ 256
+
+  -- A store that keeps the range keeps the number of strings.
+  pub one-count : (fs : List Slot) (S : Sound b fs) (A : ℕ) (l : Low) (u : Str) (es : List Entry) (is : slot-at fs A ≡ used l u es) (es′ : List Entry)
+      (r : Row l es′ u) (k : length es′ ≤ b) → string-count (set fs A (used l u es′)) ≡ string-count fs
+  unfolding one-sound
+  one-count fs S A l u es is es′ r k = count-right b (one-sound fs S A l u es is es′ r k)
+      ∙ ap (λ h. length (all (bounds (by-heads h) (S .order)))) (fun-ext (same-heads fs S A l u es is es′)) ∙ sym (count-right b S)
+
+  module _ (b-two : 2 ≤ b) where
+    pub half : b / 2 < b
+    half = omega arith
+
+    pub change-made : {fs : List Slot} {m : Map} {q : Request} {ss : List Store} → Fine fs m → Change b fs q ss → Fine (stored ss fs) (meant q m)
+    change-made {fs} {m} F (fits {A = A} {l = l} {u = u} {es = es} {n = n} {v = v} is g lo up k) =
+        let r = row-insert n v g lo up (well-a fs (F .sound) A l u es is .3) in record {
+          sound = one-sound fs (F .sound) A l u es is (insert n v es) r k;
+          means = one-means fs (F .sound) A l u es is (insert n v es) m (meant (put n v) m) (F .means) (put-find fs (F .sound) A l u es is n v lo up m (F .means)) (put-outside fs (F .sound) A l u es is n v lo up m);
+          few = rw (one-count fs (F .sound) A l u es is (insert n v es) r k) (F .few);
+        }
+    change-made {fs} {m} F (splits {A = A} {N = N} {l = l} {u = u} {es = es} {n = n} {v = v} is g lo up big low few) = record {
+      sound = second-sound fs (F .sound) A l u es is n v g lo up big (b / 2) half N low;
+      means = second-means fs (F .sound) A l u es is n v g lo up big (b / 2) half N low m (F .means);
+      few = few;
+    }
+    change-made {fs} {m} F (removes {A = A} {l = l} {u = u} {es = es} {n = n} is lo up e) =
+        let w = well-a fs (F .sound) A l u es is in
+        let r = row-keep (λ k. not? (str? k n)) l u (w .3) (λ k p c d. (c, d)) in
+        let k : length (without n es) ≤ b = omega (arith, length-keep (λ k. not? (str? k n)) es, w .4) in record {
+          sound = one-sound fs (F .sound) A l u es is (without n es) r k;
+          means = one-means fs (F .sound) A l u es is (without n es) m (meant (remove n) m) (F .means) (remove-find fs (F .sound) A l u es is n 0 lo up m (F .means)) (remove-outside fs (F .sound) A l u es is n 0 lo up m);
+          few = rw (one-count fs (F .sound) A l u es is (without n es) r k) (F .few);
+        }
+    change-made {fs} {m} F (absent A {n = n} is lo up e) = record {
+      sound = F .sound;
+      means = λ k B h. F .means k B h ∙ elim (str? k n) [
+        | yes q ↦ rw q (sym (F .means n A (rw is (tt, lo, up))) ∙ rw is e ∙ sym (chosen-yes (str? n n) refl _ _))
+        | no q ↦ sym (chosen-no (str? k n) q _ _)
+      ];
+      few = F .few;
+    }
+
+    -- stopped: nothing changed, or the file is cut and freeing its one slot-at gives back what was there
+    pub change-stopped : {fs : List Slot} {m : Map} {q : Request} {ss : List Store} → Fine fs m → Change b fs q ss → (k : ℕ) → k < length ss
+        → (stored (take k ss) fs ≡ fs) ⊎ ((N : ℕ) × Cut b (stored (take k ss) fs) N × (set (stored (take k ss) fs) N free ≡ fs))
+    change-stopped F c zero h = inl refl
+    change-stopped F (fits is g lo up k) (suc j) h = absurd (omega arith)
+    change-stopped {fs} F (splits {A = A} {N = N} {l = l} {u = u} {es = es} {n = n} {v = v} is g lo up big low few) (suc zero) h =
+        inr (N, first-cut fs (F .sound) A l u es is n v g lo up big (b / 2) half N low, first-back fs (F .sound) A l u es is n v g lo up big (b / 2) half N low)
+    change-stopped F (splits is g lo up big low few) (suc (suc j)) h = absurd (omega arith)
+    change-stopped F (removes is lo up e) (suc j) h = absurd (omega arith)
+    change-stopped F (absent A is lo up e) (suc j) h = absurd (omega arith)
+
+  -- The one more entry of a cut file is new to A.
+  pub one-more-new : {fs : List Slot} {N : ℕ} (C : Cut b fs N) (i : ℕ) → i < length (C .new)
+      → without (name-at (C .new) i) (C .new) ≡ move (C .low) (C .old) → find (name-at (C .new) i) (C .old) ≡ nothing
+  one-more-new C i h e =
+      let n : Str = name-at (C .new) i in
+      let row = well-parts b (rw (C .n-is) at (C .n-well)) .3 in
+      sym (find-keep (λ k. not? (le? k (C .low))) n (C .old) (over (row-at row i h .1))) ∙ ap (find n) (sym e) ∙ find-drop (λ k. not? (str? k n)) n (C .new) (λ d. d refl)
+
+  -- "Cutting A down before storing the new slot: a stop between loses the moved names." That file is bad.
+  module _ (fs : List Slot) (S : Sound b fs) (A : ℕ) (l : Low) (u : Str) (es : List Entry) (is : slot-at fs A ≡ used l u es)
+      (n : Str) (v : ℕ) (legal : Legal n) (lo : l ◁ n) (up : n ⊑ u) (big : b < length (insert n v es)) (i : ℕ) (i-lt : i < b) (N : ℕ) (lowest : Lowest fs N) where
+    abbrev cut-first : List Slot
+    cut-first = set fs A (old-slot fs S A l u es is n v legal lo up big i i-lt N lowest)
+
+    abbrev z : Str
+    z = name-at (insert n v es) b
+
+    -- no bucket holds the last name
+    homeless : (B : ℕ) → ¬ In (head (slot-at cut-first B)) z
+    homeless = at-set (λ B x. ¬ In (head x) z) fs A (old-slot fs S A l u es is n v legal lo up big i i-lt N lowest) (inside-a fs S A l u es is)
+        (λ h. s-last fs S A l u es is n v legal lo up big i i-lt N lowest (h .2))
+        (λ B d h. d (one-range b S z h (rw is (tt, k .1, k .2))))
+      where
+        k : Legal z × (l ◁ z) × (z ⊑ u)
+        k = row-at (row-all fs S A l u es is n v legal lo up big i i-lt N lowest) b (omega (arith, length-all fs S A l u es is n v legal lo up big i i-lt N lowest))
+
+    pub cut-first-bad : Bad b cut-first
+    cut-first-bad = (
+      λ T. let B = bucket b T z in homeless (B .0) (B .1),
+      λ M C. let B = bucket b (C .freed) z in
+          elim (ℕ-discrete (B .0) M) [
+            | yes e ↦ (rw (e, slot-freed b cut-first M) at (B .1)) .0
+            | no e ↦ homeless (B .0) (rw (getD-set-other cut-first M (B .0) free free e) at (B .1))
+          ],
+    )

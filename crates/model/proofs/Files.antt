@@ -1,0 +1,221 @@
+-- A name has one bucket; sound and cut exclude each other; the slot to free and the range order are determined; the strings.
+use mathlib.Core.Path.{_∙_, _≡_, ap, refl, subst, sym}
+use mathlib.Core.Logic.{_≢_, _⊎_, inl, inr}
+use mathlib.Core.List.{List, List·Memᴰ, [], _∷_}
+use Prim.Native.Nat.{_+_, _<_, _≤_, suc, zero, ℕ}
+use native.Mathlib.Decide.{decLt, ℕ-discrete}
+use native.Mathlib.Omega.{arith}
+use lib.ListN.{List·getD-eq-default, length, set}
+use lib.Seq.{getD-set-other, getD-set-same, set-out}
+use Rattle.model.specs.Order.{Asc, Low, Str, _≺_, _◁_, at, le?, nil-not-le, none, over, str?}
+use Rattle.model.specs.Names.{Bound, BoundLow}
+use Rattle.model.specs.Entries.{Entry, Row}
+use Rattle.model.specs.Files.{Begins, BoundOf, Chain, Cut, Head, In, IsString, IsUsed, Ranges, Slot, Sound, Starts, Well, all, bounds, first, free, head, last, lower-bound, lower-of, next, no-range, order-from, order-of, range, ranges, slot-at, starts?, string-count, strings-of, upper-bound, upper-of, used, well-free, well-used}
+use Rattle.model.specs.Tries.{occ, one-if, walk}
+use Rattle.model.specs.Rebuilding.{rebuilt}
+use Rattle.model.specs.Changes.{Map, Means}
+use Rattle.model.proofs.Order.{le-refl, low-at, low-lower, lt-le}
+use Rattle.model.proofs.Entries.{chosen-no, chosen-yes}
+use Rattle.model.proofs.Strings.{all-asc, all-begins, begins-in}
+use Rattle.model.proofs.Ranges.{bounds-asc, bounds-from, bounds-to, chain-lower, chain-other, chain-unique, chain-used, range-unique}
+use Rattle.model.proofs.Cells.{occ-mem, total-all, total-le}
+use Rattle.model.proofs.Rebuilding.{rebuilt-agrees, walk-right}
+
+pub used-inside : (fs : List Slot) (A : ℕ) → IsUsed (head (slot-at fs A)) → A < length fs
+used-inside fs A h = elim (decLt A (length fs)) [ yes k ↦ k | no k ↦ absurd (rw (List·getD-eq-default fs free {n = A} (omega arith)) at h) ]
+
+pub first-right : {P : Slot → Type 0} (t : (x : Slot) → Dec (P x)) (fs : List Slot) (B : ℕ) → P (slot-at fs B) → ¬ P free → P (slot-at fs (first t fs))
+unfolding first
+first-right t [] B p n = absurd (n p)
+first-right t (x ∷ xs) zero p n = rw (chosen-yes (t x) p) p
+first-right t (x ∷ xs) (suc B) p n = elim (t x) [
+  | yes h ↦ rw (chosen-yes (t x) h) h
+  | no h ↦ rw (chosen-no (t x) h) (first-right t xs B p n)
+]
+
+pub first-passes : {P : Slot → Type 0} (t : (x : Slot) → Dec (P x)) (fs : List Slot) → first t fs < length fs → P (slot-at fs (first t fs))
+unfolding first
+first-passes t [] h = absurd (omega arith)
+first-passes t (x ∷ xs) h = elim (t x) [
+  | yes p ↦ rw (chosen-yes (t x) p) p
+  | no p ↦ rw (chosen-no (t x) p) (first-passes t xs (lower (first t xs) (length xs) (rw (chosen-no (t x) p) at h)))
+]
+  where
+    lower : (i j : ℕ) → suc i < suc j → i < j
+    lower i j h = omega arith
+
+pub first-before : {P : Slot → Type 0} (t : (x : Slot) → Dec (P x)) (fs : List Slot) (B : ℕ) → B < first t fs → ¬ P (slot-at fs B)
+unfolding first
+first-before t [] B h = absurd (omega arith)
+first-before t (x ∷ xs) zero h = λ p. none-below (rw (chosen-yes (t x) p) at h)
+  where
+    none-below : 0 < 0 → ⊥
+    none-below h = omega arith
+first-before t (x ∷ xs) (suc B) h = elim (t x) [
+  | yes p ↦ absurd (none-below (rw (chosen-yes (t x) p) at h))
+  | no p ↦ first-before t xs B (lower (first t xs) (rw (chosen-no (t x) p) at h))
+]
+  where
+    none-below : suc B < 0 → ⊥
+    none-below h = omega arith
+
+    lower : (i : ℕ) → suc B < suc i → B < i
+    lower i h = omega arith
+
+chain-once : (F : Ranges) (Bs : List ℕ) {l : Low} → Chain F l Bs → (i : ℕ) → occ i Bs ≤ 1
+chain-once F Bs (last {B = B} u e f) i = go (ℕ-discrete i B)
+  where
+    go : (d : Dec (i ≡ B)) → one-if d + 0 ≤ 1
+    go (yes e) = omega arith
+    go (no e) = omega arith
+chain-once F (B ∷ Bs) (next u e a b c) i = go (ℕ-discrete i B) (chain-once F Bs c i)
+  where
+    go : (d : Dec (i ≡ B)) → occ i Bs ≤ 1 → one-if d + occ i Bs ≤ 1
+    go (no n) h = omega arith
+    go (yes q) h = elim (ℕ-discrete (occ i Bs) 0) [
+      | yes z ↦ omega arith
+      | no z ↦ absurd (chain-other F B Bs (next u e a b c) i (occ-mem i Bs (omega arith)) q)
+    ]
+
+module _ (b : ℕ) where
+  -- a name lies in the range of one slot-at only
+  pub one-range : {fs : List Slot} → Sound b fs → (n : Str) {B C : ℕ} → In (head (slot-at fs B)) n → In (head (slot-at fs C)) n → B ≡ C
+  one-range {fs} S n {B} {C} h k = range-unique (ranges fs) (S .chain) n (S .listed B (h .0)) (S .listed C (k .0)) (h .1) (h .2) (k .1) (k .2)
+
+  -- two used slots with one upper are one
+  pub one-upper : {fs : List Slot} → Sound b fs → {B C : ℕ} {l m : Low} {u : Str} {xs ys : List Entry}
+      → slot-at fs B ≡ used l u xs → slot-at fs C ≡ used m u ys → l ◁ u → m ◁ u → B ≡ C
+  one-upper S {u = u} e f h k = one-range S u (rw e (tt, h, le-refl u)) (rw f (tt, k, le-refl u))
+
+  pub slot-freed : (fs : List Slot) (N : ℕ) → slot-at (set fs N free) N ≡ free
+  slot-freed fs N = elim (decLt N (length fs)) [
+    | yes h ↦ getD-set-same fs N free free h
+    | no h ↦ rw (set-out fs N free (omega arith)) (List·getD-eq-default fs free (omega arith))
+  ]
+
+  pub well-low : {l : Low} {u : Str} {es : List Entry} → Well b (used l u es) → l ◁ u
+  well-low (well-used a c h r k) = h
+
+  module _ {fs : List Slot} {N : ℕ} (C : Cut b fs N) where
+    pub other : C .A ≢ N
+    other e = let z : _≡_ {A = Slot} free (used (C .a-low) (C .up) (C .old)) = sym (slot-freed fs N) ∙ ap (slot-at (set fs N free)) (sym e) ∙ C .a-is in
+        let y : _≡_ {A = ℕ} 0 1 = cc in absurd (omega arith)
+
+    pub a-there : slot-at fs (C .A) ≡ used (C .a-low) (C .up) (C .old)
+    a-there = sym (getD-set-other fs N (C .A) free free other) ∙ C .a-is
+
+    pub n-low : at (C .low) ◁ C .up
+    n-low = well-low (rw (C .n-is) at (C .n-well))
+
+    pub a-below : C .a-low ◁ C .up
+    a-below = low-lower (low-at (C .below)) n-low
+
+    pub cut-not-sound : Sound b fs → ⊥
+    cut-not-sound S = other (one-upper S a-there (C .n-is) a-below n-low)
+
+    -- freeing another slot-at leaves the pair: so that slot-at is A
+    pub other-freed : (M : ℕ) → M ≢ N → Sound b (set fs M free) → C .A ≡ M
+    other-freed M d S = elim (ℕ-discrete (C .A) M) [
+      | yes e ↦ e
+      | no e ↦ absurd (other (one-upper S (getD-set-other fs M (C .A) free free e ∙ a-there) (getD-set-other fs M N free free (λ q. d (sym q)) ∙ C .n-is) a-below n-low))
+    ]
+
+  low-is : {fs : List Slot} {M N : ℕ} (C : Cut b fs M) (D : Cut b fs N) → C .A ≡ N → C .a-low ≡ at (D .low)
+  low-is {fs} C D p = ap (λ x. lower-of (head x)) (sym (a-there C) ∙ ap (slot-at fs) p ∙ D .n-is)
+
+  pub cut-unique : {fs : List Slot} {M N : ℕ} → Cut b fs M → Cut b fs N → M ≡ N
+  cut-unique {fs} {M} {N} C D = elim (ℕ-discrete M N) [
+    | yes e ↦ e
+    | no e ↦ absurd (go (other-freed C N (λ q. e (sym q)) (D .freed)) (other-freed D M e (C .freed)))
+  ]
+    where
+      go : C .A ≡ N → D .A ≡ M → ⊥
+      go p q = over (rw (low-is C D p) at (C .below)) (lt-le (over (rw (low-is D C q) at (D .below))))
+
+  pub well-parts : {l : Low} {u : Str} {es : List Entry} → Well b (used l u es) → BoundLow l × Bound u × (l ◁ u) × Row l es u × (length es ≤ b)
+  well-parts (well-used a c h r k) = (a, c, h, r, k)
+
+  pub well-head : {x : Slot} → Well b x → IsUsed (head x) → lower-of (head x) ◁ upper-of (head x)
+  well-head well-free u = absurd u
+  well-head (well-used a c h r k) u = h
+
+  module _ {fs : List Slot} (S : Sound b fs) where
+    pub one-lower : (B C : ℕ) → IsUsed (head (slot-at fs B)) → IsUsed (head (slot-at fs C)) → lower-of (head (slot-at fs B)) ≡ lower-of (head (slot-at fs C)) → B ≡ C
+    one-lower B C u v e = elim (le? (upper-of (head (slot-at fs B))) (upper-of (head (slot-at fs C)))) [
+      | yes p ↦ one-range S (upper-of (head (slot-at fs B))) (u, well-head (S .well B) u, le-refl _) (v, subst (λ l. l ◁ upper-of (head (slot-at fs B))) e (well-head (S .well B) u), p)
+      | no p ↦ one-range S (upper-of (head (slot-at fs C))) (u, subst (λ l. l ◁ upper-of (head (slot-at fs C))) (sym e) (well-head (S .well C) v), lt-le p) (v, well-head (S .well C) v, le-refl _)
+    ]
+
+    -- the order is determined
+    pub one-order : (T : Sound b fs) → S .order ≡ T .order
+    one-order T = chain-unique (ranges fs) (S .chain) (T .chain) one-lower
+
+    -- Each name is in the range of some slot.
+    pub bucket : (n : Str) → (A : ℕ) × In (head (slot-at fs A)) n
+    bucket n = (walk n [] (rebuilt (ranges fs) (S .order)), walk-right (ranges fs) (rebuilt-agrees (ranges fs) (S .order) (S .chain)) n)
+
+    pub one-map : (m m′ : Map) → Means fs m → Means fs m′ → (k : Str) → m k ≡ m′ k
+    one-map m m′ M M′ k = let B = bucket k in sym (M k (B .0) (B .1)) ∙ M′ k (B .0) (B .1)
+
+  module _ {fs : List Slot} (S : Sound b fs) where
+    starts-one : (l : Low) (B : ℕ) → IsUsed (head (slot-at fs B)) → lower-of (head (slot-at fs B)) ≡ l → first (starts? l) fs ≡ B
+    starts-one l B u e =
+        let h : Starts l (slot-at fs (first (starts? l) fs)) = first-right (starts? l) fs B (u, e) (λ h. h .0) in
+        one-lower S (first (starts? l) fs) B (h .0) u (h .1 ∙ sym e)
+
+    order-chain : (f : ℕ) {l : Low} {Bs : List ℕ} → Chain (ranges fs) l Bs → length Bs ≤ f → order-from f l fs ≡ Bs
+    unfolding order-from
+    order-chain zero (last u e g) h = absurd (omega arith)
+    order-chain zero (next u e a c d) h = absurd (omega arith)
+    order-chain (suc f) {l} (last {B = B} u e g) h = rw (starts-one l B u e, chosen-yes (str? (upper-of (head (slot-at fs B))) []) g)
+    order-chain (suc f) {l} (next {B = B} u e a c d) h =
+        rw (starts-one l B u e, chosen-no (str? (upper-of (head (slot-at fs B))) []) (λ q. c (rw q (le-refl []))), order-chain f d (omega arith))
+
+    order-short : length (S .order) ≤ length fs
+    order-short = omega (arith, total-all (length fs) (S .order) (λ B m. used-inside fs B (chain-used (ranges fs) (S .chain) B m)), total-le (length fs) (S .order) (chain-once (ranges fs) (S .order) (S .chain)))
+
+    -- The order of a sound file is the computed one.
+    pub order-right : order-of fs ≡ S .order
+    order-right = order-chain (length fs) (S .chain) order-short
+
+    pub strings-right : strings-of fs ≡ all (bounds (ranges fs) (S .order))
+    strings-right = ap (λ Bs. all (bounds (ranges fs) Bs)) order-right
+
+    pub count-right : string-count fs ≡ length (all (bounds (ranges fs) (S .order)))
+    unfolding string-count
+    count-right = ap length strings-right
+
+    -- The strings are ascending, and exactly document 01's.
+    pub strings-asc : Asc none (strings-of fs) []
+    strings-asc = rw strings-right (all-asc (bounds (ranges fs) (S .order)) none (bounds-asc (ranges fs) (S .order) none (S .chain)))
+
+    pub strings-only : (x : Str) → List·Memᴰ x (strings-of fs) → IsString fs x
+    strings-only x m = go (all-begins (bounds (ranges fs) (S .order)) x (rw strings-right at m))
+      where
+        upper : (h : Head) → IsUsed h → BoundOf h (upper-of h)
+        upper no-range u = absurd u
+        upper (range l u) h = upper-bound
+
+        by : (y : Str) → Begins y x → (B : ℕ) × List·Memᴰ B (S .order) × (y ≡ upper-of (head (slot-at fs B))) → IsString fs x
+        by y g (B, k, e) =
+            record { bucket = B; bound = y; is-bound = rw e (upper (head (slot-at fs B)) (chain-used (ranges fs) (S .chain) B k)); begins = g }
+
+        go : (y : Str) × List·Memᴰ y (bounds (ranges fs) (S .order)) × Begins y x → IsString fs x
+        go (y, k, g) = by y g (bounds-from (ranges fs) (S .order) y k)
+
+    pub strings-every : (x : Str) → IsString fs x → List·Memᴰ x (strings-of fs)
+    strings-every x i = rw strings-right (begins-in (bounds (ranges fs) (S .order)) (i .bound) x (go (parts (head (slot-at fs (i .bucket))) (i .bound) (i .is-bound))) (i .begins))
+      where
+        parts : (h : Head) (y : Str) → BoundOf h y → IsUsed h × ((lower-of h ≡ at y) ⊎ (y ≡ upper-of h))
+        parts (range (at l) u) y lower-bound = (tt, inl refl)
+        parts (range l u) y upper-bound = (tt, inr refl)
+
+        some-digit : (y : Str) → Begins y x → y ≺ []
+        some-digit [] k = absurd (omega (arith, k .some, k .fits))
+        some-digit (d ∷ y) k = nil-not-le
+
+        go : IsUsed (head (slot-at fs (i .bucket))) × ((lower-of (head (slot-at fs (i .bucket))) ≡ at (i .bound)) ⊎ (i .bound ≡ upper-of (head (slot-at fs (i .bucket)))))
+            → List·Memᴰ (i .bound) (bounds (ranges fs) (S .order))
+        go (u, inr e) = bounds-to (ranges fs) (S .order) none (S .chain) (i .bound) (i .bucket) (S .listed (i .bucket) u) e (some-digit (i .bound) (i .begins))
+        go (u, inl e) = elim (chain-lower (ranges fs) (S .order) none (S .chain) (i .bucket) (i .bound) (S .listed (i .bucket) u) e)
+            [ inl q ↦ (let z : _≡_ {A = ℕ} 0 1 = cc in absurd (omega arith)) | inr m ↦ m ]

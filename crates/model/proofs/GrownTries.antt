@@ -1,0 +1,106 @@
+-- A made change keeps the trie's agreement: as it is where the ranges stay, grown where a bucket was split.
+use mathlib.Core.Path.{_≡_, ap, fun-ext, refl, subst, sym}
+use mathlib.Core.List.{List, [], _++_, _∷_}
+use Prim.Native.Nat.{_/_, _<_, _≤_, suc, zero, ℕ}
+use native.Mathlib.Omega.{arith}
+use lib.ListN.{length, length-take, set, take}
+use Rattle.model.specs.declared.Cell.{Cell}
+use Rattle.model.specs.declared.Side.{Side}
+use Rattle.model.specs.declared.Side.the-variants.{Cell as further, Slot as slot}
+use Rattle.model.specs.declared.Trie.{Trie}
+use Rattle.model.specs.Order.{Low, Str, _⊑_, _◁_, at, diff, str?}
+use Rattle.model.specs.Names.{Legal}
+use Rattle.model.specs.Entries.{Entry, Row, insert, name-at, not?, without}
+use Rattle.model.specs.Files.{Ranges, Slot, Sound, by-heads, ranges, slot-at, string-count, used}
+use Rattle.model.specs.Tries.{Agrees, Reads, Tree, first-leaf-of, here, leaf, node, root-side, there}
+use Rattle.model.specs.Rebuilding.{side-of}
+use Rattle.model.specs.Growth.{cells-turned, grown-trie, new-cells, placed, root-turned, turn, turn-side}
+use Rattle.model.specs.Changes.{Change, Lowest, Request, Store, absent, fits, removes, split-string, splits, stored, trie-after}
+use Rattle.model.proofs.Entries.{length-keep, row-at, row-insert, row-keep, row-lt, split-take}
+use Rattle.model.proofs.Cells.{visits-count}
+use Rattle.model.proofs.Agreement.{CellsAgree, agrees-cells, cells-agree, trie-of-agrees}
+use Rattle.model.proofs.Splitting.{SplitAt}
+use Rattle.model.proofs.GrownCells.{grows}
+use Rattle.model.proofs.Changes.{after-second, half, is-split, length-all, mem-parts, one-sound, row-all, same-heads, second-sound, well-a}
+
+-- A root that is a cell is cell 0, and stays so.
+root-right : {F : Ranges} {Bs : List ℕ} {cs : List Cell} {a : Side} → CellsAgree F Bs cs a → ((m : ℕ) → a ≡ further m → m ≡ 0) → a ≡ root-side (length cs) (first-leaf-of a)
+root-right {cs = cs} {a = a} A zero-root = go a (A .reads) (visits-count (A .reads) (A .each)) zero-root
+  where
+    cells : (n f : ℕ) → 0 < n → further 0 ≡ root-side n f
+    cells zero f h = absurd (omega arith)
+    cells (suc n) f h = refl
+
+    go : (a : Side) {t : Tree} {vs : List ℕ} → Reads cs a t vs → length vs ≡ length cs → ((m : ℕ) → a ≡ further m → m ≡ 0) → a ≡ root-side (length cs) (first-leaf-of a)
+    go (slot s) here e f = rw (← e)
+    go (further m) (there h l r) e f = rw (f m refl) (cells (length cs) 0 (omega arith))
+
+root-zero : (f : Str → ℕ → ℕ) (n first k : ℕ) (X : Tree) → (n ≡ 0 → k ≡ 0) → (m : ℕ) → turn-side f [] (placed (root-side n first) (side-of k X)) ≡ further m → m ≡ 0
+root-zero f zero first k (leaf s) h m e = cc
+root-zero f zero first k (node d i L R) h m e = let q : k ≡ 0 = h refl in cc
+root-zero f (suc n) first k X h m e = cc
+
+module _ (b : ℕ) where
+  module _ (fs : List Slot) (S : Sound b fs) (A : ℕ) (l : Low) (u : Str) (es : List Entry) (is : slot-at fs A ≡ used l u es) where
+    pub kept-agrees : (es′ : List Entry) (r : Row l es′ u) (k : length es′ ≤ b) {t : Trie} → Agrees fs t → Agrees (set fs A (used l u es′)) t
+    unfolding one-sound
+    kept-agrees es′ r k {t} G = cells-agree b (one-sound b fs S A l u es is es′ r k) {t = t} (G .whole) (G .few) (G .past) (G .first-leaf)
+        (subst (λ h. CellsAgree (by-heads h) (S .order) (take (t .count) (t .cells)) (root-side (t .count) (t .first)))
+        (sym (fun-ext (same-heads b fs S A l u es is es′))) (agrees-cells b S G))
+
+    module _ (n : Str) (v : ℕ) (legal : Legal n) (lo : l ◁ n) (up : n ⊑ u) (big : b < length (insert n v es)) (i : ℕ) (i-lt : i < b) (N : ℕ) (lowest : Lowest fs N)
+        (cs : List Cell) (a : Side) where
+      abbrev gs : List Slot
+      gs = after-second b fs S A l u es is n v legal lo up big i i-lt N lowest
+
+      abbrev c : Str
+      c = name-at (insert n v es) i
+
+      abbrev z : Str
+      z = name-at (insert n v es) b
+
+      abbrev s : Str
+      s = split-string i b (insert n v es)
+
+      grown-agree : CellsAgree (ranges fs) (S .order) cs a
+          → CellsAgree (ranges gs) (second-sound b fs S A l u es is n v legal lo up big i i-lt N lowest .order) (cells-turned cs a c s A N) (root-turned cs a c s A N)
+      unfolding second-sound
+      grown-agree = go (mem-parts (S .listed A (rw is tt)))
+        where
+          row : Row l (insert n v es) u
+          row = row-all b fs S A l u es is n v legal lo up big i i-lt N lowest
+
+          size : length (insert n v es) ≡ suc b
+          size = length-all b fs S A l u es is n v legal lo up big i i-lt N lowest
+
+          s-is : s ≡ take (suc (diff c z)) c
+          s-is = split-take row i b i-lt (omega (arith, size))
+
+          Grows : List ℕ → List ℕ → Str → Type 0
+          Grows Bs Cs s = CellsAgree (ranges fs) Bs cs a → CellsAgree (ranges gs) Cs (cells-turned cs a c s A N) (root-turned cs a c s A N)
+
+          go : (p : (Xs : List ℕ) × (Ys : List ℕ) × (S .order ≡ Xs ++ (A ∷ Ys))) → Grows (S .order) (p .0 ++ (A ∷ N ∷ p .1)) s
+          go (Xs, Ys, e) = subst (λ Bs. Grows Bs (Xs ++ (A ∷ N ∷ Ys)) s) (sym e)
+              (subst (λ x. Grows (Xs ++ (A ∷ Ys)) (Xs ++ (A ∷ N ∷ Ys)) x) (sym s-is)
+              (λ T. grows (ranges fs) (ranges gs) A N Xs Ys c z
+              (rw e at (S .chain)) (rw is (row-at row i (omega (arith, size)) .1)) (row-lt row i b i-lt (omega (arith, size))) (rw is (row-at row b (omega (arith, size)) .2))
+              (subst (λ x. SplitAt (ranges fs) (ranges gs) x A N) s-is (is-split b fs S A l u es is n v legal lo up big i i-lt N lowest)) cs a T))
+
+      pub grown-agrees : {t : Trie} → cs ≡ take (t .count) (t .cells) → a ≡ root-side (t .count) (t .first) → Agrees fs t → string-count gs ≤ 256 → Agrees gs (grown-trie t c s A N)
+      grown-agrees {t} ec ea G few =
+          rw (← ec, ← ea) (trie-of-agrees b (second-sound b fs S A l u es is n v legal lo up big i i-lt N lowest) (cells-turned cs a c s A N) (root-turned cs a c s A N) C
+          (root-right C (rw ea (root-zero (turn s A N) (t .count) (t .first) (length cs) (new-cells cs (root-side (t .count) (t .first)) c s A N) (λ e. omega (arith, e, ap length ec, length-take (t .count) (t .cells)))))) few)
+        where
+          C : CellsAgree (ranges gs) (second-sound b fs S A l u es is n v legal lo up big i i-lt N lowest .order) (cells-turned cs a c s A N) (root-turned cs a c s A N)
+          C = grown-agree (rw (ec, ea) (agrees-cells b S G))
+
+  pub change-agrees : 2 ≤ b → {fs : List Slot} {q : Request} {ss : List Store} (S : Sound b fs) (c : Change b fs q ss) {t : Trie} → Agrees fs t → Agrees (stored ss fs) (trie-after b c t)
+  unfolding trie-after
+  change-agrees b-two {fs} S (fits {A = A} {l = l} {u = u} {es = es} {n = n} {v = v} is g lo up k) G =
+      kept-agrees fs S A l u es is (insert n v es) (row-insert n v g lo up (well-a b fs S A l u es is .3)) k G
+  change-agrees b-two {fs} S (splits {A = A} {N = N} {l = l} {u = u} {es = es} {n = n} {v = v} is g lo up big low few) {t} G =
+      grown-agrees fs S A l u es is n v g lo up big (b / 2) (half b b-two) N low (take (t .count) (t .cells)) (root-side (t .count) (t .first)) refl refl G few
+  change-agrees b-two {fs} S (removes {A = A} {l = l} {u = u} {es = es} {n = n} is lo up e) G =
+      let w = well-a b fs S A l u es is in
+      kept-agrees fs S A l u es is (without n es) (row-keep (λ k. not? (str? k n)) l u (w .3) (λ k p c d. (c, d))) (omega (arith, length-keep (λ k. not? (str? k n)) es, w .4)) G
+  change-agrees b-two S (absent A is lo up e) G = G

@@ -1,0 +1,104 @@
+-- A chain of cells at a leaf is a trie of the leaf's interval; grafting it keeps a trie a trie.
+use mathlib.Core.Path.{_∙_, _≡_, ap, refl, sym}
+use mathlib.Core.Logic.{_≢_, _⊎_, inl, inr}
+use mathlib.Core.List.{List, List·Memᴰ, List·Memᴰ·head, List·Memᴰ·tail, Memᴰ·append-left, Memᴰ·append-right, [], _++_, _∷_, append-assoc, append-nil}
+use Prim.Native.Nat.{_<_, _≤_, suc, ℕ}
+use native.Mathlib.Numerals.{add-one}
+use native.Mathlib.Omega.{arith}
+use lib.ListN.{drop, getD, length, length-append, take, take-append-drop}
+use lib.Seq.{drop-cons, length-take-le, take-length, take-suc}
+use Rattle.model.specs.Order.{Low, Str, _≺_, _⊑_, _⊴_, _◁_, above, at, diff, le?}
+use Rattle.model.specs.Files.{fresh, longer}
+use Rattle.model.specs.Tries.{Spans, Tree, cell, cut, leaf, node, tip}
+use Rattle.model.specs.Growth.{chain-of, graft, grown}
+use Rattle.model.proofs.Order.{diff-le-right, diff-lt-left, le-append, le-refl, le-take, low-at, low-le, low-refl, lt-le, lt-or-ge, sandwich, snoc-lt, split-lt, take-diff}
+use Rattle.model.proofs.Tries.{cut-at}
+
+-- what holds at a leaf holds at a leaf of a part of its interval
+pub record Shrinks (P : Low → Str → ℕ → Type 0) : Type 0 where
+  pub shrink : {l m : Low} {u v : Str} {s : ℕ} → P l u s → l ⊴ m → v ⊑ u → P m v s
+
+module _ (P : Low → Str → ℕ → Type 0) (S : Shrinks P) where
+  pub chain-trie : (ds p : Str) {l : Low} {A : ℕ} → l ◁ (p ++ ds) → P l p A → Spans P l p (chain-of (length p) ds A) (longer p ds)
+  chain-trie [] p lo h = tip h
+  chain-trie (d ∷ ds) p {l} {A} lo h =
+      let q : Str = p ++ (d ∷ []) in
+      let e : q ++ ds ≡ p ++ (d ∷ ds) = append-assoc p (d ∷ []) ds in
+      let len : length q ≡ suc (length p) = length-append p (d ∷ []) ∙ add-one (length p) in
+      let lo′ : l ◁ q = low-le (rw (← e) at lo) (le-append q ds) in
+      cut-at P d (length p) (omega arith) (rw take-length) lo′ (snoc-lt p d)
+      (rw len at (chain-trie ds q (rw e lo) (S .shrink h (low-refl l) (lt-le (snoc-lt p d)))))
+      (tip (S .shrink h (low-at lo′) (le-refl p)))
+
+  pub chain-at-leaf : (s : Str) {l : Low} {u : Str} {A : ℕ} → l ◁ s → s ≺ u → P l u A → Spans P l u (grown s u A) (fresh s u)
+  chain-at-leaf s {l} {u} {A} lo up h =
+      let j : ℕ = diff s u in
+      let d : ℕ = getD s j 0 in
+      let ds : Str = drop (suc j) s in
+      let q : Str = take (suc j) s in
+      let inside : j < length s = diff-lt-left s u up in
+      let e : take j s ++ (d ∷ []) ≡ q = sym (take-suc s j 0 inside) in
+      let len : length q ≡ suc j = length-take-le (suc j) s inside in
+      let whole : q ++ ds ≡ s = take-append-drop (suc j) s in
+      let lo′ : l ◁ q = low-le lo (le-take (suc j) s) in
+      let up′ : q ≺ u = split-lt s u up in
+      let left : Spans P l q (chain-of (suc j) ds A) (longer q ds) =
+      rw len at (chain-trie ds q (rw whole lo) (S .shrink h (low-refl l) (lt-le up′))) in
+      let all : Spans P l u (node d j (chain-of (suc j) ds A) (leaf A)) (longer q ds ++ (q ∷ [])) =
+      cut-at P d j (diff-le-right s u) (rw (← take-diff s u) e) lo′ up′ left (tip (S .shrink h (low-at lo′) (le-refl u))) in
+      rw (drop-cons s j 0 inside) (rw e all)
+
+  -- The split string s is a beginning of the split key c, and no string of the trie begins with s.
+  module _ (c s : Str) (k : ℕ) (hk : k ≤ length c) (es : take k c ≡ s) where
+    -- the strings before and after those that came new; the path of the leaf that was replaced
+    pub record Growth (l : Low) (u : Str) (t : Tree) (ss : List Str) : Type 0 where
+      pub path : Str
+      pub before : List Str
+      pub after : List Str
+      pub old : ss ≡ before ++ after
+      pub path-old : (path ≡ u) ⊎ List·Memᴰ path ss
+      pub trie : Spans P l u t (before ++ (fresh s path ++ after))
+
+    below-path : (u : Str) → c ⊑ u → take k u ≢ s → s ≺ u
+    below-path u h n = elim (lt-or-ge s u) [ inl p ↦ p | inr p ↦ absurd (n (sandwich k c h (rw es p) hk .0 ∙ es)) ]
+
+    pub grow-trie : {l : Low} {u : Str} {t : Tree} {ss : List Str} → Spans P l u t ss → l ◁ c → c ⊑ u
+        → take k u ≢ s → ((q : Str) → List·Memᴰ q ss → take k q ≢ s) → Growth l u (graft c s u t) ss
+    grow-trie {u = u} (tip h) lo up n all =
+        record {
+          path = u;
+          before = [];
+          after = [];
+          old = refl;
+          path-old = inl refl;
+          trie = rw append-nil (chain-at-leaf s (low-le lo (rw es at (le-take k c))) (below-path u up n) h);
+        }
+    grow-trie {l} {u} (cut {d = d} {i = i} {L = L} {R = R} {xs = xs} {ys = ys} hi a b x y) lo up n all =
+        go (le? c (cell d i u))
+        (λ h. grow-trie x lo h (all (cell d i u) (Memᴰ·append-right xs (List·Memᴰ·head refl))) (λ q m. all q (Memᴰ·append-left (cell d i u ∷ ys) m)))
+        (λ h. grow-trie y (above h) up n (λ q m. all q (Memᴰ·append-right xs (List·Memᴰ·tail m))))
+      where
+        q : Str
+        q = cell d i u
+
+        go : (t : Dec (c ⊑ cell d i u)) → (c ⊑ cell d i u → Growth l (cell d i u) (graft c s (cell d i u) L) xs)
+            → (cell d i u ≺ c → Growth (at (cell d i u)) u (graft c s u R) ys)
+            → Growth l u (elim t [ yes h ↦ node d i (graft c s (cell d i u) L) R | no h ↦ node d i L (graft c s u R) ]) (xs ++ (cell d i u ∷ ys))
+        go (yes h) f g = let r = f h in
+            record {
+              path = r .path;
+              before = r .before;
+              after = r .after ++ (q ∷ ys);
+              old = ap (λ (zs : List Str). zs ++ (q ∷ ys)) (r .old) ∙ append-assoc (r .before) (r .after) (q ∷ ys);
+              path-old = elim (r .path-old) [ inl e ↦ inr (Memᴰ·append-right xs (List·Memᴰ·head e)) | inr m ↦ inr (Memᴰ·append-left (q ∷ ys) m) ];
+              trie = simp append-assoc at (cut hi a b (r .trie) y);
+            }
+        go (no h) f g = let r = g h in
+            record {
+              path = r .path;
+              before = xs ++ (q ∷ r .before);
+              after = r .after;
+              old = ap (λ (zs : List Str). xs ++ (q ∷ zs)) (r .old) ∙ sym (append-assoc xs (q ∷ r .before) (r .after));
+              path-old = elim (r .path-old) [ inl e ↦ inl e | inr m ↦ inr (Memᴰ·append-right xs (List·Memᴰ·tail m)) ];
+              trie = simp append-assoc (cut hi a b x (r .trie));
+            }

@@ -1,0 +1,138 @@
+-- Demand 3 holds of every list of acts.
+use mathlib.Core.Path.{_≡_, refl}
+use mathlib.Core.Logic.{_⊎_, inl, inr}
+use mathlib.Core.Bool.{Bool, _&&_, cond, false, true}
+use mathlib.Core.Option.{none as nothing}
+use mathlib.Core.List.{List, List·Memᴰ, List·Memᴰ·head, [], _∷_}
+use Prim.Native.Nat.{_-_, _≤_, suc, zero, ℕ}
+use native.Mathlib.Decide.{decLt}
+use native.Mathlib.Omega.{arith}
+use lib.Dec.{leb}
+use lib.ListN.{length, replicate, set}
+use borrow.Author.Tests.{le-leb, le-ltb, lt-ltb}
+use Rattle.model.specs.Order.{Str, at, least, none}
+use Rattle.model.specs.Names.{Legal, legalFilled, unlimited}
+use Rattle.model.specs.Entries.{find, no-entries}
+use Rattle.model.specs.Files.{Cut, IsUsed, Slot, Sound, Well, created, entries-of, free, head, last, order-of, ranges, slot-at, well-free, well-used}
+use Rattle.model.specs.Tries.{Leads, Spans, Tree, walk}
+use Rattle.model.specs.Changes.{Map, Means, Request, Result, call, put, remove}
+use Rattle.model.specs.Checks.{Kind, check, is-bad, is-cut, is-sound}
+use Rattle.model.specs.Histories.{Act, Demand3, World, act, answered, ask, asked-name, down, lose, ready, recover, recovered, run}
+use Rattle.model.proofs.Names.{both-true, legalFilled-legal}
+use Rattle.model.proofs.Rebuilding.{rebuilt-agrees, walk-right}
+use Rattle.model.proofs.Files.{count-right, cut-not-sound, cut-unique, order-right}
+use Rattle.model.proofs.Changes.{Fine, change-made, change-stopped}
+use Rattle.model.proofs.Calls.{Answered, is-denied, is-made, put-right, remove-right}
+use Rattle.model.proofs.Checks.{Checked, check-right}
+
+module _ (b slots : ℕ) where
+  free-all : (k B : ℕ) → _≡_ {A = Slot} (slot-at (replicate k free) B) free
+  free-all zero B = refl
+  free-all (suc k) zero = refl
+  free-all (suc k) (suc B) = free-all k B
+
+  pub created-fine : Fine b (created slots) (λ k. nothing)
+  unfolding find
+  created-fine = record { sound = sound; means = means; few = rw (count-right b sound) (omega arith) }
+    where
+      listed : (B : ℕ) → IsUsed (head (slot-at (created slots) B)) → List·Memᴰ B (0 ∷ [])
+      listed zero h = List·Memᴰ·head refl
+      listed (suc B) h = absurd (rw (free-all (slots - 1) B) at h)
+
+      well : (B : ℕ) → Well b (slot-at (created slots) B)
+      well zero = let z : 0 ≤ 24 = omega arith in let y : 0 ≤ b = omega arith in well-used unlimited (record { fits = z; digits = tt }) least no-entries y
+      well (suc B) = rw (free-all (slots - 1) B) well-free
+
+      sound : Sound b (created slots)
+      sound = record { order = 0 ∷ []; chain = last tt refl refl; listed = listed; well = well }
+
+      means : Means (created slots) (λ k. nothing)
+      means k zero h = refl
+      means k (suc B) h = rw (free-all (slots - 1) B)
+
+  -- Any trie of the file's ranges leads a name to the bucket that holds what the map says.
+  pub looks-up : {fs : List Slot} {m : Map} → Fine b fs m → {t : Tree} {ss : List Str} → Spans (Leads (ranges fs)) none [] t ss
+      → (k : Str) → find k (entries-of (slot-at fs (walk k [] t))) ≡ m k
+  looks-up {fs} F {t} T k = F .means k (walk k [] t) (walk-right (ranges fs) T k)
+
+  pub fine-demand : {fs : List Slot} {m : Map} → Fine b fs m → Demand3 b slots m fs
+  fine-demand {fs} F = record {
+    sound = F .sound;
+    few = F .few;
+    lookup = looks-up F (rebuilt-agrees (ranges fs) (order-of fs) (rw (order-right b (F .sound)) (F .sound .chain)));
+  }
+
+  -- Ready: fine. Down: fine, or one recovery away from it.
+  abbrev pub Good : World → Type 0
+  Good (ready fs m) = Fine b fs m
+  Good (down fs m) = Fine b fs m ⊎ ((N : ℕ) × Cut b fs N × Fine b (set fs N free) m)
+
+  module _ (b-two : 2 ≤ b) where
+    call-right : {fs : List Slot} {m : Map} → Fine b fs m → (q : Request) → Legal (asked-name q) → Answered b fs q (call b fs q)
+    call-right {fs} F (put n v) g = put-right b fs (F .sound) n v g
+    call-right {fs} F (remove n) g = remove-right b fs (F .sound) n
+
+    answered-good : {fs : List Slot} {m : Map} (q : Request) (j : ℕ) {r : Result} → Fine b fs m → Answered b fs q r → Good (answered q j fs m r)
+    unfolding answered
+    answered-good q j F (is-denied d) = F
+    answered-good {fs} {m} q j F (is-made {ss = ss} c) = elim (decLt j (length ss)) [
+      | no h ↦ rw (le-ltb j (length ss) (omega arith)) (change-made b b-two F c)
+      | yes h ↦ rw (lt-ltb j (length ss) h) (elim (change-stopped b b-two F c j h) [
+        | inl e ↦ inl (rw e F)
+        | inr x ↦ inr (x .0, x .1, rw (x .2) F)
+      ])
+    ]
+
+    recovered-good : (fs : List Slot) (m : Map) (j : ℕ) (k : Kind) → Checked b fs k → Good (down fs m) → Good (recovered fs m j k)
+    unfolding recovered
+    recovered-good fs m zero is-sound S (inl F) = F
+    recovered-good fs m (suc j) is-sound S (inl F) = F
+    recovered-good fs m zero is-sound S (inr (N, C, F)) = absurd (cut-not-sound b C S)
+    recovered-good fs m (suc j) is-sound S (inr (N, C, F)) = absurd (cut-not-sound b C S)
+    recovered-good fs m zero (is-cut N) C g = g
+    recovered-good fs m (suc j) (is-cut N) C (inl F) = absurd (cut-not-sound b C (F .sound))
+    recovered-good fs m (suc j) (is-cut N) C (inr (M, D, F)) = rw (cut-unique b C D) F
+    recovered-good fs m zero is-bad B g = g
+    recovered-good fs m (suc j) is-bad B g = g
+
+    act-good : (a : Act) (w : World) → Good w → Good (act b slots a w)
+    unfolding act
+    act-good (ask q j) (ready fs m) F = go (leb j 2 && legalFilled (asked-name q)) refl
+      where
+        go : (t : Bool) → (leb j 2 && legalFilled (asked-name q)) ≡ t → Good (cond t (answered q j fs m (call b fs q)) (ready fs m))
+        go true e = answered-good q j F (call-right F q (legalFilled-legal (asked-name q) (both-true (leb j 2) (legalFilled (asked-name q)) e .1)))
+        go false e = F
+    act-good (ask q j) (down fs m) g = g
+    act-good lose (ready fs m) F = inl F
+    act-good lose (down fs m) g = g
+    act-good (recover j) (ready fs m) F = F
+    act-good (recover j) (down fs m) g = go (leb j 2)
+      where
+        go : (t : Bool) → Good (cond t (recovered fs m j (check b fs)) (down fs m))
+        go true = recovered-good fs m j (check b fs) (check-right b fs) g
+        go false = g
+
+    -- Whatever was done.
+    pub run-good : (acts : List Act) → Good (run b slots acts)
+    unfolding run
+    run-good [] = created-fine
+    run-good (a ∷ acts) = act-good a (run b slots acts) (run-good acts)
+
+    -- A recovery with limit 1 or 2 completes, and no file is bad on the way.
+    pub recovery-completes : (fs : List Slot) (m : Map) (j : ℕ) → 1 ≤ j → j ≤ 2 → Good (down fs m)
+        → (gs : List Slot) × (act b slots (recover j) (down fs m) ≡ ready gs m) × Fine b gs m
+    unfolding act recovered
+    recovery-completes fs m j k h g = rw (le-leb j 2 h) (go j k (check b fs) (check-right b fs) g)
+      where
+        go : (j : ℕ) → 1 ≤ j → (x : Kind) → Checked b fs x → Good (down fs m) → (gs : List Slot) × (recovered fs m j x ≡ ready gs m) × Fine b gs m
+        go zero k x c g = absurd (omega arith)
+        go (suc j) k is-sound S (inl F) = (fs, refl, F)
+        go (suc j) k is-sound S (inr (N, C, F)) = absurd (cut-not-sound b C S)
+        go (suc j) k (is-cut N) C (inl F) = absurd (cut-not-sound b C (F .sound))
+        go (suc j) k (is-cut N) C (inr (M, D, F)) = (set fs N free, refl, rw (cut-unique b C D) F)
+        go (suc j) k is-bad B (inl F) = absurd (B .0 (F .sound))
+        go (suc j) k is-bad B (inr (N, C, F)) = absurd (B .1 N C)
+
+    -- Every list of acts that ends with a trie: each name looks up as the calls that count as made say.
+    pub run-demand-3 : (acts : List Act) (fs : List Slot) (m : Map) → run b slots acts ≡ ready fs m → Demand3 b slots m fs
+    run-demand-3 acts fs m e = fine-demand (rw e at (run-good acts))

@@ -1,0 +1,145 @@
+-- The order is total, transitive and antisymmetric; beginnings, the sandwich, the first difference; lower limits.
+use mathlib.Core.Path.{_∙_, _≡_, ap, refl, sym}
+use mathlib.Core.Logic.{_⊎_, inl, inr}
+use mathlib.Core.List.{[], _++_, _∷_}
+use Prim.Native.Nat.{_<_, _≤_, suc, zero, ℕ}
+use native.Mathlib.Decide.{decLe, ℕ-discrete}
+use native.Mathlib.Omega.{arith}
+use lib.ListN.{length, take}
+use lib.Seq.{take-take}
+use Rattle.model.specs.Order.{Low, Str, _≺_, _⊑_, _⊴_, _◁_, above, at, below, diff, diff-at, digit, head-le, le?, least, nil-not-le, none, tail-le, top}
+
+pub le-refl : (x : Str) → x ⊑ x
+le-refl [] = top
+le-refl (a ∷ x) = let h : a ≤ a = omega arith in digit h (λ e. le-refl x)
+
+pub le-trans : {x y z : Str} → x ⊑ y → y ⊑ z → x ⊑ z
+le-trans p top = top
+le-trans (digit {a = a} p f) (digit {b = c} q g) =
+    let h : a ≤ c = omega arith in
+    digit h (λ e. le-trans (f (omega arith)) (g (omega arith)))
+
+pub le-antisym : {x y : Str} → x ⊑ y → y ⊑ x → x ≡ y
+le-antisym top top = refl
+le-antisym (digit {a = a} {b = b} {x = x} {y = y} p f) (digit q g) =
+    let e : a ≡ b = omega arith in
+    let t : x ≡ y = le-antisym (f e) (g (sym e)) in
+    cc
+
+pub lt-le : {x y : Str} → x ≺ y → x ⊑ y
+lt-le {x} {y} = go x y
+  where
+    go : (x y : Str) → x ≺ y → x ⊑ y
+    go x [] p = top
+    go [] (b ∷ y) p = absurd (p top)
+    go (a ∷ x) (b ∷ y) p = by (decLe a b) (go x y)
+      where
+        by : Dec (a ≤ b) → (x ≺ y → x ⊑ y) → (a ∷ x) ⊑ (b ∷ y)
+        by (no h) r = let h′ : b ≤ a = omega arith in absurd (p (digit h′ (λ e. absurd (omega arith))))
+        by (yes h) r = digit h (λ e. r (λ q. let h′ : b ≤ a = omega arith in p (digit h′ (λ e′. q))))
+
+pub lt-or-ge : (x y : Str) → (x ≺ y) ⊎ (y ⊑ x)
+lt-or-ge x y = elim (le? y x) [ yes p ↦ inr p | no p ↦ inl p ]
+
+pub le-lt-trans : {x y z : Str} → x ⊑ y → y ≺ z → x ≺ z
+le-lt-trans p q r = q (le-trans r p)
+
+pub lt-le-trans : {x y z : Str} → x ≺ y → y ⊑ z → x ≺ z
+lt-le-trans p q r = p (le-trans q r)
+
+pub lt-trans : {x y z : Str} → x ≺ y → y ≺ z → x ≺ z
+lt-trans p q = lt-le-trans p (lt-le q)
+
+-- a beginning comes after all that it begins
+pub le-take : (k : ℕ) (x : Str) → x ⊑ take k x
+le-take zero x = top
+le-take (suc k) [] = top
+le-take (suc k) (a ∷ x) = let h : a ≤ a = omega arith in digit h (λ e. le-take k x)
+
+pub le-append : (p q : Str) → p ++ q ⊑ p
+le-append [] q = top
+le-append (a ∷ p) q = let h : a ≤ a = omega arith in digit h (λ e. le-append p q)
+
+pub snoc-lt : (p : Str) (d : ℕ) → p ++ (d ∷ []) ≺ p
+snoc-lt [] d q = nil-not-le q
+snoc-lt (a ∷ p) d q = snoc-lt p d (tail-le q refl)
+
+-- What lies between a string and one of its beginnings has that beginning.
+pub sandwich : (k : ℕ) (x : Str) {y : Str} → x ⊑ y → y ⊑ take k x → k ≤ length x → (take k y ≡ take k x) × (k ≤ length y)
+sandwich zero x p q h = (refl, omega arith)
+sandwich (suc k) [] p q h = absurd (omega arith)
+sandwich (suc k) (a ∷ x) (digit {b = b} {y = y} p f) (digit q g) h =
+    let e : b ≡ a = omega arith in
+    let r : (take k y ≡ take k x) × (k ≤ length y) = sandwich k x (f (sym e)) (g e) (omega arith) in
+    let t : take k y ≡ take k x = r .0 in
+    (cc, omega arith)
+
+-- Of two strings, the smaller one's digits up to and with the first difference are still below the other.
+pub split-lt : (c z : Str) → c ≺ z → take (suc (diff c z)) c ≺ z
+split-lt [] z p = p
+split-lt (a ∷ c) [] p = nil-not-le
+split-lt (a ∷ c) (b ∷ z) p = go (ℕ-discrete a b) (split-lt c z)
+  where
+    go : (d : Dec (a ≡ b)) → (c ≺ z → take (suc (diff c z)) c ≺ z) → take (suc (diff-at d (diff c z))) (a ∷ c) ≺ b ∷ z
+    go (yes e) r q = r (λ t. p (digit (head-le q) (λ e′. t))) (tail-le q (sym e))
+    go (no n) r q = p (digit (head-le q) (λ e. absurd (n (sym e))))
+
+-- what two strings share
+pub take-diff : (c z : Str) → take (diff c z) c ≡ take (diff c z) z
+take-diff [] z = refl
+take-diff (a ∷ c) [] = refl
+take-diff (a ∷ c) (b ∷ z) = go (ℕ-discrete a b) (take-diff c z)
+  where
+    go : (d : Dec (a ≡ b)) → take (diff c z) c ≡ take (diff c z) z → take (diff-at d (diff c z)) (a ∷ c) ≡ take (diff-at d (diff c z)) (b ∷ z)
+    go (yes e) r = cc
+    go (no n) r = refl
+
+pub diff-le-right : (c z : Str) → diff c z ≤ length z
+diff-le-right [] z = omega arith
+diff-le-right (a ∷ c) [] = omega arith
+diff-le-right (a ∷ c) (b ∷ z) = go (ℕ-discrete a b) (diff-le-right c z)
+  where
+    go : (d : Dec (a ≡ b)) → diff c z ≤ length z → diff-at d (diff c z) ≤ suc (length z)
+    go (yes e) r = omega arith
+    go (no n) r = omega arith
+
+-- two strings that differ: the smaller has a digit at the first difference
+pub diff-lt-left : (c z : Str) → c ≺ z → diff c z < length c
+diff-lt-left [] z p = absurd (p top)
+diff-lt-left (a ∷ c) [] p = omega arith
+diff-lt-left (a ∷ c) (b ∷ z) p = go (ℕ-discrete a b) (diff-lt-left c z)
+  where
+    go : (d : Dec (a ≡ b)) → (c ≺ z → diff c z < length c) → diff-at d (diff c z) < suc (length c)
+    go (yes e) r = let h : b ≤ a = omega arith in omega (arith, r (λ t. p (digit h (λ e′. t))))
+    go (no n) r = omega arith
+
+-- the split string is the shortest beginning that is smaller than as many digits
+pub split-smaller : (c z : Str) → c ≺ z → take (suc (diff c z)) c ≺ take (suc (diff c z)) z
+split-smaller c z p = lt-le-trans (split-lt c z p) (le-take (suc (diff c z)) z)
+
+pub split-shortest : (c z : Str) (i : ℕ) → i ≤ diff c z → take i c ≡ take i z
+split-shortest c z i h = sym (take-take i (diff c z) c h) ∙ ap (take i) (take-diff c z) ∙ take-take i (diff c z) z h
+
+pub low-le : {l : Low} {x y : Str} → l ◁ x → x ⊑ y → l ◁ y
+low-le least q = least
+low-le (above p) q = above (lt-le-trans p q)
+
+pub low-lower : {l m : Low} {x : Str} → l ⊴ m → m ◁ x → l ◁ x
+low-lower least q = least
+low-lower (below p) (above q) = above (le-lt-trans p q)
+
+pub low-at : {l : Low} {x : Str} → l ◁ x → l ⊴ at x
+low-at least = least
+low-at (above p) = below (lt-le p)
+
+pub low-refl : (l : Low) → l ⊴ l
+low-refl none = least
+low-refl (at x) = below (le-refl x)
+
+pub low-trans : {l m n : Low} → l ⊴ m → m ⊴ n → l ⊴ n
+low-trans least q = least
+low-trans (below p) (below q) = below (le-trans p q)
+
+pub not-over : (l : Low) (s : Str) → ¬ (l ◁ s) → at s ⊴ l
+not-over none s n = absurd (n least)
+not-over (at x) s n = elim (le? s x) [ yes p ↦ below p | no p ↦ absurd (n (above p)) ]

@@ -1,0 +1,135 @@
+-- Changing the file: put and remove as lists of whole-slot stores, and what refuses them.
+use mathlib.Core.Path.{_≡_, refl}
+use mathlib.Core.Logic.{_≢_}
+use mathlib.Core.Option.{Option, none as nothing, some}
+use mathlib.Core.List.{List, [], _∷_}
+use Prim.Native.Nat.{_/_, _<_, _≤_, ℕ}
+use native.Mathlib.Decide.{decLe, decLt}
+use native.Mathlib.Omega.{arith}
+use lib.ListN.{length, set}
+use Rattle.model.specs.declared.Trie.{Trie}
+use Rattle.model.specs.Order.{Low, Str, _⊑_, _◁_, at, le?, low?, str?}
+use Rattle.model.specs.Names.{Legal, splitString}
+use Rattle.model.specs.Entries.{Entry, chosen, find, insert, move, name-at, stay, without}
+use Rattle.model.specs.Files.{In, Slot, entries-of, first, free, head, slot-at, string-count, used}
+use Rattle.model.specs.Growth.{grown-trie}
+
+pub data Request : Type 0 where
+  put : Str → ℕ → Request
+  remove : Str → Request
+
+-- "A store replaces one slot whole." Stores are made in order.
+abbrev pub Store : Type 0
+Store = ℕ × Slot
+
+abbrev pub stored : List Store → List Slot → List Slot
+stored [] fs = fs
+stored (p ∷ ps) fs = stored ps (set fs (p .0) (p .1))
+
+-- "a new bucket always takes the lowest free slot"
+pub record Lowest (fs : List Slot) (N : ℕ) : Type 0 where
+  pub inside : N < length fs
+  pub is-free : slot-at fs N ≡ free
+  pub lowest : (B : ℕ) → B < N → slot-at fs B ≢ free
+
+-- The split string of the names at two places, counted from 0.
+abbrev pub split-string : ℕ → ℕ → List Entry → Str
+split-string i j ws = splitString (name-at ws i) (name-at ws j)
+
+module _ (b : ℕ) where
+  -- "With b + 1, sorted: the split key is at position m = b/2 + 1 (.. positions from 1)", against the last name.
+  abbrev pub split-of : List Entry → Str
+  split-of ws = split-string (b / 2) b ws
+
+  -- "the new slot, bounds s and A's upper; then A, upper now s"
+  abbrev pub new-half : List Entry → Str → Slot
+  new-half ws u = used (at (split-of ws)) u (move (split-of ws) ws)
+
+  abbrev pub old-half : List Entry → Low → Slot
+  old-half ws l = used l (split-of ws) (stay (split-of ws) ws)
+
+  -- "Two stores, in this order."
+  abbrev pub halves : ℕ → ℕ → Low → Str → List Entry → List Store
+  halves N A l u ws = (N, new-half ws u) ∷ (A, old-half ws l) ∷ []
+
+  -- Where nothing is refused: what is asked, and the stores that it takes. "With b or fewer entries then, that is one
+  -- store." "Remove is one store." "Removing an absent name needs no store."
+  pub data Change (fs : List Slot) : Request → List Store → Type 0 where
+    fits : {A : ℕ} {l : Low} {u : Str} {es : List Entry} {n : Str} {v : ℕ} → slot-at fs A ≡ used l u es → Legal n → l ◁ n → n ⊑ u
+        → length (insert n v es) ≤ b → Change fs (put n v) ((A, used l u (insert n v es)) ∷ [])
+    splits : {A N : ℕ} {l : Low} {u : Str} {es : List Entry} {n : Str} {v : ℕ} → slot-at fs A ≡ used l u es → Legal n → l ◁ n → n ⊑ u
+        → b < length (insert n v es) → Lowest fs N → string-count (stored (halves N A l u (insert n v es)) fs) ≤ 256
+        → Change fs (put n v) (halves N A l u (insert n v es))
+    removes : {A : ℕ} {l : Low} {u : Str} {es : List Entry} {n : Str} {w : ℕ} → slot-at fs A ≡ used l u es → l ◁ n → n ⊑ u
+        → find n es ≡ some w → Change fs (remove n) ((A, used l u (without n es)) ∷ [])
+    absent : (A : ℕ) {l : Low} {u : Str} {es : List Entry} {n : Str} → slot-at fs A ≡ used l u es → l ◁ n → n ⊑ u
+        → find n es ≡ nothing → Change fs (remove n) []
+
+  -- "The trie grows with the last store."
+  unfoldable pub trie-after : {fs : List Slot} {q : Request} {ss : List Store} → Change fs q ss → Trie → Trie
+  trie-after (fits is g lo up k) t = t
+  trie-after (splits {A = A} {N = N} {es = es} {n = n} {v = v} is g lo up k f c) t =
+      grown-trie t (name-at (insert n v es) (b / 2)) (split-of (insert n v es)) A N
+  trie-after (removes is lo up e) t = t
+  trie-after (absent A is lo up e) t = t
+
+  -- "5: split needed, no free slot"; "6: the bounds and their beginnings, after the change, exceed 256 strings".
+  pub data Denied (fs : List Slot) : Request → ℕ → Type 0 where
+    no-room : (A : ℕ) {l : Low} {u : Str} (es : List Entry) {n : Str} {v : ℕ} → slot-at fs A ≡ used l u es → l ◁ n → n ⊑ u
+        → b < length (insert n v es) → ((B : ℕ) → B < length fs → slot-at fs B ≢ free) → Denied fs (put n v) 5
+    too-many : (A N : ℕ) {l : Low} {u : Str} (es : List Entry) {n : Str} {v : ℕ} → slot-at fs A ≡ used l u es → l ◁ n → n ⊑ u
+        → b < length (insert n v es) → Lowest fs N → 256 < string-count (stored (halves N A l u (insert n v es)) fs)
+        → Denied fs (put n v) 6
+
+-- The same as a function.
+pub data Result : Type 0 where
+  refuse : ℕ → Result
+  stores : List Store → Result
+
+unfoldable pub holds? : (n : Str) (x : Slot) → Dec (In (head x) n)
+holds? n free = no (λ h. h .0)
+holds? n (used l u es) = go (low? l n) (le? n u)
+  where
+    go : Dec (l ◁ n) → Dec (n ⊑ u) → Dec (Unit {0} × (l ◁ n) × (n ⊑ u))
+    go (yes p) (yes q) = yes (tt, p, q)
+    go (yes p) (no q) = no (λ h. q (h .2))
+    go (no p) q = no (λ h. p (h .1))
+
+unfoldable pub free? : (x : Slot) → Dec (x ≡ free)
+free? free = yes refl
+free? (used l u es) = no (λ e. let y : _≡_ {A = ℕ} 0 1 = cc in absurd (omega arith))
+
+unfoldable pub stores-if : Option ℕ → List Store → List Store
+stores-if nothing ss = []
+stores-if (some v) ss = ss
+
+module _ (b : ℕ) (fs : List Slot) where
+  -- The name's slot is A, and holds x.
+  unfoldable pub put-in : Str → ℕ → ℕ → Slot → Result
+  put-in n v A free = refuse 2
+  put-in n v A (used l u es) =
+      let ws = insert n v es in
+      let N = first free? fs in
+      let ss = halves b N A l u ws in
+      let split = chosen (decLt N (length fs)) (chosen (decLe (string-count (stored ss fs)) 256) (stores ss) (refuse 6)) (refuse 5) in
+      chosen (decLe (length ws) b) (stores ((A, used l u ws) ∷ [])) split
+
+  unfoldable pub remove-in : Str → ℕ → Slot → Result
+  remove-in n A free = refuse 2
+  remove-in n A (used l u es) = stores (stores-if (find n es) ((A, used l u (without n es)) ∷ []))
+
+  unfoldable pub call : Request → Result
+  call (put n v) = let A = first (holds? n) fs in put-in n v A (slot-at fs A)
+  call (remove n) = let A = first (holds? n) fs in remove-in n A (slot-at fs A)
+
+-- What a file's entries say, and what a request makes of it.
+abbrev pub Map : Type 0
+Map = Str → Option ℕ
+
+abbrev pub meant : Request → Map → Map
+meant (put n v) m k = chosen (str? k n) (some v) (m k)
+meant (remove n) m k = chosen (str? k n) nothing (m k)
+
+-- Each name is found with the map's value in every bucket whose range holds it.
+abbrev pub Means : List Slot → Map → Type 0
+Means fs m = (k : Str) (B : ℕ) → In (head (slot-at fs B)) k → find k (entries-of (slot-at fs B)) ≡ m k

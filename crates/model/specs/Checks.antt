@@ -1,0 +1,116 @@
+-- Check: sound, cut or bad, by tests that compute.
+use mathlib.Core.Bool.{Bool, _&&_, _||_, cond, false, not, true}
+use mathlib.Core.List.{List, [], _∷_}
+use Prim.Native.Nat.{suc, zero, ℕ}
+use lib.Dec.{eqb, leb}
+use lib.ListN.{length, set}
+use Rattle.model.specs.Order.{Low, Str, at, none}
+use Rattle.model.specs.Names.{atMost, legalBound, legalFilled}
+use Rattle.model.specs.Entries.{Entry, move, name-at, without}
+use Rattle.model.specs.Files.{Slot, free, head, lower-of, order-of, slot-at, upper-of, used}
+
+-- Above a lower limit.
+unfoldable pub isAbove : Low → Str → Bool
+isAbove none x = true
+isAbove (at l) x = not (atMost x l)
+
+unfoldable pub legalLow : Low → Bool
+legalLow none = true
+legalLow (at x) = legalBound x
+
+unfoldable pub sameStr : Str → Str → Bool
+sameStr [] [] = true
+sameStr [] (b ∷ y) = false
+sameStr (a ∷ x) [] = false
+sameStr (a ∷ x) (b ∷ y) = eqb a b && sameStr x y
+
+unfoldable pub sameLow : Low → Low → Bool
+sameLow none none = true
+sameLow none (at y) = false
+sameLow (at x) none = false
+sameLow (at x) (at y) = sameStr x y
+
+-- "names are legal and strictly ascending, and every name is in the range"
+unfoldable pub isRow : Low → List Entry → Str → Bool
+isRow l [] u = true
+isRow l (e ∷ es) u = legalFilled (e .0) && isAbove l (e .0) && atMost (e .0) u && isRow (at (e .0)) es u
+
+-- "each slot is free or well formed"
+unfoldable pub isWell : ℕ → Slot → Bool
+isWell b free = true
+isWell b (used l u es) = legalLow l && legalBound u && isAbove l u && isRow l es u && leb (length es) b
+
+unfoldable pub allWell : ℕ → List Slot → Bool
+allWell b [] = true
+allWell b (x ∷ xs) = isWell b x && allWell b xs
+
+-- The slots in this order are a chain.
+unfoldable pub isUsed : Slot → Bool
+isUsed free = false
+isUsed (used l u es) = true
+
+unfoldable pub isChain : List Slot → Low → List ℕ → Bool
+isChain fs l [] = false
+isChain fs l (B ∷ []) =
+    isUsed (slot-at fs B) && sameLow (lower-of (head (slot-at fs B))) l && sameStr (upper-of (head (slot-at fs B))) []
+isChain fs l (B ∷ C ∷ Bs) =
+    let u = upper-of (head (slot-at fs B)) in
+    isUsed (slot-at fs B) && sameLow (lower-of (head (slot-at fs B))) l && isAbove l u && not (atMost [] u)
+    && isChain fs (at u) (C ∷ Bs)
+
+-- Each used slot is in the order; slots are counted from i.
+unfoldable pub isIn : ℕ → List ℕ → Bool
+isIn B [] = false
+isIn B (C ∷ Bs) = eqb B C || isIn B Bs
+
+unfoldable pub isListed : ℕ → List ℕ → List Slot → Bool
+isListed i Bs [] = true
+isListed i Bs (x ∷ xs) = (not (isUsed x) || isIn i Bs) && isListed (suc i) Bs xs
+
+unfoldable pub isSound : ℕ → List Slot → Bool
+isSound b fs = allWell b fs && isChain fs none (order-of fs) && isListed 0 (order-of fs) fs
+
+-- "exactly A's entries in N's range, or those and one more": the one at a place below i.
+unfoldable pub sameEntries : List Entry → List Entry → Bool
+sameEntries [] [] = true
+sameEntries [] (f ∷ fs) = false
+sameEntries (e ∷ es) [] = false
+sameEntries (e ∷ es) (f ∷ fs) = sameStr (e .0) (f .0) && eqb (e .1) (f .1) && sameEntries es fs
+
+unfoldable pub oneMore : ℕ → List Entry → List Entry → Bool
+oneMore zero es ns = false
+oneMore (suc i) es ns = sameEntries (without (name-at ns i) ns) es || oneMore i es ns
+
+unfoldable pub isCopied : List Entry → List Entry → Bool
+isCopied es ns = sameEntries ns es || oneMore (length ns) es ns
+
+-- "a slot A has N's upper, a lower below N's (or none), and b entries"
+unfoldable pub isTwin : ℕ → Str → Str → List Entry → Slot → Bool
+isTwin b low up ns free = false
+isTwin b low up ns (used l u es) = sameStr u up && isAbove l low && eqb (length es) b && isCopied (move low es) ns
+
+unfoldable pub hasTwin : ℕ → Str → Str → List Entry → List Slot → Bool
+hasTwin b low up ns [] = false
+hasTwin b low up ns (x ∷ xs) = isTwin b low up ns x || hasTwin b low up ns xs
+
+-- "freeing one well-formed slot N leaves a sound file"; the slot is x.
+unfoldable pub isCutBy : ℕ → List Slot → ℕ → Slot → Bool
+isCutBy b fs N free = false
+isCutBy b fs N (used none up ns) = false
+isCutBy b fs N (used (at low) up ns) =
+    isWell b (used (at low) up ns) && hasTwin b low up ns (set fs N free) && isSound b (set fs N free)
+
+-- "Check gives sound, cut or bad as a result." Only one slot can be the one to free.
+pub data Kind : Type 0 where
+  is-sound : Kind
+  is-cut : ℕ → Kind
+  is-bad : Kind
+
+unfoldable pub cutBelow : ℕ → ℕ → List Slot → Kind
+cutBelow zero b fs = is-bad
+cutBelow (suc N) b fs =
+    let r = cutBelow N b fs in
+    cond (isCutBy b fs N (slot-at fs N)) (is-cut N) r
+
+unfoldable pub check : ℕ → List Slot → Kind
+check b fs = let r = cutBelow (length fs) b fs in cond (isSound b fs) is-sound r

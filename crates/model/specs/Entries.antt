@@ -1,0 +1,56 @@
+-- The entries of one bucket: find, insert, keep.
+use mathlib.Core.Option.{Option, none as nothing, some}
+use mathlib.Core.List.{List, [], _∷_}
+use Prim.Native.Nat.{ℕ}
+use lib.ListN.{getD}
+use Rattle.model.specs.Order.{Low, Str, _⊑_, _◁_, at, le?, str?}
+use Rattle.model.specs.Names.{Legal}
+
+-- "An entry is the filled name (24) and the value."
+abbrev pub Entry : Type 0
+Entry = Str × ℕ
+
+abbrev pub name-at : List Entry → ℕ → Str
+name-at es i = getD es i ([], 0) .0
+
+-- What a test chooses.
+unfoldable pub chosen : {X Y : Type 0} → Dec X → Y → Y → Y
+chosen (yes h) a b = a
+chosen (no h) a b = b
+
+unfoldable pub not? : {X : Type 0} → Dec X → Dec (¬ X)
+not? (yes h) = no (λ n. n h)
+not? (no h) = yes h
+
+-- "found with value, or absent"
+unfoldable pub find : Str → List Entry → Option ℕ
+find n [] = nothing
+find n (e ∷ es) = chosen (str? n (e .0)) (some (e .1)) (find n es)
+
+-- "The new name goes into its bucket", in order; "on a held name replaces the value".
+unfoldable pub insert : Str → ℕ → List Entry → List Entry
+insert n v [] = (n, v) ∷ []
+insert n v (e ∷ es) =
+    chosen (le? n (e .0)) (chosen (str? n (e .0)) ((n, v) ∷ es) ((n, v) ∷ e ∷ es)) (e ∷ insert n v es)
+
+-- Those whose names pass a test.
+unfoldable pub keep : {P : Str → Type 0} → ((n : Str) → Dec (P n)) → List Entry → List Entry
+keep t [] = []
+keep t (e ∷ es) = chosen (t (e .0)) (e ∷ keep t es) (keep t es)
+
+-- What a removal leaves.
+abbrev pub without : Str → List Entry → List Entry
+without n es = keep (λ k. not? (str? k n)) es
+
+-- "Names within s stay, the others move."
+abbrev pub stay : Str → List Entry → List Entry
+stay s es = keep (λ k. le? k s) es
+
+abbrev pub move : Str → List Entry → List Entry
+move s es = keep (λ k. not? (le? k s)) es
+
+-- "names are legal and strictly ascending, and every name is in the range", above l and within u.
+pub data Row : Low → List Entry → Str → Type 0 where
+  no-entries : {l : Low} {u : Str} → Row l [] u
+  entry : {l : Low} {u : Str} {e : Entry} {es : List Entry}
+      → Legal (e .0) → l ◁ e .0 → e .0 ⊑ u → Row (at (e .0)) es u → Row l (e ∷ es) u

@@ -1,0 +1,189 @@
+-- The file as a list of slots: well formed, sound, cut, bad; its range order, its bounds, its strings.
+use mathlib.Core.Path.{_≡_, ap, refl}
+use mathlib.Core.List.{List, List·Memᴰ, [], _++_, _∷_}
+use Prim.Native.Nat.{_-_, _<_, _≤_, suc, zero, ℕ}
+use native.Mathlib.Omega.{arith}
+use lib.ListN.{drop, getD, length, replicate, set, take}
+use Rattle.model.specs.Order.{Low, Str, _≺_, _⊑_, _◁_, at, diff, none, str?}
+use Rattle.model.specs.Names.{Bound, BoundLow}
+use Rattle.model.specs.Entries.{Entry, Row, chosen, move, name-at, without}
+
+-- A slot is free, or used with a lower and an upper bound and entries.
+pub data Slot : Type 0 where
+  free : Slot
+  used : Low → Str → List Entry → Slot
+
+abbrev pub entries-of : Slot → List Entry
+entries-of free = []
+entries-of (used l u es) = es
+
+-- The slot with a number. Behind the last there is none, which reads as free.
+abbrev pub slot-at : List Slot → ℕ → Slot
+slot-at fs B = getD fs B free
+
+-- What a slot's header says: no range, or the two bounds.
+pub data Head : Type 0 where
+  no-range : Head
+  range : Low → Str → Head
+
+abbrev pub head : Slot → Head
+head free = no-range
+head (used l u es) = range l u
+
+abbrev pub IsUsed : Head → Type 0
+IsUsed no-range = ⊥
+IsUsed (range l u) = Unit {0}
+
+abbrev pub lower-of : Head → Low
+lower-of no-range = none
+lower-of (range l u) = l
+
+abbrev pub upper-of : Head → Str
+upper-of no-range = []
+upper-of (range l u) = u
+
+-- "A bucket's range is the names within its upper bound and not within its lower."
+abbrev pub In : Head → Str → Type 0
+In h n = IsUsed h × (lower-of h ◁ n) × (n ⊑ upper-of h)
+
+-- All that a trie needs of a file: which slots are used, and their bounds.
+pub record Ranges : Type 1 where
+  pub Used : ℕ → Type 0
+  pub lower : ℕ → Low
+  pub upper : ℕ → Str
+
+abbrev pub by-heads : (ℕ → Head) → Ranges
+by-heads h = record { Used = λ B. IsUsed (h B); lower = λ B. lower-of (h B); upper = λ B. upper-of (h B) }
+
+abbrev pub ranges : List Slot → Ranges
+ranges fs = by-heads (λ B. head (slot-at fs B))
+
+module _ (F : Ranges) where
+  -- "the used slots can be ordered so that the first has no lower limit, the last no upper, each lower equals the upper
+  -- before it and is not empty, and bounds strictly ascend": such an order, from a lower limit on.
+  pub data Chain : Low → List ℕ → Type 0 where
+    last : {l : Low} {B : ℕ} → F .Used B → F .lower B ≡ l → F .upper B ≡ [] → Chain l (B ∷ [])
+    next : {l : Low} {B : ℕ} {Bs : List ℕ} → F .Used B → F .lower B ≡ l → l ◁ F .upper B → F .upper B ≺ []
+        → Chain (at (F .upper B)) Bs → Chain l (B ∷ Bs)
+
+  -- The non-empty bounds of slots in such an order, ascending: all uppers but the last.
+  abbrev pub bounds : List ℕ → List Str
+  bounds [] = []
+  bounds (B ∷ []) = []
+  bounds (B ∷ C ∷ Bs) = F .upper B ∷ bounds (C ∷ Bs)
+
+-- "N's entries are exactly A's entries in N's range, or those and one more."
+pub data Copied (es : List Entry) : List Entry → Type 0 where
+  exactly : Copied es es
+  one-more : (i : ℕ) {ns : List Entry} → i < length ns → without (name-at ns i) ns ≡ es → Copied es ns
+
+module _ (b : ℕ) where
+  -- "A used slot is well formed when this holds, lower is below upper where both are non-empty, names are legal and
+  -- strictly ascending, and every name is in the range." b is the bucket capacity.
+  pub data Well : Slot → Type 0 where
+    well-free : Well free
+    well-used : {l : Low} {u : Str} {es : List Entry} → BoundLow l → Bound u → l ◁ u → Row l es u → length es ≤ b
+        → Well (used l u es)
+
+  -- "A file is sound when .. each slot is free or well formed, at least one is used, and the used slots can be ordered."
+  pub record Sound (fs : List Slot) : Type 0 where
+    pub order : List ℕ
+    pub chain : Chain (ranges fs) none order
+    pub listed : (B : ℕ) → IsUsed (head (slot-at fs B)) → List·Memᴰ B order
+    pub well : (B : ℕ) → Well (slot-at fs B)
+
+  -- "A file is cut when freeing one well-formed slot N leaves a sound file in which a slot A has N's upper, a lower below
+  -- N's (or none), and b entries; N's lower is not empty; and N's entries are exactly A's entries in N's range, or those
+  -- and one more."
+  pub record Cut (fs : List Slot) (N : ℕ) : Type 0 where
+    pub low : Str
+    pub up : Str
+    pub new : List Entry
+    pub n-is : slot-at fs N ≡ used (at low) up new
+    pub n-well : Well (slot-at fs N)
+    pub freed : Sound (set fs N free)
+    pub A : ℕ
+    pub a-low : Low
+    pub old : List Entry
+    pub a-is : slot-at (set fs N free) A ≡ used a-low up old
+    pub below : a-low ◁ low
+    pub full : length old ≡ b
+    pub copied : Copied (move low old) new
+
+  -- "Each other file is bad."
+  abbrev pub Bad : List Slot → Type 0
+  Bad fs = (¬ Sound fs) × ((N : ℕ) → ¬ Cut fs N)
+
+-- "slot 0 used, no limits, no entries", and the other slots free.
+abbrev pub created : ℕ → List Slot
+created slots = used none [] [] ∷ replicate (slots - 1) free
+
+-- The number of the first slot that passes a test; of none, the number of slots.
+unfoldable pub first : {P : Slot → Type 0} → ((x : Slot) → Dec (P x)) → List Slot → ℕ
+first t [] = 0
+first t (x ∷ xs) = chosen (t x) 0 (suc (first t xs))
+
+unfoldable pub low-same? : (l m : Low) → Dec (l ≡ m)
+low-same? none none = yes refl
+low-same? none (at y) = no (λ e. let z : _≡_ {A = ℕ} 0 1 = cc in absurd (omega arith))
+low-same? (at x) none = no (λ e. let z : _≡_ {A = ℕ} 0 1 = cc in absurd (omega arith))
+low-same? (at x) (at y) = elim (str? x y) [ yes e ↦ yes (ap at e) | no n ↦ no (λ e. n cc) ]
+
+abbrev pub Starts : Low → Slot → Type 0
+Starts l x = IsUsed (head x) × (lower-of (head x) ≡ l)
+
+unfoldable pub starts? : (l : Low) (x : Slot) → Dec (Starts l x)
+starts? l free = no (λ h. h .0)
+starts? l (used m u es) = elim (low-same? m l) [ yes e ↦ yes (tt, e) | no n ↦ no (λ h. n (h .1)) ]
+
+-- The range order, found: the slot with this lower limit, then the one whose lower is its upper, and so on.
+unfoldable pub order-from : ℕ → Low → List Slot → List ℕ
+order-from zero l fs = []
+order-from (suc f) l fs =
+    let B = first (starts? l) fs in
+    let u = upper-of (head (slot-at fs B)) in
+    let r = order-from f (at u) fs in
+    B ∷ chosen (str? u []) [] r
+
+abbrev pub order-of : List Slot → List ℕ
+order-of fs = order-from (length fs) none fs
+
+-- x is a non-empty beginning of s.
+pub record Begins (s x : Str) : Type 0 where
+  pub count : ℕ
+  pub some : 0 < count
+  pub fits : count ≤ length s
+  pub is : x ≡ take count s
+
+-- "the non-empty bounds of the file and all their non-empty beginnings"
+pub data BoundOf : Head → Str → Type 0 where
+  lower-bound : {l u : Str} → BoundOf (range (at l) u) l
+  upper-bound : {l : Low} {u : Str} → BoundOf (range l u) u
+
+pub record IsString (fs : List Slot) (x : Str) : Type 0 where
+  pub bucket : ℕ
+  pub bound : Str
+  pub is-bound : BoundOf (head (slot-at fs bucket)) bound
+  pub begins : Begins bound x
+
+-- The same, listed in ascending order. A beginning comes after all that it begins: the beginnings of p ++ ds that are
+-- longer than p, longest first;
+abbrev pub longer : Str → Str → List Str
+longer p [] = []
+longer p (d ∷ ds) = longer (p ++ (d ∷ [])) ds ++ ((p ++ (d ∷ [])) ∷ [])
+
+-- the beginnings of s that are longer than what s and p share;
+abbrev pub fresh : Str → Str → List Str
+fresh s p = longer (take (diff s p) s) (drop (diff s p) s)
+
+-- after a bound x, before the next: the beginnings of x longer than what the two share.
+abbrev pub all : List Str → List Str
+all [] = []
+all (x ∷ []) = fresh x []
+all (x ∷ y ∷ ys) = fresh x y ++ all (y ∷ ys)
+
+abbrev pub strings-of : List Slot → List Str
+strings-of fs = all (bounds (ranges fs) (order-of fs))
+
+unfoldable pub string-count : List Slot → ℕ
+string-count fs = length (strings-of fs)

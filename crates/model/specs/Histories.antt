@@ -1,0 +1,67 @@
+-- Demand 3: a new file, then any calls, each stopped after any of its stores, with the trie lost and recovered.
+use mathlib.Core.Path.{_≡_}
+use mathlib.Core.Bool.{_&&_, cond}
+use mathlib.Core.Option.{none as nothing}
+use mathlib.Core.List.{List, [], _∷_}
+use Prim.Native.Nat.{_≤_, suc, zero, ℕ}
+use lib.Dec.{leb, ltb}
+use lib.ListN.{length, set, take}
+use Rattle.model.specs.Order.{Str}
+use Rattle.model.specs.Names.{legalFilled}
+use Rattle.model.specs.Entries.{find}
+use Rattle.model.specs.Files.{Slot, Sound, created, entries-of, free, order-of, ranges, slot-at, string-count}
+use Rattle.model.specs.Tries.{walk}
+use Rattle.model.specs.Rebuilding.{rebuilt}
+use Rattle.model.specs.Changes.{Map, Request, Result, call, meant, put, refuse, remove, stored, stores}
+use Rattle.model.specs.Checks.{Kind, check, is-bad, is-cut, is-sound}
+
+-- A call with its store limit; the trie is lost; a recovery with its store limit.
+pub data Act : Type 0 where
+  ask : Request → ℕ → Act
+  lose : Act
+  recover : ℕ → Act
+
+-- With a trie, or with none until a recovery is completed: the file, and what the calls that count as made have said.
+pub data World : Type 0 where
+  ready : List Slot → Map → World
+  down : List Slot → Map → World
+
+abbrev pub asked-name : Request → Str
+asked-name (put n v) = n
+asked-name (remove n) = n
+
+-- "A call stopped short of its last store counts as never made; a call that reached it counts as made." A stopped call
+-- makes as many stores as its limit says, and the trie is lost then.
+unfoldable pub answered : Request → ℕ → List Slot → Map → Result → World
+answered q j fs m (refuse r) = ready fs m
+answered q j fs m (stores ss) = cond (ltb j (length ss)) (down (stored (take j ss) fs) m) (ready (stored ss fs) (meant q m))
+
+-- "Recover frees slot N of a cut file in one store and names it; on a sound file it says nothing to do."
+unfoldable pub recovered : List Slot → Map → ℕ → Kind → World
+recovered fs m j is-sound = ready fs m
+recovered fs m zero (is-cut N) = down fs m
+recovered fs m (suc j) (is-cut N) = ready (set fs N free) m
+recovered fs m j is-bad = down fs m
+
+module _ (b slots : ℕ) where
+  -- Refused: a store limit above 2, an illegal name, and every change while there is no trie.
+  unfoldable pub act : Act → World → World
+  act (ask q j) (ready fs m) =
+      let w = answered q j fs m (call b fs q) in
+      cond (leb j 2 && legalFilled (asked-name q)) w (ready fs m)
+  act (ask q j) (down fs m) = down fs m
+  act lose (ready fs m) = down fs m
+  act lose (down fs m) = down fs m
+  act (recover j) (ready fs m) = ready fs m
+  act (recover j) (down fs m) = let w = recovered fs m j (check b fs) in cond (leb j 2) w (down fs m)
+
+  -- Acts, the latest first. "Start from a new file."
+  unfoldable pub run : List Act → World
+  run [] = ready (created slots) (λ k. nothing)
+  run (a ∷ acts) = act a (run acts)
+
+  -- "Every legal name then looks up as that history says .. and .. rebuilding after it never refuse."
+  pub record Demand3 (m : Map) (fs : List Slot) : Type 0 where
+    pub sound : Sound b fs
+    pub few : string-count fs ≤ 256
+    pub lookup : (k : Str) → find k (entries-of (slot-at fs (walk k [] (rebuilt (ranges fs) (order-of fs))))) ≡ m k

@@ -1,0 +1,92 @@
+-- Names and bounds, as document 01's first section has them.
+use mathlib.Core.Path.{_≡_}
+use mathlib.Core.Bool.{Bool, _&&_, cond, false, true}
+use mathlib.Core.List.{List, [], _++_, _∷_}
+use Prim.Native.Nat.{_<_, _≤_, suc, zero, ℕ}
+use lib.Dec.{eqb, leb, ltb}
+use lib.ListN.{length, replicate, take}
+use Rattle.model.specs.Order.{Low, Str, at, none}
+
+-- "each 0x21 to 0x7D", "each 0x20 to 0x7D": digits from the lowest one given on.
+abbrev pub Digits : ℕ → Str → Type 0
+Digits lo [] = Unit {0}
+Digits lo (d ∷ x) = (lo ≤ d) × (d ≤ 0x7D) × Digits lo x
+
+unfoldable pub areDigits : ℕ → List ℕ → Bool
+areDigits lo [] = true
+areDigits lo (d ∷ x) = leb lo d && leb d 0x7D && areDigits lo x
+
+-- "A name has 1 to 24 bytes, each 0x21 to 0x7D."
+unfoldable pub legalName : List ℕ → Bool
+legalName n = leb 1 (length n) && leb (length n) 24 && areDigits 0x21 n
+
+-- "For comparison it is filled to 24 digits with 0x20, the smallest digit."
+unfoldable pub filled : List ℕ → List ℕ
+filled n = take 24 (n ++ replicate 24 0x20)
+
+-- A legal name, filled.
+pub record Legal (n : Str) : Type 0 where
+  pub name : Str
+  pub some : 0 < length name
+  pub fits : length name ≤ 24
+  pub digits : Digits 0x21 name
+  pub is : n ≡ filled name
+
+-- The same, tested: a first digit that is no blank, and nothing but blanks behind a blank.
+unfoldable pub blanks : List ℕ → Bool
+blanks [] = true
+blanks (d ∷ n) = eqb d 0x20 && blanks n
+
+unfoldable pub blankEnded : List ℕ → Bool
+blankEnded [] = true
+blankEnded (d ∷ n) = cond (eqb d 0x20) (blanks n) (leb 0x21 d && leb d 0x7D && blankEnded n)
+
+unfoldable pub legalFilled : List ℕ → Bool
+legalFilled [] = false
+legalFilled (d ∷ n) = eqb (length n) 23 && leb 0x21 d && leb d 0x7D && blankEnded n
+
+-- "A bound has 0 to 24 digits, each 0x20 to 0x7D."
+pub record Bound (x : Str) : Type 0 where
+  pub fits : length x ≤ 24
+  pub digits : Digits 0x20 x
+
+unfoldable pub legalBound : List ℕ → Bool
+legalBound p = leb (length p) 24 && areDigits 0x20 p
+
+-- A lower bound, where the empty one is no limit.
+pub data BoundLow : Low → Type 0 where
+  unlimited : BoundLow none
+  limit : {x : Str} → Bound x → BoundLow (at x)
+
+-- Of two strings, the first with no more digits: it is not greater, digit by digit.
+unfoldable pub notGreater : List ℕ → List ℕ → Bool
+notGreater [] y = true
+notGreater (a ∷ x) [] = true
+notGreater (a ∷ x) (b ∷ y) = cond (ltb a b) true (cond (eqb a b) (notGreater x y) false)
+
+-- "A name is within a bound p when its first digits, as many as p has, are not greater than p."
+unfoldable pub within : List ℕ → List ℕ → Bool
+within n p = notGreater (take (length p) n) p
+
+-- The order ⊑, tested.
+unfoldable pub atMost : List ℕ → List ℕ → Bool
+atMost x [] = true
+atMost [] (b ∷ y) = false
+atMost (a ∷ x) (b ∷ y) = cond (ltb a b) true (cond (eqb a b) (atMost x y) false)
+
+-- Of two strings with as many digits: it is smaller.
+unfoldable pub smaller : List ℕ → List ℕ → Bool
+smaller [] y = false
+smaller (a ∷ x) [] = false
+smaller (a ∷ x) (b ∷ y) = cond (ltb a b) true (cond (eqb a b) (smaller x y) false)
+
+-- "the split string s is its shortest beginning, filled with 0x20 as needed, that is smaller than as many digits of the
+-- last name": c is the split key, filled, and z the last name, filled; beginnings are tried from i digits on.
+unfoldable pub splitFrom : ℕ → ℕ → List ℕ → List ℕ → List ℕ
+splitFrom zero i c z = take i c
+splitFrom (suc f) i c z =
+    let r = splitFrom f (suc i) c z in
+    cond (smaller (take i c) (take i z)) (take i c) r
+
+unfoldable pub splitString : List ℕ → List ℕ → List ℕ
+splitString c z = splitFrom (length c) 0 c z

@@ -1,0 +1,78 @@
+-- Rebuild: the trie of a file's strings, balanced, and its cells.
+use mathlib.Core.List.{List, [], _++_, _∷_}
+use Prim.Native.Nat.{_+_, _-_, _/_, min, suc, zero, ℕ}
+use native.Mathlib.Decide.{ℕ-discrete}
+use lib.ListN.{drop, getD, length, take}
+use Rattle.model.specs.declared.Cell.{Cell}
+use Rattle.model.specs.declared.Side.{Side}
+use Rattle.model.specs.declared.Side.the-variants.{Cell as further, Slot as slot}
+use Rattle.model.specs.declared.Trie.{Trie}
+use Rattle.model.specs.Order.{Low, Str, at, low?, none}
+use Rattle.model.specs.Files.{Ranges, Slot, all, bounds, order-of, ranges}
+use Rattle.model.specs.Tries.{Tree, leaf, node, size, trie-of}
+
+-- "the strings with fewest digits": how many digits they have,
+abbrev pub fewest : Str → List Str → ℕ
+fewest x [] = length x
+fewest x (y ∷ ys) = min (length x) (fewest y ys)
+
+-- and their places in the run, counted from i.
+abbrev pub kept : {A : Type 0} → Dec A → ℕ → List ℕ → List ℕ
+kept (yes e) i ps = i ∷ ps
+kept (no e) i ps = ps
+
+abbrev pub places : ℕ → ℕ → List Str → List ℕ
+places n i [] = []
+places n i (x ∷ xs) = kept (ℕ-discrete (length x) n) i (places n (suc i) xs)
+
+-- "the middle one .. (of an even number, the lower middle)"
+abbrev pub middle : List ℕ → ℕ
+middle ps = getD ps ((length ps - 1) / 2) 0
+
+-- "Of a run, the root is the middle one of the strings with fewest digits."
+abbrev pub pick : List Str → ℕ
+pick [] = 0
+pick (x ∷ xs) = middle (places (fewest x xs) 0 (x ∷ xs))
+
+abbrev pub last-digit : Str → ℕ
+last-digit r = getD r (length r - 1) 0
+
+-- "The strings before it form the left run, those after it the right." The run lies between l and u; label gives the slot
+-- of a leaf with these neighbours; n is at least the number of strings.
+abbrev pub build : (List Str → ℕ) → (Low → Str → ℕ) → ℕ → Low → Str → List Str → Tree
+build pick label zero l u ss = leaf (label l u)
+build pick label (suc n) l u [] = leaf (label l u)
+build pick label (suc n) l u (x ∷ xs) =
+    let m = pick (x ∷ xs) in
+    let r = getD (x ∷ xs) m [] in
+    node (last-digit r) (length r - 1) (build pick label n l r (take m (x ∷ xs)))
+    (build pick label n (at r) u (drop (suc m) (x ∷ xs)))
+
+module _ (F : Ranges) where
+  -- The slot of a leaf: in range order, the first whose upper is above the string just left of the leaf.
+  abbrev pub label : List ℕ → Low → ℕ
+  label [] l = 0
+  label (B ∷ []) l = B
+  label (B ∷ C ∷ Bs) l = elim (low? l (F .upper B)) [ yes h ↦ B | no h ↦ label (C ∷ Bs) l ]
+
+  -- "Rebuild takes that set of strings, in order."
+  abbrev pub rebuilt : List ℕ → Tree
+  rebuilt Bs = build pick (λ l u. label Bs l) (length (all (bounds F Bs))) none [] (all (bounds F Bs))
+
+-- "Cells are numbered root, left part, right part", here from k on.
+abbrev pub side-of : ℕ → Tree → Side
+side-of k (leaf s) = slot s
+side-of k (node d i L R) = further k
+
+abbrev pub lay : ℕ → Tree → List Cell
+lay k (leaf s) = []
+lay k (node d i L R) =
+    record { digit = d; number = i; left = side-of (suc k) L; right = side-of (suc k + size L) R }
+    ∷ (lay (suc k) L ++ lay (suc k + size L) R)
+
+abbrev pub laid : Tree → Trie
+laid t = trie-of (lay 0 t) (side-of 0 t)
+
+-- The trie that rebuild gives.
+abbrev pub rebuilt-trie : List Slot → Trie
+rebuilt-trie fs = laid (rebuilt (ranges fs) (order-of fs))

@@ -1,0 +1,137 @@
+-- The trie: its tree, its strings, the walk; how it lies in cells; when it agrees with a file.
+use mathlib.Core.Path.{_≡_}
+use mathlib.Core.List.{List, List·Memᴰ, [], _++_, _∷_}
+use Prim.Native.Nat.{_+_, _-_, _<_, _≤_, suc, zero, ℕ}
+use native.Mathlib.Decide.{ℕ-discrete}
+use lib.ListN.{getD, length, replicate, take}
+use Rattle.model.specs.declared.Cell.{Cell}
+use Rattle.model.specs.declared.Side.{Side}
+use Rattle.model.specs.declared.Side.the-variants.{Cell as further, Slot as slot}
+use Rattle.model.specs.declared.Trie.{Trie}
+use Rattle.model.specs.Order.{Low, Str, _≺_, _⊑_, _⊴_, _◁_, at, le?, none}
+use Rattle.model.specs.Files.{IsString, Ranges, Slot, first, ranges}
+
+-- A side, unfolded: a leaf that leads to a slot, or a cell with a digit, a digit number and two sides.
+pub data Tree : Type 0 where
+  leaf : ℕ → Tree
+  node : (digit number : ℕ) → Tree → Tree → Tree
+
+-- "At a cell with digit d and number i, the cell's string is the first i digits of the path, then d."
+abbrev pub cell : ℕ → ℕ → Str → Str
+cell d i p = take i p ++ (d ∷ [])
+
+-- "A name within that string goes left and the path becomes that string; otherwise it goes right with the path unchanged."
+abbrev pub walk : Str → Str → Tree → ℕ
+walk n p (leaf s) = s
+walk n p (node d i l r) = elim (le? n (cell d i p)) [ yes h ↦ walk n (cell d i p) l | no h ↦ walk n p r ]
+
+-- "the cells' strings, left to right", below a path
+abbrev pub strings : Str → Tree → List Str
+strings p (leaf s) = []
+strings p (node d i l r) = strings (cell d i p) l ++ (cell d i p ∷ strings p r)
+
+-- The slots that the leaves lead to, left to right.
+abbrev pub leaves : Tree → List ℕ
+leaves (leaf s) = s ∷ []
+leaves (node d i L R) = leaves L ++ leaves R
+
+abbrev pub size : Tree → ℕ
+size (leaf s) = 0
+size (node d i L R) = suc (size L + size R)
+
+-- "no number exceeds the path's length"
+abbrev pub Numbers : Str → Tree → Type 0
+Numbers p (leaf s) = Unit {0}
+Numbers p (node d i L R) = (i ≤ length p) × Numbers (cell d i p) L × Numbers p R
+
+module _ (P : Low → Str → ℕ → Type 0) where
+  -- Strings strictly ascending between l and u, and leaves between them: P holds at each leaf, of the string just left of
+  -- it and the string just right of it.
+  pub data Leaves : Low → List Str → Str → List ℕ → Type 0 where
+    leaf-last : {l : Low} {u : Str} {B : ℕ} → P l u B → Leaves l [] u (B ∷ [])
+    leaf-next : {l : Low} {u x : Str} {xs : List Str} {B : ℕ} {Bs : List ℕ} → l ◁ x → x ≺ u → P l x B
+        → Leaves (at x) xs u Bs → Leaves l (x ∷ xs) u (B ∷ Bs)
+
+  -- The same of a tree, its path u being the upper end: the tree is a trie of the interval (l, u] with these strings.
+  pub data Spans : Low → Str → Tree → List Str → Type 0 where
+    tip : {l : Low} {u : Str} {s : ℕ} → P l u s → Spans l u (leaf s) []
+    cut : {l : Low} {u : Str} {d i : ℕ} {L R : Tree} {xs ys : List Str} → i ≤ length u → l ◁ cell d i u → cell d i u ≺ u
+        → Spans l (cell d i u) L xs → Spans (at (cell d i u)) u R ys → Spans l u (node d i L R) (xs ++ (cell d i u ∷ ys))
+
+-- "every leaf leads to the one bucket whose lower bound is not above the string just left of the leaf and whose upper is
+-- not below the string just right of it"
+pub record Leads (F : Ranges) (l : Low) (u : Str) (B : ℕ) : Type 0 where
+  pub used : F .Used B
+  pub under : F .lower B ⊴ l
+  pub within : u ⊑ F .upper B
+
+-- "Cells past the count are zero with both sides leading to slot 0."
+abbrev pub zero-cell : Cell
+zero-cell = record { digit = 0; number = 0; left = slot 0; right = slot 0 }
+
+abbrev pub at-cell : List Cell → ℕ → Cell
+at-cell cs n = getD cs n zero-cell
+
+-- The side, read from these cells, is this tree, and these cell numbers are met on the way.
+pub data Reads (cs : List Cell) : Side → Tree → List ℕ → Type 0 where
+  here : {s : ℕ} → Reads cs (slot s) (leaf s) []
+  there : {n : ℕ} {L R : Tree} {vs ws : List ℕ} → n < length cs
+      → Reads cs (at-cell cs n .left) L vs → Reads cs (at-cell cs n .right) R ws
+      → Reads cs (further n) (node (at-cell cs n .digit) (at-cell cs n .number) L R) (n ∷ (vs ++ ws))
+
+-- How often a number stands in a list.
+abbrev pub one-if : {A : Type 0} → Dec A → ℕ
+one-if (yes e) = 1
+one-if (no n) = 0
+
+abbrev pub occ : ℕ → List ℕ → ℕ
+occ m [] = 0
+occ m (n ∷ ns) = one-if (ℕ-discrete m n) + occ m ns
+
+-- The walk over cells, through fewer cells than the fuel says.
+abbrev pub walk-cells : List Cell → Str → ℕ → Str → Side → ℕ
+walk-cells cs n zero p a = 0
+walk-cells cs n (suc fuel) p (slot s) = s
+walk-cells cs n (suc fuel) p (further m) =
+    elim (le? n (cell (at-cell cs m .digit) (at-cell cs m .number) p)) [
+      | yes h ↦ walk-cells cs n fuel (cell (at-cell cs m .digit) (at-cell cs m .number) p) (at-cell cs m .left)
+      | no h ↦ walk-cells cs n fuel p (at-cell cs m .right)
+    ]
+
+-- "Cell 0 is the root." "With count 0 the walk ends at the first leaf at once."
+abbrev pub root-side : ℕ → ℕ → Side
+root-side zero f = slot f
+root-side (suc n) f = further 0
+
+abbrev pub first-leaf-of : Side → ℕ
+first-leaf-of (slot s) = s
+first-leaf-of (further m) = 0
+
+-- Cells from the root on, as the trie that holds them.
+abbrev pub trie-of : List Cell → Side → Trie
+trie-of cs a = record { cells = cs ++ replicate (256 - length cs) zero-cell; count = length cs; first = first-leaf-of a }
+
+-- The slot that a name leads to.
+abbrev pub walk-trie : Trie → Str → ℕ
+walk-trie t n = walk-cells (t .cells) n (suc (t .count)) [] (root-side (t .count) (t .first))
+
+-- "A trie agrees with a sound file when .."
+pub record Agrees (fs : List Slot) (t : Trie) : Type 0 where
+  -- "its count is at most 256 and what lies past the count, and the first leaf, are as said above"
+  pub whole : length (t .cells) ≡ 256
+  pub few : t .count ≤ 256
+  pub past : (i : ℕ) → t .count ≤ i → at-cell (t .cells) i ≡ zero-cell
+  pub first-leaf : 0 < t .count → t .first ≡ 0
+  -- "every cell below the count is reached once from the root"
+  pub tree : Tree
+  pub visits : List ℕ
+  pub reads : Reads (take (t .count) (t .cells)) (root-side (t .count) (t .first)) tree visits
+  pub once : (i : ℕ) → i < t .count → occ i visits ≡ 1
+  -- "no number exceeds the path's length"
+  pub numbers : Numbers [] tree
+  -- "the cells' strings, left to right, are in ascending bound order exactly the non-empty bounds of the file and all
+  -- their non-empty beginnings"
+  pub only : (x : Str) → List·Memᴰ x (strings [] tree) → IsString fs x
+  pub every : (x : Str) → IsString fs x → List·Memᴰ x (strings [] tree)
+  -- "and every leaf leads to the one bucket .." (the order is here, too)
+  pub leading : Leaves (Leads (ranges fs)) none (strings [] tree) [] (leaves tree)
