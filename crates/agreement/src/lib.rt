@@ -6,10 +6,10 @@
 ghost use mathlib.Core.Path.{_≡_};
 ghost use Prim.Native.Nat.{_≤_, _<_, _+_};
 use digits::index;
-use trie::Cell;
-use trie::Side;
+use model::Cell;
+use model::Side;
+use model::Trie;
 use trie::Strings;
-use trie::Trie;
 use trie::number;
 
 // A cell whose left part is under way, and the length of the path to it.

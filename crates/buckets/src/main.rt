@@ -8,11 +8,11 @@ ghost use Rattle.file.specs.Sizes.{Sized, Below};
 use digits::index;
 use file::Header;
 use file::Size;
-use keeper::PutAnswer;
 use keeper::cause_number;
 use libc::STDIN_FILENO;
 use libc::STDOUT_FILENO;
-use trie::Trie;
+use model::PutAnswer;
+use model::Trie;
 
 // The line that is being read. A name has at most 24 bytes, so a 25th is kept and no further one.
 struct Line {
@@ -68,7 +68,7 @@ fn put_name(
     bytes: &[u8; 25],
     len: usize,
     number: u64,
-) -> keeper::PutGiven
+) -> model::PutGiven
     requires { ⌜ len ≤ 25 ⌝ }
 {
     let whole = &bytes[..];

@@ -6,9 +6,9 @@
 ghost use mathlib.Core.Path.{_≡_};
 ghost use Prim.Native.Nat.{_≤_, _<_, _+_, _*_};
 ghost use lib.ListN.{length};
-use trie::Cell;
-use trie::Side;
-use trie::Trie;
+use model::Cell;
+use model::Side;
+use model::Trie;
 use trie::number;
 
 fn wide(x: u8) -> u16

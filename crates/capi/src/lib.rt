@@ -3,13 +3,13 @@
 // 1 to 99 is a refusal with document 01's number; 100 and up says what was done; 255 is an image that has not 1,540 bytes.
 ghost use Prim.Native.Nat.{_≤_, _<_, _+_, _*_};
 use file::Kind;
-use keeper::ListAnswer;
-use keeper::LookUpAnswer;
-use keeper::PutAnswer;
-use keeper::RecoverAnswer;
-use keeper::RemoveAnswer;
-use keeper::TrieAnswer;
 use keeper::cause_number;
+use model::ListAnswer;
+use model::LookUpAnswer;
+use model::PutAnswer;
+use model::RecoverAnswer;
+use model::RemoveAnswer;
+use model::TrieAnswer;
 
 mod image;
 

@@ -7,9 +7,9 @@ ghost use mathlib.Core.Path.{_≡_};
 ghost use Prim.Native.Nat.{_≤_, _<_, _+_};
 ghost use lib.ListN.{length};
 use digits::index;
-use trie::Cell;
-use trie::Side;
-use trie::Trie;
+use model::Cell;
+use model::Side;
+use model::Trie;
 use trie::Walk;
 use trie::number;
 

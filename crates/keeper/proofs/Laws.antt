@@ -13,7 +13,7 @@ use Rattle.trie.specs.Arrivals.{Inside as ArrivalInside}
 use Rattle.keeper.specs.declared.checks.Checked.{Checked}
 use Rattle.keeper.specs.declared.checks.Verdict.{Verdict}
 use Rattle.keeper.specs.declared.checks.Verdict.the-variants.{Fine, Refused}
-use Rattle.keeper.specs.declared.answers.Cause.{Cause}
+use Rattle.model.specs.declared.Cause.{Cause}
 use Rattle.keeper.specs.Ready.{Ready, ReadyWhere, Passed}
 
 -- a header that is right says the file's sizes

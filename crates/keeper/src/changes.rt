@@ -6,10 +6,6 @@ ghost use Rattle.file.specs.Sizes.{Sized, Below};
 ghost use Rattle.keeper.specs.Ready.{Ready};
 ghost use Rattle.keeper.specs.Parts.{Parted};
 ghost use Rattle.keeper.specs.Spots.{Spotted};
-use crate::Cause;
-use crate::PutAnswer;
-use crate::PutGiven;
-use crate::RemoveAnswer;
 use crate::checks::Checked;
 use crate::checks::Verdict;
 use crate::checks::checks_of;
@@ -20,7 +16,11 @@ use digits::Naming;
 use digits::index;
 use file::Room;
 use file::Size;
-use trie::Trie;
+use model::Cause;
+use model::PutAnswer;
+use model::PutGiven;
+use model::RemoveAnswer;
+use model::Trie;
 
 fn given(answer: PutAnswer, trie: Trie) -> PutGiven {
     PutGiven { answer, trie }

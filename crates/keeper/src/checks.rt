@@ -5,13 +5,13 @@ ghost use lib.ListN.{length};
 ghost use Rattle.file.specs.Sizes.{Sized};
 ghost use Rattle.file.specs.Surveys.{Surveyed};
 ghost use Rattle.keeper.specs.Ready.{Passed};
-use crate::Cause;
 use file::Header;
 use file::Kind;
 use file::Size;
 use file::Survey;
+use model::Cause;
+use model::Trie;
 use trie::Strings;
-use trie::Trie;
 
 pub enum Verdict {
     Fine,

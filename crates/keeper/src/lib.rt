@@ -2,17 +2,10 @@
 mod answers;
 mod changes;
 mod checks;
+mod reading;
+mod splitting;
 mod whole;
 
-pub use answers::Cause;
-pub use answers::ListAnswer;
-pub use answers::LookUpAnswer;
-pub use answers::PutAnswer;
-pub use answers::PutGiven;
-pub use answers::RecoverAnswer;
-pub use answers::RemoveAnswer;
-pub use answers::TrieAnswer;
-pub use answers::TrieGiven;
 pub use answers::cause_number;
 pub use changes::put;
 pub use changes::remove;
@@ -22,6 +15,3 @@ pub use whole::check;
 pub use whole::create;
 pub use whole::rebuild;
 pub use whole::recover;
-
-mod reading;
-mod splitting;

@@ -4,9 +4,6 @@ ghost use Prim.Native.Nat.{_≤_, _<_, _+_, _*_};
 ghost use lib.ListN.{length};
 ghost use Rattle.file.specs.Sizes.{Sized, Below};
 ghost use Rattle.keeper.specs.Ready.{Ready};
-use crate::Cause;
-use crate::ListAnswer;
-use crate::LookUpAnswer;
 use crate::checks::Checked;
 use crate::checks::Verdict;
 use crate::checks::checks_of;
@@ -19,8 +16,11 @@ use digits::Naming;
 use digits::index;
 use file::Header;
 use file::Size;
+use model::Cause;
+use model::ListAnswer;
+use model::LookUpAnswer;
+use model::Trie;
 use trie::Arrival;
-use trie::Trie;
 
 // What one slot answers to a name.
 fn answer_of(slot: &[u8], b: usize, name: Key) -> LookUpAnswer

@@ -3,7 +3,7 @@ ghost use mathlib.Core.Path.{_≡_};
 ghost use Prim.Native.Nat.{_≤_, _<_, _+_, _*_};
 ghost use lib.ListN.{length};
 ghost use Rattle.keeper.specs.Parts.{Parted};
-use trie::Trie;
+use model::Trie;
 use trie::Walk;
 
 // The split string and how many digits it has, how many entries stay, the walk of the split key, and how many digits of

@@ -1,12 +1,12 @@
 // The calls on a whole file: create, check, recover, rebuild.
 ghost use mathlib.Core.Path.{_≡_};
 ghost use Prim.Native.Nat.{_≤_, _<_, _+_, _*_};
-use crate::Cause;
-use crate::RecoverAnswer;
-use crate::TrieAnswer;
-use crate::TrieGiven;
 use file::Header;
 use file::Kind;
+use model::Cause;
+use model::RecoverAnswer;
+use model::TrieAnswer;
+use model::TrieGiven;
 
 fn refused(cause: Cause) -> TrieGiven {
     TrieGiven {

@@ -1,4 +1,4 @@
-// The types of document 01's trie.
+// Document 01's types: the trie, and what the calls answer.
 
 // Each side leads either to a slot or to a further cell.
 pub enum Side {
@@ -18,4 +18,65 @@ pub struct Trie {
     pub cells: [Cell; 256],
     pub count: u16,
     pub first: u16,
+}
+
+// Why a call refuses, in the order of the numbers.
+pub enum Cause {
+    IllegalName,
+    BadFile,
+    CutFile,
+    StaleTrie,
+    NoFreeSlot,
+    ManyStrings,
+    ShortOutput,
+    WrongSize,
+}
+
+pub enum LookUpAnswer {
+    Found(u64),
+    Absent,
+    Refused(Cause),
+}
+
+pub enum PutAnswer {
+    Added,
+    Replaced(u64),
+    Stopped(u64),
+    Refused(Cause),
+}
+
+// Put's answer and the trie after it.
+pub struct PutGiven {
+    pub answer: PutAnswer,
+    pub trie: Trie,
+}
+
+pub enum RemoveAnswer {
+    Removed,
+    Absent,
+    Stopped(u64),
+    Refused(Cause),
+}
+
+pub enum RecoverAnswer {
+    Freed(usize),
+    Nothing,
+    Stopped(u64),
+    Refused(Cause),
+}
+
+pub enum ListAnswer {
+    Listed(u64),
+    Refused(Cause),
+}
+
+// What create and rebuild answer. Beside a refusal they give the trie with count 0 and first leaf 0.
+pub enum TrieAnswer {
+    Given,
+    Refused(Cause),
+}
+
+pub struct TrieGiven {
+    pub answer: TrieAnswer,
+    pub trie: Trie,
 }

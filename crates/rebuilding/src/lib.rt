@@ -6,10 +6,10 @@ ghost use mathlib.Core.Path.{_≡_};
 ghost use Prim.Native.Nat.{_≤_, _<_, _+_, _-_};
 ghost use lib.ListN.{length};
 use digits::index;
-use trie::Cell;
-use trie::Side;
+use model::Cell;
+use model::Side;
+use model::Trie;
 use trie::Strings;
-use trie::Trie;
 use trie::number;
 
 // The strings from the first place on and below the second.

@@ -3,26 +3,9 @@ ghost use mathlib.Core.Path.{_≡_};
 ghost use Prim.Native.Nat.{_≤_, _<_, _+_};
 ghost use Rattle.trie.specs.Arrivals.{Inside};
 use digits::index;
-
-// Each side leads either to a slot or to a further cell.
-pub enum Side {
-    Slot(u16),
-    Cell(u16),
-}
-
-pub struct Cell {
-    pub digit: u8,
-    pub number: u8,
-    pub left: Side,
-    pub right: Side,
-}
-
-// Up to 256 cells, held together with their count and a first leaf that is used only when the count is 0.
-pub struct Trie {
-    pub cells: [Cell; 256],
-    pub count: u16,
-    pub first: u16,
-}
+use model::Cell;
+use model::Side;
+use model::Trie;
 
 // The strings of a file in ascending order, each as its length and its last digit, which is what a cell holds of it; and
 // the slots of the leaves between them, one more than strings. `few` says that the strings are 256 or fewer; the other
