@@ -134,7 +134,8 @@ module _ (F : Ranges) (Bs : List ℕ) (chain : Chain F none Bs) (listed : (B : �
         (omega (arith, reads-height (A .reads), visits-count (A .reads) (A .each))) (each-once (A .reads) (A .each)))
 
 -- The expected strings and slots as a cursor gives them: a slot, and a length that goes down.
--- the beginnings of x with j + n, …, j + 1 digits
+
+-- The beginnings of x with j + n, …, j + 1 digits.
 abbrev pub shorter : Str → ℕ → ℕ → List Str
 shorter x j zero = []
 shorter x j (suc n) = take (j + suc n) x ∷ shorter x j n
@@ -145,7 +146,7 @@ shorter-snoc x j (suc n) =
     let e : j + suc (suc n) ≡ suc j + suc n = omega arith in
     rw (← shorter-snoc x j n, e)
 
--- the digits ds behind p, where p ++ ds is x
+-- The digits ds behind p, where p ++ ds is x.
 longer-shorter : (ds p : Str) → longer p ds ≡ shorter (p ++ ds) (length p) (length ds)
 longer-shorter [] p = refl
 longer-shorter (d ∷ ds) p =
@@ -163,7 +164,7 @@ fresh-shorter x y h =
     let k : j < length x = diff-lt-left x y h in
     rw (take-append-drop j x, length-take-le j x (omega arith), length-drop j x) at (longer-shorter (drop j x) (take j x))
 
--- how many strings come with a bound x before the bound y
+-- How many strings come with a bound x before the bound y.
 pub length-fresh : (x y : Str) → x ≺ y → length (fresh x y) ≡ length x - diff x y
 length-fresh x y h = ap length (fresh-shorter x y h) ∙ count x (diff x y) (length x - diff x y)
   where
@@ -194,7 +195,7 @@ module _ (lab : Low → ℕ) where
       ap₂ (λ (B : ℕ) (es : List Token). string x ∷ leads B ∷ es) (f x (List·Memᴰ·head refl)) (tokens-follow C xs (λ y m. f y (List·Memᴰ·tail m)))
 
 module _ (F : Ranges) where
-  -- coming the slot B's leaf: the strings that its upper brings, each followed by a leaf of the next slot
+  -- After the slot B's leaf: the strings that its upper brings, each followed by a leaf of the next slot.
   abbrev pub coming : ℕ → List ℕ → List Token
   coming B [] = []
   coming B (C ∷ Bs) = follow C (fresh (F .upper B) (F .upper C)) ++ coming C Bs
@@ -231,7 +232,7 @@ module _ (F : Ranges) where
       (bring lab C (F .upper B) (F .upper C) up (λ x h k. f x h (lt-le-trans k top) ∙ label-here C (D ∷ Bs) x k))
       (tokens-after lab (D ∷ Bs) C (at (F .upper B)) (next u′ e′ a′ b′ c) (λ x h k. f x (le-trans (lt-le up) h) k ∙ label-skip C D Bs x h))
 
-  -- the pass that decides agreement eats exactly this
+  -- The pass that decides agreement eats exactly this.
   pub expect-cursor : (B : ℕ) (Bs : List ℕ) → Chain F none (B ∷ Bs) → expect (label F (B ∷ Bs)) none (all (bounds F (B ∷ Bs))) ≡ leads B ∷ coming B Bs
   unfolding low?
   expect-cursor B [] c = refl

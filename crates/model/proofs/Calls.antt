@@ -71,7 +71,7 @@ module _ (b : ℕ) where
     denied-one (too-many A N es is lo up h L k) (no-room A′ es′ is′ lo′ up′ h′ f) = absurd (f N (L .inside) (L .is-free))
     denied-one (too-many A N es is lo up h L k) (too-many A′ N′ es′ is′ lo′ up′ h′ L′ k′) = refl
 
-    -- a put on a held name is one store
+    -- A put on a held name is one store.
     pub held-one : (A : ℕ) {l : Low} {u : Str} {es : List Entry} {n : Str} {v w : ℕ} {ss : List Store} → slot-at fs A ≡ used l u es → l ◁ n → n ⊑ u
         → find n es ≡ some w → Change b fs (put n v) ss → length ss ≡ 1
     held-one A is lo up e (fits is′ g′ lo′ up′ h′) = refl

@@ -27,7 +27,7 @@ pub not-visited : (m n : ℕ) (vs ws : List ℕ) → occ m (n ∷ (vs ++ ws)) �
 not-visited m n vs ws o =
     (λ e. omega (arith, one-if-equal (sym e) (ℕ-discrete m n)), omega (arith, occ-append m vs ws), omega (arith, occ-append m vs ws))
 
--- the one-if, where the cell is known by an equation
+-- The same, where the cell is known by an equation.
 pub there-at : {cs : List Cell} {n : ℕ} {c : Cell} {L R : Tree} {vs ws : List ℕ} → n < length cs → at-cell cs n ≡ c → Reads cs (c .left) L vs → Reads cs (c .right) R ws
     → Reads cs (further n) (node (c .digit) (c .number) L R) (n ∷ (vs ++ ws))
 there-at h e l r = rw (← e) (there h (rw (← e) at l) (rw (← e) at r))
@@ -43,7 +43,7 @@ reads-set {cs} m c o (there {n = n} {vs = vs} {ws = ws} h l r) =
     let a = not-visited m n vs ws o in
     there-at (rw length-set h) (getD-set-other cs m n c zero-cell (a .0)) (reads-set m c (a .1) l) (reads-set m c (a .2) r)
 
--- what a side reads depends on the visited cells alone
+-- What a side reads depends on the visited cells alone.
 pub reads-agree : {cs cs′ : List Cell} {a : Side} {t : Tree} {vs : List ℕ} → length cs ≤ length cs′
     → ((m : ℕ) → 0 < occ m vs → at-cell cs′ m ≡ at-cell cs m) → Reads cs a t vs → Reads cs′ a t vs
 reads-agree len f here = here
@@ -66,7 +66,7 @@ walk-reads {cs} n (suc fuel) p (there {n = m} {L = L} {R = R} {vs = vs} {ws = ws
     go (yes h) e f = e
     go (no h) e f = f
 
--- what a side reads is unique
+-- What a side reads is unique.
 pub reads-tree : {cs : List Cell} {a : Side} {t t′ : Tree} {vs vs′ : List ℕ} → Reads cs a t vs → Reads cs a t′ vs′ → t ≡ t′
 reads-tree here here = refl
 reads-tree {cs} (there {n = m} h l r) (there h′ l′ r′) = ap₂ (λ (x y : Tree). node (at-cell cs m .digit) (at-cell cs m .number) x y) (reads-tree l l′) (reads-tree r r′)
@@ -83,11 +83,11 @@ reads-below m h (there {n = n} {vs = vs} {ws = ws} b l r) = go (ℕ-discrete m n
     go (yes e) x y = absurd (omega arith)
     go (no e) x y = omega (arith, occ-append m vs ws)
 
--- each cell once: none twice
+-- Each cell once: none twice.
 pub each-once : {cs : List Cell} {a : Side} {t : Tree} {vs : List ℕ} → Reads cs a t vs → ((i : ℕ) → i < length cs → occ i vs ≡ 1) → (i : ℕ) → occ i vs ≤ 1
 each-once {cs} r each i = elim (decLe (length cs) i) [ yes h ↦ omega (arith, reads-below i h r) | no h ↦ omega (arith, each i (omega arith)) ]
 
--- how many numbers below n, each counted as often as it stands
+-- How many numbers below n, each counted as often as it stands.
 abbrev pub total : ℕ → List ℕ → ℕ
 total zero vs = 0
 total (suc n) vs = occ n vs + total n vs
@@ -125,11 +125,11 @@ reads-total {cs} here = sym (total-nil (length cs))
 reads-total {cs} (there {n = m} {vs = vs} {ws = ws} h l r) =
     omega (arith, reads-total l, reads-total r, length-append vs ws, total-append (length cs) vs ws, total-cons (length cs) m (vs ++ ws) h)
 
--- each cell reached once: as many visits as cells, so the walk passes at most as many
+-- Each cell reached once: as many visits as cells, so the walk passes at most as many.
 pub visits-count : {cs : List Cell} {a : Side} {t : Tree} {vs : List ℕ} → Reads cs a t vs → ((i : ℕ) → i < length cs → occ i vs ≡ 1) → length vs ≡ length cs
 visits-count {cs} {vs = vs} r each = reads-total r ∙ total-each (length cs) vs each
 
--- different numbers below n are at most n
+-- Different numbers below n are at most n.
 pub total-le : (n : ℕ) (vs : List ℕ) → ((i : ℕ) → occ i vs ≤ 1) → total n vs ≤ n
 total-le zero vs f = omega arith
 total-le (suc n) vs f = omega (arith, f n, total-le n vs f)
@@ -150,7 +150,7 @@ pub length-lay : (k : ℕ) (t : Tree) → length (lay k t) ≡ size t
 length-lay k (leaf s) = refl
 length-lay k (node d i L R) = simp (length-append, length-lay (suc k) L, length-lay (suc k + size L) R)
 
--- xs stands in cs from place k on
+-- xs stands in cs from place k on.
 abbrev pub Stands : List Cell → ℕ → List Cell → Type 0
 Stands cs k xs = (k + length xs ≤ length cs) × ((j : ℕ) → j < length xs → at-cell cs (k + j) ≡ at-cell xs j)
 
@@ -184,7 +184,7 @@ lay-reads (node d i L R) cs k st =
     (lay-reads L cs (suc k) (stands-left cs k c xs ys st))
     (lay-reads R cs (suc k + size L) (rw (length-lay (suc k) L) at (stands-right cs k c xs ys st)))
 
--- the cells are visited in the order of their numbers, each once
+-- The cells are visited in the order of their numbers, each once.
 abbrev pub upto : ℕ → ℕ → List ℕ
 upto k zero = []
 upto k (suc n) = k ∷ upto (suc k) n

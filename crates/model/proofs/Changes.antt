@@ -19,7 +19,7 @@ use Rattle.model.proofs.Entries.{chosen-no, chosen-yes, find-at, find-d
 use Rattle.model.proofs.Files.{bucket, count-right, one-range, slot-freed, used-inside, well-parts}
 use Rattle.model.proofs.Splitting.{SplitAt, chain-split}
 
--- what a store at A leaves: the new slot-at at A, the old ones elsewhere
+-- What a store at A leaves: the new slot at A, the old ones elsewhere.
 pub at-set : (P : ℕ → Slot → Type 0) (fs : List Slot) (A : ℕ) (x : Slot) → A < length fs → P A x → ((B : ℕ) → B ≢ A → P B (slot-at fs B)) → (B : ℕ) → P B (slot-at (set fs A x) B)
 at-set P fs A x h p f B = elim (ℕ-discrete B A) [
   | yes e ↦ subst (λ C. P C (slot-at (set fs A x) C)) (sym e) (rw (getD-set-same fs A x free h) p)
@@ -275,7 +275,7 @@ module _ (b : ℕ) where
       few = F .few;
     }
 
-    -- stopped: nothing changed, or the file is cut and freeing its one slot-at gives back what was there
+    -- Stopped: nothing changed, or the file is cut and freeing its one slot gives back what was there.
     pub change-stopped : {fs : List Slot} {m : Map} {q : Request} {ss : List Store} → Fine fs m → Change b fs q ss → (k : ℕ) → k < length ss
         → (stored (take k ss) fs ≡ fs) ⊎ ((N : ℕ) × Cut b (stored (take k ss) fs) N × (set (stored (take k ss) fs) N free ≡ fs))
     change-stopped F c zero h = inl refl
@@ -303,7 +303,7 @@ module _ (b : ℕ) where
     abbrev z : Str
     z = name-at (insert n v es) b
 
-    -- no bucket holds the last name
+    -- No bucket holds the last name.
     homeless : (B : ℕ) → ¬ In (head (slot-at cut-first B)) z
     homeless = at-set (λ B x. ¬ In (head x) z) fs A (old-slot fs S A l u es is n v legal lo up big i i-lt N lowest) (inside-a fs S A l u es is)
         (λ h. s-last fs S A l u es is n v legal lo up big i i-lt N lowest (h .2))

@@ -90,7 +90,7 @@ module _ {P : Str → Type 0} (t : (n : Str) → Dec (P n)) where
     | no h ↦ rw (chosen-no (t (e .0)) h, chosen-yes (not? (t (e .0))) h) (omega (arith, keep-parts es))
   ]
 
-  -- one that passes is kept
+  -- One that passes is kept.
   pub keep-some : (es : List Entry) (i : ℕ) → i < length es → P (getD es i ([], 0) .0) → 0 < length (keep t es)
   unfolding keep
   keep-some [] i h p = absurd (omega arith)
@@ -163,7 +163,7 @@ unfolding keep
 keep-all t no-entries f = refl
 keep-all t (entry {e = e} g a b r) f = rw (chosen-yes (t (e .0)) (f (e .0) a), keep-all t r (λ k h. f k (low-lower (low-at a) h)))
 
--- where an insertion adds an entry, the name was not there
+-- Where an insertion adds an entry, the name was not there.
 pub insert-new : {l : Low} {u : Str} {es : List Entry} (n : Str) (v : ℕ) → Row l es u → length es < length (insert n v es) → without n es ≡ es
 unfolding insert keep
 insert-new n v no-entries h = refl

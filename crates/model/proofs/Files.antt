@@ -78,11 +78,11 @@ chain-once F (B ∷ Bs) (next u e a b c) i = go (ℕ-discrete i B) (chain-once F
     ]
 
 module _ (b : ℕ) where
-  -- a name lies in the range of one slot-at only
+  -- A name lies in the range of one slot only.
   pub one-range : {fs : List Slot} → Sound b fs → (n : Str) {B C : ℕ} → In (head (slot-at fs B)) n → In (head (slot-at fs C)) n → B ≡ C
   one-range {fs} S n {B} {C} h k = range-unique (ranges fs) (S .chain) n (S .listed B (h .0)) (S .listed C (k .0)) (h .1) (h .2) (k .1) (k .2)
 
-  -- two used slots with one upper are one
+  -- Two used slots with one upper are one.
   pub one-upper : {fs : List Slot} → Sound b fs → {B C : ℕ} {l m : Low} {u : Str} {xs ys : List Entry}
       → slot-at fs B ≡ used l u xs → slot-at fs C ≡ used m u ys → l ◁ u → m ◁ u → B ≡ C
   one-upper S {u = u} e f h k = one-range S u (rw e (tt, h, le-refl u)) (rw f (tt, k, le-refl u))
@@ -113,7 +113,7 @@ module _ (b : ℕ) where
     pub cut-not-sound : Sound b fs → ⊥
     cut-not-sound S = other (one-upper S a-there (C .n-is) a-below n-low)
 
-    -- freeing another slot-at leaves the pair: so that slot-at is A
+    -- Freeing another slot leaves the pair: so that slot is A.
     pub other-freed : (M : ℕ) → M ≢ N → Sound b (set fs M free) → C .A ≡ M
     other-freed M d S = elim (ℕ-discrete (C .A) M) [
       | yes e ↦ e
@@ -146,7 +146,7 @@ module _ (b : ℕ) where
       | no p ↦ one-range S (upper-of (head (slot-at fs C))) (u, subst (λ l. l ◁ upper-of (head (slot-at fs C))) (sym e) (well-head (S .well C) v), lt-le p) (v, well-head (S .well C) v, le-refl _)
     ]
 
-    -- the order is determined
+    -- The order is determined.
     pub one-order : (T : Sound b fs) → S .order ≡ T .order
     one-order T = chain-unique (ranges fs) (S .chain) (T .chain) one-lower
 

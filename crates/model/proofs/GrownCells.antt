@@ -66,7 +66,7 @@ spot-reads {cs} n (suc fuel) p k (there {n = m} {L = L} {R = R} {vs = vs} {ws = 
     go (yes h) e f = e
     go (no h) e f = f
 
--- the spot lies among the cells visited, and the side stays; or no cell is visited, and the side is replaced
+-- The spot lies among the cells visited, and the side stays; or no cell is visited, and the side is replaced.
 abbrev pub Visited : Side → Spot → Spot → List ℕ → Type 0
 Visited a k sp vs = ((sp ≡ k) × ((x : Side) → placed a x ≡ x)) ⊎ ((0 < occ (cell-of sp) vs) × ((x : Side) → placed a x ≡ a))
 
@@ -104,12 +104,12 @@ module _ (cs cs′ : List Cell) (n : Str) (new : Side) (X : Tree) (xs : List ℕ
     pub reads : Reads cs′ a t visits
     pub counts : (m : ℕ) → occ m visits ≡ occ m vs + occ m xs
 
-  -- a visited spot stands at m or among vs, so not elsewhere
+  -- A visited spot stands at m or among vs, so not elsewhere.
   seen : (a : Side) (k : Spot) (vs : List ℕ) → Visited a k sp vs → 0 < one-if (ℕ-discrete (cell-of sp) (cell-of k)) + occ (cell-of sp) vs
   seen a k vs (inl e) = omega (arith, one-if-equal (ap cell-of (e .0)) (ℕ-discrete (cell-of sp) (cell-of k)))
   seen a k vs (inr o) = omega (arith, o .0)
 
-  -- the cell k is as it was, but for the side that was walked
+  -- The cell k is as it was, but for the side that was walked.
   moved : (m : ℕ) (a : Side) (vs : List ℕ) (k : Spot) (f : Side → Cell) → cell-of k ≡ m → changed (at-cell cs m) k new ≡ f new → at-cell cs m ≡ f a
       → m < length cs → one-if (ℕ-discrete (cell-of sp) m) + occ (cell-of sp) vs ≤ 1 → Visited a k sp vs → at-cell cs′ m ≡ f (placed a new)
   moved m a vs k f em ec ea h once (inl e) =

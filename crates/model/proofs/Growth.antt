@@ -14,7 +14,7 @@ use Rattle.model.specs.Growth.{chain-of, graft, grown}
 use Rattle.model.proofs.Order.{diff-le-right, diff-lt-left, le-append, le-refl, le-take, low-at, low-le, low-refl, lt-le, lt-or-ge, sandwich, snoc-lt, split-lt, take-diff}
 use Rattle.model.proofs.Tries.{cut-at}
 
--- what holds at a leaf holds at a leaf of a part of its interval
+-- What holds at a leaf holds at a leaf of a part of its interval.
 pub record Shrinks (P : Low → Str → ℕ → Type 0) : Type 0 where
   pub shrink : {l m : Low} {u v : Str} {s : ℕ} → P l u s → l ⊴ m → v ⊑ u → P m v s
 
@@ -50,7 +50,7 @@ module _ (P : Low → Str → ℕ → Type 0) (S : Shrinks P) where
 
   -- The split string s is a beginning of the split key c, and no string of the trie begins with s.
   module _ (c s : Str) (k : ℕ) (hk : k ≤ length c) (es : take k c ≡ s) where
-    -- the strings before and after those that came new; the path of the leaf that was replaced
+    -- The strings before and after those that came new; the path of the leaf that was replaced.
     pub record Growth (l : Low) (u : Str) (t : Tree) (ss : List Str) : Type 0 where
       pub path : Str
       pub before : List Str

@@ -10,17 +10,17 @@ use native.Mathlib.Omega.{arith}
 use lib.Dec.{leb}
 use lib.ListN.{length, replicate, set}
 use borrow.Author.Tests.{le-leb, le-ltb, lt-ltb}
-use Rattle.model.specs.Order.{Str, at, least, none}
+use Rattle.model.specs.Order.{at, least}
 use Rattle.model.specs.Names.{Legal, legalFilled, unlimited}
 use Rattle.model.specs.Entries.{find, no-entries}
-use Rattle.model.specs.Files.{Cut, IsUsed, Slot, Sound, Well, created, entries-of, free, head, last, order-of, ranges, slot-at, well-free, well-used}
-use Rattle.model.specs.Tries.{Leads, Spans, Tree, walk}
+use Rattle.model.specs.Files.{Cut, IsUsed, Slot, Sound, Well, created, free, head, last, slot-at, well-free, well-used}
+use Rattle.model.specs.Tries.{walk-trie}
 use Rattle.model.specs.Changes.{Map, Means, Request, Result, call, put, remove}
 use Rattle.model.specs.Checks.{Kind, check, is-bad, is-cut, is-sound}
 use Rattle.model.specs.Histories.{Act, Demand3, World, act, answered, ask, asked-name, down, lose, ready, recover, recovered, run}
 use Rattle.model.proofs.Names.{both-true, legalFilled-legal}
-use Rattle.model.proofs.Rebuilding.{rebuilt-agrees, walk-right}
-use Rattle.model.proofs.Files.{count-right, cut-not-sound, cut-unique, order-right}
+use Rattle.model.proofs.Files.{count-right, cut-not-sound, cut-unique}
+use Rattle.model.proofs.Agreement.{agrees-walk, rebuilt-trie-agrees}
 use Rattle.model.proofs.Changes.{Fine, change-made, change-stopped}
 use Rattle.model.proofs.Calls.{Answered, is-denied, is-made, put-right, remove-right}
 use Rattle.model.proofs.Checks.{Checked, check-right}
@@ -50,16 +50,12 @@ module _ (b slots : ℕ) where
       means k zero h = refl
       means k (suc B) h = rw (free-all (slots - 1) B)
 
-  -- Any trie of the file's ranges leads a name to the bucket that holds what the map says.
-  pub looks-up : {fs : List Slot} {m : Map} → Fine b fs m → {t : Tree} {ss : List Str} → Spans (Leads (ranges fs)) none [] t ss
-      → (k : Str) → find k (entries-of (slot-at fs (walk k [] t))) ≡ m k
-  looks-up {fs} F {t} T k = F .means k (walk k [] t) (walk-right (ranges fs) T k)
-
   pub fine-demand : {fs : List Slot} {m : Map} → Fine b fs m → Demand3 b slots m fs
   fine-demand {fs} F = record {
     sound = F .sound;
     few = F .few;
-    lookup = looks-up F (rebuilt-agrees (ranges fs) (order-of fs) (rw (order-right b (F .sound)) (F .sound .chain)));
+    rebuilds = rebuilt-trie-agrees b (F .sound) (F .few);
+    lookup = λ {t} A k. F .means k (walk-trie t k) (agrees-walk b (F .sound) A k);
   }
 
   -- Ready: fine. Down: fine, or one recovery away from it.

@@ -50,7 +50,7 @@ lt-le-trans p q r = p (le-trans q r)
 pub lt-trans : {x y z : Str} → x ≺ y → y ≺ z → x ≺ z
 lt-trans p q = lt-le-trans p (lt-le q)
 
--- a beginning comes after all that it begins
+-- A beginning comes after all that it begins.
 pub le-take : (k : ℕ) (x : Str) → x ⊑ take k x
 le-take zero x = top
 le-take (suc k) [] = top
@@ -84,7 +84,7 @@ split-lt (a ∷ c) (b ∷ z) p = go (ℕ-discrete a b) (split-lt c z)
     go (yes e) r q = r (λ t. p (digit (head-le q) (λ e′. t))) (tail-le q (sym e))
     go (no n) r q = p (digit (head-le q) (λ e. absurd (n (sym e))))
 
--- what two strings share
+-- What two strings share.
 pub take-diff : (c z : Str) → take (diff c z) c ≡ take (diff c z) z
 take-diff [] z = refl
 take-diff (a ∷ c) [] = refl
@@ -103,7 +103,7 @@ diff-le-right (a ∷ c) (b ∷ z) = go (ℕ-discrete a b) (diff-le-right c z)
     go (yes e) r = omega arith
     go (no n) r = omega arith
 
--- two strings that differ: the smaller has a digit at the first difference
+-- Two strings that differ: the smaller has a digit at the first difference.
 pub diff-lt-left : (c z : Str) → c ≺ z → diff c z < length c
 diff-lt-left [] z p = absurd (p top)
 diff-lt-left (a ∷ c) [] p = omega arith
@@ -113,7 +113,7 @@ diff-lt-left (a ∷ c) (b ∷ z) p = go (ℕ-discrete a b) (diff-lt-left c z)
     go (yes e) r = let h : b ≤ a = omega arith in omega (arith, r (λ t. p (digit h (λ e′. t))))
     go (no n) r = omega arith
 
--- the split string is the shortest beginning that is smaller than as many digits
+-- The split string is the shortest beginning that is smaller than as many digits.
 pub split-smaller : (c z : Str) → c ≺ z → take (suc (diff c z)) c ≺ take (suc (diff c z)) z
 split-smaller c z p = lt-le-trans (split-lt c z p) (le-take (suc (diff c z)) z)
 

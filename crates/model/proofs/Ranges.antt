@@ -57,7 +57,7 @@ module _ (F : Ranges) where
   leads-unique (next u e a b c) h (List·Memᴰ·tail p) (List·Memᴰ·tail q) x y = leads-unique c h p q x y
 
 module _ (F : Ranges) where
-  -- a name lies in the range of one slot only
+  -- A name lies in the range of one slot only.
   pub range-unique : {l : Low} {Bs : List ℕ} → Chain F l Bs → (n : Str) {B C : ℕ} → List·Memᴰ B Bs → List·Memᴰ C Bs
       → F .lower B ◁ n → n ⊑ F .upper B → F .lower C ◁ n → n ⊑ F .upper C → B ≡ C
   range-unique (last u e f) n (List·Memᴰ·head p) (List·Memᴰ·head q) x x′ y y′ = p ∙ sym q
@@ -74,7 +74,7 @@ module _ (F : Ranges) where
   chain-used (next u e a b c) B (List·Memᴰ·head p) = rw p u
   chain-used (next u e a b c) B (List·Memᴰ·tail p) = chain-used c B p
 
-  -- what comes later is another slot
+  -- What comes later is another slot.
   pub chain-other : {l : Low} (B : ℕ) (Bs : List ℕ) → Chain F l (B ∷ Bs) → (C : ℕ) → List·Memᴰ C Bs → C ≢ B
   chain-other B [] c C m e = List·Memᴰ·not-nil m
   chain-other B (D ∷ Bs) (next u e a b c) C m q =

@@ -39,7 +39,7 @@ module _ {l : Low} {u : Str} (xs : List Str) (r : Str) (ys : List Str)
         | inr h ↦ inr h
       ]
 
--- the cell of a root r with fewest digits has the string r under the path u
+-- The cell of a root r with fewest digits has the string r under the path u.
 root-cell : (r u : Str) → r ≺ u → u ⊑ take (length r - 1) r → (cell (last-digit r) (length r - 1) u ≡ r) × (length r - 1 ≤ length u)
 root-cell [] u p q = absurd (p top)
 root-cell (a ∷ r) u p q =
@@ -47,7 +47,7 @@ root-cell (a ∷ r) u p q =
     let h = sandwich k (a ∷ r) (lt-le p) q (omega arith) in
     (rw (h .0) (sym (take-suc (a ∷ r) k 0 (omega arith)) ∙ take-all (suc k) (a ∷ r) (omega arith)), h .1)
 
--- its parent lies outside the run, and above
+-- Its parent lies outside the run, and above.
 parent-above : (ss : List Str) (r u : Str) → List·Memᴰ r ss → r ≺ u → ((x : Str) → List·Memᴰ x ss → length r ≤ length x) → Closed ss u
     → u ⊑ take (length r - 1) r
 parent-above ss [] u m p few closed = absurd (p top)
@@ -87,7 +87,7 @@ fewest-le x (z ∷ zs) y m = go (List·Memᴰ·cases-cons m) (λ m. fewest-le z 
     go (inl e) f = omega (arith, ap length e)
     go (inr m) f = omega (arith, f m)
 
--- some string has as few
+-- Some string has as few.
 places-some : (x : Str) (xs : List Str) (n i : ℕ) → n ≡ fewest x xs → 0 < length (places n i (x ∷ xs))
 places-some x [] n i e = go (ℕ-discrete (length x) n)
   where
@@ -101,7 +101,7 @@ places-some x (y ∷ ys) n i e = go (ℕ-discrete (length x) n) (places-some y y
     go (yes e) f = omega arith
     go (no k) f = f (omega arith)
 
--- each place is that of a string with n digits
+-- Each place is that of a string with n digits.
 abbrev Place : ℕ → ℕ → List Str → ℕ → Type 0
 Place n i xs p = (i ≤ p) × (p < i + length xs) × (length (getD xs (p - i) []) ≡ n)
 
@@ -143,7 +143,7 @@ module _ (F : Ranges) where
       (all-asc (bounds F Bs) none (bounds-asc F Bs none c)) (all-closed (bounds F Bs)))
       least (λ l u B a b mv gap e. rw e (label-leads F Bs none c l u least (λ x m. gap x (bounds-all F Bs none c x m)))))
 
-  -- each name within its walk's leaf lies in the range of the slot that the leaf leads to
+  -- Each name within its walk's leaf lies in the range of the slot that the leaf leads to.
   pub walk-right : {t : Tree} {ss : List Str} → Spans (Leads F) none [] t ss → (n : Str)
       → (F .Used (walk n [] t)) × (F .lower (walk n [] t) ◁ n) × (n ⊑ F .upper (walk n [] t))
   walk-right T n = let e = walk-ends (Leads F) T n least top in

@@ -43,11 +43,11 @@ leads-shrinks F = record { shrink = λ h a b. record { used = h .used; under = l
 -- The split of A at s, a beginning of c with at least a digit: F before, G after both stores.
 module _ (F G : Ranges) (c s : Str) (k : ℕ) (pos : 0 < k) (hk : k ≤ length c) (es : take k c ≡ s) (A N : ℕ)
     (S : SplitAt F G s A N) (t : Tree) (ss : List Str) (T : Spans (Leads F) none [] t ss) (closed : Closed ss []) where
-  -- s is a string already: no cell is added
+  -- s is a string already: no cell is added.
   pub put-same : List·Memᴰ s ss → Spans (Leads G) none [] (relabel (turn s A N) [] t) ss
   put-same m = split-trie F G s A N S m least T
 
-  -- s is not: the strings are then the old ones and the non-empty beginnings of s
+  -- s is not: the strings are then the old ones and the non-empty beginnings of s.
   pub record Put : Type 0 where
     pub new : List Str
     pub trie : Spans (Leads G) none [] (relabel (turn s A N) [] (graft c s [] t)) new
@@ -96,7 +96,7 @@ module _ (F G : Ranges) (c s : Str) (k : ℕ) (pos : 0 < k) (hk : k ≤ length c
             [ inl m ↦ inr (fresh-begins s (g .path) x m) | inr m ↦ inl (rw (g .old) (Memᴰ·append-right (g .before) m)) ]
       ]
 
--- s is added to the bounds
+-- s is added to the bounds.
 pub record Adds (bs bs′ : List Str) (s : Str) : Type 0 where
   pub asc : Asc none bs′ []
   pub keeps : (x : Str) → List·Memᴰ x bs → List·Memᴰ x bs′
@@ -165,7 +165,7 @@ module _ (F G : Ranges) (s : Str) (A N : ℕ) (S : SplitAt F G s A N) where
       let o = S .other B (λ q. chain-other F B (X ∷ (Xs ++ (A ∷ Ys))) (next u e a b c) A (Memᴰ·append-right (X ∷ Xs) (List·Memᴰ·head refl)) (sym q)) u in
       next (o .0) (o .1 ∙ e) (rw (← o .2) at a) (rw (← o .2) at b) (rw (← o .2) at (chain-split (X ∷ Xs) Ys c lo up))
 
-  -- the bounds after the split are those before, and s
+  -- The bounds after the split are those before, and s.
   pub adds : (Xs Ys : List ℕ) → Chain F none (Xs ++ (A ∷ Ys)) → F .lower A ◁ s → s ≺ F .upper A
       → Adds (bounds F (Xs ++ (A ∷ Ys))) (bounds G (Xs ++ (A ∷ N ∷ Ys))) s
   adds Xs Ys c lo up = record { asc = bounds-asc G Cs none d; keeps = keeps; gains = gains; only = only }
@@ -218,7 +218,7 @@ module _ (F G : Ranges) (s : Str) (A N : ℕ) (S : SplitAt F G s A N) where
             ]
           ]
 
--- c the split key, z the last name, both of A's range; s the split string
+-- c the split key, z the last name, both of A's range; s the split string.
 pub split-agrees : (F G : Ranges) (A N : ℕ) (Xs Ys : List ℕ) (c z : Str) (t : Tree)
     → Chain F none (Xs ++ (A ∷ Ys)) → F .lower A ◁ c → c ≺ z → z ⊑ F .upper A
     → SplitAt F G (take (suc (diff c z)) c) A N

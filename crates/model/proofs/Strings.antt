@@ -27,12 +27,12 @@ asc-append : {xs ys : List Str} {l : Low} {y u : Str} → Asc l xs y → y ≺ u
 asc-append {l = l} end b h f = f l h
 asc-append (step a c s) b h f = step a (lt-trans c b) (asc-append s b (above c) f)
 
--- the strings of any trie ascend
+-- The strings of any trie ascend.
 pub trie-asc : {P : Low → Str → ℕ → Type 0} {l : Low} {u : Str} {t : Tree} {ss : List Str} → Spans P l u t ss → Asc l ss u
 trie-asc (tip h) = end
 trie-asc (cut hi a b L R) = asc-append (trie-asc L) b a (λ m h. step h b (trie-asc R))
 
--- two ascending lists with the same members are equal
+-- Two ascending lists with the same members are equal.
 pub asc-unique : {xs ys : List Str} {l : Low} {u : Str} → Asc l xs u → Asc l ys u
     → ((x : Str) → List·Memᴰ x xs → List·Memᴰ x ys) → ((x : Str) → List·Memᴰ x ys → List·Memᴰ x xs) → xs ≡ ys
 asc-unique end end f g = refl
@@ -49,7 +49,7 @@ asc-unique {u = u} (step {x = x} {xs = xs} a b s) (step {x = y} {xs = ys} c d t)
     rest : {v w : Str} {vs ws : List Str} → Asc (at v) vs u → v ≡ w → ((z : Str) → List·Memᴰ z (v ∷ vs) → List·Memᴰ z (w ∷ ws)) → (z : Str) → List·Memᴰ z vs → List·Memᴰ z ws
     rest {v} s e f z m = elim (List·Memᴰ·cases-cons (f z (List·Memᴰ·tail m))) [ inl e′ ↦ absurd (over (asc-mem s m .0) (rw (e′ ∙ sym e) (le-refl v))) | inr m ↦ m ]
 
--- x is p with 1 to all of the digits ds
+-- x is p with 1 to all of the digits ds.
 pub record Longer (p ds x : Str) : Type 0 where
   pub count : ℕ
   pub some : 0 < count
@@ -71,7 +71,7 @@ longer-mem (d ∷ ds) p zero h = Memᴰ·append-right (longer (p ++ (d ∷ [])) 
 longer-mem (d ∷ ds) p (suc k) h =
     Memᴰ·append-left ((p ++ (d ∷ [])) ∷ []) (Memᴰ·cast (sym (append-assoc p (d ∷ []) (take (suc k) ds))) (longer-mem ds (p ++ (d ∷ [])) k (omega arith)))
 
--- a beginning with a digit is not the greatest string
+-- A beginning with a digit is not the greatest string.
 pub not-top : (k : ℕ) (s : Str) → 0 < k → k ≤ length s → ¬ ([] ⊑ take k s)
 not-top zero s a b = absurd (omega arith)
 not-top (suc k) [] a b = absurd (omega arith)
@@ -83,7 +83,7 @@ fresh-begins s u x m =
     let r = mem-longer (drop j s) (take j s) x m in
     record { count = j + r .count; some = omega (arith, r .some); fits = omega (arith, r .some, r .fits, length-drop j s); is = r .is ∙ sym (take-add j (r .count) s) }
 
--- every non-empty beginning of s is new, or begins the path
+-- Every non-empty beginning of s is new, or begins the path.
 pub begins : (s u : Str) (k : ℕ) → 0 < k → k ≤ length s → List·Memᴰ (take k s) (fresh s u) ⊎ ((k ≤ diff s u) × (take k s ≡ take k u))
 begins s u k h hk = by (decLe k (diff s u))
   where

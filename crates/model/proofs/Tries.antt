@@ -13,7 +13,7 @@ use Rattle.model.specs.Growth.{relabel}
 use Rattle.model.proofs.Order.{le-refl, le-trans, low-at, low-lower, low-refl, low-trans, lt-le, lt-le-trans, lt-trans}
 
 module _ (P : Low → Str → ℕ → Type 0) where
-  -- the same, where the cell's string is known by an equation
+  -- The same, where the cell's string is known by an equation.
   pub cut-at : {l : Low} {u q : Str} (d i : ℕ) {L R : Tree} {xs ys : List Str} → i ≤ length u → cell d i u ≡ q → l ◁ q → q ≺ u
       → Spans P l q L xs → Spans P (at q) u R ys → Spans P l u (node d i L R) (xs ++ (q ∷ ys))
   cut-at {l} {u} {q} d i {L} {R} {xs} {ys} hi e lo up x y =
@@ -43,7 +43,7 @@ module _ (P : Low → Str → ℕ → Type 0) where
   strings-are (tip h) = refl
   strings-are (cut hi lo up x y) = rw (strings-are x, strings-are y)
 
--- all strings of a trie lie strictly inside its interval
+-- All strings of a trie lie strictly inside its interval.
 pub inside : {P : Low → Str → ℕ → Type 0} {l : Low} {u : Str} {t : Tree} {ss : List Str} → Spans P l u t ss → (x : Str) → List·Memᴰ x ss → (l ◁ x) × (x ≺ u)
 inside (tip h) x m = absurd (List·Memᴰ·not-nil m)
 inside {P} {l} {u} (cut {d = d} {i = i} {xs = xs} {ys = ys} hi a b L R) x m =
@@ -56,7 +56,7 @@ inside {P} {l} {u} (cut {d = d} {i = i} {xs = xs} {ys = ys} hi a b L R) x m =
     by (inl m) f g = (f m .0, lt-trans (f m .1) b)
     by (inr m) f g = elim (List·Memᴰ·cases-cons m) [ inl e ↦ rw e (a, b) | inr m ↦ (low-lower (low-at a) (g m .0), g m .1) ]
 
--- no string strictly between
+-- No string strictly between.
 abbrev pub Gap : List Str → Low → Str → Type 0
 Gap ss l u = (x : Str) → List·Memᴰ x ss → l ◁ x → x ≺ u → ⊥
 

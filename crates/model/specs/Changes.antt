@@ -14,6 +14,7 @@ use Rattle.model.specs.Entries.{Entry, chosen, find, insert, move, name-
 use Rattle.model.specs.Files.{In, Slot, entries-of, first, free, head, slot-at, string-count, used}
 use Rattle.model.specs.Growth.{grown-trie}
 
+-- Put of a filled name with its value, and remove.
 pub data Request : Type 0 where
   put : Str → ℕ → Request
   remove : Str → Request
