@@ -4,19 +4,19 @@ use mathlib.Core.Bool.{Bool, _&&_, cond, false, true}
 use mathlib.Core.Option.{Option, none as nothing, some}
 use mathlib.Core.List.{List, [], _++_, _∷_, append-assoc}
 use Prim.Native.Nat.{_%_, _*_, _+_, _-_, _/_, _<_, _^_, _≤_, suc, zero, ℕ}
-use native.Mathlib.Nat.{pow-suc, pow-zero, suc-mul}
+use native.Mathlib.Nat.{pow-suc, pow-zero, suc-mul, zero-mul}
 use native.Mathlib.Omega.{arith}
 use lib.Dec.{eqb, leb}
-use lib.ListN.{drop, getD, length, length-append, length-replicate, length-take, replicate, take}
-use lib.Seq.{drop-append-add, paste, take-append-add, take-append-le, take-append-seam, take-at}
+use lib.ListN.{drop, drop-of-length-le, getD, length, length-append, length-replicate, length-take, replicate, take}
+use lib.Seq.{drop-append-add, drop-cons, drop-nil, paste, take-append-add, take-append-le, take-append-seam, take-at}
 use borrow.Author.Tests.{eq-eqb, eqb-true, le-leb, leb-true}
 use Rattle.model.specs.Order.{Low, Str, _◁_, above, at, least, none, top}
 use Rattle.model.specs.Names.{Bound, BoundLow, Legal, limit, unlimited}
 use Rattle.model.specs.Entries.{Entry, Row, entry, no-entries}
 use Rattle.model.specs.Files.{Slot, Well, entries-of, free, slot-at, used, well-free, well-used}
 use Rattle.model.specs.Checks.{sameStr}
-use Rattle.model.specs.Format.{Bytes, Values, entriesBytes, entriesOf, entryBytes, fileBytes, fileSize, headerBytes, littleEndian, lowDigits, lowOf, padded, readSlot, readUsed, slotBytes, slotSize, slotsBytes, usedOf, valueBytes, valueOf}
-use Rattle.model.proofs.Names.{legal-length}
+use Rattle.model.specs.Format.{Bytes, Sizes, Values, entriesBytes, entriesOf, entryBytes, fileBytes, fileSize, headerBytes, headerOf, joined, legalSizes, littleEndian, lowDigits, lowOf, padded, readBy, readFile, readSlot, readSlots, readUsed, rightHeader, sized, slotAt, slotBytes, slotSize, slotsBytes, usedOf, valueBytes, valueOf}
+use Rattle.model.proofs.Names.{both-true, legal-length}
 use Rattle.model.proofs.Checks.{sameStr-equal, sameStr-self}
 
 -- Values.
@@ -44,10 +44,17 @@ pub valueBytes-valueOf : (xs : List ℕ) → length xs ≡ 8 → Bytes xs → va
 unfolding valueBytes
 valueBytes-valueOf xs e h = rw (← e) (littleEndian-valueOf xs h)
 
-valueOf-below : (xs : List ℕ) → Bytes xs → valueOf xs < 256 ^ length xs
+-- The first bytes of a list as a value.
+valueOf-below : (n : ℕ) (xs : List ℕ) → Bytes xs → valueOf (take n xs) < 256 ^ n
 unfolding valueOf
-valueOf-below [] h = omega (arith, pow-zero 256)
-valueOf-below (x ∷ xs) h = omega (arith, h .0, pow-suc 256 (length xs), valueOf-below xs (h .1))
+valueOf-below zero xs h = omega (arith, pow-zero 256)
+valueOf-below (suc n) [] h = omega (arith, pow-suc 256 n, valueOf-below n [] tt)
+valueOf-below (suc n) (x ∷ xs) h = omega (arith, h .0, pow-suc 256 n, valueOf-below n xs (h .1))
+
+-- Numbers that are bytes at each place.
+pub bytes-each : (xs : List ℕ) → ((i : ℕ) → getD xs i 0 < 256) → Bytes xs
+bytes-each [] f = tt
+bytes-each (x ∷ xs) f = (f 0, bytes-each xs (λ i. f (suc i)))
 
 -- Lengths.
 length-littleEndian : (n v : ℕ) → length (littleEndian n v) ≡ n
@@ -137,3 +144,101 @@ entries-read ys (entry {e = e} {es = es} g a c r) v =
     let t : take 8 (w ++ q) ≡ w = take-at w q 8 (length-valueBytes (e .1)) in
     let k : drop 32 (n ++ (w ++ q)) ≡ q = drop-behind n (w ++ q) 24 8 (legal-length g) ∙ drop-behind w q 8 0 (length-valueBytes (e .1)) in
     rw (i, f, d, t, k, valueOf-valueBytes (e .1) (v .0), entries-read ys r (v .1))
+
+usedOf-slotBytes : (b : ℕ) {l : Low} {u : Str} {es : List Entry} → Well b (used l u es) → Values es → usedOf (slotBytes b (used l u es)) ≡ used l u es
+unfolding usedOf slotBytes
+usedOf-slotBytes b {l = l} {u = u} {es = es} (well-used g h c r k) v =
+    let x = padded 24 (lowDigits l) in
+    let y = padded 24 u in
+    let z = padded (32 * b) (entriesBytes es) in
+    let t : List ℕ = replicate 8 0 ++ z in
+    let a : take (length (lowDigits l)) (x ++ (y ++ t)) ≡ lowDigits l = take-padded 24 (lowDigits l) (y ++ t) (fits-low g) in
+    let d : drop 24 (x ++ (y ++ t)) ≡ y ++ t = drop-behind x (y ++ t) 24 0 (length-padded 24 (lowDigits l)) in
+    let p : take (length u) (y ++ t) ≡ u = take-padded 24 u t (h .fits) in
+    let e : drop 56 (x ++ (y ++ t)) ≡ z = drop-behind x (y ++ t) 24 32 (length-padded 24 (lowDigits l)) ∙ drop-behind y t 24 8 (length-padded 24 u) in
+    let q : z ≡ entriesBytes es ++ replicate (32 * b - length (entriesBytes es)) 0 = padded-short (32 * b) (entriesBytes es) (omega (arith, length-entriesBytes r)) in
+    rw (a, d, p, e, q, lowOf-lowDigits c, entries-read (replicate (32 * b - length (entriesBytes es)) 0) r v)
+
+not-free : (b : ℕ) (l : Low) (u : Str) (es : List Entry) → sameStr (slotBytes b (used l u es)) (slotBytes b free) ≡ false
+unfolding slotBytes slotSize sameStr
+not-free b l u es = let e : 64 + 32 * b ≡ suc (63 + 32 * b) = omega arith in rw e
+
+pub readSlot-slotBytes : (b : ℕ) {s : Slot} → Well b s → Values (entries-of s) → readSlot b (slotBytes b s) ≡ some s
+unfolding readSlot readUsed
+readSlot-slotBytes b {s = free} w v = rw (sameStr-self (slotBytes b free))
+readSlot-slotBytes b {s = used l u es} w v =
+    rw (not-free b l u es, usedOf-slotBytes b w v, sameStr-self (slotBytes b (used l u es)))
+
+-- What is read was written.
+pub slotBytes-readSlot : (b : ℕ) (xs : List ℕ) {s : Slot} → readSlot b xs ≡ some s → xs ≡ slotBytes b s
+unfolding readSlot readUsed
+slotBytes-readSlot b xs {s} = as-free (sameStr xs (slotBytes b free)) (sameStr xs (slotBytes b (usedOf xs))) refl refl
+  where
+    as-free : (t r : Bool) → sameStr xs (slotBytes b free) ≡ t → sameStr xs (slotBytes b (usedOf xs)) ≡ r
+        → cond t (some free) (cond r (some (usedOf xs)) nothing) ≡ some s → xs ≡ slotBytes b s
+    as-free true r e f h = let i : free ≡ s = cc in rw (← i) (sameStr-equal xs (slotBytes b free) e)
+    as-free false true e f h = let i : usedOf xs ≡ s = cc in rw (← i) (sameStr-equal xs (slotBytes b (usedOf xs)) f)
+    as-free false false e f h = let z : _≡_ {A = ℕ} 0 1 = cc in absurd (omega arith)
+
+-- Slots of a file, and its header, where the writer put them.
+drop-slotsBytes : (b k : ℕ) (fs : List Slot) → drop (k * slotSize b) (slotsBytes b fs) ≡ slotsBytes b (drop k fs)
+unfolding slotsBytes
+drop-slotsBytes b zero fs = rw zero-mul
+drop-slotsBytes b (suc k) [] = drop-nil (suc k * slotSize b)
+drop-slotsBytes b (suc k) (s ∷ fs) =
+    let e : suc k * slotSize b ≡ slotSize b + k * slotSize b = omega (arith, suc-mul k (slotSize b)) in
+    rw e (drop-behind (slotBytes b s) (slotsBytes b fs) (slotSize b) (k * slotSize b) (length-slotBytes b s) ∙ drop-slotsBytes b k fs)
+
+drop-fileBytes : (b k : ℕ) (fs : List Slot) → drop (16 + k * slotSize b) (fileBytes b fs) ≡ slotsBytes b (drop k fs)
+unfolding fileBytes
+drop-fileBytes b k fs =
+    drop-behind (headerBytes b (length fs)) (slotsBytes b fs) 16 (k * slotSize b) (length-headerBytes b (length fs)) ∙ drop-slotsBytes b k fs
+
+pub slotAt-fileBytes : (b k : ℕ) (fs : List Slot) → k < length fs → slotAt b k (fileBytes b fs) ≡ slotBytes b (slot-at fs k)
+unfolding slotAt slotsBytes
+slotAt-fileBytes b k fs h =
+    rw (drop-fileBytes b k fs, drop-cons fs k free h) (take-at (slotBytes b (slot-at fs k)) (slotsBytes b (drop (suc k) fs)) (slotSize b) (length-slotBytes b (slot-at fs k)))
+
+pub take-fileBytes : (b : ℕ) (fs : List Slot) → take 16 (fileBytes b fs) ≡ headerBytes b (length fs)
+unfolding fileBytes
+take-fileBytes b fs = take-at (headerBytes b (length fs)) (slotsBytes b fs) 16 (length-headerBytes b (length fs))
+
+pub sizes-legalSizes : {b slots : ℕ} → Sizes b slots → legalSizes b slots ≡ true
+unfolding legalSizes
+sizes-legalSizes {b} {slots} g =
+    rw (le-leb 2 b (g .b-least), le-leb b 16 (g .b-most), le-leb 1 slots (g .slots-least), le-leb slots 64 (g .slots-most))
+
+pub legalSizes-sizes : (b slots : ℕ) → legalSizes b slots ≡ true → Sizes b slots
+unfolding legalSizes
+legalSizes-sizes b slots e =
+    let p = both-true (leb 2 b && leb b 16 && leb 1 slots) (leb slots 64) e in
+    let q = both-true (leb 2 b && leb b 16) (leb 1 slots) (p .0) in
+    let r = both-true (leb 2 b) (leb b 16) (q .0) in
+    record { b-least = leb-true 2 b (r .0); b-most = leb-true b 16 (r .1); slots-least = leb-true 1 slots (q .1); slots-most = leb-true slots 64 (p .1) }
+
+pub b-fileBytes : (b : ℕ) (fs : List Slot) → getD (fileBytes b fs) 5 0 ≡ b
+unfolding fileBytes headerBytes
+b-fileBytes b fs = refl
+
+pub slots-fileBytes : (b : ℕ) (fs : List Slot) → getD (fileBytes b fs) 6 0 ≡ length fs
+unfolding fileBytes headerBytes
+slots-fileBytes b fs = refl
+
+headerOf-fileBytes : (b : ℕ) (fs : List Slot) → Sizes b (length fs) → headerOf (fileBytes b fs) ≡ some (b, length fs)
+unfolding headerOf rightHeader
+headerOf-fileBytes b fs g =
+    let m = length fs in
+    let xs = fileBytes b fs in
+    rw (b-fileBytes b fs, slots-fileBytes b fs, sizes-legalSizes g, eq-eqb (length xs) (fileSize b m) (length-fileBytes b fs), take-fileBytes b fs, sameStr-self (headerBytes b m))
+
+readSlots-fileBytes : (b n k : ℕ) (fs : List Slot) → ((B : ℕ) → Well b (slot-at fs B)) → ((B : ℕ) → Values (entries-of (slot-at fs B)))
+    → k + n ≡ length fs → readSlots b n k (fileBytes b fs) ≡ some (drop k fs)
+unfolding readSlots joined
+readSlots-fileBytes b zero k fs w v e = rw (drop-of-length-le fs {i = k} (omega arith))
+readSlots-fileBytes b (suc n) k fs w v e =
+    rw (slotAt-fileBytes b k fs (omega arith), readSlot-slotBytes b (w k) (v k), readSlots-fileBytes b n (suc k) fs w v (omega arith), drop-cons fs k free (omega arith))
+
+pub readFile-fileBytes : (b : ℕ) (fs : List Slot) → Sizes b (length fs) → ((B : ℕ) → Well b (slot-at fs B)) → ((B : ℕ) → Values (entries-of (slot-at fs B)))
+    → readFile (fileBytes b fs) ≡ some (b, fs)
+unfolding readFile readBy sized
+readFile-fileBytes b fs g w v = rw (headerOf-fileBytes b fs g, readSlots-fileBytes b (length fs) 0 fs w v (omega arith))

@@ -2,7 +2,7 @@
 use mathlib.Core.Bool.{Bool, _&&_, cond}
 use mathlib.Core.Option.{Option, none as nothing, some}
 use mathlib.Core.List.{List, [], _++_, _∷_}
-use Prim.Native.Nat.{_%_, _*_, _+_, _/_, _<_, _^_, suc, zero, ℕ}
+use Prim.Native.Nat.{_%_, _*_, _+_, _/_, _<_, _^_, _≤_, suc, zero, ℕ}
 use lib.Dec.{eqb, leb}
 use lib.ListN.{drop, getD, length, replicate, take}
 use lib.Seq.{paste}
@@ -19,6 +19,12 @@ unfoldable pub fileSize : ℕ → ℕ → ℕ
 fileSize b slots = 16 + slots * slotSize b
 
 -- "b, the bucket capacity, is 2 to 16; slots is 1 to 64."
+pub record Sizes (b slots : ℕ) : Type 0 where
+  pub b-least : 2 ≤ b
+  pub b-most : b ≤ 16
+  pub slots-least : 1 ≤ slots
+  pub slots-most : slots ≤ 64
+
 unfoldable pub legalSizes : ℕ → ℕ → Bool
 legalSizes b slots = leb 2 b && leb b 16 && leb 1 slots && leb slots 64
 
