@@ -1,21 +1,23 @@
 -- The bytes of a file: their lengths, reading and writing undo each other, and a store changes exactly one slot.
 use mathlib.Core.Path.{_∙_, _≡_, ap, ap₂, refl, sym}
+use mathlib.Core.Logic.{_≢_}
 use mathlib.Core.Bool.{Bool, _&&_, cond, false, true}
 use mathlib.Core.Option.{Option, none as nothing, some}
 use mathlib.Core.List.{List, [], _++_, _∷_, append-assoc}
 use Prim.Native.Nat.{_%_, _*_, _+_, _-_, _/_, _<_, _^_, _≤_, suc, zero, ℕ}
-use native.Mathlib.Nat.{pow-suc, pow-zero, suc-mul, zero-mul}
+use native.Mathlib.Nat.{mul-le-mul-right, pow-suc, pow-zero, suc-add, suc-mul, zero-add, zero-mul}
+use native.Mathlib.Decide.{decLt}
 use native.Mathlib.Omega.{arith}
 use lib.Dec.{eqb, leb}
-use lib.ListN.{drop, drop-of-length-le, getD, length, length-append, length-replicate, length-take, replicate, take}
-use lib.Seq.{drop-append-add, drop-cons, drop-nil, paste, take-append-add, take-append-le, take-append-seam, take-at}
+use lib.ListN.{drop, drop-of-length-le, getD, length, length-append, length-replicate, length-set, length-take, replicate, set, take, take-append-drop}
+use lib.Seq.{drop-append-add, drop-at, drop-cons, drop-drop, drop-nil, drop-paste, length-paste, length-take-le, paste, take-all, take-append-add, take-append-le, take-append-seam, take-at, take-nil, take-take}
 use borrow.Author.Tests.{eq-eqb, eqb-true, le-leb, leb-true}
 use Rattle.model.specs.Order.{Low, Str, _◁_, above, at, least, none, top}
 use Rattle.model.specs.Names.{Bound, BoundLow, Legal, limit, unlimited}
 use Rattle.model.specs.Entries.{Entry, Row, entry, no-entries}
 use Rattle.model.specs.Files.{Slot, Well, entries-of, free, slot-at, used, well-free, well-used}
 use Rattle.model.specs.Checks.{sameStr}
-use Rattle.model.specs.Format.{Bytes, Sizes, Values, entriesBytes, entriesOf, entryBytes, fileBytes, fileSize, headerBytes, headerOf, joined, legalSizes, littleEndian, lowDigits, lowOf, padded, readBy, readFile, readSlot, readSlots, readUsed, rightHeader, sized, slotAt, slotBytes, slotSize, slotsBytes, usedOf, valueBytes, valueOf}
+use Rattle.model.specs.Format.{Bytes, Sizes, Values, entriesBytes, entriesOf, entryBytes, fileBytes, fileSize, headerBytes, headerOf, joined, legalSizes, littleEndian, lowDigits, lowOf, padded, readBy, readFile, readSlot, readSlots, readUsed, rightHeader, sized, slotAt, slotBytes, slotSize, slotsBytes, storeBytes, usedOf, valueBytes, valueOf}
 use Rattle.model.proofs.Names.{both-true, legal-length}
 use Rattle.model.proofs.Checks.{sameStr-equal, sameStr-self}
 
@@ -140,9 +142,9 @@ entries-read ys (entry {e = e} {es = es} g a c r) v =
     let q : List ℕ = entriesBytes es ++ ys in
     let i : n ++ w ++ entriesBytes es ++ ys ≡ n ++ (w ++ q) = rw (append-assoc, append-assoc) in
     let f : take 24 (n ++ (w ++ q)) ≡ n = take-at n (w ++ q) 24 (legal-length g) in
-    let d : drop 24 (n ++ (w ++ q)) ≡ w ++ q = drop-behind n (w ++ q) 24 0 (legal-length g) in
+    let d : drop 24 (n ++ (w ++ q)) ≡ w ++ q = drop-at n (w ++ q) 24 (legal-length g) in
     let t : take 8 (w ++ q) ≡ w = take-at w q 8 (length-valueBytes (e .1)) in
-    let k : drop 32 (n ++ (w ++ q)) ≡ q = drop-behind n (w ++ q) 24 8 (legal-length g) ∙ drop-behind w q 8 0 (length-valueBytes (e .1)) in
+    let k : drop 32 (n ++ (w ++ q)) ≡ q = drop-behind n (w ++ q) 24 8 (legal-length g) ∙ drop-at w q 8 (length-valueBytes (e .1)) in
     rw (i, f, d, t, k, valueOf-valueBytes (e .1) (v .0), entries-read ys r (v .1))
 
 usedOf-slotBytes : (b : ℕ) {l : Low} {u : Str} {es : List Entry} → Well b (used l u es) → Values es → usedOf (slotBytes b (used l u es)) ≡ used l u es
@@ -153,7 +155,7 @@ usedOf-slotBytes b {l = l} {u = u} {es = es} (well-used g h c r k) v =
     let z = padded (32 * b) (entriesBytes es) in
     let t : List ℕ = replicate 8 0 ++ z in
     let a : take (length (lowDigits l)) (x ++ (y ++ t)) ≡ lowDigits l = take-padded 24 (lowDigits l) (y ++ t) (fits-low g) in
-    let d : drop 24 (x ++ (y ++ t)) ≡ y ++ t = drop-behind x (y ++ t) 24 0 (length-padded 24 (lowDigits l)) in
+    let d : drop 24 (x ++ (y ++ t)) ≡ y ++ t = drop-at x (y ++ t) 24 (length-padded 24 (lowDigits l)) in
     let p : take (length u) (y ++ t) ≡ u = take-padded 24 u t (h .fits) in
     let e : drop 56 (x ++ (y ++ t)) ≡ z = drop-behind x (y ++ t) 24 32 (length-padded 24 (lowDigits l)) ∙ drop-behind y t 24 8 (length-padded 24 u) in
     let q : z ≡ entriesBytes es ++ replicate (32 * b - length (entriesBytes es)) 0 = padded-short (32 * b) (entriesBytes es) (omega (arith, length-entriesBytes r)) in
@@ -242,3 +244,176 @@ pub readFile-fileBytes : (b : ℕ) (fs : List Slot) → Sizes b (length fs) → 
     → readFile (fileBytes b fs) ≡ some (b, fs)
 unfolding readFile readBy sized
 readFile-fileBytes b fs g w v = rw (headerOf-fileBytes b fs g, readSlots-fileBytes b (length fs) 0 fs w v (omega arith))
+
+slotsBytes-readSlots : (b n k : ℕ) (xs : List ℕ) {fs : List Slot} → length xs ≡ 16 + (k + n) * slotSize b → readSlots b n k xs ≡ some fs
+    → (length fs ≡ n) × (drop (16 + k * slotSize b) xs ≡ slotsBytes b fs)
+unfolding readSlots joined slotAt slotsBytes
+slotsBytes-readSlots b zero k xs {fs} e h =
+    let i : [] ≡ fs = cc in
+    let z : k + 0 ≡ k = omega arith in
+    let f : length xs ≡ 16 + k * slotSize b = rw z at e in
+    rw (← i) (refl, drop-of-length-le xs {i = 16 + k * slotSize b} (omega arith))
+slotsBytes-readSlots b (suc n) k xs {fs} e h =
+    go (readSlot b (slotAt b k xs)) (readSlots b n (suc k) xs) refl refl
+      (λ gs f. let i : suc k + n ≡ k + suc n = omega arith in slotsBytes-readSlots b n (suc k) xs (rw i e) f) h
+  where
+    go : (a : Option Slot) (r : Option (List Slot)) → readSlot b (slotAt b k xs) ≡ a → readSlots b n (suc k) xs ≡ r
+        → ((gs : List Slot) → readSlots b n (suc k) xs ≡ some gs → (length gs ≡ n) × (drop (16 + suc k * slotSize b) xs ≡ slotsBytes b gs))
+        → joined a r ≡ some fs → (length fs ≡ suc n) × (drop (16 + k * slotSize b) xs ≡ slotsBytes b fs)
+    go nothing r p q f h = let z : _≡_ {A = ℕ} 0 1 = cc in absurd (omega arith)
+    go (some s) nothing p q f h = let z : _≡_ {A = ℕ} 0 1 = cc in absurd (omega arith)
+    go (some s) (some gs) p q f h =
+        let z = slotSize b in
+        let m = 16 + k * slotSize b in
+        let i : s ∷ gs ≡ fs = cc in
+        let j : 16 + suc k * z ≡ m + z = omega (arith, suc-mul k z) in
+        let t : take z (drop m xs) ≡ slotBytes b s = slotBytes-readSlot b (slotAt b k xs) p in
+        let d : drop z (drop m xs) ≡ slotsBytes b gs = drop-drop z m xs ∙ (rw j at (f gs q .1)) in
+        rw (← i) (ap suc (f gs q .0), sym (take-append-drop z (drop m xs)) ∙ ap₂ (λ (x y : List ℕ). x ++ y) t d)
+
+-- What a header that is right says.
+pub record Headed (b slots : ℕ) (xs : List ℕ) : Type 0 where
+  pub sizes : Sizes b slots
+  pub whole : length xs ≡ fileSize b slots
+  pub header : take 16 xs ≡ headerBytes b slots
+
+rightHeader-headed : (b slots : ℕ) (xs : List ℕ) → rightHeader b slots xs ≡ true → Headed b slots xs
+unfolding rightHeader
+rightHeader-headed b slots xs e =
+    let p = both-true (legalSizes b slots && eqb (length xs) (fileSize b slots)) (sameStr (take 16 xs) (headerBytes b slots)) e in
+    let q = both-true (legalSizes b slots) (eqb (length xs) (fileSize b slots)) (p .0) in
+    record { sizes = legalSizes-sizes b slots (q .0); whole = eqb-true (length xs) (fileSize b slots) (q .1); header = sameStr-equal (take 16 xs) (headerBytes b slots) (p .1) }
+
+pub headerOf-headed : (xs : List ℕ) {b slots : ℕ} → headerOf xs ≡ some (b, slots) → Headed b slots xs
+unfolding headerOf
+headerOf-headed xs {b} {slots} = go (rightHeader (getD xs 5 0) (getD xs 6 0) xs) refl
+  where
+    go : (t : Bool) → rightHeader (getD xs 5 0) (getD xs 6 0) xs ≡ t → cond {A = Option (ℕ × ℕ)} t (some (getD xs 5 0, getD xs 6 0)) nothing ≡ some (b, slots) → Headed b slots xs
+    go true e h =
+        let p : _≡_ {A = ℕ × ℕ} (getD xs 5 0, getD xs 6 0) (b, slots) = cc in
+        let i : getD xs 5 0 ≡ b = ap (λ (q : ℕ × ℕ). q .0) p in
+        let j : getD xs 6 0 ≡ slots = ap (λ (q : ℕ × ℕ). q .1) p in
+        rw (i, j) at (rightHeader-headed (getD xs 5 0) (getD xs 6 0) xs e)
+    go false e h = let z : _≡_ {A = ℕ} 0 1 = cc in absurd (omega arith)
+
+pub fileBytes-readFile : (xs : List ℕ) {b : ℕ} {fs : List Slot} → readFile xs ≡ some (b, fs) → (xs ≡ fileBytes b fs) × Sizes b (length fs)
+unfolding readFile readBy sized fileSize fileBytes
+fileBytes-readFile xs {b} {fs} = header (headerOf xs) refl
+  where
+    header : (h : Option (ℕ × ℕ)) → headerOf xs ≡ h → readBy h xs ≡ some (b, fs) → (xs ≡ fileBytes b fs) × Sizes b (length fs)
+    header nothing e f = let z : _≡_ {A = ℕ} 0 1 = cc in absurd (omega arith)
+    header (some (c, slots)) e f = slots-of (readSlots c slots 0 xs) refl f
+      where
+        slots-of : (r : Option (List Slot)) → readSlots c slots 0 xs ≡ r → sized c r ≡ some (b, fs) → (xs ≡ fileBytes b fs) × Sizes b (length fs)
+        slots-of nothing p f = let z : _≡_ {A = ℕ} 0 1 = cc in absurd (omega arith)
+        slots-of (some gs) p f =
+            let o : _≡_ {A = ℕ × List Slot} (c, gs) (b, fs) = cc in
+            let i : c ≡ b = ap (λ (x : ℕ × List Slot). x .0) o in
+            let j : gs ≡ fs = ap (λ (x : ℕ × List Slot). x .1) o in
+            let g = headerOf-headed xs e in
+            let w : length xs ≡ 16 + (0 + slots) * slotSize c = g .whole ∙ sym (ap (λ (n : ℕ). 16 + n * slotSize c) (zero-add slots)) in
+            let d = slotsBytes-readSlots c slots 0 xs w p in
+            let m : length gs ≡ slots = d .0 in
+            let q : drop 16 xs ≡ slotsBytes c gs = rw zero-mul at (d .1) in
+            rw (← i, ← j) (sym (take-append-drop 16 xs) ∙ rw (m, g .header, q), rw m (g .sizes))
+
+-- Values read from bytes are below 2 ^ 64.
+bytes-drop : (n : ℕ) (xs : List ℕ) → Bytes xs → Bytes (drop n xs)
+bytes-drop zero xs h = h
+bytes-drop (suc n) [] h = tt
+bytes-drop (suc n) (x ∷ xs) h = bytes-drop n xs (h .1)
+
+bytes-take : (n : ℕ) (xs : List ℕ) → Bytes xs → Bytes (take n xs)
+bytes-take zero xs h = tt
+bytes-take (suc n) [] h = tt
+bytes-take (suc n) (x ∷ xs) h = (h .0, bytes-take n xs (h .1))
+
+values-entriesOf : (n : ℕ) (xs : List ℕ) → Bytes xs → Values (entriesOf n xs)
+unfolding entriesOf
+values-entriesOf zero xs h = tt
+values-entriesOf (suc n) xs h = (valueOf-below 8 (drop 24 xs) (bytes-drop 24 xs h), values-entriesOf n (drop 32 xs) (bytes-drop 32 xs h))
+
+pub values-readSlot : (b : ℕ) (xs : List ℕ) {s : Slot} → Bytes xs → readSlot b xs ≡ some s → Values (entries-of s)
+unfolding readSlot readUsed usedOf
+values-readSlot b xs {s} k = go (sameStr xs (slotBytes b free)) (sameStr xs (slotBytes b (usedOf xs)))
+  where
+    go : (t r : Bool) → cond t (some free) (cond r (some (usedOf xs)) nothing) ≡ some s → Values (entries-of s)
+    go true r h = let i : free ≡ s = cc in rw (← i) tt
+    go false true h = let i : usedOf xs ≡ s = cc in rw (← i) (values-entriesOf (getD xs 1 0) (drop 64 xs) (bytes-drop 64 xs k))
+    go false false h = let z : _≡_ {A = ℕ} 0 1 = cc in absurd (omega arith)
+
+-- A store changes exactly one slot.
+paste-behind : (p xs s : List ℕ) (n m w : ℕ) → length p ≡ n → paste (p ++ xs) (n + m) s w ≡ p ++ paste xs m s w
+paste-behind p xs s n m w h =
+    let t : take (n + m) (p ++ xs) ≡ p ++ take m xs = rw (← h) (take-append-add p xs m) in
+    let e : n + m + w ≡ n + (m + w) = omega arith in
+    rw (t, e, drop-behind p xs n (m + w) h) (simp append-assoc)
+
+paste-slotsBytes : (b k : ℕ) (s : Slot) (fs : List Slot) → k < length fs
+    → paste (slotsBytes b fs) (k * slotSize b) (slotBytes b s) (slotSize b) ≡ slotsBytes b (set fs k s)
+unfolding slotsBytes
+paste-slotsBytes b k s [] h = absurd (omega arith)
+paste-slotsBytes b zero s (x ∷ fs) h =
+    rw (zero-mul, zero-add, take-all (slotSize b) (slotBytes b s) (omega (arith, length-slotBytes b s)), drop-at (slotBytes b x) (slotsBytes b fs) (slotSize b) (length-slotBytes b x))
+paste-slotsBytes b (suc k) s (x ∷ fs) h =
+    let e : suc k * slotSize b ≡ slotSize b + k * slotSize b = omega (arith, suc-mul k (slotSize b)) in
+    rw e (paste-behind (slotBytes b x) (slotsBytes b fs) (slotBytes b s) (slotSize b) (k * slotSize b) (slotSize b) (length-slotBytes b x)
+      ∙ ap (λ (r : List ℕ). slotBytes b x ++ r) (paste-slotsBytes b k s fs (omega arith)))
+
+pub storeBytes-fileBytes : (b k : ℕ) (s : Slot) (fs : List Slot) → k < length fs → storeBytes b k s (fileBytes b fs) ≡ fileBytes b (set fs k s)
+unfolding storeBytes fileBytes
+storeBytes-fileBytes b k s fs h =
+    rw length-set (paste-behind (headerBytes b (length fs)) (slotsBytes b fs) (slotBytes b s) 16 (k * slotSize b) (slotSize b) (length-headerBytes b (length fs))
+      ∙ ap (λ (r : List ℕ). headerBytes b (length fs) ++ r) (paste-slotsBytes b k s fs h))
+
+-- The same of any bytes that are long enough to hold slot k.
+module _ (b k : ℕ) (s : Slot) (xs : List ℕ) (fits : 16 + k * slotSize b + slotSize b ≤ length xs) where
+  pub length-storeBytes : length (storeBytes b k s xs) ≡ length xs
+  unfolding storeBytes
+  length-storeBytes = length-paste xs (16 + k * slotSize b) (slotBytes b s) (slotSize b) fits (omega (arith, length-slotBytes b s))
+
+  take-stored : (n : ℕ) → n ≤ 16 + k * slotSize b → take n (storeBytes b k s xs) ≡ take n xs
+  unfolding storeBytes
+  take-stored n h =
+      let m = 16 + k * slotSize b in
+      let z = slotSize b in
+      rw append-assoc (take-append-le n (take m xs) (take z (slotBytes b s) ++ drop (m + z) xs) (omega (arith, length-take-le m xs (omega arith))) ∙ take-take n m xs h)
+
+  pub header-storeBytes : take 16 (storeBytes b k s xs) ≡ take 16 xs
+  header-storeBytes = take-stored 16 (omega arith)
+
+  pub slotAt-storeBytes : slotAt b k (storeBytes b k s xs) ≡ slotBytes b s
+  unfolding slotAt storeBytes
+  slotAt-storeBytes =
+      let m = 16 + k * slotSize b in
+      let z = slotSize b in
+      let w : take z (slotBytes b s) ≡ slotBytes b s = take-all z (slotBytes b s) (omega (arith, length-slotBytes b s)) in
+      rw (w, append-assoc, drop-at (take m xs) (slotBytes b s ++ drop (m + z) xs) m (length-take-le m xs (omega arith))) (take-at (slotBytes b s) (drop (m + z) xs) z (length-slotBytes b s))
+
+  before-stored : (j : ℕ) → j < k → slotAt b j (storeBytes b k s xs) ≡ slotAt b j xs
+  unfolding slotAt
+  before-stored j h =
+      let z = slotSize b in
+      let n = 16 + j * slotSize b in
+      let f : n + z ≤ 16 + k * z = omega (arith, suc-mul j z, mul-le-mul-right {m = suc j} {n = k} z h) in
+      part n z (storeBytes b k s xs) ∙ ap (λ (l : List ℕ). drop n l) (take-stored (n + z) f) ∙ sym (part n z xs)
+    where
+      part : (n z : ℕ) (l : List ℕ) → take z (drop n l) ≡ drop n (take (n + z) l)
+      part zero z l = rw zero-add
+      part (suc n) z [] = rw suc-add (take-nil z)
+      part (suc n) z (x ∷ l) = rw suc-add (part n z l)
+
+  behind-stored : (j : ℕ) → k < j → slotAt b j (storeBytes b k s xs) ≡ slotAt b j xs
+  unfolding slotAt storeBytes
+  behind-stored j h =
+      let z = slotSize b in
+      let m = 16 + k * slotSize b in
+      let n = 16 + j * slotSize b in
+      let f : m + z ≤ n = omega (arith, suc-mul k z, mul-le-mul-right {m = suc k} {n = j} z h) in
+      let i : n ≡ m + z + (n - (m + z)) = omega arith in
+      rw i (ap (take z) (sym (drop-drop (n - (m + z)) (m + z) (paste xs m (slotBytes b s) z))
+        ∙ ap (λ (l : List ℕ). drop (n - (m + z)) l) (drop-paste xs m (slotBytes b s) z (omega arith) (omega (arith, length-slotBytes b s)))
+        ∙ drop-drop (n - (m + z)) (m + z) xs))
+
+  pub others-storeBytes : (j : ℕ) → j ≢ k → slotAt b j (storeBytes b k s xs) ≡ slotAt b j xs
+  others-storeBytes j h = elim (decLt j k) [ yes q ↦ before-stored j q | no q ↦ behind-stored j (omega arith) ]
