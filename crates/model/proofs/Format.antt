@@ -5,11 +5,11 @@ use mathlib.Core.Bool.{Bool, _&&_, cond, false, true}
 use mathlib.Core.Option.{Option, none as nothing, some}
 use mathlib.Core.List.{List, [], _++_, _∷_, append-assoc}
 use Prim.Native.Nat.{_%_, _*_, _+_, _-_, _/_, _<_, _^_, _≤_, suc, zero, ℕ}
-use native.Mathlib.Nat.{mul-le-mul-right, pow-suc, pow-zero, suc-add, suc-mul, zero-add, zero-mul}
+use native.Mathlib.Nat.{add-zero, mul-le-mul-right, pow-suc, pow-zero, suc-add, suc-mul, zero-add, zero-mul}
 use native.Mathlib.Decide.{decLt}
 use native.Mathlib.Omega.{arith}
 use lib.Dec.{eqb, leb}
-use lib.ListN.{drop, drop-of-length-le, getD, length, length-append, length-replicate, length-set, length-take, replicate, set, take, take-append-drop}
+use lib.ListN.{List·getD-eq-default, drop, drop-of-length-le, getD, length, length-append, length-replicate, length-set, length-take, replicate, set, take, take-append-drop}
 use lib.Seq.{drop-append-add, drop-at, drop-cons, drop-drop, drop-nil, drop-paste, length-paste, length-take-le, paste, take-all, take-append-add, take-append-le, take-append-seam, take-at, take-nil, take-take}
 use borrow.Author.Tests.{eq-eqb, eqb-true, le-leb, leb-true}
 use Rattle.model.specs.Order.{Low, Str, _◁_, above, at, least, none, top}
@@ -296,26 +296,61 @@ headerOf-headed xs {b} {slots} = go (rightHeader (getD xs 5 0) (getD xs 6 0) xs)
         rw (i, j) at (rightHeader-headed (getD xs 5 0) (getD xs 6 0) xs e)
     go false e h = let z : _≡_ {A = ℕ} 0 1 = cc in absurd (omega arith)
 
-pub fileBytes-readFile : (xs : List ℕ) {b : ℕ} {fs : List Slot} → readFile xs ≡ some (b, fs) → (xs ≡ fileBytes b fs) × Sizes b (length fs)
-unfolding readFile readBy sized fileSize fileBytes
-fileBytes-readFile xs {b} {fs} = header (headerOf xs) refl
+listed-slots : {b slots : ℕ} {xs : List ℕ} {fs : List Slot} → Headed b slots xs → readSlots b slots 0 xs ≡ some fs → (length fs ≡ slots) × (drop 16 xs ≡ slotsBytes b fs)
+unfolding fileSize
+listed-slots {b} {slots} {xs} g e =
+    let d = slotsBytes-readSlots b slots 0 xs (rw zero-add (g .whole)) e in
+    (d .0, rw zero-mul at (d .1))
+
+-- What a file that is read says: its header, then its slots.
+pub record Read (b : ℕ) (fs : List Slot) (xs : List ℕ) : Type 0 where
+  pub headed : Headed b (length fs) xs
+  pub listed : readSlots b (length fs) 0 xs ≡ some fs
+
+pub readFile-read : (xs : List ℕ) {b : ℕ} {fs : List Slot} → readFile xs ≡ some (b, fs) → Read b fs xs
+unfolding readFile readBy sized
+readFile-read xs {b} {fs} = header (headerOf xs) refl
   where
-    header : (h : Option (ℕ × ℕ)) → headerOf xs ≡ h → readBy h xs ≡ some (b, fs) → (xs ≡ fileBytes b fs) × Sizes b (length fs)
+    header : (h : Option (ℕ × ℕ)) → headerOf xs ≡ h → readBy h xs ≡ some (b, fs) → Read b fs xs
     header nothing e f = let z : _≡_ {A = ℕ} 0 1 = cc in absurd (omega arith)
     header (some (c, slots)) e f = slots-of (readSlots c slots 0 xs) refl f
       where
-        slots-of : (r : Option (List Slot)) → readSlots c slots 0 xs ≡ r → sized c r ≡ some (b, fs) → (xs ≡ fileBytes b fs) × Sizes b (length fs)
+        slots-of : (r : Option (List Slot)) → readSlots c slots 0 xs ≡ r → sized c r ≡ some (b, fs) → Read b fs xs
         slots-of nothing p f = let z : _≡_ {A = ℕ} 0 1 = cc in absurd (omega arith)
         slots-of (some gs) p f =
             let o : _≡_ {A = ℕ × List Slot} (c, gs) (b, fs) = cc in
             let i : c ≡ b = ap (λ (x : ℕ × List Slot). x .0) o in
             let j : gs ≡ fs = ap (λ (x : ℕ × List Slot). x .1) o in
             let g = headerOf-headed xs e in
-            let w : length xs ≡ 16 + (0 + slots) * slotSize c = g .whole ∙ sym (ap (λ (n : ℕ). 16 + n * slotSize c) (zero-add slots)) in
-            let d = slotsBytes-readSlots c slots 0 xs w p in
-            let m : length gs ≡ slots = d .0 in
-            let q : drop 16 xs ≡ slotsBytes c gs = rw zero-mul at (d .1) in
-            rw (← i, ← j) (sym (take-append-drop 16 xs) ∙ rw (m, g .header, q), rw m (g .sizes))
+            let m : length gs ≡ slots = listed-slots g p .0 in
+            rw (← i, ← j) (record { headed = rw m g; listed = rw m p })
+
+pub fileBytes-readFile : (xs : List ℕ) {b : ℕ} {fs : List Slot} → readFile xs ≡ some (b, fs) → (xs ≡ fileBytes b fs) × Sizes b (length fs)
+unfolding fileBytes
+fileBytes-readFile xs e =
+    let r = readFile-read xs e in
+    (sym (take-append-drop 16 xs) ∙ rw (r .headed .header, listed-slots (r .headed) (r .listed) .1), r .headed .sizes)
+
+-- Each slot of a file that is read, read by itself.
+readSlots-each : (b n k j : ℕ) (xs : List ℕ) {fs : List Slot} → j < n → readSlots b n k xs ≡ some fs → readSlot b (slotAt b (k + j) xs) ≡ some (slot-at fs j)
+unfolding readSlots joined
+readSlots-each b zero k j xs h e = absurd (omega arith)
+readSlots-each b (suc n) k j xs {fs} h e =
+    go j h (readSlot b (slotAt b k xs)) (readSlots b n (suc k) xs) refl refl (λ i gs q f. readSlots-each b n (suc k) i xs q f) e
+  where
+    go : (j : ℕ) → j < suc n → (a : Option Slot) (r : Option (List Slot)) → readSlot b (slotAt b k xs) ≡ a → readSlots b n (suc k) xs ≡ r
+        → ((i : ℕ) (gs : List Slot) → i < n → readSlots b n (suc k) xs ≡ some gs → readSlot b (slotAt b (suc k + i) xs) ≡ some (slot-at gs i))
+        → joined a r ≡ some fs → readSlot b (slotAt b (k + j) xs) ≡ some (slot-at fs j)
+    go j h nothing r p q f e = let z : _≡_ {A = ℕ} 0 1 = cc in absurd (omega arith)
+    go j h (some s) nothing p q f e = let z : _≡_ {A = ℕ} 0 1 = cc in absurd (omega arith)
+    go zero h (some s) (some gs) p q f e = let i : s ∷ gs ≡ fs = cc in rw (add-zero, ← i) p
+    go (suc j) h (some s) (some gs) p q f e =
+        let i : s ∷ gs ≡ fs = cc in
+        let m : k + suc j ≡ suc k + j = omega arith in
+        rw (m, ← i) (f j gs (omega arith) q)
+
+pub readSlot-readFile : (xs : List ℕ) {b : ℕ} {fs : List Slot} → readFile xs ≡ some (b, fs) → (k : ℕ) → k < length fs → readSlot b (slotAt b k xs) ≡ some (slot-at fs k)
+readSlot-readFile xs {b} {fs} e k h = rw zero-add at (readSlots-each b (length fs) 0 k xs h (readFile-read xs e .listed))
 
 -- Values read from bytes are below 2 ^ 64.
 bytes-drop : (n : ℕ) (xs : List ℕ) → Bytes xs → Bytes (drop n xs)
@@ -341,6 +376,12 @@ values-readSlot b xs {s} k = go (sameStr xs (slotBytes b free)) (sameStr xs (slo
     go true r h = let i : free ≡ s = cc in rw (← i) tt
     go false true h = let i : usedOf xs ≡ s = cc in rw (← i) (values-entriesOf (getD xs 1 0) (drop 64 xs) (bytes-drop 64 xs k))
     go false false h = let z : _≡_ {A = ℕ} 0 1 = cc in absurd (omega arith)
+
+pub values-readFile : (xs : List ℕ) {b : ℕ} {fs : List Slot} → Bytes xs → readFile xs ≡ some (b, fs) → (B : ℕ) → Values (entries-of (slot-at fs B))
+unfolding slotAt
+values-readFile xs {b} {fs} k e B = elim (decLt B (length fs))
+    [ yes h ↦ values-readSlot b (slotAt b B xs) (bytes-take (slotSize b) (drop (16 + B * slotSize b) xs) (bytes-drop (16 + B * slotSize b) xs k)) (readSlot-readFile xs e B h)
+    | no h ↦ rw (List·getD-eq-default fs free {n = B} (omega arith)) tt ]
 
 -- A store changes exactly one slot.
 paste-behind : (p xs s : List ℕ) (n m w : ℕ) → length p ≡ n → paste (p ++ xs) (n + m) s w ≡ p ++ paste xs m s w
