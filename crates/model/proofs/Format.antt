@@ -10,12 +10,12 @@ use native.Mathlib.Decide.{decLt}
 use native.Mathlib.Omega.{arith}
 use lib.Dec.{eqb, leb}
 use lib.ListN.{List·getD-eq-default, drop, drop-of-length-le, getD, length, length-append, length-replicate, length-set, length-take, replicate, set, take, take-append-drop}
-use lib.Seq.{drop-append-add, drop-at, drop-cons, drop-drop, drop-nil, drop-paste, length-paste, length-take-le, paste, take-all, take-append-add, take-append-le, take-append-seam, take-at, take-nil, take-take}
+use lib.Seq.{drop-append-add, drop-at, drop-cons, drop-drop, drop-nil, drop-paste, getD-take, length-paste, length-take-le, paste, take-all, take-append-add, take-append-le, take-append-seam, take-at, take-nil, take-take}
 use borrow.Author.Tests.{eq-eqb, eqb-true, le-leb, leb-true}
-use Rattle.model.specs.Order.{Low, Str, _◁_, above, at, least, none, top}
-use Rattle.model.specs.Names.{Bound, BoundLow, Legal, limit, unlimited}
+use Rattle.model.specs.Order.{Low, Str, _◁_, above, at, least, top}
+use Rattle.model.specs.Names.{BoundLow, limit, unlimited}
 use Rattle.model.specs.Entries.{Entry, Row, entry, no-entries}
-use Rattle.model.specs.Files.{Slot, Well, entries-of, free, slot-at, used, well-free, well-used}
+use Rattle.model.specs.Files.{Slot, Well, entries-of, free, slot-at, used, well-used}
 use Rattle.model.specs.Checks.{sameStr}
 use Rattle.model.specs.Format.{Bytes, Sizes, Values, entriesBytes, entriesOf, entryBytes, fileBytes, fileSize, headerBytes, headerOf, joined, legalSizes, littleEndian, lowDigits, lowOf, padded, readBy, readFile, readSlot, readSlots, readUsed, rightHeader, sized, slotAt, slotBytes, slotSize, slotsBytes, storeBytes, usedOf, valueBytes, valueOf}
 use Rattle.model.proofs.Names.{both-true, legal-length}
@@ -82,7 +82,7 @@ unfolding padded
 padded-short k xs h =
     let e : k ≡ length xs + (k - length xs) = omega arith in
     ap (λ (n : ℕ). take n (xs ++ replicate k 0)) e ∙ take-append-add xs (replicate k 0) (k - length xs)
-      ∙ ap (λ (r : List ℕ). xs ++ r) (take-zeros (k - length xs) k (omega arith))
+    ∙ ap (λ (r : List ℕ). xs ++ r) (take-zeros (k - length xs) k (omega arith))
 
 pub length-entriesBytes : {l : Low} {u : Str} {es : List Entry} → Row l es u → length (entriesBytes es) ≡ 32 * length es
 unfolding entriesBytes entryBytes
@@ -218,20 +218,18 @@ legalSizes-sizes b slots e =
     let r = both-true (leb 2 b) (leb b 16) (q .0) in
     record { b-least = leb-true 2 b (r .0); b-most = leb-true b 16 (r .1); slots-least = leb-true 1 slots (q .1); slots-most = leb-true slots 64 (p .1) }
 
-pub b-fileBytes : (b : ℕ) (fs : List Slot) → getD (fileBytes b fs) 5 0 ≡ b
-unfolding fileBytes headerBytes
-b-fileBytes b fs = refl
+-- What a header that is right says.
+pub record Headed (b slots : ℕ) (xs : List ℕ) : Type 0 where
+  pub sizes : Sizes b slots
+  pub whole : length xs ≡ fileSize b slots
+  pub header : take 16 xs ≡ headerBytes b slots
 
-pub slots-fileBytes : (b : ℕ) (fs : List Slot) → getD (fileBytes b fs) 6 0 ≡ length fs
-unfolding fileBytes headerBytes
-slots-fileBytes b fs = refl
-
-headerOf-fileBytes : (b : ℕ) (fs : List Slot) → Sizes b (length fs) → headerOf (fileBytes b fs) ≡ some (b, length fs)
-unfolding headerOf rightHeader
-headerOf-fileBytes b fs g =
-    let m = length fs in
-    let xs = fileBytes b fs in
-    rw (b-fileBytes b fs, slots-fileBytes b fs, sizes-legalSizes g, eq-eqb (length xs) (fileSize b m) (length-fileBytes b fs), take-fileBytes b fs, sameStr-self (headerBytes b m))
+pub headed-headerOf : {b slots : ℕ} {xs : List ℕ} → Headed b slots xs → headerOf xs ≡ some (b, slots)
+unfolding headerOf rightHeader headerBytes
+headed-headerOf {b} {slots} {xs} g =
+    let i : getD xs 5 0 ≡ b = sym (getD-take 16 xs 5 0 (omega arith)) ∙ ap (λ (l : List ℕ). getD l 5 0) (g .header) in
+    let j : getD xs 6 0 ≡ slots = sym (getD-take 16 xs 6 0 (omega arith)) ∙ ap (λ (l : List ℕ). getD l 6 0) (g .header) in
+    rw (i, j, sizes-legalSizes (g .sizes), eq-eqb (length xs) (fileSize b slots) (g .whole), g .header, sameStr-self (headerBytes b slots))
 
 readSlots-fileBytes : (b n k : ℕ) (fs : List Slot) → ((B : ℕ) → Well b (slot-at fs B)) → ((B : ℕ) → Values (entries-of (slot-at fs B)))
     → k + n ≡ length fs → readSlots b n k (fileBytes b fs) ≡ some (drop k fs)
@@ -243,7 +241,7 @@ readSlots-fileBytes b (suc n) k fs w v e =
 pub readFile-fileBytes : (b : ℕ) (fs : List Slot) → Sizes b (length fs) → ((B : ℕ) → Well b (slot-at fs B)) → ((B : ℕ) → Values (entries-of (slot-at fs B)))
     → readFile (fileBytes b fs) ≡ some (b, fs)
 unfolding readFile readBy sized
-readFile-fileBytes b fs g w v = rw (headerOf-fileBytes b fs g, readSlots-fileBytes b (length fs) 0 fs w v (omega arith))
+readFile-fileBytes b fs g w v = rw (headed-headerOf (record { sizes = g; whole = length-fileBytes b fs; header = take-fileBytes b fs }), readSlots-fileBytes b (length fs) 0 fs w v (omega arith))
 
 slotsBytes-readSlots : (b n k : ℕ) (xs : List ℕ) {fs : List Slot} → length xs ≡ 16 + (k + n) * slotSize b → readSlots b n k xs ≡ some fs
     → (length fs ≡ n) × (drop (16 + k * slotSize b) xs ≡ slotsBytes b fs)
@@ -255,7 +253,7 @@ slotsBytes-readSlots b zero k xs {fs} e h =
     rw (← i) (refl, drop-of-length-le xs {i = 16 + k * slotSize b} (omega arith))
 slotsBytes-readSlots b (suc n) k xs {fs} e h =
     go (readSlot b (slotAt b k xs)) (readSlots b n (suc k) xs) refl refl
-      (λ gs f. let i : suc k + n ≡ k + suc n = omega arith in slotsBytes-readSlots b n (suc k) xs (rw i e) f) h
+    (λ gs f. let i : suc k + n ≡ k + suc n = omega arith in slotsBytes-readSlots b n (suc k) xs (rw i e) f) h
   where
     go : (a : Option Slot) (r : Option (List Slot)) → readSlot b (slotAt b k xs) ≡ a → readSlots b n (suc k) xs ≡ r
         → ((gs : List Slot) → readSlots b n (suc k) xs ≡ some gs → (length gs ≡ n) × (drop (16 + suc k * slotSize b) xs ≡ slotsBytes b gs))
@@ -270,12 +268,6 @@ slotsBytes-readSlots b (suc n) k xs {fs} e h =
         let t : take z (drop m xs) ≡ slotBytes b s = slotBytes-readSlot b (slotAt b k xs) p in
         let d : drop z (drop m xs) ≡ slotsBytes b gs = drop-drop z m xs ∙ (rw j at (f gs q .1)) in
         rw (← i) (ap suc (f gs q .0), sym (take-append-drop z (drop m xs)) ∙ ap₂ (λ (x y : List ℕ). x ++ y) t d)
-
--- What a header that is right says.
-pub record Headed (b slots : ℕ) (xs : List ℕ) : Type 0 where
-  pub sizes : Sizes b slots
-  pub whole : length xs ≡ fileSize b slots
-  pub header : take 16 xs ≡ headerBytes b slots
 
 rightHeader-headed : (b slots : ℕ) (xs : List ℕ) → rightHeader b slots xs ≡ true → Headed b slots xs
 unfolding rightHeader
@@ -379,9 +371,10 @@ values-readSlot b xs {s} k = go (sameStr xs (slotBytes b free)) (sameStr xs (slo
 
 pub values-readFile : (xs : List ℕ) {b : ℕ} {fs : List Slot} → Bytes xs → readFile xs ≡ some (b, fs) → (B : ℕ) → Values (entries-of (slot-at fs B))
 unfolding slotAt
-values-readFile xs {b} {fs} k e B = elim (decLt B (length fs))
-    [ yes h ↦ values-readSlot b (slotAt b B xs) (bytes-take (slotSize b) (drop (16 + B * slotSize b) xs) (bytes-drop (16 + B * slotSize b) xs k)) (readSlot-readFile xs e B h)
-    | no h ↦ rw (List·getD-eq-default fs free {n = B} (omega arith)) tt ]
+values-readFile xs {b} {fs} k e B = elim (decLt B (length fs)) [
+  | yes h ↦ values-readSlot b (slotAt b B xs) (bytes-take (slotSize b) (drop (16 + B * slotSize b) xs) (bytes-drop (16 + B * slotSize b) xs k)) (readSlot-readFile xs e B h)
+  | no h ↦ rw (List·getD-eq-default fs free {n = B} (omega arith)) tt
+]
 
 -- A store changes exactly one slot.
 paste-behind : (p xs s : List ℕ) (n m w : ℕ) → length p ≡ n → paste (p ++ xs) (n + m) s w ≡ p ++ paste xs m s w
@@ -399,13 +392,13 @@ paste-slotsBytes b zero s (x ∷ fs) h =
 paste-slotsBytes b (suc k) s (x ∷ fs) h =
     let e : suc k * slotSize b ≡ slotSize b + k * slotSize b = omega (arith, suc-mul k (slotSize b)) in
     rw e (paste-behind (slotBytes b x) (slotsBytes b fs) (slotBytes b s) (slotSize b) (k * slotSize b) (slotSize b) (length-slotBytes b x)
-      ∙ ap (λ (r : List ℕ). slotBytes b x ++ r) (paste-slotsBytes b k s fs (omega arith)))
+    ∙ ap (λ (r : List ℕ). slotBytes b x ++ r) (paste-slotsBytes b k s fs (omega arith)))
 
 pub storeBytes-fileBytes : (b k : ℕ) (s : Slot) (fs : List Slot) → k < length fs → storeBytes b k s (fileBytes b fs) ≡ fileBytes b (set fs k s)
 unfolding storeBytes fileBytes
 storeBytes-fileBytes b k s fs h =
     rw length-set (paste-behind (headerBytes b (length fs)) (slotsBytes b fs) (slotBytes b s) 16 (k * slotSize b) (slotSize b) (length-headerBytes b (length fs))
-      ∙ ap (λ (r : List ℕ). headerBytes b (length fs) ++ r) (paste-slotsBytes b k s fs h))
+    ∙ ap (λ (r : List ℕ). headerBytes b (length fs) ++ r) (paste-slotsBytes b k s fs h))
 
 -- The same of any bytes that are long enough to hold slot k.
 module _ (b k : ℕ) (s : Slot) (xs : List ℕ) (fits : 16 + k * slotSize b + slotSize b ≤ length xs) where
@@ -453,8 +446,8 @@ module _ (b k : ℕ) (s : Slot) (xs : List ℕ) (fits : 16 + k * slotSize b + sl
       let f : m + z ≤ n = omega (arith, suc-mul k z, mul-le-mul-right {m = suc k} {n = j} z h) in
       let i : n ≡ m + z + (n - (m + z)) = omega arith in
       rw i (ap (take z) (sym (drop-drop (n - (m + z)) (m + z) (paste xs m (slotBytes b s) z))
-        ∙ ap (λ (l : List ℕ). drop (n - (m + z)) l) (drop-paste xs m (slotBytes b s) z (omega arith) (omega (arith, length-slotBytes b s)))
-        ∙ drop-drop (n - (m + z)) (m + z) xs))
+      ∙ ap (λ (l : List ℕ). drop (n - (m + z)) l) (drop-paste xs m (slotBytes b s) z (omega arith) (omega (arith, length-slotBytes b s)))
+      ∙ drop-drop (n - (m + z)) (m + z) xs))
 
   pub others-storeBytes : (j : ℕ) → j ≢ k → slotAt b j (storeBytes b k s xs) ≡ slotAt b j xs
   others-storeBytes j h = elim (decLt j k) [ yes q ↦ before-stored j q | no q ↦ behind-stored j (omega arith) ]

@@ -81,7 +81,7 @@ unfoldable pub slotBytes : ℕ → Slot → List ℕ
 slotBytes b free = replicate (slotSize b) 0
 slotBytes b (used l u es) =
     1 ∷ length es ∷ length (lowDigits l) ∷ length u ∷ (replicate 4 0
-      ++ (padded 24 (lowDigits l) ++ (padded 24 u ++ (replicate 8 0 ++ padded (32 * b) (entriesBytes es)))))
+    ++ (padded 24 (lowDigits l) ++ (padded 24 u ++ (replicate 8 0 ++ padded (32 * b) (entriesBytes es)))))
 
 unfoldable pub slotsBytes : ℕ → List Slot → List ℕ
 slotsBytes b [] = []
