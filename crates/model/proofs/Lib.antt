@@ -15,5 +15,6 @@ pub mod GrownCells
 pub mod Changes
 pub mod Calls
 pub mod Checks
+pub mod Format
 pub mod GrownTries
 pub mod Histories
