@@ -1,0 +1,84 @@
+-- What the calls say: document 01's refusal numbers, and for each answer its number and values in the C interface.
+use mathlib.Core.List.{List, [], _∷_}
+use Prim.Native.Nat.{ℕ}
+use Rattle.model.specs.declared.Cause.{Cause}
+use Rattle.model.specs.declared.Cause.the-variants.{BadFile, CutFile, IllegalName, ManyStrings, NoFreeSlot, ShortOutput, StaleTrie, WrongSize}
+use Rattle.model.specs.declared.ListAnswer.{ListAnswer}
+use Rattle.model.specs.declared.ListAnswer.the-variants.{Listed, Refused as ListRefused}
+use Rattle.model.specs.declared.LookUpAnswer.{LookUpAnswer}
+use Rattle.model.specs.declared.LookUpAnswer.the-variants.{Absent as NotFound, Found, Refused as LookUpRefused}
+use Rattle.model.specs.declared.PutAnswer.{PutAnswer}
+use Rattle.model.specs.declared.PutAnswer.the-variants.{Added, Refused as PutRefused, Replaced, Stopped as PutStopped}
+use Rattle.model.specs.declared.RecoverAnswer.{RecoverAnswer}
+use Rattle.model.specs.declared.RecoverAnswer.the-variants.{Freed, Nothing, Refused as RecoverRefused, Stopped as RecoverStopped}
+use Rattle.model.specs.declared.RemoveAnswer.{RemoveAnswer}
+use Rattle.model.specs.declared.RemoveAnswer.the-variants.{Absent as NotHeld, Refused as RemoveRefused, Removed, Stopped as RemoveStopped}
+use Rattle.model.specs.declared.TrieAnswer.{TrieAnswer}
+use Rattle.model.specs.declared.TrieAnswer.the-variants.{Given, Refused as TrieRefused}
+use Rattle.model.specs.Checks.{Kind, is-bad, is-cut, is-sound}
+
+-- "Refusal numbers"
+abbrev pub number : Cause → ℕ
+number IllegalName = 1
+number BadFile = 2
+number CutFile = 3
+number StaleTrie = 4
+number NoFreeSlot = 5
+number ManyStrings = 6
+number ShortOutput = 7
+number WrongSize = 8
+
+-- An answer's number in the C interface, and its values.
+abbrev pub Said : Type 0
+Said = ℕ × List ℕ
+
+-- "A refusal returns its number alone."
+abbrev pub refusedWith : Cause → Said
+refusedWith c = (number c, [])
+
+-- "Only then found with value, or absent."
+abbrev pub lookUpSays : LookUpAnswer → Said
+lookUpSays (Found v) = (100, v ∷ 0 ∷ [])
+lookUpSays NotFound = (101, [])
+lookUpSays (LookUpRefused c) = refusedWith c
+
+-- "Put of a new name says added. Put on a held name .. says replaced with the old value." "stopped, with the number made"
+abbrev pub putSays : PutAnswer → Said
+putSays Added = (110, [])
+putSays (Replaced v) = (111, v ∷ 0 ∷ [])
+putSays (PutStopped n) = (112, n ∷ [])
+putSays (PutRefused c) = refusedWith c
+
+-- "Remove .. says removed, with no value." "Removing an absent name .. says absent."
+abbrev pub removeSays : RemoveAnswer → Said
+removeSays Removed = (120, [])
+removeSays NotHeld = (101, [])
+removeSays (RemoveStopped n) = (112, n ∷ [])
+removeSays (RemoveRefused c) = refusedWith c
+
+-- "Recover frees slot N of a cut file in one store and names it; on a sound file it says nothing to do."
+abbrev pub recoverSays : RecoverAnswer → Said
+recoverSays (Freed k) = (130, k ∷ [])
+recoverSays Nothing = (131, [])
+recoverSays (RecoverStopped n) = (112, n ∷ [])
+recoverSays (RecoverRefused c) = refusedWith c
+
+-- "Check gives sound, cut or bad as a result."
+abbrev pub checkSays : Kind → Said
+checkSays is-sound = (140, [])
+checkSays (is-cut N) = (141, [])
+checkSays is-bad = (142, [])
+
+-- Create and rebuild, which give a trie.
+abbrev pub createSays : TrieAnswer → Said
+createSays Given = (150, [])
+createSays (TrieRefused c) = refusedWith c
+
+abbrev pub rebuildSays : TrieAnswer → Said
+rebuildSays Given = (151, [])
+rebuildSays (TrieRefused c) = refusedWith c
+
+-- "List writes entries .. and gives their number."
+abbrev pub listSays : ListAnswer → Said
+listSays (Listed n) = (152, n ∷ [])
+listSays (ListRefused c) = refusedWith c

@@ -1,0 +1,265 @@
+-- The public calls on bytes: for every file, trie and name, the answer, the trie and all bytes lent.
+use mathlib.Core.Bool.{Bool, _&&_, cond}
+use mathlib.Core.Option.{Option, none as nothing, some}
+use mathlib.Core.List.{List, [], _++_, _∷_}
+use Prim.Native.Nat.{_*_, _/_, suc, zero, ℕ}
+use lib.Dec.{eqb, leb, ltb}
+use lib.ListN.{drop, getD, length, replicate, take}
+use Rattle.model.specs.declared.Cause.{Cause}
+use Rattle.model.specs.declared.Cause.the-variants.{BadFile, CutFile, IllegalName, ManyStrings, NoFreeSlot, ShortOutput, StaleTrie, WrongSize}
+use Rattle.model.specs.declared.Cell.{Cell}
+use Rattle.model.specs.declared.ListAnswer.{ListAnswer}
+use Rattle.model.specs.declared.ListAnswer.the-variants.{Listed, Refused as ListRefused}
+use Rattle.model.specs.declared.LookUpAnswer.{LookUpAnswer}
+use Rattle.model.specs.declared.LookUpAnswer.the-variants.{Absent as NotFound, Found, Refused as LookUpRefused}
+use Rattle.model.specs.declared.PutAnswer.{PutAnswer}
+use Rattle.model.specs.declared.PutAnswer.the-variants.{Added, Refused as PutRefused, Replaced, Stopped as PutStopped}
+use Rattle.model.specs.declared.RecoverAnswer.{RecoverAnswer}
+use Rattle.model.specs.declared.RecoverAnswer.the-variants.{Freed, Nothing, Refused as RecoverRefused, Stopped as RecoverStopped}
+use Rattle.model.specs.declared.RemoveAnswer.{RemoveAnswer}
+use Rattle.model.specs.declared.RemoveAnswer.the-variants.{Absent as NotHeld, Refused as RemoveRefused, Removed, Stopped as RemoveStopped}
+use Rattle.model.specs.declared.Side.{Side}
+use Rattle.model.specs.declared.Side.the-variants.{Cell as further, Slot as slot}
+use Rattle.model.specs.declared.Trie.{Trie}
+use Rattle.model.specs.declared.TrieAnswer.{TrieAnswer}
+use Rattle.model.specs.declared.TrieAnswer.the-variants.{Given, Refused as TrieRefused}
+use Rattle.model.specs.Order.{Str}
+use Rattle.model.specs.Names.{atMost, filled, legalName, within}
+use Rattle.model.specs.Entries.{Entry, find, insert, name-at}
+use Rattle.model.specs.Files.{Slot, created, entries-of, first, free, order-of, slot-at, string-count, used}
+use Rattle.model.specs.Tries.{at-cell, cell, root-side, zero-cell}
+use Rattle.model.specs.Rebuilding.{rebuilt-trie}
+use Rattle.model.specs.Growth.{grown-trie}
+use Rattle.model.specs.Changes.{Result, Store, call, holds?, put, refuse, remove, split-of, stores}
+use Rattle.model.specs.Checks.{Kind, is-bad, is-cut, is-sound, isAbove, isWell}
+use Rattle.model.specs.Agreeing.{isAgreeing}
+use Rattle.model.specs.Format.{checkFile, entriesBytes, fileBytes, fileSize, headerOf, legalSizes, readFile, readSlot, slotAt, storeBytes}
+
+-- "one with count 0 and first leaf 0"
+abbrev pub new-trie : Trie
+new-trie = record { cells = replicate 256 zero-cell; count = 0; first = 0 }
+
+-- What create leaves, and what rebuild does. "rebuild and create, which give a trie, then give beside the number one with
+-- count 0 and first leaf 0"
+pub record Created : Type 0 where
+  pub answer : TrieAnswer
+  pub file : List ℕ
+  pub trie : Trie
+
+pub record Rebuilt : Type 0 where
+  pub answer : TrieAnswer
+  pub trie : Trie
+
+-- "Create writes the whole buffer: slot 0 used, no limits, no entries; it gives the trie with count 0 and first leaf 0."
+-- Refused 8: "create with b, slots or length not as above".
+unfoldable pub createOf : List ℕ → ℕ → ℕ → ℕ → Created
+createOf xs version b slots =
+    cond (eqb version 1 && legalSizes b slots && eqb (length xs) (fileSize b slots))
+    (record { answer = Given; file = fileBytes b (created slots); trie = new-trie })
+    (record { answer = TrieRefused WrongSize; file = xs; trie = new-trie })
+
+-- "Check gives sound, cut or bad as a result." It is `checkFile`.
+
+-- What recover leaves.
+pub record Recovered : Type 0 where
+  pub answer : RecoverAnswer
+  pub file : List ℕ
+
+-- "Recover frees slot N of a cut file in one store and names it; on a sound file it says nothing to do." The header's byte 5
+-- is b.
+unfoldable pub recoverBy : List ℕ → ℕ → Kind → Recovered
+recoverBy xs limit is-bad = record { answer = RecoverRefused BadFile; file = xs }
+recoverBy xs limit is-sound = record { answer = Nothing; file = xs }
+recoverBy xs limit (is-cut N) =
+    cond (ltb limit 1) (record { answer = RecoverStopped 0; file = xs })
+    (record { answer = Freed N; file = storeBytes (getD xs 5 0) N free xs })
+
+unfoldable pub recoverOf : List ℕ → ℕ → Recovered
+recoverOf xs limit =
+    let r = recoverBy xs limit (checkFile xs) in
+    cond (ltb 2 limit) (record { answer = RecoverRefused WrongSize; file = xs }) r
+
+-- Rebuild, in the order 2, 3, 6.
+abbrev pub no-rebuilt : Cause → Rebuilt
+no-rebuilt c = record { answer = TrieRefused c; trie = new-trie }
+
+unfoldable pub rebuildBy : Kind → Option (ℕ × List Slot) → Rebuilt
+rebuildBy is-bad f = no-rebuilt BadFile
+rebuildBy (is-cut N) f = no-rebuilt CutFile
+rebuildBy is-sound nothing = no-rebuilt BadFile
+rebuildBy is-sound (some f) =
+    cond (leb (string-count (f .1)) 256) (record { answer = Given; trie = rebuilt-trie (f .1) }) (no-rebuilt ManyStrings)
+
+unfoldable pub rebuildOf : List ℕ → Rebuilt
+rebuildOf xs = rebuildBy (checkFile xs) (readFile xs)
+
+-- The walk over any trie. "4 if .. the walk meets a cell number not below the count, more cells than the count, a digit
+-- number above the path's length or 23, or a slot number not below slots": nothing then. The first number is how many
+-- cells may still be met.
+unfoldable pub arrive : ℕ → ℕ → ℕ → List Cell → Str → Str → Side → Option ℕ
+arrive zero slots count cs n p (slot s) = cond (ltb s slots) (some s) nothing
+arrive zero slots count cs n p (further m) = nothing
+arrive (suc f) slots count cs n p (slot s) = cond (ltb s slots) (some s) nothing
+arrive (suc f) slots count cs n p (further m) =
+    let c = at-cell cs m in
+    let q = cell (c .digit) (c .number) p in
+    let l = arrive f slots count cs n q (c .left) in
+    let r = arrive f slots count cs n p (c .right) in
+    let w = cond (within n q) l r in
+    cond (ltb m count && leb (c .number) (length p) && leb (c .number) 23) w nothing
+
+-- "Only then found with value, or absent."
+abbrev pub heldAnswer : Option ℕ → LookUpAnswer
+heldAnswer nothing = NotFound
+heldAnswer (some v) = Found v
+
+-- "4 if the slot is free (all zero); 2 if it is not well formed; 4 if its range lacks the name."
+unfoldable pub slotAnswer : ℕ → Str → Option Slot → LookUpAnswer
+slotAnswer b n nothing = LookUpRefused BadFile
+slotAnswer b n (some free) = LookUpRefused StaleTrie
+slotAnswer b n (some (used l u es)) =
+    cond (isWell b (used l u es))
+    (cond (isAbove l n && atMost n u) (heldAnswer (find n es)) (LookUpRefused StaleTrie)) (LookUpRefused BadFile)
+
+unfoldable pub arrivedAnswer : List ℕ → ℕ → Str → Option ℕ → LookUpAnswer
+arrivedAnswer xs b n nothing = LookUpRefused StaleTrie
+arrivedAnswer xs b n (some k) = slotAnswer b n (readSlot b (slotAt b k xs))
+
+unfoldable pub headedAnswer : List ℕ → Trie → Str → Option (ℕ × ℕ) → LookUpAnswer
+headedAnswer xs t n nothing = LookUpRefused BadFile
+headedAnswer xs t n (some h) =
+    let a = arrivedAnswer xs (h .0) n (arrive (t .count) (h .1) (t .count) (t .cells) n [] (root-side (t .count) (t .first))) in
+    cond (leb (t .count) 256) a (LookUpRefused StaleTrie)
+
+-- "Look up reads one bucket and has its own order: 1; 2 if length or header is wrong; 4 ..; 4 ..; 2 ..; 4 .."
+unfoldable pub lookUpOf : List ℕ → Trie → List ℕ → LookUpAnswer
+lookUpOf xs t name =
+    let a = headedAnswer xs t (filled name) (headerOf xs) in
+    cond (legalName name) a (LookUpRefused IllegalName)
+
+-- "Put, remove and list check the whole file and full agreement": refused 2, 3 or 4, or the file.
+pub data Looked : Type 0 where
+  refusing : Cause → Looked
+  fine : ℕ → List Slot → Looked
+
+unfoldable pub lookedBy : Trie → Kind → Option (ℕ × List Slot) → Looked
+lookedBy t is-bad f = refusing BadFile
+lookedBy t (is-cut N) f = refusing CutFile
+lookedBy t is-sound nothing = refusing BadFile
+lookedBy t is-sound (some f) = cond (isAgreeing (f .1) t) (fine (f .0) (f .1)) (refusing StaleTrie)
+
+unfoldable pub lookedOf : List ℕ → Trie → Looked
+lookedOf xs t = lookedBy t (checkFile xs) (readFile xs)
+
+-- Stores made one after another.
+unfoldable pub storesBytes : ℕ → List Store → List ℕ → List ℕ
+storesBytes b [] xs = xs
+storesBytes b (s ∷ ss) xs = storesBytes b ss (storeBytes b (s .0) (s .1) xs)
+
+-- "The trie grows with the last store": two stores are a split, the new slot first and then A.
+unfoldable pub trieAfter : ℕ → List Slot → Str → ℕ → List Store → Trie → Trie
+trieAfter b fs n v [] t = t
+trieAfter b fs n v (x ∷ []) t = t
+trieAfter b fs n v (x ∷ y ∷ ss) t =
+    let ws = insert n v (entries-of (slot-at fs (y .0))) in
+    grown-trie t (name-at ws (b / 2)) (split-of b ws) (y .0) (x .0)
+
+-- What put leaves.
+pub record PutDone : Type 0 where
+  pub answer : PutAnswer
+  pub file : List ℕ
+  pub trie : Trie
+
+-- "Put of a new name says added. Put on a held name replaces the value .. and says replaced with the old value."
+abbrev pub putAnswer : Option ℕ → PutAnswer
+putAnswer nothing = Added
+putAnswer (some old) = Replaced old
+
+-- What a refusal 5 or 6 is called.
+unfoldable pub refusalOf : ℕ → Cause
+refusalOf r = cond (eqb r 5) NoFreeSlot ManyStrings
+
+-- "If nothing is refused and the limit is below the stores needed, they make that many and say stopped, with the number
+-- made; the trie is unchanged."
+unfoldable pub putMade : List ℕ → Trie → ℕ → List Slot → Str → ℕ → ℕ → Result → PutDone
+putMade xs t b fs n v limit (refuse r) = record { answer = PutRefused (refusalOf r); file = xs; trie = t }
+putMade xs t b fs n v limit (stores ss) =
+    cond (ltb limit (length ss))
+    (record { answer = PutStopped limit; file = storesBytes b (take limit ss) xs; trie = t })
+    (record {
+      answer = putAnswer (find n (entries-of (slot-at fs (first (holds? n) fs))));
+      file = storesBytes b ss xs;
+      trie = trieAfter b fs n v ss t;
+    })
+
+unfoldable pub putLooked : List ℕ → Trie → Str → ℕ → ℕ → Looked → PutDone
+putLooked xs t n v limit (refusing c) = record { answer = PutRefused c; file = xs; trie = t }
+putLooked xs t n v limit (fine b fs) = putMade xs t b fs n v limit (call b fs (put n v))
+
+-- Put, in the order 8, 1, 2, 3, 4, 5, 6.
+unfoldable pub putOf : List ℕ → Trie → List ℕ → ℕ → ℕ → PutDone
+putOf xs t name v limit =
+    let d = putLooked xs t (filled name) v limit (lookedOf xs t) in
+    cond (ltb 2 limit) (record { answer = PutRefused WrongSize; file = xs; trie = t })
+    (cond (legalName name) d (record { answer = PutRefused IllegalName; file = xs; trie = t }))
+
+-- What remove leaves. The trie stays.
+pub record RemoveDone : Type 0 where
+  pub answer : RemoveAnswer
+  pub file : List ℕ
+
+-- "Remove is one store and says removed, with no value." "Removing an absent name needs no store and says absent."
+abbrev pub removeAnswer : List Store → RemoveAnswer
+removeAnswer [] = NotHeld
+removeAnswer (s ∷ ss) = Removed
+
+unfoldable pub removeMade : List ℕ → ℕ → ℕ → Result → RemoveDone
+removeMade xs b limit (refuse r) = record { answer = RemoveRefused BadFile; file = xs }
+removeMade xs b limit (stores ss) =
+    cond (ltb limit (length ss)) (record { answer = RemoveStopped limit; file = storesBytes b (take limit ss) xs })
+    (record { answer = removeAnswer ss; file = storesBytes b ss xs })
+
+unfoldable pub removeLooked : List ℕ → Str → ℕ → Looked → RemoveDone
+removeLooked xs n limit (refusing c) = record { answer = RemoveRefused c; file = xs }
+removeLooked xs n limit (fine b fs) = removeMade xs b limit (call b fs (remove n))
+
+-- Remove, in the order 8, 1, 2, 3, 4.
+unfoldable pub removeOf : List ℕ → Trie → List ℕ → ℕ → RemoveDone
+removeOf xs t name limit =
+    let d = removeLooked xs (filled name) limit (lookedOf xs t) in
+    cond (ltb 2 limit) (record { answer = RemoveRefused WrongSize; file = xs })
+    (cond (legalName name) d (record { answer = RemoveRefused IllegalName; file = xs }))
+
+-- What list leaves.
+pub record ListDone : Type 0 where
+  pub answer : ListAnswer
+  pub output : List ℕ
+
+-- All entries, ascending: the buckets in range order.
+unfoldable pub entriesIn : List Slot → List ℕ → List Entry
+entriesIn fs [] = []
+entriesIn fs (B ∷ Bs) = entries-of (slot-at fs B) ++ entriesIn fs Bs
+
+-- "whose names lie from the first to the second name, both included"
+unfoldable pub between : Str → Str → List Entry → List Entry
+between low high [] = []
+between low high (e ∷ es) =
+    let r = between low high es in
+    cond (atMost low (e .0) && atMost (e .0) high) (e ∷ r) r
+
+-- "List writes entries, ascending, .. and nothing behind them, and gives their number." Refused 7: "list output shorter
+-- than 32 bytes times the entries to be listed".
+unfoldable pub listEntries : List Entry → List ℕ → ListDone
+listEntries es out =
+    cond (ltb (length out) (32 * length es)) (record { answer = ListRefused ShortOutput; output = out })
+    (record { answer = Listed (length es); output = entriesBytes es ++ drop (32 * length es) out })
+
+unfoldable pub listLooked : Str → Str → List ℕ → Looked → ListDone
+listLooked low high out (refusing c) = record { answer = ListRefused c; output = out }
+listLooked low high out (fine b fs) = listEntries (between low high (entriesIn fs (order-of fs))) out
+
+-- List, in the order 1, 2, 3, 4, 7.
+unfoldable pub listOf : List ℕ → Trie → List ℕ → List ℕ → List ℕ → ListDone
+listOf xs t low high out =
+    let d = listLooked (filled low) (filled high) out (lookedOf xs t) in
+    cond (legalName low && legalName high) d (record { answer = ListRefused IllegalName; output = out })

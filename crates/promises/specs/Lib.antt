@@ -1,0 +1,3 @@
+pub mod Texts
+pub mod Growing
+pub mod Situations

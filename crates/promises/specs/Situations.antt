@@ -1,0 +1,229 @@
+-- Document 01's situations: one table, one statement.
+use mathlib.Core.Path.{_≡_}
+use mathlib.Core.Bool.{false, true}
+use mathlib.Core.Option.{Option, none as nothing, some}
+use mathlib.Core.List.{List, [], _∷_}
+use Prim.Native.Nat.{ℕ}
+use Prim.Native.String.{String}
+use lib.ListN.{getD, replicate}
+use Rattle.model.specs.declared.Cell.{Cell}
+use Rattle.model.specs.declared.Side.{Side}
+use Rattle.model.specs.declared.Side.the-variants.{Cell as further, Slot as slot}
+use Rattle.model.specs.declared.Trie.{Trie}
+use Rattle.model.specs.Order.{Str, at, none}
+use Rattle.model.specs.Names.{legalName, within}
+use Rattle.model.specs.Entries.{Entry, find}
+use Rattle.model.specs.Files.{Slot, created, entries-of, free, slot-at, used}
+use Rattle.model.specs.Tries.{Agrees, walk-trie}
+use Rattle.model.specs.Rebuilding.{rebuilt-trie}
+use Rattle.model.specs.Changes.{call, put, split-of, stores}
+use Rattle.model.specs.Checks.{check, is-cut, is-sound, isSound}
+use Rattle.model.specs.Histories.{Act, World, ask, down, ready, recover, run}
+use Rattle.promises.specs.Texts.{bytes, name}
+use Rattle.model.specs.Calls.{new-trie}
+use Rattle.promises.specs.Growing.{Held, of-cells, puts}
+
+-- A cell, its digit as a text.
+abbrev pub a-cell : String → ℕ → Side → Side → Cell
+a-cell d i l r = record { digit = getD (bytes d) 0 0; number = i; left = l; right = r }
+
+-- These texts as entries, each with its value.
+unfoldable pub entries : List (String × ℕ) → List Entry
+entries [] = []
+entries (e ∷ es) = (name (e .0), e .1) ∷ entries es
+
+-- Sorted names, whose values do not matter.
+unfoldable pub names : List String → List Entry
+names [] = []
+names (w ∷ ws) = (name w, 0) ∷ names ws
+
+-- What the trie's walk finds of a name.
+abbrev pub looked-up : String → Held → Option ℕ
+looked-up w h = find (name w) (entries-of (slot-at (h .0) (walk-trie (h .1) (name w))))
+
+pub record Legals : Type 0 where
+  -- "24 bytes legal;"
+  pub longest : legalName (replicate 24 0x61) ≡ true
+  -- "0 and 25 refused;"
+  pub empty : legalName [] ≡ false
+  pub too-long : legalName (replicate 25 0x61) ≡ false
+  -- "0x7D legal,"
+  pub highest : legalName (0x7D ∷ []) ≡ true
+  -- "0x7E and 0x20 refused,"
+  pub too-high : legalName (0x7E ∷ []) ≡ false
+  pub blank : legalName (0x20 ∷ []) ≡ false
+  -- "so "a b" is refused."
+  pub blank-inside : legalName (bytes "a b") ≡ false
+
+pub record Withins : Type 0 where
+  -- ""i" is within "i ";"
+  pub i-in-i-blank : within (name "i") (bytes "i ") ≡ true
+  -- ""in" is not,"
+  pub in-not-in-i-blank : within (name "in") (bytes "i ") ≡ false
+  -- "and is within "i"."
+  pub in-in-i : within (name "in") (bytes "i") ≡ true
+
+-- "b = 4 split strings", and the one for b = 2.
+pub record Splits : Type 0 where
+  -- "a and of the to gives "o""
+  pub gives-o : split-of 4 (names ("a" ∷ "and" ∷ "of" ∷ "the" ∷ "to" ∷ [])) ≡ bytes "o"
+  -- "a and in is of gives "i""
+  pub gives-i : split-of 4 (names ("a" ∷ "and" ∷ "in" ∷ "is" ∷ "of" ∷ [])) ≡ bytes "i"
+  -- "a and i in is gives "i ""
+  pub gives-i-blank : split-of 4 (names ("a" ∷ "and" ∷ "i" ∷ "in" ∷ "is" ∷ [])) ≡ bytes "i "
+  -- "b = 2: rate1 rate2 rate3 gives "rate2""
+  pub gives-rate2 : split-of 2 (names ("rate1" ∷ "rate2" ∷ "rate3" ∷ [])) ≡ bytes "rate2"
+  -- "Add razz and rz: "ra""
+  pub gives-ra : split-of 2 (names ("rate3" ∷ "razz" ∷ "rz" ∷ [])) ≡ bytes "ra"
+
+-- The files and tries with b = 2. After rate1, rate2, rate3:
+abbrev pub rates : Held
+rates = puts 2 (("rate1", 1) ∷ ("rate2", 2) ∷ ("rate3", 3) ∷ []) (created 4, new-trie)
+
+-- razz, which fits;
+abbrev pub with-razz : Held
+with-razz = puts 2 (("razz", 4) ∷ []) rates
+
+-- rz, which splits again.
+abbrev pub with-rz : Held
+with-rz = puts 2 (("rz", 5) ∷ []) with-razz
+
+-- Their slots, written out,
+abbrev pub first-slot : Slot
+first-slot = used none (bytes "rate2") (entries (("rate1", 1) ∷ ("rate2", 2) ∷ []))
+
+abbrev pub full-slot : Slot
+full-slot = used (at (bytes "rate2")) [] (entries (("rate3", 3) ∷ ("razz", 4) ∷ []))
+
+abbrev pub kept-slot : Slot
+kept-slot = used (at (bytes "rate2")) (bytes "ra") (entries (("rate3", 3) ∷ ("razz", 4) ∷ []))
+
+abbrev pub rz-slot : Slot
+rz-slot = used (at (bytes "ra")) [] (entries (("rz", 5) ∷ []))
+
+abbrev pub rates-slots : List Slot
+rates-slots = first-slot ∷ used (at (bytes "rate2")) [] (entries (("rate3", 3) ∷ [])) ∷ free ∷ free ∷ []
+
+abbrev pub razz-slots : List Slot
+razz-slots = first-slot ∷ full-slot ∷ free ∷ free ∷ []
+
+abbrev pub rz-slots : List Slot
+rz-slots = first-slot ∷ kept-slot ∷ rz-slot ∷ free ∷ []
+
+-- and their cells.
+abbrev pub five-cells : Trie
+five-cells =
+    of-cells (a-cell "r" 0 (further 1) (slot 1) ∷ a-cell "a" 1 (further 2) (slot 1) ∷ a-cell "t" 2 (further 3) (slot 1)
+    ∷ a-cell "e" 3 (further 4) (slot 1) ∷ a-cell "2" 4 (slot 0) (slot 1) ∷ [])
+
+-- Redirected: of the leaves that led to slot 1, the paths "" and "r" are above "ra"; "ra", "rat" and "rate" are not.
+abbrev pub rz-cells : Trie
+rz-cells =
+    of-cells (a-cell "r" 0 (further 1) (slot 2) ∷ a-cell "a" 1 (further 2) (slot 2) ∷ a-cell "t" 2 (further 3) (slot 1)
+    ∷ a-cell "e" 3 (further 4) (slot 1) ∷ a-cell "2" 4 (slot 0) (slot 1) ∷ [])
+
+pub record Rates : Type 0 where
+  -- "rate1 rate2 rate3 gives "rate2", five cells: (r, 0), (a, 1), (t, 2), (e, 3), (2, 4)."
+  pub rates-file : rates .0 ≡ rates-slots
+  pub rates-trie : rates .1 ≡ five-cells
+  -- "The absent name rb then leads to slot 1."
+  pub rb-leads : walk-trie (rates .1) (name "rb") ≡ 1
+  pub rb-absent : looked-up "rb" rates ≡ nothing
+  -- "Add razz": it fits, and the cells stay.
+  pub razz-file : with-razz .0 ≡ razz-slots
+  pub razz-trie : with-razz .1 ≡ five-cells
+  -- "and rz": two stores, the new slot first. "slot 1 keeps rate3, razz; slot 2 has rz."
+  pub rz-stores : call 2 (with-razz .0) (put (name "rz") 5) ≡ stores ((2, rz-slot) ∷ (1, kept-slot) ∷ [])
+  pub rz-file : with-rz .0 ≡ rz-slots
+  -- ""ra", already a string, no cell added;"
+  pub rz-trie : with-rz .1 ≡ rz-cells
+  pub rz-found : looked-up "rz" with-rz ≡ some 5
+  pub razz-found : looked-up "razz" with-rz ≡ some 4
+  -- Each of these files is sound, and its trie agrees with it.
+  pub rates-sound : isSound 2 (rates .0) ≡ true
+  pub razz-sound : isSound 2 (with-razz .0) ≡ true
+  pub rz-sound : isSound 2 (with-rz .0) ≡ true
+  pub rates-agree : Agrees (rates .0) (rates .1)
+  pub razz-agrees : Agrees (with-razz .0) (with-razz .1)
+  pub rz-agrees : Agrees (with-rz .0) (with-rz .1)
+
+-- The same puts as a history, the latest first, and the last one "stopped after one store".
+abbrev pub before-rz : List Act
+before-rz =
+    ask (put (name "razz") 4) 2 ∷ ask (put (name "rate3") 3) 2 ∷ ask (put (name "rate2") 2) 2
+    ∷ ask (put (name "rate1") 1) 2 ∷ []
+
+abbrev pub stopped-rz : List Act
+stopped-rz = ask (put (name "rz") 5) 1 ∷ before-rz
+
+abbrev pub file-of : World → List Slot
+file-of (ready fs m) = fs
+file-of (down fs m) = fs
+
+abbrev pub said-of : World → Str → Option ℕ
+said-of (ready fs m) = m
+said-of (down fs m) = m
+
+abbrev pub stopped-file : List Slot
+stopped-file = file-of (run 2 4 stopped-rz)
+
+-- Recovered, with one store.
+abbrev pub recovered-file : List Slot
+recovered-file = file-of (run 2 4 (recover 1 ∷ stopped-rz))
+
+pub record Stopped : Type 0 where
+  pub before : file-of (run 2 4 before-rz) ≡ razz-slots
+  -- "That last put stopped after one store: slot 1 still unlimited above, slot 2 holds rz;"
+  pub stopped : stopped-file ≡ first-slot ∷ full-slot ∷ rz-slot ∷ free ∷ []
+  pub cut : check 2 stopped-file ≡ is-cut 2
+  -- "recover frees slot 2,"
+  pub recovered : recovered-file ≡ razz-slots
+  pub sound-again : check 2 recovered-file ≡ is-sound
+  -- "rz is absent."
+  pub rz-absent : looked-up "rz" (recovered-file, rebuilt-trie recovered-file) ≡ nothing
+  pub rz-not-said : said-of (run 2 4 (recover 1 ∷ stopped-rz)) (name "rz") ≡ nothing
+  pub razz-found : looked-up "razz" (recovered-file, rebuilt-trie recovered-file) ≡ some 4
+
+-- "The nine words", each with its line number, with b = 4 and 8 slots.
+abbrev pub words : Held
+words =
+    puts 4
+    (("the", 1) ∷ ("of", 2) ∷ ("and", 3) ∷ ("to", 4) ∷ ("a", 5) ∷ ("in", 6) ∷ ("that", 7) ∷ ("is", 8) ∷ ("i", 9) ∷ [])
+    (created 8, new-trie)
+
+abbrev pub words-slots : List Slot
+words-slots =
+    used none (bytes "i ") (entries (("a", 5) ∷ ("and", 3) ∷ ("i", 9) ∷ []))
+    ∷ used (at (bytes "o")) [] (entries (("that", 7) ∷ ("the", 1) ∷ ("to", 4) ∷ []))
+    ∷ used (at (bytes "i")) (bytes "o") (entries (("of", 2) ∷ []))
+    ∷ used (at (bytes "i ")) (bytes "i") (entries (("in", 6) ∷ ("is", 8) ∷ [])) ∷ free ∷ free ∷ free ∷ free ∷ []
+
+-- The trie grown by the puts,
+abbrev pub words-cells : Trie
+words-cells =
+    of-cells (a-cell "o" 0 (further 1) (slot 1) ∷ a-cell "i" 0 (further 2) (slot 2) ∷ a-cell " " 1 (slot 0) (slot 3) ∷ [])
+
+-- and rebuilt.
+abbrev pub rebuilt-cells : Trie
+rebuilt-cells =
+    of-cells (a-cell "i" 0 (further 1) (further 2) ∷ a-cell " " 1 (slot 0) (slot 3) ∷ a-cell "o" 0 (slot 2) (slot 1) ∷ [])
+
+pub record Words : Type 0 where
+  -- "The nine words below"
+  pub words-file : words .0 ≡ words-slots
+  pub words-trie : words .1 ≡ words-cells
+  -- "rebuilt: cell 0 (i, 0); cell 1 (space, 1) slots 0 and 3; cell 2 (o, 0) slots 2 and 1."
+  pub words-rebuilt : rebuilt-trie (words .0) ≡ rebuilt-cells
+  -- The file is sound, and both tries agree with it.
+  pub words-sound : isSound 4 (words .0) ≡ true
+  pub words-agree : Agrees (words .0) (words .1)
+  pub rebuilt-agrees : Agrees (words .0) (rebuilt-trie (words .0))
+
+-- All of document 01's situations that are marked (P).
+pub record Situations : Type 0 where
+  pub legals : Legals
+  pub withins : Withins
+  pub splits : Splits
+  pub rate-puts : Rates
+  pub stopped-put : Stopped
+  pub nine-words : Words

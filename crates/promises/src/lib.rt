@@ -1,0 +1,1 @@
+// Document 01's situations, proved of the definitions: one table, one statement.
