@@ -12,7 +12,7 @@ use palhavento_tests::stories::{tell_brim, tell_built, tell_history, Profile, SI
 use palhavento_tests::sweeps;
 
 /// As many parts as there are tests below.
-const PARTS: usize = 17;
+const PARTS: usize = 18;
 /// So many calls at least are compared in a whole run.
 const CALLS: u64 = 1_000_000;
 
@@ -95,6 +95,11 @@ fn create_arguments() {
 #[test]
 fn headers() {
     run_part("headers", 0, 1, sweeps::headers);
+}
+
+#[test]
+fn stored_digits() {
+    run_part("stored_digits", 0, 1, sweeps::stored_digits);
 }
 
 #[test]
