@@ -177,6 +177,53 @@ pub fn stored_digits(_: u64, run: &mut Run) {
     }
 }
 
+/// The fullest file there is: 64 slots with 16 entries each. The story's number chooses how the buckets lie in the slots.
+pub fn fullest_file(story: u64, run: &mut Run) {
+    let names: Vec<Vec<u8>> = (0..1024).map(|n| vec![0x21 + (n / 90) as u8, 0x21 + (n % 90) as u8]).collect();
+    let mut slots = vec![Slot::Free; 64];
+    let mut numbers: Vec<usize> = (0..64).collect();
+    match story % 3 {
+        0 => {}
+        1 => numbers.reverse(),
+        _ => Chance::new(story).shuffle(&mut numbers),
+    }
+    let mut lower = Bound::empty();
+    for (bucket, number) in names.chunks(16).zip(numbers) {
+        let last = Bound(bucket[15].clone());
+        let upper = if bucket[15] == names[1023] { Bound::empty() } else { last };
+        let entries = bucket.iter().map(|name| Entry { name: filled(name), value: 1 << (number as u64) }).collect();
+        slots[number] = Slot::Used(Bucket { lower, upper: upper.clone(), entries });
+        lower = upper;
+    }
+    let file = file_bytes(16, &slots);
+    let trie = image_of(&file);
+    run.call(Call::Check { file: file.clone() });
+    run.call(Call::Recover { file: file.clone(), limit: 0 });
+    run.call(Call::Rebuild { file: file.clone(), trie: vec![0x55; IMAGE] });
+    for length in [32 * 1024, 32 * 1024 - 1, 32 * 1024 + 7, 32 * 1023, 65_536 + 32, 0] {
+        let (first, second) = (vec![0x21], vec![0x7D; 24]);
+        let call = Call::List { file: file.clone(), trie: trie.clone(), first, second, output: vec![0x66; length] };
+        let outcome = run.call(call);
+        if outcome.answer == 152 && outcome.out[0] == 1024 {
+            mark("a list of 1024 entries");
+        }
+    }
+    for name in &names {
+        let (f, t) = (file.clone(), trie.clone());
+        run.call(Call::Lookup { file: f.clone(), trie: t.clone(), name: name.clone() });
+        run.call(Call::Put { file: f, trie: t, name: name.clone(), value: 3, run: 4, limit: 1 });
+    }
+    for name in names.iter().step_by(7) {
+        let longer = [&name[..], b"x"].concat();
+        let (f, t) = (file.clone(), trie.clone());
+        let outcome = run.call(Call::Put { file: f, trie: t, name: longer.clone(), value: 3, run: 4, limit: 2 });
+        assert_eq!(outcome.answer, 5);
+        let (f, t) = (file.clone(), trie.clone());
+        let removed = run.call(Call::Remove { file: f, trie: t, name: name.clone(), limit: 1 });
+        run.call(Call::Put { file: removed.file, trie: removed.trie, name: longer, value: 3, run: 4, limit: 2 });
+    }
+}
+
 /// All calls on one file and trie.
 fn all_calls(run: &mut Run, file: &[u8], trie: &[u8]) {
     let (f, t) = (file.to_vec(), trie.to_vec());
