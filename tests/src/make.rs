@@ -253,8 +253,10 @@ pub fn file_with_strings(chance: &mut Chance, b: usize, slots: usize, used: usiz
     }
     uppers.sort();
     uppers.push(Bound::empty());
+    // Any slots may be free, but often the last ones are.
     let mut numbers: Vec<usize> = (0..slots).collect();
-    chance.shuffle(&mut numbers);
+    let shuffled = if chance.percent(50) { used } else { slots };
+    chance.shuffle(&mut numbers[..shuffled]);
     let mut all = vec![Slot::Free; slots];
     let mut lower = Bound::empty();
     for (upper, number) in uppers.into_iter().zip(numbers) {

@@ -18,6 +18,8 @@ pub struct Profile {
     pub names: (usize, usize),
     /// Changes of the file.
     pub changes: (usize, usize),
+    /// Out of 100 changes, so many are puts.
+    pub puts: usize,
     /// Out of 100 changes, so many are followed by calls on copies.
     pub beside: usize,
 }
@@ -38,6 +40,8 @@ pub const SITUATIONS: &[&str] = &[
     "a split that fills all 256 cells",
     "a split of a trie that is neither grown nor rebuilt",
     "a split into a slot below a used one",
+    "a split into slot 63",
+    "a list of 1024 entries",
     "a split stopped after one store, the new name moved",
     "a split stopped after one store, the new name stayed",
     "a recovery that was stopped",
@@ -83,6 +87,7 @@ struct Story<'a> {
     trie: Vec<u8>,
     /// Images that once agreed with the file.
     old_tries: Vec<Vec<u8>>,
+    puts: usize,
 }
 
 /// The story of a new file.
@@ -102,7 +107,8 @@ pub fn tell_history(seed: u64, run: &mut Run, profile: &Profile) {
     let file = vec![dirt; file_length(b, slots)];
     let made = run.call(Call::Create { file, version: 1, b: b as u64, slots: slots as u64, trie });
     let changes = chance.between(profile.changes.0, profile.changes.1);
-    let mut story = Story { chance, run, names, file: made.file, trie: made.trie, old_tries: Vec::new() };
+    let mut story =
+        Story { chance, run, names, file: made.file, trie: made.trie, old_tries: Vec::new(), puts: profile.puts };
     for _ in 0..changes {
         story.change();
         if story.chance.percent(profile.beside) {
@@ -133,7 +139,7 @@ pub fn tell_built(seed: u64, run: &mut Run, profile: &Profile) {
 pub fn tell_brim(seed: u64, run: &mut Run, profile: &Profile) {
     let mut chance = Chance::new(seed);
     let b = chance.between(profile.b.0, profile.b.1);
-    let slots = chance.between(profile.slots.0, profile.slots.1);
+    let slots = if chance.percent(40) { 64 } else { chance.between(profile.slots.0, profile.slots.1) };
     let used = *chance.pick(&[slots, slots - 1, slots - 1, slots - 2]);
     let how_many = *chance.pick(&[200, 240, 250, 254, 255, 256, 256, 257, 280]);
     let file = make::file_with_strings(&mut chance, b, slots, used, how_many);
@@ -152,7 +158,7 @@ fn tell_of_file(mut chance: Chance, run: &mut Run, profile: &Profile, file: Vec<
     }
     let trie = shaped(&mut chance, &read, Roots::Any).map_or(vec![0; IMAGE], |trie| write_image(&trie));
     let changes = chance.between(profile.changes.0, profile.changes.1);
-    let mut story = Story { chance, run, names, file, trie, old_tries: Vec::new() };
+    let mut story = Story { chance, run, names, file, trie, old_tries: Vec::new(), puts: profile.puts };
     for _ in 0..changes {
         story.beside();
         story.change();
@@ -167,7 +173,7 @@ impl Story<'_> {
         let before = self.trie.clone();
         let file = self.file.clone();
         let trie = self.trie.clone();
-        let outcome = if self.chance.percent(75) {
+        let outcome = if self.chance.percent(self.puts) {
             let (value, run) = (value(&mut self.chance), self.chance.word());
             self.run.call(Call::Put { file, trie, name: name.clone(), value, run, limit })
         } else {
@@ -455,6 +461,9 @@ fn mark_growth(before: &[u8], after: &[u8], file: &[u8], file_after: &[u8]) {
     let new_slot = new.used().map(|(slot, _)| slot).find(|slot| old.used().all(|(used, _)| used != *slot));
     if old.used().any(|(used, _)| new_slot.is_some_and(|new| new < used)) {
         mark("a split into a slot below a used one");
+    }
+    if new_slot == Some(63) {
+        mark("a split into slot 63");
     }
 }
 

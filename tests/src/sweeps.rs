@@ -111,7 +111,7 @@ pub fn bytes_of_a_name(_: u64, run: &mut Run) {
                 let mut name = vec![b'g'; length];
                 name[place] = byte;
                 run.call(Call::Lookup { file: file.clone(), trie: trie.clone(), name: name.clone() });
-                if [0x00, 0x1F, 0x20, 0x21, 0x7D, 0x7E, 0x7F, 0x80, 0xA1, 0xFF].contains(&byte) {
+                if EDGES.contains(&byte) {
                     all_with_name(run, &file, &trie, &name);
                 }
             }
@@ -132,6 +132,96 @@ fn all_with_name(run: &mut Run, file: &[u8], trie: &[u8], name: &[u8]) {
     let (first, second) = (n.clone(), b"z".to_vec());
     run.call(Call::List { file: f.clone(), trie: t.clone(), first, second, output: output.clone() });
     run.call(Call::List { file: f, trie: t, first: b"a".to_vec(), second: n, output });
+}
+
+/// The bytes at which something changes: what is a digit, what is a digit of names, what is zero.
+const EDGES: [u8; 11] = [0x00, 0x01, 0x1F, 0x20, 0x21, 0x7D, 0x7E, 0x7F, 0x80, 0xA1, 0xFF];
+
+/// Entries and bounds of every length, with every edge at every place, also past their end. Nothing else is wrong with the
+/// file, so the digits alone decide.
+pub fn stored_digits(_: u64, run: &mut Run) {
+    let lone = file_bytes(2, &[bucket("", "", &[("a", 7)])]);
+    let trie = vec![0; IMAGE];
+    for length in 0..=24 {
+        for place in 0..24 {
+            for byte in EDGES {
+                let mut file = lone.clone();
+                file[80..104].fill(0x20);
+                file[80..80 + length].fill(b'g');
+                file[80 + place] = byte;
+                run.call(Call::Check { file: file.clone() });
+                run.call(Call::Lookup { file, trie: trie.clone(), name: b"g".to_vec() });
+            }
+        }
+    }
+    let blank = file_bytes(2, &[bucket("", "", &[]), Slot::Free]);
+    let slot = 128;
+    for length in 1..=24 {
+        for place in 0..24 {
+            for byte in EDGES {
+                let mut digits = [0; 24];
+                digits[..length].fill(b'g');
+                digits[place] = byte;
+                // The upper of slot 0 and the lower of slot 1.
+                let mut file = blank.clone();
+                file[16 + 3] = length as u8;
+                file[16 + 32..16 + 56].copy_from_slice(&digits);
+                file[16 + slot] = 1;
+                file[16 + slot + 2] = length as u8;
+                file[16 + slot + 8..16 + slot + 32].copy_from_slice(&digits);
+                run.call(Call::Check { file: file.clone() });
+                run.call(Call::Rebuild { file: file.clone(), trie: trie.clone() });
+                run.call(Call::Lookup { file, trie: trie.clone(), name: b"a".to_vec() });
+            }
+        }
+    }
+}
+
+/// The fullest file there is: 64 slots with 16 entries each. The story's number chooses how the buckets lie in the slots.
+pub fn fullest_file(story: u64, run: &mut Run) {
+    let names: Vec<Vec<u8>> = (0..1024).map(|n| vec![0x21 + (n / 90) as u8, 0x21 + (n % 90) as u8]).collect();
+    let mut slots = vec![Slot::Free; 64];
+    let mut numbers: Vec<usize> = (0..64).collect();
+    match story % 3 {
+        0 => {}
+        1 => numbers.reverse(),
+        _ => Chance::new(story).shuffle(&mut numbers),
+    }
+    let mut lower = Bound::empty();
+    for (bucket, number) in names.chunks(16).zip(numbers) {
+        let last = Bound(bucket[15].clone());
+        let upper = if bucket[15] == names[1023] { Bound::empty() } else { last };
+        let entries = bucket.iter().map(|name| Entry { name: filled(name), value: 1 << (number as u64) }).collect();
+        slots[number] = Slot::Used(Bucket { lower, upper: upper.clone(), entries });
+        lower = upper;
+    }
+    let file = file_bytes(16, &slots);
+    let trie = image_of(&file);
+    run.call(Call::Check { file: file.clone() });
+    run.call(Call::Recover { file: file.clone(), limit: 0 });
+    run.call(Call::Rebuild { file: file.clone(), trie: vec![0x55; IMAGE] });
+    for length in [32 * 1024, 32 * 1024 - 1, 32 * 1024 + 7, 32 * 1023, 65_536 + 32, 0] {
+        let (first, second) = (vec![0x21], vec![0x7D; 24]);
+        let call = Call::List { file: file.clone(), trie: trie.clone(), first, second, output: vec![0x66; length] };
+        let outcome = run.call(call);
+        if outcome.answer == 152 && outcome.out[0] == 1024 {
+            mark("a list of 1024 entries");
+        }
+    }
+    for name in &names {
+        let (f, t) = (file.clone(), trie.clone());
+        run.call(Call::Lookup { file: f.clone(), trie: t.clone(), name: name.clone() });
+        run.call(Call::Put { file: f, trie: t, name: name.clone(), value: 3, run: 4, limit: 1 });
+    }
+    for name in names.iter().step_by(7) {
+        let longer = [&name[..], b"x"].concat();
+        let (f, t) = (file.clone(), trie.clone());
+        let outcome = run.call(Call::Put { file: f, trie: t, name: longer.clone(), value: 3, run: 4, limit: 2 });
+        assert_eq!(outcome.answer, 5);
+        let (f, t) = (file.clone(), trie.clone());
+        let removed = run.call(Call::Remove { file: f, trie: t, name: name.clone(), limit: 1 });
+        run.call(Call::Put { file: removed.file, trie: removed.trie, name: longer, value: 3, run: 4, limit: 2 });
+    }
 }
 
 /// All calls on one file and trie.

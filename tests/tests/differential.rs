@@ -12,7 +12,7 @@ use palhavento_tests::stories::{tell_brim, tell_built, tell_history, Profile, SI
 use palhavento_tests::sweeps;
 
 /// As many parts as there are tests below.
-const PARTS: usize = 17;
+const PARTS: usize = 19;
 /// So many calls at least are compared in a whole run.
 const CALLS: u64 = 1_000_000;
 
@@ -41,49 +41,50 @@ fn check_whole() {
 
 #[test]
 fn small_histories() {
-    let profile = Profile { b: (2, 4), slots: (1, 8), names: (6, 30), changes: (20, 60), beside: 60 };
+    let profile = Profile { b: (2, 4), slots: (1, 8), names: (6, 30), changes: (20, 60), beside: 60, puts: 75 };
     run_part("small_histories", 1_000_000, 4000, |seed, run| tell_history(seed, run, &profile));
 }
 
 #[test]
 fn smallest_histories() {
-    let profile = Profile { b: (2, 2), slots: (2, 4), names: (4, 10), changes: (10, 30), beside: 50 };
+    let profile = Profile { b: (2, 2), slots: (2, 4), names: (4, 10), changes: (10, 30), beside: 50, puts: 75 };
     run_part("smallest_histories", 2_000_000, 3000, |seed, run| tell_history(seed, run, &profile));
 }
 
 #[test]
 fn middle_histories() {
-    let profile = Profile { b: (2, 16), slots: (4, 40), names: (40, 200), changes: (100, 250), beside: 40 };
+    let profile = Profile { b: (2, 16), slots: (4, 40), names: (40, 200), changes: (100, 250), beside: 40, puts: 75 };
     run_part("middle_histories", 3_000_000, 250, |seed, run| tell_history(seed, run, &profile));
 }
 
 #[test]
 fn full_histories() {
-    let profile = Profile { b: (16, 16), slots: (64, 64), names: (600, 1100), changes: (900, 1400), beside: 20 };
-    run_part("full_histories", 4_000_000, 50, |seed, run| tell_history(seed, run, &profile));
+    let profile =
+        Profile { b: (16, 16), slots: (64, 64), names: (1000, 1600), changes: (1200, 2000), beside: 15, puts: 92 };
+    run_part("full_histories", 4_000_000, 40, |seed, run| tell_history(seed, run, &profile));
 }
 
 #[test]
 fn small_built() {
-    let profile = Profile { b: (2, 4), slots: (1, 8), names: (4, 30), changes: (4, 12), beside: 100 };
+    let profile = Profile { b: (2, 4), slots: (1, 8), names: (4, 30), changes: (4, 12), beside: 100, puts: 75 };
     run_part("small_built", 5_000_000, 4000, |seed, run| tell_built(seed, run, &profile));
 }
 
 #[test]
 fn middle_built() {
-    let profile = Profile { b: (2, 16), slots: (4, 64), names: (10, 100), changes: (10, 30), beside: 100 };
+    let profile = Profile { b: (2, 16), slots: (4, 64), names: (10, 100), changes: (10, 30), beside: 100, puts: 75 };
     run_part("middle_built", 6_000_000, 800, |seed, run| tell_built(seed, run, &profile));
 }
 
 #[test]
 fn full_built() {
-    let profile = Profile { b: (16, 16), slots: (64, 64), names: (20, 300), changes: (10, 30), beside: 100 };
+    let profile = Profile { b: (16, 16), slots: (64, 64), names: (20, 300), changes: (10, 30), beside: 100, puts: 75 };
     run_part("full_built", 7_000_000, 800, |seed, run| tell_built(seed, run, &profile));
 }
 
 #[test]
 fn brim() {
-    let profile = Profile { b: (2, 16), slots: (20, 64), names: (0, 0), changes: (10, 30), beside: 100 };
+    let profile = Profile { b: (2, 16), slots: (20, 64), names: (0, 0), changes: (10, 30), beside: 100, puts: 75 };
     run_part("brim", 8_000_000, 1000, |seed, run| tell_brim(seed, run, &profile));
 }
 
@@ -95,6 +96,16 @@ fn create_arguments() {
 #[test]
 fn headers() {
     run_part("headers", 0, 1, sweeps::headers);
+}
+
+#[test]
+fn fullest_file() {
+    run_part("fullest_file", 0, 3, sweeps::fullest_file);
+}
+
+#[test]
+fn stored_digits() {
+    run_part("stored_digits", 0, 1, sweeps::stored_digits);
 }
 
 #[test]
