@@ -30,9 +30,9 @@ module _ (b : ℕ) (fs : List Slot) (t : Trie) where
       ≡ some ([], upto 0 (length live))
 
   pub agreed : isSound b fs ≡ true → t .count ≤ 256 → length (t .cells) ≡ 256
-      → t .cells ≡ take (t .count) (t .cells) ++ replicate (256 - t .count) zero-cell → t .first ≡ 0 → Passes (order-of fs) → Agrees fs t
+      → ((i : ℕ) → t .count ≤ i → at-cell (t .cells) i ≡ zero-cell) → t .first ≡ 0 → Passes (order-of fs) → Agrees fs t
   agreed sound few long past first passes =
       let S : Sound b fs = isSound-sound b fs sound in
-      cells-agree b S few long past (λ h. first)
+      cells-agree b S {t = t} long few past (λ h. first)
       (agree-sound (ranges fs) (S .order) (S .chain) (S .listed) live (root-side (t .count) (t .first)) (upto 0 (length live))
       (rw (← order-right b S) passes) (λ i h. omega (arith, upto-once (length live) 0 i (omega arith) (omega arith))))

@@ -80,14 +80,6 @@ pub record Splits : Type 0 where
 abbrev pub rates : Held
 rates = puts 2 (("rate1", 1) ∷ ("rate2", 2) ∷ ("rate3", 3) ∷ []) (created 4, new-trie)
 
--- razz, which fits;
-abbrev pub with-razz : Held
-with-razz = puts 2 (("razz", 4) ∷ []) rates
-
--- rz, which splits again.
-abbrev pub with-rz : Held
-with-rz = puts 2 (("rz", 5) ∷ []) with-razz
-
 -- Their slots, written out,
 abbrev pub first-slot : Slot
 first-slot = used none (bytes "rate2") (entries (("rate1", 1) ∷ ("rate2", 2) ∷ []))
@@ -122,6 +114,14 @@ rz-cells =
     of-cells (a-cell "r" 0 (further 1) (slot 2) ∷ a-cell "a" 1 (further 2) (slot 2) ∷ a-cell "t" 2 (further 3) (slot 1)
     ∷ a-cell "e" 3 (further 4) (slot 1) ∷ a-cell "2" 4 (slot 0) (slot 1) ∷ [])
 
+-- From there on: razz, which fits;
+abbrev pub with-razz : Held
+with-razz = puts 2 (("razz", 4) ∷ []) (rates-slots, five-cells)
+
+-- and rz, which splits again.
+abbrev pub with-rz : Held
+with-rz = puts 2 (("rz", 5) ∷ []) (razz-slots, five-cells)
+
 pub record Rates : Type 0 where
   -- "rate1 rate2 rate3 gives "rate2", five cells: (r, 0), (a, 1), (t, 2), (e, 3), (2, 4)."
   pub rates-file : rates .0 ≡ rates-slots
@@ -133,7 +133,7 @@ pub record Rates : Type 0 where
   pub razz-file : with-razz .0 ≡ razz-slots
   pub razz-trie : with-razz .1 ≡ five-cells
   -- "and rz": two stores, the new slot first. "slot 1 keeps rate3, razz; slot 2 has rz."
-  pub rz-stores : call 2 (with-razz .0) (put (name "rz") 5) ≡ stores ((2, rz-slot) ∷ (1, kept-slot) ∷ [])
+  pub rz-stores : call 2 razz-slots (put (name "rz") 5) ≡ stores ((2, rz-slot) ∷ (1, kept-slot) ∷ [])
   pub rz-file : with-rz .0 ≡ rz-slots
   -- ""ra", already a string, no cell added;"
   pub rz-trie : with-rz .1 ≡ rz-cells
