@@ -2,6 +2,7 @@
 use mathlib.Core.Path.{refl}
 use native.Mathlib.Decide.{decLe, decLt, ℕ-discrete}
 use native.Mathlib.Omega.{arith}
+use lib.ListN.{take}
 use Rattle.model.specs.Order.{le?, low?, str?}
 use Rattle.model.specs.Names.{areDigits, atMost, blankEnded, blanks, filled, legalBound, legalFilled, legalName, notGreater, smaller, splitFrom, splitString, within}
 use Rattle.model.specs.Entries.{chosen, find, insert, keep, not?}
@@ -42,9 +43,9 @@ situations = record {
     rates-sound = refl;
     razz-sound = refl;
     rz-sound = refl;
-    rates-agree = agreed 2 rates-slots five-cells refl (omega arith) refl refl refl refl;
-    razz-agrees = agreed 2 razz-slots five-cells refl (omega arith) refl refl refl refl;
-    rz-agrees = agreed 2 rz-slots rz-cells refl (omega arith) refl refl refl refl;
+    rates-agree = agreed 2 rates-slots (take (five-cells .count) (five-cells .cells)) refl (omega arith) refl refl;
+    razz-agrees = agreed 2 razz-slots (take (five-cells .count) (five-cells .cells)) refl (omega arith) refl refl;
+    rz-agrees = agreed 2 rz-slots (take (rz-cells .count) (rz-cells .cells)) refl (omega arith) refl refl;
   };
   stopped-put = record {
     before = refl;
@@ -61,7 +62,7 @@ situations = record {
     words-trie = refl;
     words-rebuilt = refl;
     words-sound = refl;
-    words-agree = agreed 4 words-slots words-cells refl (omega arith) refl refl refl refl;
-    rebuilt-agrees = agreed 4 words-slots rebuilt-cells refl (omega arith) refl refl refl refl;
+    words-agree = agreed 4 words-slots (take (words-cells .count) (words-cells .cells)) refl (omega arith) refl refl;
+    rebuilt-agrees = agreed 4 words-slots (take (rebuilt-cells .count) (rebuilt-cells .cells)) refl (omega arith) refl refl;
   };
 }
