@@ -7,6 +7,7 @@ pub mod Strings
 pub mod Ranges
 pub mod Cells
 pub mod Rebuilding
+pub mod Shapes
 pub mod Files
 pub mod Passing
 pub mod Agreement
