@@ -19,14 +19,14 @@ use Rattle.model.proofs.Names.{atMost-le, atMost-lt, both-true, bound-l
 use Rattle.model.proofs.Ranges.{chain-some}
 use Rattle.model.proofs.Files.{order-right, used-inside}
 
-either-true : (a b : Bool) → (a || b) ≡ true → (a ≡ true) ⊎ (b ≡ true)
+pub either-true : (a b : Bool) → (a || b) ≡ true → (a ≡ true) ⊎ (b ≡ true)
 either-true true b e = inl refl
 either-true false b e = inr e
 
-true-left : (a b : Bool) → a ≡ true → (a || b) ≡ true
+pub true-left : (a b : Bool) → a ≡ true → (a || b) ≡ true
 true-left a b e = rw e
 
-true-right : (a b : Bool) → b ≡ true → (a || b) ≡ true
+pub true-right : (a b : Bool) → b ≡ true → (a || b) ≡ true
 true-right true b e = refl
 true-right false b e = e
 

@@ -1,2 +1,1 @@
-pub mod Agreed
 pub mod Situations

@@ -18,6 +18,7 @@ use Rattle.model.specs.Tries.{Agrees, walk-trie}
 use Rattle.model.specs.Rebuilding.{rebuilt-trie}
 use Rattle.model.specs.Changes.{call, put, split-of, stores}
 use Rattle.model.specs.Checks.{check, is-cut, is-sound, isSound}
+use Rattle.model.specs.Agreeing.{isAgreeing}
 use Rattle.model.specs.Histories.{Act, World, ask, down, ready, recover, run}
 use Rattle.promises.specs.Texts.{bytes, name}
 use Rattle.model.specs.Calls.{new-trie}
@@ -139,10 +140,13 @@ pub record Rates : Type 0 where
   pub rz-trie : with-rz .1 ≡ rz-cells
   pub rz-found : looked-up "rz" with-rz ≡ some 5
   pub razz-found : looked-up "razz" with-rz ≡ some 4
-  -- Each of these files is sound, and its trie agrees with it.
+  -- Each of these files is sound, and its trie agrees with it; the tests say so.
   pub rates-sound : isSound 2 (rates .0) ≡ true
   pub razz-sound : isSound 2 (with-razz .0) ≡ true
   pub rz-sound : isSound 2 (with-rz .0) ≡ true
+  pub rates-tested : isAgreeing (rates .0) (rates .1) ≡ true
+  pub razz-tested : isAgreeing (with-razz .0) (with-razz .1) ≡ true
+  pub rz-tested : isAgreeing (with-rz .0) (with-rz .1) ≡ true
   pub rates-agree : Agrees (rates .0) (rates .1)
   pub razz-agrees : Agrees (with-razz .0) (with-razz .1)
   pub rz-agrees : Agrees (with-rz .0) (with-rz .1)
@@ -214,8 +218,10 @@ pub record Words : Type 0 where
   pub words-trie : words .1 ≡ words-cells
   -- "rebuilt: cell 0 (i, 0); cell 1 (space, 1) slots 0 and 3; cell 2 (o, 0) slots 2 and 1."
   pub words-rebuilt : rebuilt-trie (words .0) ≡ rebuilt-cells
-  -- The file is sound, and both tries agree with it.
+  -- The file is sound, and both tries agree with it; the tests say so.
   pub words-sound : isSound 4 (words .0) ≡ true
+  pub words-tested : isAgreeing (words .0) (words .1) ≡ true
+  pub rebuilt-tested : isAgreeing (words .0) (rebuilt-trie (words .0)) ≡ true
   pub words-agree : Agrees (words .0) (words .1)
   pub rebuilt-agrees : Agrees (words .0) (rebuilt-trie (words .0))
 

@@ -1,0 +1,252 @@
+-- The test of agreement is exact: of a sound file it says yes of the tries that agree, and of no other.
+use mathlib.Core.Path.{_∙_, _≡_, ap, ap₂, refl, subst, sym}
+use mathlib.Core.Logic.{inl, inr}
+use mathlib.Core.Bool.{Bool, _&&_, _||_, cond, false, true}
+use mathlib.Core.Option.{Option, none as nothing, some}
+use mathlib.Core.List.{List, [], _++_, _∷_}
+use Prim.Native.Nat.{_+_, _-_, _<_, _≤_, suc, zero, ℕ}
+use native.Mathlib.Decide.{ℕ-discrete}
+use native.Mathlib.Omega.{arith}
+use lib.Dec.{eqb, leb, ltb}
+use lib.ListN.{drop, length, length-take, take}
+use lib.Seq.{getD-drop}
+use borrow.Author.Tests.{eq-eqb, eqb-true, le-leb, leb-true, lt-ltb, ltb-true, ne-eqb}
+use Rattle.model.specs.declared.Cell.{Cell}
+use Rattle.model.specs.declared.Side.{Side}
+use Rattle.model.specs.declared.Side.the-variants.{Cell as further, Slot as slot}
+use Rattle.model.specs.declared.Trie.{Trie}
+use Rattle.model.specs.Order.{Asc, Low, Str, end, none, step}
+use Rattle.model.specs.Files.{Slot, Sound, all, bounds, order-of, ranges, strings-of}
+use Rattle.model.specs.Tries.{Agrees, Leads, Leaves, Numbers, Reads, Spans, Tree, at-cell, cell, here, leaf, leaf-last, leaf-next, leaves, node, occ, one-if, root-side, strings, there, zero-cell}
+use Rattle.model.specs.Rebuilding.{label}
+use Rattle.model.specs.Checks.{sameStr}
+use Rattle.model.specs.Agreeing.{areNumbers, areZeroCells, eachOnce, isAgreeing, isTrieOf, joinTrees, readTree, sameSide, sameStrs, slotsBetween, times}
+use Rattle.model.proofs.Names.{both-true}
+use Rattle.model.proofs.Tries.{cast, flat-trie, strings-are, trie-flat}
+use Rattle.model.proofs.Cells.{visits-count}
+use Rattle.model.proofs.Files.{order-right, strings-asc, strings-right}
+use Rattle.model.proofs.Passing.{height, reads-height}
+use Rattle.model.proofs.Agreement.{CellsAgree, agrees-cells, cells-agree, labelled, leading}
+use Rattle.model.proofs.Checks.{both-join, either-true, sameStr-equal, sameStr-self, true-left, true-right}
+
+-- What is read is what the relation says, and enough fuel reads it.
+module _ (cs : List Cell) where
+  pub readTree-reads : (f : ℕ) (a : Side) (t : Tree × List ℕ) → readTree f cs a ≡ some t → Reads cs a (t .0) (t .1)
+  unfolding readTree joinTrees
+  readTree-reads zero a t e = let z : _≡_ {A = ℕ} 0 1 = cc in absurd (omega arith)
+  readTree-reads (suc f) (slot s) t e =
+      let q : (leaf s, []) ≡ t = cc in
+      subst (λ (t : Tree × List ℕ). Reads cs (slot s) (t .0) (t .1)) q here
+  readTree-reads (suc f) (further m) t e =
+      go (ltb m (length cs)) (readTree f cs (c .left)) (readTree f cs (c .right)) refl (readTree-reads f (c .left)) (readTree-reads f (c .right)) e
+    where
+      c : Cell
+      c = at-cell cs m
+
+      go : (b : Bool) (o r : Option (Tree × List ℕ)) → ltb m (length cs) ≡ b → ((t : Tree × List ℕ) → o ≡ some t → Reads cs (c .left) (t .0) (t .1))
+          → ((t : Tree × List ℕ) → r ≡ some t → Reads cs (c .right) (t .0) (t .1)) → cond b (joinTrees m (c .digit) (c .number) o r) nothing ≡ some t
+          → Reads cs (further m) (t .0) (t .1)
+      go false o r h L R e = let z : _≡_ {A = ℕ} 0 1 = cc in absurd (omega arith)
+      go true nothing r h L R e = let z : _≡_ {A = ℕ} 0 1 = cc in absurd (omega arith)
+      go true (some x) nothing h L R e = let z : _≡_ {A = ℕ} 0 1 = cc in absurd (omega arith)
+      go true (some x) (some y) h L R e =
+          let q : (node (c .digit) (c .number) (x .0) (y .0), m ∷ (x .1 ++ y .1)) ≡ t = cc in
+          subst (λ (t : Tree × List ℕ). Reads cs (further m) (t .0) (t .1)) q (there (ltb-true m (length cs) h) (L x refl) (R y refl))
+
+  pub reads-readTree : (f : ℕ) {a : Side} {t : Tree} {vs : List ℕ} → Reads cs a t vs → height t ≤ f → readTree f cs a ≡ some (t, vs)
+  unfolding readTree joinTrees
+  reads-readTree zero here h = absurd (omega arith)
+  reads-readTree zero (there i l r) h = absurd (omega arith)
+  reads-readTree (suc f) here h = refl
+  reads-readTree (suc f) (there {n = m} i l r) h =
+      rw (lt-ltb m (length cs) i, reads-readTree f l (omega arith), reads-readTree f r (omega arith))
+
+pub times-occ : (m : ℕ) (vs : List ℕ) → times m vs ≡ occ m vs
+unfolding times
+times-occ m [] = refl
+times-occ m (v ∷ vs) = go (ℕ-discrete m v) (times-occ m vs)
+  where
+    go : (d : Dec (m ≡ v)) → times m vs ≡ occ m vs → cond (eqb m v) (suc (times m vs)) (times m vs) ≡ one-if d + occ m vs
+    go (yes q) e = rw (eq-eqb m v q) (omega arith)
+    go (no q) e = rw (ne-eqb m v q) (omega arith)
+
+eachOnce-once : (n : ℕ) (vs : List ℕ) → eachOnce n vs ≡ true → (i : ℕ) → i < n → occ i vs ≡ 1
+unfolding eachOnce
+eachOnce-once zero vs e i h = absurd (omega arith)
+eachOnce-once (suc n) vs e i h =
+    let p = both-true (eqb (times n vs) 1) (eachOnce n vs) e in
+    elim (ℕ-discrete i n) [
+      | yes q ↦ rw q (sym (times-occ n vs) ∙ eqb-true (times n vs) 1 (p .0))
+      | no q ↦ eachOnce-once n vs (p .1) i (omega arith)
+    ]
+
+once-eachOnce : (n : ℕ) (vs : List ℕ) → ((i : ℕ) → i < n → occ i vs ≡ 1) → eachOnce n vs ≡ true
+unfolding eachOnce
+once-eachOnce zero vs f = refl
+once-eachOnce (suc n) vs f =
+    both-join (eqb (times n vs) 1) (eachOnce n vs) (eq-eqb (times n vs) 1 (times-occ n vs ∙ f n (omega arith)))
+    (once-eachOnce n vs (λ i h. f i (omega arith)))
+
+areNumbers-numbers : (p : Str) (t : Tree) → areNumbers p t ≡ true → Numbers p t
+unfolding areNumbers
+areNumbers-numbers p (leaf s) e = tt
+areNumbers-numbers p (node d i l r) e =
+    let x = both-true (leb i (length p) && areNumbers (cell d i p) l) (areNumbers p r) e in
+    let y = both-true (leb i (length p)) (areNumbers (cell d i p) l) (x .0) in
+    (leb-true i (length p) (y .0), areNumbers-numbers (cell d i p) l (y .1), areNumbers-numbers p r (x .1))
+
+numbers-areNumbers : (p : Str) (t : Tree) → Numbers p t → areNumbers p t ≡ true
+unfolding areNumbers
+numbers-areNumbers p (leaf s) n = refl
+numbers-areNumbers p (node d i l r) n =
+    rw (le-leb i (length p) (n .0), numbers-areNumbers (cell d i p) l (n .1)) (numbers-areNumbers p r (n .2))
+
+sameStrs-equal : (xs ys : List Str) → sameStrs xs ys ≡ true → xs ≡ ys
+unfolding sameStrs
+sameStrs-equal [] [] e = refl
+sameStrs-equal [] (y ∷ ys) e = cc
+sameStrs-equal (x ∷ xs) [] e = cc
+sameStrs-equal (x ∷ xs) (y ∷ ys) e =
+    let p = both-true (sameStr x y) (sameStrs xs ys) e in
+    ap₂ (λ (z : Str) (zs : List Str). z ∷ zs) (sameStr-equal x y (p .0)) (sameStrs-equal xs ys (p .1))
+
+sameStrs-self : (xs : List Str) → sameStrs xs xs ≡ true
+unfolding sameStrs
+sameStrs-self [] = refl
+sameStrs-self (x ∷ xs) = rw (sameStr-self x) (sameStrs-self xs)
+
+sameSide-equal : (a c : Side) → sameSide a c ≡ true → a ≡ c
+unfolding sameSide
+sameSide-equal (slot s) (slot r) e = ap slot (eqb-true s r e)
+sameSide-equal (slot s) (further n) e = cc
+sameSide-equal (further m) (slot r) e = cc
+sameSide-equal (further m) (further n) e = ap further (eqb-true m n e)
+
+areZeroCells-zero : (cs : List Cell) → areZeroCells cs ≡ true → (i : ℕ) → at-cell cs i ≡ zero-cell
+unfolding areZeroCells
+areZeroCells-zero [] e i = refl
+areZeroCells-zero (c ∷ cs) e i =
+    let p = both-true (eqb (c .digit) 0 && eqb (c .number) 0 && sameSide (c .left) (slot 0) && sameSide (c .right) (slot 0)) (areZeroCells cs) e in
+    let q = both-true (eqb (c .digit) 0 && eqb (c .number) 0 && sameSide (c .left) (slot 0)) (sameSide (c .right) (slot 0)) (p .0) in
+    let r = both-true (eqb (c .digit) 0 && eqb (c .number) 0) (sameSide (c .left) (slot 0)) (q .0) in
+    let s = both-true (eqb (c .digit) 0) (eqb (c .number) 0) (r .0) in
+    go i (eqb-true (c .digit) 0 (s .0)) (eqb-true (c .number) 0 (s .1)) (sameSide-equal (c .left) (slot 0) (r .1)) (sameSide-equal (c .right) (slot 0) (q .1)) (areZeroCells-zero cs (p .1))
+  where
+    go : (i : ℕ) → c .digit ≡ 0 → c .number ≡ 0 → c .left ≡ slot 0 → c .right ≡ slot 0 → ((i : ℕ) → at-cell cs i ≡ zero-cell) → at-cell (c ∷ cs) i ≡ zero-cell
+    go zero d n l r f =
+        let q : record { digit = c .digit; number = c .number; left = c .left; right = c .right } ≡ zero-cell = rw (d, n, l, r) in
+        q
+    go (suc i) d n l r f = f i
+
+zero-areZeroCells : (cs : List Cell) → ((i : ℕ) → at-cell cs i ≡ zero-cell) → areZeroCells cs ≡ true
+unfolding areZeroCells sameSide
+zero-areZeroCells [] f = refl
+zero-areZeroCells (c ∷ cs) f = rw (f 0) (zero-areZeroCells cs (λ i. f (suc i)))
+
+-- The slots between the strings are the labels of the leaves.
+abbrev Labelled : List Slot → List ℕ → Low → Str → ℕ → Type 0
+Labelled fs Bs l u B = B ≡ label (ranges fs) Bs l
+
+module _ (fs : List Slot) (Bs : List ℕ) (right : order-of fs ≡ Bs) where
+  label-right : (l : Low) → label (ranges fs) (order-of fs) l ≡ label (ranges fs) Bs l
+  label-right l = ap (λ (Cs : List ℕ). label (ranges fs) Cs l) right
+
+  between-leaves : {l : Low} {ss : List Str} {u : Str} → Asc l ss u → Leaves (Labelled fs Bs) l ss u (slotsBetween fs l ss)
+  unfolding slotsBetween
+  between-leaves {l} end = leaf-last (label-right l)
+  between-leaves {l} (step a b s) = leaf-next a b (label-right l) (between-leaves s)
+
+  leaves-between : {l : Low} {ss : List Str} {u : Str} {Cs : List ℕ} → Leaves (Labelled fs Bs) l ss u Cs → Cs ≡ slotsBetween fs l ss
+  unfolding slotsBetween
+  leaves-between {l} (leaf-last e) = ap (λ (C : ℕ). C ∷ []) (e ∙ sym (label-right l))
+  leaves-between {l} (leaf-next a b e r) = ap₂ (λ (C : ℕ) (Cs : List ℕ). C ∷ Cs) (e ∙ sym (label-right l)) (leaves-between r)
+
+-- Both directions, of a sound file.
+module _ (b : ℕ) {fs : List Slot} (S : Sound b fs) where
+  pub isAgreeing-agrees : (t : Trie) → isAgreeing fs t ≡ true → Agrees fs t
+  unfolding isAgreeing isTrieOf
+  isAgreeing-agrees t e =
+      let p = both-true (leb (t .count) 256 && eqb (length (t .cells)) 256 && zeros && (eqb (t .count) 0 || eqb (t .first) 0)) (isTrieOf fs (t .count) (readTree (suc (t .count)) cs a)) e in
+      let q = both-true (leb (t .count) 256 && eqb (length (t .cells)) 256 && zeros) (eqb (t .count) 0 || eqb (t .first) 0) (p .0) in
+      let r = both-true (leb (t .count) 256 && eqb (length (t .cells)) 256) zeros (q .0) in
+      let s = both-true (leb (t .count) 256) (eqb (length (t .cells)) 256) (r .0) in
+      let few : t .count ≤ 256 = leb-true (t .count) 256 (s .0) in
+      let whole : length (t .cells) ≡ 256 = eqb-true (length (t .cells)) 256 (s .1) in
+      cells-agree b S {t = t} whole few (past (r .1)) (first (q .1)) (tree (readTree (suc (t .count)) cs a) refl (p .1))
+    where
+      cs : List Cell
+      cs = take (t .count) (t .cells)
+
+      a : Side
+      a = root-side (t .count) (t .first)
+
+      zeros : Bool
+      zeros = areZeroCells (drop (t .count) (t .cells))
+
+      past : zeros ≡ true → (i : ℕ) → t .count ≤ i → at-cell (t .cells) i ≡ zero-cell
+      past e i h =
+          let q : t .count + (i - t .count) ≡ i = omega arith in
+          rw (getD-drop, q) at (areZeroCells-zero (drop (t .count) (t .cells)) e (i - t .count))
+
+      first : (eqb (t .count) 0 || eqb (t .first) 0) ≡ true → 0 < t .count → t .first ≡ 0
+      first e h = elim (either-true (eqb (t .count) 0) (eqb (t .first) 0) e)
+          [ inl q ↦ absurd (omega (arith, eqb-true (t .count) 0 q)) | inr q ↦ eqb-true (t .first) 0 q ]
+
+      trie : (x : Tree) → Numbers [] x → strings [] x ≡ strings-of fs → leaves x ≡ slotsBetween fs none (strings-of fs)
+          → Spans (Leads (ranges fs)) none [] x (all (bounds (ranges fs) (S .order)))
+      trie x n es el =
+          let flat : Leaves (Labelled fs (S .order)) none (strings [] x) [] (leaves x) =
+          rw (es, el) (between-leaves fs (S .order) (order-right b S) (strings-asc b S)) in
+          leading (ranges fs) (S .order) (S .chain) (S .listed) x (cast (Labelled fs (S .order)) (es ∙ strings-right b S) (flat-trie (Labelled fs (S .order)) x n flat))
+
+      tree : (o : Option (Tree × List ℕ)) → readTree (suc (t .count)) cs a ≡ o → isTrieOf fs (t .count) o ≡ true → CellsAgree (ranges fs) (S .order) cs a
+      tree nothing r e = let z : _≡_ {A = ℕ} 0 1 = cc in absurd (omega arith)
+      tree (some (x, vs)) r e =
+          let p = both-true (eachOnce (t .count) vs && areNumbers [] x && sameStrs (strings [] x) (strings-of fs)) (sameStr (leaves x) (slotsBetween fs none (strings-of fs))) e in
+          let q = both-true (eachOnce (t .count) vs && areNumbers [] x) (sameStrs (strings [] x) (strings-of fs)) (p .0) in
+          let s = both-true (eachOnce (t .count) vs) (areNumbers [] x) (q .0) in
+          record {
+            tree = x;
+            visits = vs;
+            reads = readTree-reads cs (suc (t .count)) a (x, vs) r;
+            each = λ i h. eachOnce-once (t .count) vs (s .0) i (omega (arith, h, length-take (t .count) (t .cells)));
+            trie = trie x (areNumbers-numbers [] x (s .1)) (sameStrs-equal (strings [] x) (strings-of fs) (q .1)) (sameStr-equal (leaves x) (slotsBetween fs none (strings-of fs)) (p .1));
+          }
+
+  pub agrees-isAgreeing : {t : Trie} → Agrees fs t → isAgreeing fs t ≡ true
+  unfolding isAgreeing isTrieOf
+  agrees-isAgreeing {t} A =
+      rw (le-leb (t .count) 256 (A .few), eq-eqb (length (t .cells)) 256 (A .whole), zeros, first, reading, once, numbers, same, sameStrs-self (strings-of fs), slots)
+      (sameStr-self (slotsBetween fs none (strings-of fs)))
+    where
+      cs : List Cell
+      cs = take (t .count) (t .cells)
+
+      C : CellsAgree (ranges fs) (S .order) cs (root-side (t .count) (t .first))
+      C = agrees-cells b S A
+
+      zeros : areZeroCells (drop (t .count) (t .cells)) ≡ true
+      zeros = zero-areZeroCells (drop (t .count) (t .cells)) (λ i. getD-drop (t .count) (t .cells) i zero-cell ∙ A .past (t .count + i) (omega arith))
+
+      first : (eqb (t .count) 0 || eqb (t .first) 0) ≡ true
+      first = elim (ℕ-discrete (t .count) 0) [
+        | yes q ↦ true-left (eqb (t .count) 0) (eqb (t .first) 0) (eq-eqb (t .count) 0 q)
+        | no q ↦ true-right (eqb (t .count) 0) (eqb (t .first) 0) (eq-eqb (t .first) 0 (A .first-leaf (omega arith)))
+      ]
+
+      reading : readTree (suc (t .count)) cs (root-side (t .count) (t .first)) ≡ some (C .tree, C .visits)
+      reading = reads-readTree cs (suc (t .count)) (C .reads) (omega (arith, reads-height (C .reads), visits-count (C .reads) (C .each), length-take (t .count) (t .cells)))
+
+      once : eachOnce (t .count) (C .visits) ≡ true
+      once = once-eachOnce (t .count) (C .visits) (λ i h. C .each i (omega (arith, h, A .few, A .whole, length-take (t .count) (t .cells))))
+
+      numbers : areNumbers [] (C .tree) ≡ true
+      numbers = numbers-areNumbers [] (C .tree) (trie-flat (Leads (ranges fs)) (C .trie) .0)
+
+      same : strings [] (C .tree) ≡ strings-of fs
+      same = strings-are (Leads (ranges fs)) (C .trie) ∙ sym (strings-right b S)
+
+      slots : leaves (C .tree) ≡ slotsBetween fs none (strings-of fs)
+      slots =
+          let T = labelled (ranges fs) (S .order) (S .chain) (S .listed) (C .tree) (C .trie) in
+          rw (strings-right b S) (leaves-between fs (S .order) (order-right b S) (trie-flat (Labelled fs (S .order)) T .1))
