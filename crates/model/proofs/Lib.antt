@@ -18,5 +18,6 @@ pub mod Calls
 pub mod Checks
 pub mod Agreeing
 pub mod Format
+pub mod CheckedFiles
 pub mod GrownTries
 pub mod Histories

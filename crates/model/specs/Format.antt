@@ -1,5 +1,6 @@
 -- The bytes of a file, said once, by a writer; what is read is what the writer would have written.
 use mathlib.Core.Bool.{Bool, _&&_, cond}
+use mathlib.Core.Path.{_≡_}
 use mathlib.Core.Option.{Option, none as nothing, some}
 use mathlib.Core.List.{List, [], _++_, _∷_}
 use Prim.Native.Nat.{_%_, _*_, _+_, _/_, _<_, _^_, _≤_, suc, zero, ℕ}
@@ -8,7 +9,7 @@ use lib.ListN.{drop, getD, length, replicate, take}
 use lib.Seq.{paste}
 use Rattle.model.specs.Order.{Low, Str, at, none}
 use Rattle.model.specs.Entries.{Entry}
-use Rattle.model.specs.Files.{Slot, free, used}
+use Rattle.model.specs.Files.{Cut, Slot, Sound, free, used}
 use Rattle.model.specs.Checks.{Kind, check, is-bad, sameStr}
 
 -- "File length is exactly 16 + slots × (64 + 32 × b)."
@@ -138,6 +139,23 @@ readBy (some h) xs = sized (h .0) (readSlots (h .0) (h .1) 0 xs)
 
 unfoldable pub readFile : List ℕ → Option (ℕ × List Slot)
 readFile xs = readBy (headerOf xs) xs
+
+-- "A file is sound when length and header are right, each slot is free or well formed, .."; "A file is cut when .."; "Each
+-- other file is bad."
+pub record SoundFile (xs : List ℕ) : Type 0 where
+  pub b : ℕ
+  pub slots : List Slot
+  pub is : readFile xs ≡ some (b, slots)
+  pub sound : Sound b slots
+
+pub record CutFile (xs : List ℕ) (N : ℕ) : Type 0 where
+  pub b : ℕ
+  pub slots : List Slot
+  pub is : readFile xs ≡ some (b, slots)
+  pub cut : Cut b slots N
+
+abbrev pub BadFile : List ℕ → Type 0
+BadFile xs = (¬ SoundFile xs) × ((N : ℕ) → ¬ CutFile xs N)
 
 -- "Check gives sound, cut or bad as a result." What no writer wrote is bad.
 unfoldable pub checkRead : Option (ℕ × List Slot) → Kind
