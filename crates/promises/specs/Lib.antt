@@ -1,3 +1,4 @@
 pub mod Texts
 pub mod Growing
 pub mod Situations
+pub mod Demand2
