@@ -16,6 +16,7 @@ pub mod GrownCells
 pub mod Changes
 pub mod Calls
 pub mod Checks
+pub mod Surveys
 pub mod Format
 pub mod GrownTries
 pub mod Histories
