@@ -11,7 +11,7 @@ use Rattle.model.specs.Order.{Low, Str, _≺_, _⊑_, _⊴_, _◁_, at, 
 use Rattle.model.specs.Entries.{Entry, move}
 use Rattle.model.specs.Files.{Bad, Chain, Copied, Cut, IsUsed, Ranges, Slot, Sound, Well, free, head, last, lower-of, next, ranges, slot-at, upper-of, used, well-free}
 use Rattle.model.specs.Tries.{occ}
-use Rattle.model.proofs.Order.{le-antisym, le-refl, low-trans, lt-le, lt-le-trans, lt-trans}
+use Rattle.model.proofs.Order.{le-antisym, le-refl, low-at, low-trans, lt-le, lt-le-trans, lt-trans}
 use Rattle.model.proofs.Ranges.{chain-other, chain-some, chain-used}
 use Rattle.model.proofs.Cells.{occ-mem, one-if-equal}
 use Rattle.model.proofs.Files.{a-below, a-there, n-low, one-lower, one-range, other, slot-freed, well-head}
@@ -322,3 +322,98 @@ module _ (b : ℕ) where
       full = c .full;
       copied = c .copied;
     }
+
+  -- In a cut file the sorted slots have A and the slot to free as the first neighbours with the same upper, and the rest is a chain.
+  module _ {fs : List Slot} {N : ℕ} (C : Cut b fs N) where
+    abbrev F : Ranges
+    F = ranges fs
+
+    abbrev G : Ranges
+    G = ranges (set fs N free)
+
+    place : (Xs : List ℕ) × (Ys : List ℕ) × (C .freed .order ≡ Xs ++ (C .A ∷ Ys))
+    place = mem-split (C .freed .order) (C .freed .listed (C .A) (rw (C .a-is) tt))
+
+    same-upper : F .upper (C .A) ≡ F .upper N
+    same-upper = ap (λ x. upper-of (head x)) (a-there b C) ∙ sym (ap (λ x. upper-of (head x)) (C .n-is))
+
+    low-under : F .lower (C .A) ⊴ F .lower N
+    low-under = rw (a-there b C, C .n-is) (low-at (C .below))
+
+    -- No other slot has N's range.
+    n-alone : (B : ℕ) → B ≢ N → IsUsed (head (slot-at fs B)) → F .upper B ≡ F .upper N → F .lower B ≡ F .lower N → ⊥
+    n-alone B n u e f =
+        let l : F .lower B ≡ at (C .low) = f ∙ ap (λ x. lower-of (head x)) (C .n-is) in
+        let v : F .upper B ≡ C .up = e ∙ ap (λ x. upper-of (head x)) (C .n-is) in
+        let p : B ≡ C .A = one-range b (C .freed) (C .up) (rw (kept fs N B n) (u, rw l (n-low b C), rw v (le-refl (C .up)))) (rw (C .a-is) (tt, a-below b C, le-refl (C .up))) in
+        let q : at (C .low) ≡ C .a-low = sym l ∙ ap (λ D. F .lower D) p ∙ ap (λ x. lower-of (head x)) (a-there b C) in
+        over (rw (← q) at (C .below)) (le-refl (C .low))
+
+    no-equal : (B D : ℕ) → IsUsed (head (slot-at fs B)) → IsUsed (head (slot-at fs D)) → F .upper B ≡ F .upper D → F .lower B ≡ F .lower D → B ≡ D
+    no-equal B D u v e f = elim (ℕ-discrete B N) [
+      | yes p ↦ elim (ℕ-discrete D N) [
+        | yes q ↦ p ∙ sym q
+        | no q ↦ absurd (n-alone D q v (sym e ∙ ap (F .upper) p) (sym f ∙ ap (F .lower) p))
+      ]
+      | no p ↦ elim (ℕ-discrete D N) [
+        | yes q ↦ absurd (n-alone B p u (e ∙ ap (F .upper) q) (f ∙ ap (F .lower) q))
+        | no q ↦ one-lower b (C .freed) B D (rw (kept fs N B p) u) (rw (kept fs N D q) v) (rw (kept fs N B p, kept fs N D q) f)
+      ]
+    ]
+
+    module _ (Xs Ys : List ℕ) (c : Chain G none (Xs ++ (C .A ∷ Ys))) where
+      rest-other : (B : ℕ) → List·Memᴰ B (Xs ++ (C .A ∷ Ys)) → B ≢ N
+      rest-other B m = freed-other fs N B (chain-used G c B m)
+
+      rest-rises : Neighbours (Rises F) (Xs ++ (C .A ∷ Ys))
+      rest-rises = neighbours-map (Rises G) (Rises F) (Xs ++ (C .A ∷ Ys))
+          (λ B D m k p. rw (kept fs N B (rest-other B m), kept fs N D (rest-other D k)) at p) (chain-neighbours G (Xs ++ (C .A ∷ Ys)) c)
+
+      rises-to : Neighbours (Rises F) (Xs ++ (C .A ∷ []))
+      rises-to = neighbours-split (Rises F) Xs (C .A) Ys rest-rises .0
+
+      n-before : (Zs : List ℕ) → From (Rises F) (C .A) Zs → From (Before F) N Zs
+      n-before [] h = tt
+      n-before (Z ∷ Zs) h = (inl (rw (← same-upper) (h .0)), from-map (Rises F) (Before F) Z Zs (λ B D m k p. inl p) (h .1))
+
+      whole-sorted : Neighbours (Before F) (Xs ++ (C .A ∷ N ∷ Ys))
+      whole-sorted = neighbours-join (Before F) Xs (C .A) (N ∷ Ys)
+          (neighbours-map (Rises F) (Before F) (Xs ++ (C .A ∷ [])) (λ B D m k p. inl p) rises-to)
+          (inr (same-upper, low-under), n-before Ys (neighbours-split (Rises F) Xs (C .A) Ys rest-rises .1))
+
+      whole-used : (B : ℕ) → List·Memᴰ B (Xs ++ (C .A ∷ N ∷ Ys)) → IsUsed (head (slot-at fs B))
+      whole-used B m = elim (mem-leave Xs (C .A) N Ys m) [
+        | inl e ↦ rw (e, C .n-is) tt
+        | inr k ↦ rw (kept fs N B (rest-other B k)) at (chain-used G c B k)
+      ]
+
+    pub cut-sorted : {Bs : List ℕ} → Lists fs Bs → Sorted fs Bs → (T : Twins fs Bs (C .A) N) × Chain (ranges (set fs N free)) none (T .before ++ (C .A ∷ T .after))
+    cut-sorted {Bs} L s = (
+      record {
+        before = Xs;
+        after = Ys;
+        is = sorted-unique F Bs (Xs ++ (C .A ∷ N ∷ Ys)) s (whole-sorted Xs Ys c) (lists-distinct L)
+            (distinct-insert Xs (C .A) N Ys (chain-distinct G (Xs ++ (C .A ∷ Ys)) c) (λ m. rest-other Xs Ys c N m refl))
+            (λ B m. whole-listed B (L .only B m))
+            (λ B m. lists-mem L B (whole-used Xs Ys c B m))
+            (λ B D m k e f. no-equal B D (L .only B m) (L .only D k) e f);
+        apart = neighbours-map (Rises F) (λ B D. F .upper B ≢ F .upper D) (Xs ++ (C .A ∷ [])) (λ B D m k p. rises-apart F p) (rises-to Xs Ys c);
+        same = same-upper;
+      },
+      c,
+    )
+      where
+        Xs : List ℕ
+        Xs = place .0
+
+        Ys : List ℕ
+        Ys = place .1
+
+        c : Chain G none (Xs ++ (C .A ∷ Ys))
+        c = subst (λ Ds. Chain G none Ds) (place .2) (C .freed .chain)
+
+        whole-listed : (B : ℕ) → IsUsed (head (slot-at fs B)) → List·Memᴰ B (Xs ++ (C .A ∷ N ∷ Ys))
+        whole-listed B u = elim (ℕ-discrete B N) [
+          | yes e ↦ Memᴰ·append-right Xs (List·Memᴰ·tail (List·Memᴰ·head e))
+          | no n ↦ mem-insert Xs (C .A) N Ys (subst (λ Ds. List·Memᴰ B Ds) (place .2) (C .freed .listed B (rw (kept fs N B n) u)))
+        ]
