@@ -2,19 +2,19 @@
 use mathlib.Core.Path.{_∙_, _≡_, ap, refl, subst, sym}
 use mathlib.Core.Logic.{_≢_, _⊎_, inl, inr}
 use mathlib.Core.List.{List, List·Memᴰ, List·Memᴰ·append-cases, List·Memᴰ·cases-cons, List·Memᴰ·head, List·Memᴰ·not-nil, List·Memᴰ·tail, Memᴰ·append-left, Memᴰ·append-right, Memᴰ·cast, [], _++_, _∷_}
-use Prim.Native.Nat.{_+_, _<_, _≤_, suc, zero, ℕ}
+use Prim.Native.Nat.{_<_, _≤_, ℕ}
 use native.Mathlib.Decide.{ℕ-discrete}
 use native.Mathlib.Omega.{arith}
 use lib.ListN.{length, set}
 use lib.Seq.{getD-set-other}
-use Rattle.model.specs.Order.{Low, Str, _≺_, _⊑_, _⊴_, _◁_, at, below, least, none, over, top}
+use Rattle.model.specs.Order.{Low, Str, _≺_, _⊴_, _◁_, at, below, least, none, over, top}
 use Rattle.model.specs.Entries.{Entry, move}
 use Rattle.model.specs.Files.{Bad, Chain, Copied, Cut, IsUsed, Ranges, Slot, Sound, Well, free, head, last, lower-of, next, ranges, slot-at, upper-of, used, well-free}
 use Rattle.model.specs.Tries.{occ}
 use Rattle.model.proofs.Order.{le-antisym, le-refl, low-at, low-trans, lt-le, lt-le-trans, lt-trans}
 use Rattle.model.proofs.Ranges.{chain-other, chain-some, chain-used}
 use Rattle.model.proofs.Cells.{occ-mem, one-if-equal}
-use Rattle.model.proofs.Files.{a-below, a-there, n-low, one-lower, one-range, other, slot-freed, well-head}
+use Rattle.model.proofs.Files.{a-below, a-there, n-low, one-lower, one-range, slot-freed, well-head}
 
 -- Each used slot stands in the list once, and each number in the list is a used slot.
 pub record Lists (fs : List Slot) (Bs : List ℕ) : Type 0 where
@@ -38,8 +38,11 @@ abbrev pub Sorted : List Slot → List ℕ → Type 0
 Sorted fs Bs = Neighbours (Before (ranges fs)) Bs
 
 -- No two neighbours have the same upper.
+abbrev pub Differ : Ranges → ℕ → ℕ → Type 0
+Differ F B C = F .upper B ≢ F .upper C
+
 abbrev pub Apart : List Slot → List ℕ → Type 0
-Apart fs Bs = Neighbours (λ B C. ranges fs .upper B ≢ ranges fs .upper C) Bs
+Apart fs Bs = Neighbours (Differ (ranges fs)) Bs
 
 -- Each lower equals the upper before it, from a lower limit on, and the last upper is empty.
 abbrev pub Follows : Ranges → Low → List ℕ → Type 0
@@ -78,6 +81,7 @@ module _ (R : ℕ → ℕ → Type 0) where
     neighbours-map [] f h = tt
     neighbours-map (B ∷ Bs) f h = from-map B Bs f h
 
+-- No number stands twice.
 abbrev Distinct : List ℕ → Type 0
 Distinct [] = Unit {0}
 Distinct (B ∷ Bs) = (¬ List·Memᴰ B Bs) × Distinct Bs
@@ -113,6 +117,13 @@ distinct-insert [] A N Ys d n =
     (λ m. elim (List·Memᴰ·cases-cons m) [ inl e ↦ n (List·Memᴰ·head (sym e)) | inr k ↦ d .0 k ], (λ m. n (List·Memᴰ·tail m), d .1))
 distinct-insert (X ∷ Xs) A N Ys d n =
     (λ m. elim (mem-leave Xs A N Ys m) [ inl e ↦ n (List·Memᴰ·head (sym e)) | inr k ↦ d .0 k ], distinct-insert Xs A N Ys (d .1) (λ m. n (List·Memᴰ·tail m)))
+
+distinct-leave : (Xs : List ℕ) (A N : ℕ) (Ys : List ℕ) → Distinct (Xs ++ (A ∷ N ∷ Ys)) → ¬ List·Memᴰ N (Xs ++ (A ∷ Ys))
+distinct-leave [] A N Ys d m = elim (List·Memᴰ·cases-cons m) [ inl e ↦ d .0 (List·Memᴰ·head (sym e)) | inr k ↦ d .1 .0 k ]
+distinct-leave (X ∷ Xs) A N Ys d m = elim (List·Memᴰ·cases-cons m) [
+  | inl e ↦ d .0 (Memᴰ·append-right Xs (List·Memᴰ·tail (List·Memᴰ·head (sym e))))
+  | inr k ↦ distinct-leave Xs A N Ys (d .1) k
+]
 
 mem-split : {A : ℕ} (Bs : List ℕ) → List·Memᴰ A Bs → (Xs : List ℕ) × (Ys : List ℕ) × (Bs ≡ Xs ++ (A ∷ Ys))
 mem-split [] m = absurd (List·Memᴰ·not-nil m)
@@ -195,7 +206,7 @@ module _ (F : Ranges) where
   chain-distinct (B ∷ []) c = (List·Memᴰ·not-nil, tt)
   chain-distinct (B ∷ C ∷ Bs) (next u e a b c) = (λ m. chain-other F B (C ∷ Bs) (next u e a b c) B m refl, chain-distinct (C ∷ Bs) c)
 
-  rises-apart : {B C : ℕ} → Rises B C → F .upper B ≢ F .upper C
+  rises-apart : {B C : ℕ} → Rises B C → Differ F B C
   rises-apart {B} {C} p e = p (rw e (le-refl (F .upper C)))
 
   pub chain-follows : (Bs : List ℕ) {l : Low} → Chain F l Bs → Follows F l Bs
@@ -223,7 +234,7 @@ pub record Twins (fs : List Slot) (Bs : List ℕ) (A N : ℕ) : Type 0 where
 
 pub apart-no-twins : {fs : List Slot} {Bs : List ℕ} {A N : ℕ} → Apart fs Bs → Twins fs Bs A N → ⊥
 apart-no-twins {fs} {Bs} {A} {N} h T =
-    neighbours-split (λ B C. ranges fs .upper B ≢ ranges fs .upper C) (T .before) A (N ∷ T .after) (subst (λ Cs. Apart fs Cs) (T .is) h) .1 .0 (T .same)
+    neighbours-split (Differ (ranges fs)) (T .before) A (N ∷ T .after) (subst (λ Cs. Apart fs Cs) (T .is) h) .1 .0 (T .same)
 
 module _ (b : ℕ) where
   -- N is a copy, not yet cut out, of the upper part of A.
@@ -285,7 +296,7 @@ module _ (b : ℕ) where
     sound-chain = subst (λ Cs. Chain (ranges fs) none Cs) (sym sound-sorted) (S .chain)
 
     pub sound-apart : Apart fs Bs
-    sound-apart = neighbours-map (Rises (ranges fs)) (λ B C. ranges fs .upper B ≢ ranges fs .upper C) Bs (λ B C m k p. rises-apart (ranges fs) p) (chain-neighbours (ranges fs) Bs sound-chain)
+    sound-apart = neighbours-map (Rises (ranges fs)) (Differ (ranges fs)) Bs (λ B C m k p. rises-apart (ranges fs) p) (chain-neighbours (ranges fs) Bs sound-chain)
 
   -- N's slot freed: the others are as they were.
   module _ (fs : List Slot) (N : ℕ) where
@@ -397,7 +408,7 @@ module _ (b : ℕ) where
             (λ B m. whole-listed B (L .only B m))
             (λ B m. lists-mem L B (whole-used Xs Ys c B m))
             (λ B D m k e f. no-equal B D (L .only B m) (L .only D k) e f);
-        apart = neighbours-map (Rises F) (λ B D. F .upper B ≢ F .upper D) (Xs ++ (C .A ∷ [])) (λ B D m k p. rises-apart F p) (rises-to Xs Ys c);
+        apart = neighbours-map (Rises F) (Differ F) (Xs ++ (C .A ∷ [])) (λ B D m k p. rises-apart F p) (rises-to Xs Ys c);
         same = same-upper;
       },
       c,
@@ -417,3 +428,79 @@ module _ (b : ℕ) where
           | yes e ↦ Memᴰ·append-right Xs (List·Memᴰ·tail (List·Memᴰ·head e))
           | no n ↦ mem-insert Xs (C .A) N Ys (subst (λ Ds. List·Memᴰ B Ds) (place .2) (C .freed .listed B (rw (kept fs N B n) u)))
         ]
+
+-- The first neighbours with the same upper are determined.
+module _ (fs : List Slot) where
+  not-earlier : (X : ℕ) (Xs : List ℕ) (A : ℕ) (Ys : List ℕ) (B N : ℕ) (Zs : List ℕ) → B ∷ N ∷ Zs ≡ X ∷ (Xs ++ (A ∷ Ys))
+      → From (Differ (ranges fs)) X (Xs ++ (A ∷ [])) → ranges fs .upper B ≡ ranges fs .upper N → ⊥
+  not-earlier X [] A Ys B N Zs e h q =
+      let f : B ≡ X = cc in
+      let g : N ≡ A = cc in
+      h .0 (sym (ap (ranges fs .upper) f) ∙ q ∙ ap (ranges fs .upper) g)
+  not-earlier X (Y ∷ Xs) A Ys B N Zs e h q =
+      let f : B ≡ X = cc in
+      let g : N ≡ Y = cc in
+      h .0 (sym (ap (ranges fs .upper) f) ∙ q ∙ ap (ranges fs .upper) g)
+
+  one-place : (Xs : List ℕ) (A N : ℕ) (Ys Xs′ : List ℕ) (A′ N′ : ℕ) (Ys′ : List ℕ) → Xs ++ (A ∷ N ∷ Ys) ≡ Xs′ ++ (A′ ∷ N′ ∷ Ys′)
+      → Apart fs (Xs ++ (A ∷ [])) → Apart fs (Xs′ ++ (A′ ∷ [])) → ranges fs .upper A ≡ ranges fs .upper N → ranges fs .upper A′ ≡ ranges fs .upper N′
+      → (Xs ≡ Xs′) × (A ≡ A′) × (N ≡ N′) × (Ys ≡ Ys′)
+  one-place [] A N Ys [] A′ N′ Ys′ e h k p q = (refl, (cc), (cc), (cc))
+  one-place [] A N Ys (X ∷ Xs′) A′ N′ Ys′ e h k p q = absurd (not-earlier X Xs′ A′ (N′ ∷ Ys′) A N Ys e k p)
+  one-place (X ∷ Xs) A N Ys [] A′ N′ Ys′ e h k p q = absurd (not-earlier X Xs A (N ∷ Ys) A′ N′ Ys′ (sym e) h q)
+  one-place (X ∷ Xs) A N Ys (X′ ∷ Xs′) A′ N′ Ys′ e h k p q =
+      let x : X ≡ X′ = cc in
+      let t : Xs ++ (A ∷ N ∷ Ys) ≡ Xs′ ++ (A′ ∷ N′ ∷ Ys′) = cc in
+      let r = one-place Xs A N Ys Xs′ A′ N′ Ys′ t (from-rest (Differ (ranges fs)) X (Xs ++ (A ∷ [])) h) (from-rest (Differ (ranges fs)) X′ (Xs′ ++ (A′ ∷ [])) k) p q in
+      let xs : Xs ≡ Xs′ = r .0 in
+      ((cc), r .1, r .2, r .3)
+
+pub one-twins : {fs : List Slot} {Bs : List ℕ} {A N A′ N′ : ℕ} (T : Twins fs Bs A N) (U : Twins fs Bs A′ N′)
+    → (T .before ≡ U .before) × (A ≡ A′) × (N ≡ N′) × (T .after ≡ U .after)
+one-twins {fs} {A = A} {N = N} {A′ = A′} {N′ = N′} T U =
+    one-place fs (T .before) A N (T .after) (U .before) A′ N′ (U .after) (sym (T .is) ∙ U .is) (T .apart) (U .apart) (T .same) (U .same)
+
+module _ (b : ℕ) where
+  cut-copy : {fs : List Slot} {N : ℕ} (C : Cut b fs N) → Copy b fs (C .A) N
+  cut-copy C = record {
+    low = C .low;
+    up = C .up;
+    new = C .new;
+    n-is = C .n-is;
+    a-low = C .a-low;
+    old = C .old;
+    a-is = a-there b C;
+    below = C .below;
+    full = C .full;
+    copied = C .copied;
+  }
+
+  -- The verdicts, from comparisons in the file as it is: N need not be freed to see whether the rest is a chain.
+  module _ {fs : List Slot} {Bs : List ℕ} (L : Lists fs Bs) where
+    module _ {A N : ℕ} (T : Twins fs Bs A N) where
+      abbrev rest : List ℕ
+      rest = T .before ++ (A ∷ T .after)
+
+      not-in-rest : (B : ℕ) → List·Memᴰ B rest → B ≢ N
+      not-in-rest B m e = distinct-leave (T .before) A N (T .after) (subst (λ Cs. Distinct Cs) (T .is) (lists-distinct L)) (Memᴰ·cast (sym e) m)
+
+      pub copy-cut : ((B : ℕ) → Well b (slot-at fs B)) → Copy b fs A N → Follows (ranges fs) none (T .before ++ (A ∷ T .after)) → Cut b fs N
+      copy-cut w c h = twin-cut b fs w L (T .before) A N (T .after) (T .is) c
+          (follows-chain b (set fs N free) (well-freed b fs w N) rest
+          (λ B m. rw (kept b fs N B (not-in-rest B m)) (L .only B (subst (λ Cs. List·Memᴰ B Cs) (sym (T .is)) (mem-insert (T .before) A N (T .after) m))))
+          (follows-same (set fs N free) fs rest none (λ B m. sym (kept b fs N B (not-in-rest B m))) h))
+
+      pub twin-bad : Sorted fs Bs → ¬ (Copy b fs A N × Follows (ranges fs) none (T .before ++ (A ∷ T .after))) → Bad b fs
+      twin-bad s n = (λ S. apart-no-twins (sound-apart b S L s) T, λ M C. n (go M C (cut-sorted b C L s)))
+        where
+          go : (M : ℕ) (C : Cut b fs M) → (U : Twins fs Bs (C .A) M) × Chain (ranges (set fs M free)) none (U .before ++ (C .A ∷ U .after))
+              → Copy b fs A N × Follows (ranges fs) none rest
+          go M C (U, c) =
+              let e = one-twins T U in
+              let h : Follows (ranges fs) none (U .before ++ (C .A ∷ U .after)) = follows-same fs (set fs M free) (U .before ++ (C .A ∷ U .after)) none
+              (λ B m. kept b fs M B (freed-other b fs M B (chain-used (ranges (set fs M free)) c B m)))
+              (chain-follows (ranges (set fs M free)) (U .before ++ (C .A ∷ U .after)) c) in
+              (rw (e .1, e .2) (cut-copy C), rw (e .0, e .1, e .3) h)
+
+    pub apart-bad : Sorted fs Bs → Apart fs Bs → ¬ Follows (ranges fs) none Bs → Bad b fs
+    apart-bad s a n = (λ S. n (chain-follows (ranges fs) Bs (sound-chain b S L s)), λ N C. apart-no-twins a (cut-sorted b C L s .0))
