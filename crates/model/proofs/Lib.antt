@@ -17,6 +17,7 @@ pub mod Changes
 pub mod Calls
 pub mod Checks
 pub mod Agreeing
+pub mod Surveys
 pub mod Format
 pub mod CheckedFiles
 pub mod GrownTries
