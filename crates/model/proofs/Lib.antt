@@ -20,5 +20,6 @@ pub mod Agreeing
 pub mod Surveys
 pub mod Format
 pub mod CheckedFiles
+pub mod Stores
 pub mod GrownTries
 pub mod Histories
