@@ -1,2 +1,3 @@
 pub mod Situations
 pub mod Demand2
+pub mod Leading
