@@ -3,29 +3,32 @@ use mathlib.Core.Path.{_∙_, _≡_, ap, refl, sym}
 use mathlib.Core.Bool.{Bool, cond, false, true}
 use mathlib.Core.Option.{Option, none as nothing, some}
 use mathlib.Core.List.{List, []}
-use Prim.Native.Nat.{_<_, _^_, _≤_, ℕ}
+use Prim.Native.Nat.{_/_, _<_, _^_, _≤_, ℕ}
 use native.Mathlib.Omega.{arith}
 use borrow.Author.Tests.{leb-true}
 use lib.Dec.{leb, ltb}
-use lib.ListN.{length}
-use Rattle.model.specs.declared.Cause.the-variants.{ManyStrings}
+use lib.ListN.{length, take}
+use Rattle.model.specs.declared.Cause.the-variants.{IllegalName, ManyStrings, StaleTrie, WrongSize}
+use Rattle.model.specs.declared.PutAnswer.the-variants.{Refused as PutRefused, Stopped as PutStopped}
 use Rattle.model.specs.declared.TrieAnswer.the-variants.{Given}
 use Rattle.model.specs.declared.Trie.{Trie}
 use Rattle.model.specs.Order.{Str}
 use Rattle.model.specs.Names.{Legal, filled, legalName}
-use Rattle.model.specs.Files.{In, Slot, Sound, head, slot-at, string-count}
+use Rattle.model.specs.Entries.{find, insert}
+use Rattle.model.specs.Files.{In, Slot, Sound, entries-of, first, head, slot-at, string-count}
 use Rattle.model.specs.Tries.{Agrees, walk-trie}
 use Rattle.model.specs.Rebuilding.{rebuilt-trie}
-use Rattle.model.specs.Changes.{Change, Result, Store, call, put, refuse, stored, stores}
+use Rattle.model.specs.Changes.{Change, Result, Store, call, fits, holds?, put, refuse, splits, stored, stores}
 use Rattle.model.specs.Checks.{Kind, is-bad, is-cut, is-sound}
 use Rattle.model.specs.Agreeing.{isAgreeing}
 use Rattle.model.specs.Format.{Bytes, SoundFile, checkFile, readFile}
-use Rattle.model.specs.Calls.{Looked, fine, lookedBy, lookedOf, no-rebuilt, putLooked, putMade, putOf, rebuildBy, rebuildOf, refusing, storesBytes, trieAfter}
+use Rattle.model.specs.Calls.{Looked, PutDone, fine, lookedBy, lookedOf, no-rebuilt, putAnswer, putLooked, putMade, putOf, rebuildBy, rebuildOf, refusing, storesBytes, trieAfter}
 use Rattle.model.proofs.Names.{legalName-legal}
 use Rattle.model.proofs.Files.{one-range}
 use Rattle.model.proofs.Agreement.{agrees-walk, rebuilt-trie-agrees}
 use Rattle.model.proofs.Agreeing.{isAgreeing-agrees}
-use Rattle.model.proofs.Changes.{second-sound}
+use Rattle.model.proofs.Entries.{row-insert}
+use Rattle.model.proofs.Changes.{half, one-sound, second-sound, well-a}
 use Rattle.model.proofs.Calls.{Answered, is-denied, is-made, put-right}
 use Rattle.model.proofs.CheckedFiles.{CheckedFile, checkFile-right}
 use Rattle.model.proofs.Format.{fileBytes-readFile}
@@ -63,3 +66,93 @@ rebuilt-leads xs = go (checkFile xs) (checkFile-right xs) (readFile xs) refl
             let few : string-count (S .slots) ≤ 256 = rw same at (leb-true (string-count (f .1)) 256 q) in
             rw same (leads xs (rebuilt-trie (S .slots)) S (rebuilt-trie-agrees (S .b) (S .sound) few))
         by false q h = let z : _≡_ {A = ℕ} 0 1 = cc in absurd (omega arith)
+
+-- What passed the checks of put, remove and list: a sound file that reads so, and a trie that agrees with it.
+pub record Passed (xs : List ℕ) (t : Trie) (b : ℕ) (fs : List Slot) : Type 0 where
+  pub is : readFile xs ≡ some (b, fs)
+  pub sound : Sound b fs
+  pub agrees : Agrees fs t
+
+pub looked-passed : (xs : List ℕ) (t : Trie) (b : ℕ) (fs : List Slot) → lookedOf xs t ≡ fine b fs → Passed xs t b fs
+unfolding lookedOf lookedBy
+looked-passed xs t b fs = go (checkFile xs) (checkFile-right xs) (readFile xs) refl
+  where
+    go : (k : Kind) → CheckedFile xs k → (r : Option (ℕ × List Slot)) → readFile xs ≡ r → lookedBy t k r ≡ fine b fs → Passed xs t b fs
+    go is-bad c r e h = let z : _≡_ {A = ℕ} 0 1 = cc in absurd (omega arith)
+    go (is-cut N) c r e h = let z : _≡_ {A = ℕ} 0 1 = cc in absurd (omega arith)
+    go is-sound c nothing e h = let z : _≡_ {A = ℕ} 0 1 = cc in absurd (omega arith)
+    go is-sound S (some f) e h = by (isAgreeing (f .1) t) refl h
+      where
+        by : (a : Bool) → isAgreeing (f .1) t ≡ a → cond a (fine (f .0) (f .1)) (refusing StaleTrie) ≡ fine b fs → Passed xs t b fs
+        by true q h =
+            let eb : f .0 ≡ b = cc in
+            let ef : f .1 ≡ fs = cc in
+            let read : readFile xs ≡ some (b, fs) = rw (← eb, ← ef) e in
+            let one : _≡_ {A = Option (ℕ × List Slot)} (some (b, fs)) (some (S .b, S .slots)) = sym read ∙ S .is in
+            let pair : _≡_ {A = ℕ × List Slot} (S .b, S .slots) (b, fs) = cc in
+            let sb : S .b ≡ b = ap (λ (f : ℕ × List Slot). f .0) pair in
+            let sf : S .slots ≡ fs = ap (λ (f : ℕ × List Slot). f .1) pair in
+            let sound : Sound b fs = rw (sb, sf) at (S .sound) in
+            record { is = read; sound = sound; agrees = isAgreeing-agrees b sound t (rw ef at q) }
+        by false q h = let z : _≡_ {A = ℕ} 0 1 = cc in absurd (omega arith)
+
+-- A put that is made leaves a sound file.
+put-sound : (b : ℕ) → 2 ≤ b → {fs : List Slot} {n : Str} {v : ℕ} {ss : List Store} → Sound b fs → Change b fs (put n v) ss → Sound b (stored ss fs)
+put-sound b h {fs} S (fits {A = A} {l = l} {u = u} {es = es} {n = n} {v = v} is g lo up k) =
+    one-sound b fs S A l u es is (insert n v es) (row-insert n v g lo up (well-a b fs S A l u es is .3)) k
+put-sound b h {fs} S (splits {A = A} {N = N} {l = l} {u = u} {es = es} {n = n} {v = v} is g lo up big low few) =
+    second-sound b fs S A l u es is n v g lo up big (b / 2) (half b h) N low
+
+-- What a put leaves leads right if the put was made.
+abbrev Right : PutDone → Type 0
+Right d = Made (d .answer) → LeadsRight (d .file) (d .trie)
+
+module _ (xs : List ℕ) (t : Trie) (name : List ℕ) (v limit : ℕ) (bytes : Bytes xs) (small : v < 2 ^ 64) where
+  abbrev n : Str
+  n = filled name
+
+  after : (b : ℕ) (fs : List Slot) → Passed xs t b fs → {ss : List Store} → Change b fs (put n v) ss → LeadsRight (storesBytes b ss xs) (trieAfter b fs n v ss t)
+  after b fs p {ss} c =
+      let two : 2 ≤ b = fileBytes-readFile xs (p .is) .1 .b-least in
+      let S : Sound b (stored ss fs) = put-sound b two (p .sound) c in
+      let F : SoundFile (storesBytes b ss xs) = record { b = b; slots = stored ss fs; is = read-stored b xs bytes (p .is) c small S; sound = S } in
+      leads (storesBytes b ss xs) (trieAfter b fs n v ss t) F (rw (trieAfter-is b n v c t) (change-agrees b two (p .sound) c (p .agrees)))
+
+  made : (b : ℕ) (fs : List Slot) → Passed xs t b fs → {r : Result} → Answered b fs (put n v) r → Right (putMade xs t b fs n v limit r)
+  unfolding putMade
+  made b fs p (is-denied d) h = absurd h
+  made b fs p (is-made {ss = ss} c) h = stopped (ltb limit (length ss)) h
+    where
+      short : PutDone
+      short = record { answer = PutStopped limit; file = storesBytes b (take limit ss) xs; trie = t }
+
+      whole : PutDone
+      whole = record { answer = putAnswer (find n (entries-of (slot-at fs (first (holds? n) fs)))); file = storesBytes b ss xs; trie = trieAfter b fs n v ss t }
+
+      stopped : (s : Bool) → Right (cond s short whole)
+      stopped true h = absurd h
+      stopped false h = after b fs p c
+
+  looked : (l : Looked) → lookedOf xs t ≡ l → Legal n → Right (putLooked xs t n v limit l)
+  unfolding putLooked
+  looked (refusing c) e g h = absurd h
+  looked (fine b fs) e g h = let p = looked-passed xs t b fs e in made b fs p (put-right b fs (p .sound) n v g) h
+
+  -- "the grown trie": after every put that is made, from whatever agreeing trie.
+  pub put-leads : Made (putOf xs t name v limit .answer) → LeadsRight (putOf xs t name v limit .file) (putOf xs t name v limit .trie)
+  unfolding putOf
+  put-leads h = limited (ltb 2 limit) h
+    where
+      big : PutDone
+      big = record { answer = PutRefused WrongSize; file = xs; trie = t }
+
+      illegal : PutDone
+      illegal = record { answer = PutRefused IllegalName; file = xs; trie = t }
+
+      legal : (g : Bool) → legalName name ≡ g → Right (cond g (putLooked xs t n v limit (lookedOf xs t)) illegal)
+      legal true e h = looked (lookedOf xs t) refl (legalName-legal name e) h
+      legal false e h = absurd h
+
+      limited : (c : Bool) → Right (cond c big (cond (legalName name) (putLooked xs t n v limit (lookedOf xs t)) illegal))
+      limited true h = absurd h
+      limited false h = legal (legalName name) refl h
