@@ -23,3 +23,4 @@ pub mod CheckedFiles
 pub mod Stores
 pub mod GrownTries
 pub mod Histories
+pub mod LookUps
