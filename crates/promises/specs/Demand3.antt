@@ -16,7 +16,7 @@ use Rattle.model.specs.Order.{Str}
 use Rattle.model.specs.Names.{filled}
 use Rattle.model.specs.Files.{string-count}
 use Rattle.model.specs.Changes.{Map, Means, meant, put as to-put, remove as to-remove}
-use Rattle.model.specs.Calls.{Created, PutDone, Rebuilt, Recovered, RemoveDone, putOf, rebuildOf, recoverOf, removeOf}
+use Rattle.model.specs.Calls.{Created, PutDone, Recovered, RemoveDone, putOf, rebuildOf, recoverOf, removeOf}
 use Rattle.promises.specs.Demand2.{LeadsRight}
 
 -- A put of a name with a 64-bit value and a store limit, a remove of a name with one; the trie is lost; a recovery with a
