@@ -55,3 +55,20 @@ sound-not-cut {xs} S C = cut-not-sound (C .b) (C .cut) (same-sound (one-reading 
 
 pub one-cut : {xs : List ℕ} {M N : ℕ} → CutFile xs M → CutFile xs N → M ≡ N
 one-cut {xs} {M} {N} C D = cut-unique (C .b) (C .cut) (same-cut N (one-reading xs (C .is) (D .is)) (D .cut))
+
+-- So check says sound of a sound file, and cut of a cut one.
+pub checkFile-sound : (xs : List ℕ) → SoundFile xs → checkFile xs ≡ is-sound
+checkFile-sound xs S = go (checkFile xs) (checkFile-right xs)
+  where
+    go : (k : Kind) → CheckedFile xs k → k ≡ is-sound
+    go is-sound c = refl
+    go (is-cut N) C = absurd (sound-not-cut S C)
+    go is-bad B = absurd (B .0 S)
+
+pub checkFile-cut : (xs : List ℕ) {N : ℕ} → CutFile xs N → checkFile xs ≡ is-cut N
+checkFile-cut xs {N} C = go (checkFile xs) (checkFile-right xs)
+  where
+    go : (k : Kind) → CheckedFile xs k → k ≡ is-cut N
+    go is-sound S = absurd (sound-not-cut S C)
+    go (is-cut M) D = ap is-cut (one-cut D C)
+    go is-bad B = absurd (B .1 N C)

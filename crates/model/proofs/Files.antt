@@ -113,6 +113,15 @@ module _ (b : ℕ) where
     pub cut-not-sound : Sound b fs → ⊥
     cut-not-sound S = other (one-upper S a-there (C .n-is) a-below n-low)
 
+    pub cut-inside : N < length fs
+    cut-inside = used-inside fs N (rw (C .n-is) tt)
+
+    pub cut-well : (B : ℕ) → Well b (slot-at fs B)
+    cut-well B = elim (ℕ-discrete B N) [
+      | yes e ↦ rw e (C .n-well)
+      | no e ↦ rw (getD-set-other fs N B free free e) at (C .freed .well B)
+    ]
+
     -- Freeing another slot leaves the pair: so that slot is A.
     pub other-freed : (M : ℕ) → M ≢ N → Sound b (set fs M free) → C .A ≡ M
     other-freed M d S = elim (ℕ-discrete (C .A) M) [

@@ -13,7 +13,7 @@ use lib.ListN.{List·getD-eq-default, drop, drop-of-length-le, getD, length, len
 use lib.Seq.{drop-append-add, drop-at, drop-cons, drop-drop, drop-nil, drop-paste, getD-take, length-paste, length-take-le, paste, take-all, take-append-add, take-append-le, take-append-seam, take-at, take-nil, take-take}
 use borrow.Author.Tests.{eq-eqb, eqb-true, le-leb, leb-true}
 use Rattle.model.specs.Order.{Low, Str, _◁_, above, at, least, top}
-use Rattle.model.specs.Names.{BoundLow, limit, unlimited}
+use Rattle.model.specs.Names.{BoundLow, Digits, Legal, filled, limit, unlimited}
 use Rattle.model.specs.Entries.{Entry, Row, entry, no-entries}
 use Rattle.model.specs.Files.{Slot, Well, entries-of, free, slot-at, used, well-used}
 use Rattle.model.specs.Checks.{sameStr}
@@ -224,10 +224,15 @@ pub record Headed (b slots : ℕ) (xs : List ℕ) : Type 0 where
   pub whole : length xs ≡ fileSize b slots
   pub header : take 16 xs ≡ headerBytes b slots
 
+-- Byte 5 is b.
+pub headed-b : {b slots : ℕ} {xs : List ℕ} → Headed b slots xs → getD xs 5 0 ≡ b
+unfolding headerBytes
+headed-b {xs = xs} g = sym (getD-take 16 xs 5 0 (omega arith)) ∙ ap (λ (l : List ℕ). getD l 5 0) (g .header)
+
 pub headed-headerOf : {b slots : ℕ} {xs : List ℕ} → Headed b slots xs → headerOf xs ≡ some (b, slots)
 unfolding headerOf rightHeader headerBytes
 headed-headerOf {b} {slots} {xs} g =
-    let i : getD xs 5 0 ≡ b = sym (getD-take 16 xs 5 0 (omega arith)) ∙ ap (λ (l : List ℕ). getD l 5 0) (g .header) in
+    let i : getD xs 5 0 ≡ b = headed-b g in
     let j : getD xs 6 0 ≡ slots = sym (getD-take 16 xs 6 0 (omega arith)) ∙ ap (λ (l : List ℕ). getD l 6 0) (g .header) in
     rw (i, j, sizes-legalSizes (g .sizes), eq-eqb (length xs) (fileSize b slots) (g .whole), g .header, sameStr-self (headerBytes b slots))
 
@@ -375,6 +380,72 @@ values-readFile xs {b} {fs} k e B = elim (decLt B (length fs)) [
   | yes h ↦ values-readSlot b (slotAt b B xs) (bytes-take (slotSize b) (drop (16 + B * slotSize b) xs) (bytes-drop (16 + B * slotSize b) xs k)) (readSlot-readFile xs e B h)
   | no h ↦ rw (List·getD-eq-default fs free {n = B} (omega arith)) tt
 ]
+
+-- What is written is bytes.
+bytes-append : (xs ys : List ℕ) → Bytes xs → Bytes ys → Bytes (xs ++ ys)
+bytes-append [] ys h k = k
+bytes-append (x ∷ xs) ys h k = (h .0, bytes-append xs ys (h .1) k)
+
+bytes-same : (k x : ℕ) → x < 256 → Bytes (replicate k x)
+bytes-same zero x h = tt
+bytes-same (suc k) x h = (h, bytes-same k x h)
+
+bytes-padded : (k : ℕ) (xs : List ℕ) → Bytes xs → Bytes (padded k xs)
+unfolding padded
+bytes-padded k xs h = bytes-take k (xs ++ replicate k 0) (bytes-append xs (replicate k 0) h (bytes-same k 0 (omega arith)))
+
+bytes-littleEndian : (n v : ℕ) → Bytes (littleEndian n v)
+unfolding littleEndian
+bytes-littleEndian zero v = tt
+bytes-littleEndian (suc n) v = (omega arith, bytes-littleEndian n (v / 256))
+
+bytes-digits : (lo : ℕ) (x : Str) → Digits lo x → Bytes x
+bytes-digits lo [] h = tt
+bytes-digits lo (d ∷ x) h = (omega (arith, h .1), bytes-digits lo x (h .2))
+
+bytes-legal : {n : Str} → Legal n → Bytes n
+unfolding filled
+bytes-legal g =
+    rw (g .is) (bytes-take 24 (g .name ++ replicate 24 0x20)
+    (bytes-append (g .name) (replicate 24 0x20) (bytes-digits 0x21 (g .name) (g .digits)) (bytes-same 24 0x20 (omega arith))))
+
+bytes-low : {l : Low} → BoundLow l → Bytes (lowDigits l)
+unfolding lowDigits
+bytes-low unlimited = tt
+bytes-low (limit {x = x} g) = bytes-digits 0x20 x (g .digits)
+
+bytes-entries : {l : Low} {u : Str} {es : List Entry} → Row l es u → Bytes (entriesBytes es)
+unfolding entriesBytes entryBytes valueBytes
+bytes-entries no-entries = tt
+bytes-entries (entry {e = e} {es = es} g a c r) =
+    bytes-append (e .0 ++ valueBytes (e .1)) (entriesBytes es)
+    (bytes-append (e .0) (valueBytes (e .1)) (bytes-legal g) (bytes-littleEndian 8 (e .1))) (bytes-entries r)
+
+bytes-slotBytes : (b : ℕ) → b ≤ 16 → {s : Slot} → Well b s → Bytes (slotBytes b s)
+unfolding slotBytes
+bytes-slotBytes b h {s = free} w = bytes-same (slotSize b) 0 (omega arith)
+bytes-slotBytes b h {s = used l u es} (well-used g p c r k) =
+    let z : List ℕ = padded (32 * b) (entriesBytes es) in
+    let y : List ℕ = replicate 8 0 ++ z in
+    let x : List ℕ = padded 24 u ++ y in
+    let w : List ℕ = padded 24 (lowDigits l) ++ x in
+    let bz : Bytes z = bytes-padded (32 * b) (entriesBytes es) (bytes-entries r) in
+    let by : Bytes y = bytes-append (replicate 8 0) z (bytes-same 8 0 (omega arith)) bz in
+    let bx : Bytes x = bytes-append (padded 24 u) y (bytes-padded 24 u (bytes-digits 0x20 u (p .digits))) by in
+    let bw : Bytes w = bytes-append (padded 24 (lowDigits l)) x (bytes-padded 24 (lowDigits l) (bytes-low g)) bx in
+    (omega arith, (omega arith, (omega (arith, fits-low g), (omega (arith, p .fits), bytes-append (replicate 4 0) w (bytes-same 4 0 (omega arith)) bw))))
+
+bytes-slotsBytes : (b : ℕ) → b ≤ 16 → (fs : List Slot) → ((B : ℕ) → Well b (slot-at fs B)) → Bytes (slotsBytes b fs)
+unfolding slotsBytes
+bytes-slotsBytes b h [] w = tt
+bytes-slotsBytes b h (s ∷ fs) w = bytes-append (slotBytes b s) (slotsBytes b fs) (bytes-slotBytes b h (w 0)) (bytes-slotsBytes b h fs (λ B. w (suc B)))
+
+pub bytes-fileBytes : (b : ℕ) (fs : List Slot) → Sizes b (length fs) → ((B : ℕ) → Well b (slot-at fs B)) → Bytes (fileBytes b fs)
+unfolding fileBytes headerBytes
+bytes-fileBytes b fs g w =
+    bytes-append (headerBytes b (length fs)) (slotsBytes b fs)
+    (omega arith, (omega arith, (omega arith, (omega arith, (omega arith, (omega (arith, g .b-most), (omega (arith, g .slots-most), bytes-same 9 0 (omega arith))))))))
+    (bytes-slotsBytes b (g .b-most) fs w)
 
 -- A store changes exactly one slot.
 paste-behind : (p xs s : List ℕ) (n m w : ℕ) → length p ≡ n → paste (p ++ xs) (n + m) s w ≡ p ++ paste xs m s w

@@ -8,22 +8,26 @@ use Prim.Native.Nat.{_-_, _≤_, suc, zero, ℕ}
 use native.Mathlib.Decide.{decLt}
 use native.Mathlib.Omega.{arith}
 use lib.Dec.{leb}
-use lib.ListN.{length, replicate, set}
+use lib.ListN.{length, length-replicate, replicate, set}
 use borrow.Author.Tests.{le-leb, le-ltb, lt-ltb}
 use Rattle.model.specs.Order.{at, least}
 use Rattle.model.specs.Names.{Legal, legalFilled, unlimited}
 use Rattle.model.specs.Entries.{find, no-entries}
-use Rattle.model.specs.Files.{Cut, IsUsed, Slot, Sound, Well, created, free, head, last, slot-at, well-free, well-used}
-use Rattle.model.specs.Tries.{walk-trie}
+use Rattle.model.specs.Files.{Cut, IsUsed, Slot, Sound, Well, created, entries-of, free, head, last, order-of, slot-at, well-free, well-used}
+use Rattle.model.specs.Tries.{Agrees, walk-trie}
 use Rattle.model.specs.Changes.{Map, Means, Request, Result, call, put, remove}
 use Rattle.model.specs.Checks.{Kind, check, is-bad, is-cut, is-sound}
+use Rattle.model.specs.Format.{Sizes, Values, fileBytes}
+use Rattle.model.specs.Calls.{new-trie}
 use Rattle.model.specs.Histories.{Act, Demand3, World, act, answered, ask, asked-name, down, lose, ready, recover, recovered, run}
 use Rattle.model.proofs.Names.{both-true, legalFilled-legal}
-use Rattle.model.proofs.Files.{count-right, cut-not-sound, cut-unique}
+use Rattle.model.proofs.Files.{count-right, cut-not-sound, cut-unique, order-right}
 use Rattle.model.proofs.Agreement.{agrees-walk, rebuilt-trie-agrees}
 use Rattle.model.proofs.Changes.{Fine, change-made, change-stopped}
 use Rattle.model.proofs.Calls.{Answered, is-denied, is-made, put-right, remove-right}
 use Rattle.model.proofs.Checks.{Checked, check-right}
+use Rattle.model.proofs.Format.{bytes-fileBytes, readFile-fileBytes}
+use Rattle.model.proofs.Stores.{Left}
 
 module _ (b slots : ℕ) where
   free-all : (k B : ℕ) → _≡_ {A = Slot} (slot-at (replicate k free) B) free
@@ -31,24 +35,41 @@ module _ (b slots : ℕ) where
   free-all (suc k) zero = refl
   free-all (suc k) (suc B) = free-all k B
 
+  created-listed : (B : ℕ) → IsUsed (head (slot-at (created slots) B)) → List·Memᴰ B (0 ∷ [])
+  created-listed zero h = List·Memᴰ·head refl
+  created-listed (suc B) h = absurd (rw (free-all (slots - 1) B) at h)
+
+  created-well : (B : ℕ) → Well b (slot-at (created slots) B)
+  created-well zero = let z : 0 ≤ 24 = omega arith in let y : 0 ≤ b = omega arith in well-used unlimited (record { fits = z; digits = tt }) least no-entries y
+  created-well (suc B) = rw (free-all (slots - 1) B) well-free
+
+  unfoldable created-sound : Sound b (created slots)
+  created-sound = record { order = 0 ∷ []; chain = last tt refl refl; listed = created-listed; well = created-well }
+
   pub created-fine : Fine b (created slots) (λ k. nothing)
-  unfolding find
-  created-fine = record { sound = sound; means = means; few = rw (count-right b sound) (omega arith) }
+  unfolding find created-sound
+  created-fine = record { sound = created-sound; means = means; few = rw (count-right b created-sound) (omega arith) }
     where
-      listed : (B : ℕ) → IsUsed (head (slot-at (created slots) B)) → List·Memᴰ B (0 ∷ [])
-      listed zero h = List·Memᴰ·head refl
-      listed (suc B) h = absurd (rw (free-all (slots - 1) B) at h)
-
-      well : (B : ℕ) → Well b (slot-at (created slots) B)
-      well zero = let z : 0 ≤ 24 = omega arith in let y : 0 ≤ b = omega arith in well-used unlimited (record { fits = z; digits = tt }) least no-entries y
-      well (suc B) = rw (free-all (slots - 1) B) well-free
-
-      sound : Sound b (created slots)
-      sound = record { order = 0 ∷ []; chain = last tt refl refl; listed = listed; well = well }
-
       means : Means (created slots) (λ k. nothing)
       means k zero h = refl
       means k (suc B) h = rw (free-all (slots - 1) B)
+
+  -- The file that create writes reads so, and the trie that it gives agrees with it.
+  pub created-left : Sizes b slots → Left b (created slots) (fileBytes b (created slots))
+  created-left g =
+      let n : length (created slots) ≡ slots = omega (arith, g .slots-least, length-replicate (slots - 1) free) in
+      let k : Sizes b (length (created slots)) = rw n g in
+      record { is = readFile-fileBytes b (created slots) k created-well values; bytes = bytes-fileBytes b (created slots) k created-well }
+    where
+      values : (B : ℕ) → Values (entries-of (slot-at (created slots) B))
+      values zero = tt
+      values (suc B) = rw (free-all (slots - 1) B) tt
+
+  pub created-agrees : Agrees (created slots) new-trie
+  unfolding created-sound
+  created-agrees =
+      let order : order-of (created slots) ≡ 0 ∷ [] = order-right b created-sound in
+      rw order at (rebuilt-trie-agrees b created-sound (created-fine .few))
 
   pub fine-demand : {fs : List Slot} {m : Map} → Fine b fs m → Demand3 b slots m fs
   fine-demand {fs} F = record {

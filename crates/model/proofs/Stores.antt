@@ -2,22 +2,22 @@
 use mathlib.Core.Path.{_∙_, _≡_, ap, refl}
 use mathlib.Core.Logic.{_≢_}
 use mathlib.Core.List.{List, [], _∷_}
-use Prim.Native.Nat.{_/_, _<_, _^_, _≤_, ℕ}
+use Prim.Native.Nat.{_/_, _<_, _^_, _≤_, suc, zero, ℕ}
 use native.Mathlib.Decide.{ℕ-discrete}
 use native.Mathlib.Omega.{arith}
-use lib.ListN.{getD, length, length-set, set}
+use lib.ListN.{getD, length, length-set, set, take}
 use lib.Seq.{getD-set-other, getD-set-same}
 use mathlib.Core.Option.{some}
 use Rattle.model.specs.declared.Trie.{Trie}
 use Rattle.model.specs.Order.{Str, le?, str?}
 use Rattle.model.specs.Entries.{Entry, chosen, insert, keep, not?}
-use Rattle.model.specs.Files.{IsUsed, Slot, Sound, entries-of, free, head, slot-at}
+use Rattle.model.specs.Files.{Cut, IsUsed, Slot, Sound, Well, entries-of, free, head, slot-at}
 use Rattle.model.specs.Changes.{Change, Request, Store, absent, fits, put, remove, removes, splits, stored, trie-after}
 use Rattle.model.specs.Format.{Bytes, Sizes, Values, fileBytes, readFile, storeBytes}
 use Rattle.model.specs.Calls.{storesBytes, trieAfter}
 use Rattle.model.proofs.Entries.{chosen-no, chosen-yes}
-use Rattle.model.proofs.Files.{used-inside}
-use Rattle.model.proofs.Format.{fileBytes-readFile, readFile-fileBytes, storeBytes-fileBytes, values-readFile}
+use Rattle.model.proofs.Files.{cut-inside, used-inside}
+use Rattle.model.proofs.Format.{bytes-fileBytes, fileBytes-readFile, headed-b, readFile-fileBytes, readFile-read, storeBytes-fileBytes, values-readFile}
 
 -- Each store is of a slot of the file, and its values fit eight bytes.
 abbrev pub Legal : ℕ → List Store → Type 0
@@ -85,15 +85,33 @@ change-legal b {fs} (splits {A = A} {N = N} {es = es} {n = n} {v = v} is g lo up
 change-legal b {fs} (removes {A = A} {es = es} is lo up e) h w = (there fs A is tt, values-keep _ es (rw is at (w A)), tt)
 change-legal b (absent A is lo up e) h w = tt
 
--- What a change leaves of a file reads as the change's stores leave its slots.
-pub read-stored : (b : ℕ) (xs : List ℕ) {fs : List Slot} {q : Request} {ss : List Store} → Bytes xs → readFile xs ≡ some (b, fs) → Change b fs q ss → Asked q
-    → Sound b (stored ss fs) → readFile (storesBytes b ss xs) ≡ some (b, stored ss fs)
-read-stored b xs {fs} {q} {ss} bytes e c h S =
-    let r = fileBytes-readFile xs e in
-    let w = values-readFile xs bytes e in
-    let g = change-legal b c h w in
-    let k : Sizes b (length (stored ss fs)) = rw (length-stored ss fs) (r .1) in
-    rw (r .0, storesBytes-fileBytes b ss fs g) (readFile-fileBytes b (stored ss fs) k (S .well) (values-stored ss fs g w))
+-- The first ones of a change's stores are no less legal.
+pub legal-take : (n k : ℕ) (ss : List Store) → Legal n ss → Legal n (take k ss)
+legal-take n zero ss h = tt
+legal-take n (suc k) [] h = tt
+legal-take n (suc k) (s ∷ ss) h = (h .0, h .1, legal-take n k ss (h .2))
+
+-- What stores leave of a file, where its slots are well formed then: it reads as they leave its slots, and is bytes.
+pub record Left (b : ℕ) (fs : List Slot) (xs : List ℕ) : Type 0 where
+  pub is : readFile xs ≡ some (b, fs)
+  pub bytes : Bytes xs
+
+module _ (b : ℕ) (xs : List ℕ) {fs : List Slot} (bytes : Bytes xs) (e : readFile xs ≡ some (b, fs)) where
+  pub left-stored : (ss : List Store) → Legal (length fs) ss → ((B : ℕ) → Well b (slot-at (stored ss fs) B)) → Left b (stored ss fs) (storesBytes b ss xs)
+  left-stored ss g well =
+      let r = fileBytes-readFile xs e in
+      let w = values-readFile xs bytes e in
+      let k : Sizes b (length (stored ss fs)) = rw (length-stored ss fs) (r .1) in
+      rw (r .0, storesBytes-fileBytes b ss fs g) (record { is = readFile-fileBytes b (stored ss fs) k well (values-stored ss fs g w); bytes = bytes-fileBytes b (stored ss fs) k well })
+
+  -- What a change leaves, all of its stores made.
+  pub read-stored : {q : Request} {ss : List Store} → Change b fs q ss → Asked q → Sound b (stored ss fs) → readFile (storesBytes b ss xs) ≡ some (b, stored ss fs)
+  read-stored {ss = ss} c h S = left-stored ss (change-legal b c h (values-readFile xs bytes e)) (S .well) .is
+
+  -- What a recovery leaves of a cut file. The header's byte 5 is b.
+  pub left-freed : {N : ℕ} → Cut b fs N → Left b (set fs N free) (storeBytes (getD xs 5 0) N free xs)
+  unfolding storesBytes
+  left-freed {N} C = rw (headed-b (readFile-read xs e .headed)) (left-stored ((N, free) ∷ []) (cut-inside b C, tt, tt) (C .freed .well))
 
 -- The trie after a change, by its stores and by its kind.
 pub trieAfter-is : (b : ℕ) {fs : List Slot} (n : Str) (v : ℕ) {ss : List Store} (c : Change b fs (put n v) ss) (t : Trie)

@@ -37,7 +37,7 @@ use Rattle.model.proofs.Stores.{read-stored, trieAfter-is}
 use Rattle.promises.specs.Demand2.{LeadsRight, Made}
 
 -- An agreeing trie of a sound file leads right.
-pub leads : (xs : List ℕ) (t : Trie) (S : SoundFile xs) → Agrees (S .slots) t → LeadsRight xs t
+unfoldable pub leads : (xs : List ℕ) (t : Trie) (S : SoundFile xs) → Agrees (S .slots) t → LeadsRight xs t
 leads xs t S A = record {
   file = S;
   agrees = A;

@@ -2,3 +2,4 @@ pub mod Texts
 pub mod Growing
 pub mod Situations
 pub mod Demand2
+pub mod Demand3
