@@ -1,5 +1,5 @@
 -- Demand 3: after any events the file says what the history says, and recovery and rebuilding do not refuse.
-use mathlib.Core.Path.{_∙_, _≡_, refl, subst, sym}
+use mathlib.Core.Path.{_∙_, _≡_, ap, refl, subst, sym}
 use mathlib.Core.Logic.{_⊎_, inl, inr}
 use mathlib.Core.Bool.{Bool, _&&_, cond, false, true}
 use mathlib.Core.Option.{Option, none as nothing, some}
@@ -25,10 +25,11 @@ use Rattle.model.specs.Files.{Cut, Slot, Well, created, entries-of, first, free
 use Rattle.model.specs.Tries.{Agrees, walk-trie}
 use Rattle.model.specs.Changes.{Change, Map, Request, Result, Store, absent, call, holds?, meant, put as to-put, refuse, remove as to-remove, removes, stored, stores, trie-after}
 use Rattle.model.specs.Format.{CutFile, SoundFile, checkFile, fileBytes, fileSize, legalSizes, readFile, storeBytes}
-use Rattle.model.specs.Calls.{Created, Looked, PutDone, Recovered, RemoveDone, createOf, fine, lookedOf, new-trie, putAnswer, putLooked, putMade, putOf, rebuildBy, rebuildOf, recoverBy, recoverOf, refusing, removeAnswer, removeLooked, removeMade, removeOf, storesBytes, trieAfter}
+use Rattle.model.specs.Calls.{Created, Looked, PutDone, Recovered, RemoveDone, createOf, fine, heldAnswer, lookedOf, new-trie, putAnswer, putLooked, putMade, putOf, rebuildBy, rebuildOf, recoverBy, recoverOf, refusing, removeAnswer, removeLooked, removeMade, removeOf, storesBytes, trieAfter}
 use Rattle.model.proofs.Names.{both-true, legalName-legal}
 use Rattle.model.proofs.Files.{cut-well}
-use Rattle.model.proofs.Agreement.{rebuilt-trie-agrees}
+use Rattle.model.proofs.Agreement.{agrees-walk, rebuilt-trie-agrees}
+use Rattle.model.proofs.LookUps.{lookup-agrees}
 use Rattle.model.proofs.Changes.{Fine, change-made, change-stopped}
 use Rattle.model.proofs.Calls.{Answered, is-denied, is-made, put-right, remove-right}
 use Rattle.model.proofs.Format.{fileBytes-readFile, legalSizes-sizes, values-readFile}
@@ -62,7 +63,12 @@ up-kept : {xs : List ℕ} {t : Trie} {m : Map} → Up xs t m → Kept xs t m
 unfolding leads
 up-kept {xs} {t} U =
     let S : SoundFile xs = record { b = U .b; slots = U .slots; is = U .left .is; sound = U .good .sound } in
-    record { leads = leads xs t S (U .agrees); few = U .good .few; means = U .good .means }
+    record {
+      leads = leads xs t S (U .agrees);
+      few = U .good .few;
+      means = U .good .means;
+      looks-up = λ name g. lookup-agrees xs t name S (U .agrees) g ∙ ap heldAnswer (U .good .means (filled name) (walk-trie t (filled name)) (agrees-walk (U .b) (U .good .sound) (U .agrees) (filled name)));
+    }
 
 up-down : {xs : List ℕ} {t : Trie} {m : Map} → Up xs t m → Fallen xs m
 up-down U = record { b = U .b; slots = U .slots; left = U .left; near = inl (U .good) }

@@ -1,5 +1,6 @@
 -- Demand 3, in words: start from a new file, then any calls in any order, each stopped after any of its stores.
 use mathlib.Core.Path.{_≡_}
+use mathlib.Core.Bool.{true}
 use mathlib.Core.Option.{none as nothing}
 use mathlib.Core.List.{List, [], _∷_}
 use Prim.Native.Nat.{_<_, _^_, _≤_, ℕ}
@@ -13,10 +14,10 @@ use Rattle.model.specs.declared.Trie.{Trie}
 use Rattle.model.specs.declared.TrieAnswer.{TrieAnswer}
 use Rattle.model.specs.declared.TrieAnswer.the-variants.{Given, Refused as TrieRefused}
 use Rattle.model.specs.Order.{Str}
-use Rattle.model.specs.Names.{filled}
+use Rattle.model.specs.Names.{filled, legalName}
 use Rattle.model.specs.Files.{string-count}
 use Rattle.model.specs.Changes.{Map, Means, meant, put as to-put, remove as to-remove}
-use Rattle.model.specs.Calls.{Created, PutDone, Recovered, RemoveDone, putOf, rebuildOf, recoverOf, removeOf}
+use Rattle.model.specs.Calls.{Created, PutDone, Recovered, RemoveDone, heldAnswer, lookUpOf, putOf, rebuildOf, recoverOf, removeOf}
 use Rattle.promises.specs.Demand2.{LeadsRight}
 
 -- A put of a name with a 64-bit value and a store limit, a remove of a name with one; the trie is lost; a recovery with a
@@ -86,6 +87,8 @@ pub record Kept (xs : List ℕ) (t : Trie) (m : Map) : Type 0 where
   pub leads : LeadsRight xs t
   pub few : string-count (leads .file .slots) ≤ 256
   pub means : Means (leads .file .slots) m
+  -- "Every legal name then looks up as that history says."
+  pub looks-up : (name : List ℕ) → legalName name ≡ true → lookUpOf xs t name ≡ heldAnswer (m (filled name))
 
 -- What a recovery said that was not refused and not stopped.
 abbrev pub Whole : RecoverAnswer → Type 0
