@@ -2,9 +2,15 @@
 //
 // A string of at most 24 digits is compared as three words, the first digit highest. A filled name has 24 digits; a bound
 // is continued by 0xFF, a digit above all others. So "name within bound" and "bound below bound" are one comparison.
+ghost use mathlib.Core.Bool.{_&&_};
+ghost use mathlib.Core.Logic.{_⊎_};
 ghost use mathlib.Core.Path.{_≡_};
 ghost use Prim.Native.Nat.{_≤_, _<_, _+_};
+ghost use lib.Dec.{eqb, leb, ltb};
 ghost use lib.ListN.{length};
+ghost use Rattle.model.specs.Names as names;
+ghost use Rattle.model.specs.Order.{diff};
+ghost use Rattle.digits.specs.Keys.{isZero, keyValue, naming};
 
 // A string of digits as it is compared.
 pub struct Key {
@@ -121,7 +127,9 @@ pub fn no_end() -> Key {
     }
 }
 
-pub fn is_below(x: Key, y: Key) -> bool {
+pub fn is_below(x: Key, y: Key) -> bool
+    ensures { λ r. ⌜ r ≡ ltb (keyValue x) (keyValue y) ⌝ }
+{
     if x.a < y.a {
         return true;
     }
@@ -137,7 +145,9 @@ pub fn is_below(x: Key, y: Key) -> bool {
     x.c < y.c
 }
 
-pub fn is_same(x: Key, y: Key) -> bool {
+pub fn is_same(x: Key, y: Key) -> bool
+    ensures { λ r. ⌜ r ≡ eqb (keyValue x) (keyValue y) ⌝ }
+{
     if x.a != y.a {
         return false;
     }
@@ -149,7 +159,7 @@ pub fn is_same(x: Key, y: Key) -> bool {
 
 // The larger of two numbers. A check that gathers, and does not stop at the first fault, is fast.
 pub fn larger(x: u8, y: u8) -> u8
-    ensures { λ r. ⌜ (x ≤ r) × (y ≤ r) ⌝ }
+    ensures { λ r. ⌜ (x ≤ r) × (y ≤ r) × ((r ≡ x) ⊎ (r ≡ y)) ⌝ }
 {
     if x < y {
         return y;
@@ -158,7 +168,9 @@ pub fn larger(x: u8, y: u8) -> u8
 }
 
 // Whether all bytes are zero.
-pub fn is_zero(s: &[u8]) -> bool {
+pub fn is_zero(s: &[u8]) -> bool
+    ensures { λ r. ⌜ r ≡ isZero (now (s .entry)) ⌝ }
+{
     let mut most = 0u8;
     let mut i = 0;
     while i < s.len() {
@@ -169,7 +181,9 @@ pub fn is_zero(s: &[u8]) -> bool {
 }
 
 // 1 where x is no digit from `least` to 0x7D, else 0.
-fn fault(x: u8, least: u8) -> u8 {
+fn fault(x: u8, least: u8) -> u8
+    ensures { λ r. ⌜ eqb r 0 ≡ (leb least x && leb x 0x7D) ⌝ }
+{
     if x < least {
         return 1;
     }
@@ -180,7 +194,9 @@ fn fault(x: u8, least: u8) -> u8 {
 }
 
 // Whether each byte is a digit, `least` or above.
-fn are_digits(s: &[u8], least: u8) -> bool {
+fn are_digits(s: &[u8], least: u8) -> bool
+    ensures { λ r. ⌜ r ≡ names.areDigits least (now (s .entry)) ⌝ }
+{
     let mut most = 0u8;
     let mut i = 0;
     while i < s.len() {
@@ -191,7 +207,9 @@ fn are_digits(s: &[u8], least: u8) -> bool {
 }
 
 // A name has 1 to 24 bytes, each 0x21 to 0x7D.
-pub fn named(name: &[u8]) -> Naming {
+pub fn named(name: &[u8]) -> Naming
+    ensures { λ r. ⌜ r ≡ naming (names.legalName (now (name .entry))) ⌝ }
+{
     if name.len() == 0 {
         return Naming::Illegal;
     }
@@ -205,7 +223,9 @@ pub fn named(name: &[u8]) -> Naming {
 }
 
 // The name filled to 24 digits with 0x20.
-pub fn filled(name: &[u8]) -> [u8; 24] {
+pub fn filled(name: &[u8]) -> [u8; 24]
+    ensures { λ r. ⌜ r ≡ names.filled (now (name .entry)) ⌝ }
+{
     let mut digits = [0x20u8; 24];
     let mut i = 0;
     while i < name.len() {
@@ -269,7 +289,9 @@ pub fn is_bound(s: &[u8], len: usize) -> bool
 }
 
 // Whether the name's first digits, as many as p has, are not greater than p.
-pub fn within(name: &[u8], p: &[u8]) -> bool {
+pub fn within(name: &[u8], p: &[u8]) -> bool
+    ensures { λ r. ⌜ r ≡ names.within (now (name .entry)) (now (p .entry)) ⌝ }
+{
     let mut i = 0;
     while i < p.len() {
         if name.len() <= i {
@@ -290,7 +312,8 @@ pub fn within(name: &[u8], p: &[u8]) -> bool {
 
 // How many digits the two strings share before the first difference.
 pub fn shared(x: &[u8], y: &[u8]) -> usize
-    ensures { λ r. ⌜ (r ≤ length (now (x .entry))) × (r ≤ length (now (y .entry))) ⌝ }
+    ensures { λ r. ⌜ (r ≤ length (now (x .entry))) × (r ≤ length (now (y .entry)))
+        × (r ≡ diff (now (x .entry)) (now (y .entry))) ⌝ }
 {
     let mut i = 0;
     while i < x.len() {
