@@ -2,15 +2,16 @@
 //
 // A string of at most 24 digits is compared as three words, the first digit highest. A filled name has 24 digits; a bound
 // is continued by 0xFF, a digit above all others. So "name within bound" and "bound below bound" are one comparison.
-ghost use mathlib.Core.Bool.{_&&_};
+ghost use mathlib.Core.Bool.{_&&_, true};
 ghost use mathlib.Core.Logic.{_⊎_};
 ghost use mathlib.Core.Path.{_≡_};
-ghost use Prim.Native.Nat.{_≤_, _<_, _+_};
+ghost use mathlib.Core.List.{[]};
+ghost use Prim.Native.Nat.{_≤_, _<_, _+_, _-_, _^_, min};
 ghost use lib.Dec.{eqb, leb, ltb};
-ghost use lib.ListN.{length};
+ghost use lib.ListN.{drop, length, take};
 ghost use Rattle.model.specs.Names as names;
 ghost use Rattle.model.specs.Order.{diff};
-ghost use Rattle.digits.specs.Keys.{isZero, keyValue, naming};
+ghost use Rattle.digits.specs.Keys.{continued, isZero, keyValue, naming, value};
 
 // A string of digits as it is compared.
 pub struct Key {
@@ -53,6 +54,7 @@ pub fn wide(x: u8) -> u64
 // The eight bytes from `at` on as one number, the first byte highest.
 pub fn word(s: &[u8], at: usize) -> u64
     requires { ⌜ at + 8 ≤ length (now s) ⌝ }
+    ensures { λ r. ⌜ r ≡ value (take 8 (drop at (now (s .entry)))) ⌝ }
 {
     wide(s[at + 7])
         + 256
@@ -71,6 +73,7 @@ pub fn word(s: &[u8], at: usize) -> u64
 // The 24 digits from `at` on, as they are compared.
 pub fn key_at(s: &[u8], at: usize) -> Key
     requires { ⌜ at + 24 ≤ length (now s) ⌝ }
+    ensures { λ r. ⌜ keyValue r ≡ value (take 24 (drop at (now (s .entry)))) ⌝ }
 {
     Key {
         a: word(s, at),
@@ -82,7 +85,7 @@ pub fn key_at(s: &[u8], at: usize) -> Key
 // How many bytes of a word stay behind a string's end: the word ends at the digit number `end`.
 fn behind(end: usize, len: usize) -> usize
     requires { ⌜ (8 ≤ end) × (end ≤ 24) ⌝ }
-    ensures { λ r. ⌜ r ≤ 8 ⌝ }
+    ensures { λ r. ⌜ (r ≤ 8) × (r ≡ min 8 (end - len)) ⌝ }
 {
     if end <= len {
         return 0;
@@ -97,6 +100,9 @@ fn behind(end: usize, len: usize) -> usize
 // formed, so nothing wraps.
 fn continued(s: &[u8], at: usize, end: usize, len: usize) -> u64
     requires { ⌜ (at + 8 ≤ length (now s)) × (8 ≤ end) × (end ≤ 24) ⌝ }
+    ensures { λ r.
+        ⌜ (isZero (drop (len - (end - 8)) (take 8 (drop at (now (s .entry))))) ≡ true
+        → r + 1 ≡ value (take 8 (drop at (now (s .entry)))) + 256 ^ (8 - (len - (end - 8)))) ⌝ }
 {
     let f = behind(end, len);
     std::num::wrapping_add_u64(word(s, at), FILL[f])
@@ -105,6 +111,9 @@ fn continued(s: &[u8], at: usize, end: usize, len: usize) -> u64
 // The bound of `len` digits at `at`, as it is compared.
 pub fn bound_key_at(s: &[u8], at: usize, len: usize) -> Key
     requires { ⌜ at + 24 ≤ length (now s) ⌝ }
+    ensures { λ r.
+        ⌜ (len ≤ 24 → isZero (take (24 - len) (drop (at + len) (now (s .entry)))) ≡ true
+        → keyValue r ≡ value (continued (take len (drop at (now (s .entry)))))) ⌝ }
 {
     Key {
         a: continued(s, at, 8, len),
@@ -114,12 +123,16 @@ pub fn bound_key_at(s: &[u8], at: usize, len: usize) -> Key
 }
 
 // What is below every name: the key of no lower limit.
-pub fn no_limit() -> Key {
+pub fn no_limit() -> Key
+    ensures { λ r. ⌜ keyValue r ≡ 0 ⌝ }
+{
     Key { a: 0, b: 0, c: 0 }
 }
 
 // What the empty upper bound is compared as: above every name and every other bound.
-pub fn no_end() -> Key {
+pub fn no_end() -> Key
+    ensures { λ r. ⌜ keyValue r ≡ value (continued []) ⌝ }
+{
     Key {
         a: 0xFFFF_FFFF_FFFF_FFFF,
         b: 0xFFFF_FFFF_FFFF_FFFF,
