@@ -1,6 +1,6 @@
 -- What one turn of each loop does to the definition that its function meets.
 use mathlib.Core.Path.{_∙_, _≡_, ap, refl, sym}
-use mathlib.Core.Bool.{Bool, _&&_, cond, false, true}
+use mathlib.Core.Bool.{Bool, _&&_, _||_, cond, false, true}
 use mathlib.Core.List.{List, [], _++_, _∷_, append-nil}
 use mathlib.Core.Logic.{_⊎_, inl, inr, ⊎-elim}
 use Prim.Native.Nat.{_*_, _+_, _-_, _<_, _^_, _≤_, suc, zero, ℕ}
@@ -9,14 +9,14 @@ use native.Mathlib.Nat.{mul-le-mul-right, sub-zero, suc-mul, zero-add}
 use native.Mathlib.Numerals.{add-one, unary-clauses}
 use native.Mathlib.Omega.{arith}
 use lib.Dec.{eqb, leb, ltb}
-use lib.ListN.{drop, drop-of-length-le, getD, length, replicate, set, take}
+use lib.ListN.{drop, drop-of-length-le, getD, length, length-take, replicate, set, take}
 use lib.Seq.{drop-cons, paste-suc, take-all, take-append-le, take-nil}
-use borrow.Author.Tests.{eq-eqb, le-ltb, lt-ltb, ne-eqb}
-use Rattle.model.specs.Names.{areDigits, filled, notGreater, within}
+use borrow.Author.Tests.{eq-eqb, le-leb, le-ltb, lt-leb, lt-ltb, ne-eqb}
+use Rattle.model.specs.Names.{areDigits, blankEnded, blanks, filled, legalBound, legalFilled, notGreater, within}
 use Rattle.model.specs.Order.{diff, diff-at}
 use Rattle.model.proofs.Names.{filled-short}
 use Rattle.digits.specs.declared.Key.{Key}
-use Rattle.digits.specs.Keys.{isZero, keyValue}
+use Rattle.digits.specs.Keys.{blankEnds, isZero, keyValue}
 
 pub and-false : (a : Bool) → (a && false) ≡ false
 and-false true = refl
@@ -181,3 +181,71 @@ module _ (x y : Key) (xc : x .c < 2 ^ 64) (yc : y .c < 2 ^ 64) (e : keyValue x �
     | yes h ↦ absurd (omega (arith, lt-second x y a h xc))
     | no h ↦ elim (decLt (y .b) (x .b)) [ yes k ↦ absurd (omega (arith, lt-second y x (sym a) k yc)) | no k ↦ omega arith ]
   ]
+
+-- No blank is followed by more than a blank, from i on.
+pub blank-next : (s : List ℕ) (i : ℕ) → 1 ≤ i → i < length s
+    → blankEnds (drop (i - 1) s) ≡ ((ltb 0x20 (getD s (i - 1) 0) || ltb (getD s i 0) 0x21) && blankEnds (drop (i + 1 - 1) s))
+unfolding blankEnds
+blank-next s zero h k = absurd (omega arith)
+blank-next s (suc j) h k =
+    let e : suc j - 1 ≡ j = omega arith in
+    let f : suc j + 1 - 1 ≡ suc j = omega arith in
+    rw (e, f, drop-cons s j 0 (omega arith), drop-cons s (suc j) 0 k)
+
+pub blank-last : (s : List ℕ) (i : ℕ) → i ≡ 24 → length s ≡ 24 → blankEnds (drop (i - 1) s) ≡ true
+unfolding blankEnds
+blank-last s i e h =
+    let k : length s ≤ 24 = omega arith in
+    let f : drop 24 s ≡ [] = drop-of-length-le s k in
+    rw (e, drop-cons s 23 0 (omega arith), f)
+
+and-assoc : (a b c : Bool) → (a && b && c) ≡ (a && (b && c))
+and-assoc true b c = refl
+and-assoc false b c = refl
+
+-- A blank is followed by blanks alone; any other digit, by an end of blanks.
+blanks-is : (n : List ℕ) → blanks n ≡ (areDigits 0x20 n && blankEnds (0x20 ∷ n))
+unfolding areDigits blankEnds blanks
+blanks-is [] = refl
+blanks-is (e ∷ n) = go (ℕ-discrete e 0x20) (decLt e 0x20) (blanks-is n)
+  where
+    go : Dec (e ≡ 0x20) → Dec (e < 0x20) → blanks n ≡ (areDigits 0x20 n && blankEnds (0x20 ∷ n))
+        → (eqb e 0x20 && blanks n) ≡ (leb 0x20 e && leb e 0x7D && areDigits 0x20 n && (ltb e 0x21 && blankEnds (e ∷ n)))
+    go (yes q) d r = rw (eq-eqb e 0x20 q, le-leb 0x20 e (omega arith), le-leb e 0x7D (omega arith), lt-ltb e 0x21 (omega arith), q) r
+    go (no q) (yes h) r = rw (ne-eqb e 0x20 q, lt-leb 0x20 e h)
+    go (no q) (no h) r = rw (ne-eqb e 0x20 q, le-ltb e 0x21 (omega arith)) (sym (and-false (leb 0x20 e && leb e 0x7D && areDigits 0x20 n)))
+
+ended-is : (d : ℕ) (n : List ℕ) → 0x20 < d → blankEnded n ≡ (areDigits 0x20 n && blankEnds (d ∷ n))
+unfolding areDigits blankEnded blankEnds
+ended-is d [] k = refl
+ended-is d (e ∷ n) k = rw (lt-ltb 0x20 d k) (go (ℕ-discrete e 0x20) (decLt e 0x20) (ended-is e n))
+  where
+    go : Dec (e ≡ 0x20) → Dec (e < 0x20) → (0x20 < e → blankEnded n ≡ (areDigits 0x20 n && blankEnds (e ∷ n)))
+        → cond (eqb e 0x20) (blanks n) (leb 0x21 e && leb e 0x7D && blankEnded n) ≡ (leb 0x20 e && leb e 0x7D && areDigits 0x20 n && blankEnds (e ∷ n))
+    go (yes q) d r = rw (eq-eqb e 0x20 q, le-leb 0x20 e (omega arith), le-leb e 0x7D (omega arith), q) (blanks-is n)
+    go (no q) (yes h) r = rw (ne-eqb e 0x20 q, lt-leb 0x20 e h, lt-leb 0x21 e (omega arith))
+    go (no q) (no h) r =
+        rw (ne-eqb e 0x20 q, le-leb 0x20 e (omega arith), le-leb 0x21 e (omega arith), r (omega arith))
+        (sym (and-assoc (leb e 0x7D) (areDigits 0x20 n) (blankEnds (e ∷ n))))
+
+pub not-blank : (s : List ℕ) → getD s 0 0 ≡ 0x20 → length s ≡ 24 → legalFilled s ≡ false
+unfolding legalFilled
+not-blank [] e h = refl
+not-blank (d ∷ n) e h = rw (eq-eqb (length n) 23 (omega arith), lt-leb 0x21 d (omega arith))
+
+pub filled-name : (s : List ℕ) → (getD s 0 0 ≡ 0x20 → ⊥) → length s ≡ 24 → legalFilled s ≡ (areDigits 0x20 s && blankEnds s)
+unfolding areDigits legalFilled
+filled-name [] e h = absurd (omega arith)
+filled-name (d ∷ n) e h = elim (decLt d 0x20) [
+  | yes k ↦ rw (eq-eqb (length n) 23 (omega arith), lt-leb 0x20 d k, lt-leb 0x21 d (omega arith))
+  | no k ↦ let g : 0x21 ≤ d = above e k in
+      rw (eq-eqb (length n) 23 (omega arith), le-leb 0x20 d (omega arith), le-leb 0x21 d g, ended-is d n g) (sym (and-assoc (leb d 0x7D) (areDigits 0x20 n) (blankEnds (d ∷ n))))
+]
+  where
+    above : (d ≡ 0x20 → ⊥) → (d < 0x20 → ⊥) → 0x21 ≤ d
+    above e k = elim (ℕ-discrete d 0x20) [ yes q ↦ absurd (e q) | no q ↦ omega arith ]
+
+-- A bound's beginning fits.
+pub legal-part : (len : ℕ) (s : List ℕ) → len ≤ 24 → legalBound (take len s) ≡ areDigits 0x20 (take len s)
+unfolding legalBound
+legal-part len s h = rw (le-leb (length (take len s)) 24 (omega (arith, length-take len s)))

@@ -2,7 +2,7 @@
 //
 // A string of at most 24 digits is compared as three words, the first digit highest. A filled name has 24 digits; a bound
 // is continued by 0xFF, a digit above all others. So "name within bound" and "bound below bound" are one comparison.
-ghost use mathlib.Core.Bool.{_&&_, true};
+ghost use mathlib.Core.Bool.{_&&_, _||_, true};
 ghost use mathlib.Core.Logic.{_⊎_};
 ghost use mathlib.Core.Path.{_≡_};
 ghost use mathlib.Core.List.{[]};
@@ -11,7 +11,7 @@ ghost use lib.Dec.{eqb, leb, ltb};
 ghost use lib.ListN.{drop, length, take};
 ghost use Rattle.model.specs.Names as names;
 ghost use Rattle.model.specs.Order.{diff};
-ghost use Rattle.digits.specs.Keys.{continued, isZero, keyValue, naming, value};
+ghost use Rattle.digits.specs.Keys.{blankEnds, continued, isZero, keyValue, naming, value};
 
 // A string of digits as it is compared.
 pub struct Key {
@@ -252,7 +252,9 @@ pub fn filled(name: &[u8]) -> [u8; 24]
 }
 
 // 1 where a blank is followed by more than a blank, else 0.
-fn fault_after(y: u8, x: u8) -> u8 {
+fn fault_after(y: u8, x: u8) -> u8
+    ensures { λ r. ⌜ eqb r 0 ≡ (ltb 0x20 y || ltb x 0x21) ⌝ }
+{
     if 0x20 < y {
         return 0;
     }
@@ -265,6 +267,7 @@ fn fault_after(y: u8, x: u8) -> u8 {
 // Whether no blank is followed by more than a blank.
 fn is_filled(s: &[u8]) -> bool
     requires { ⌜ length (now s) ≡ 24 ⌝ }
+    ensures { λ r. ⌜ r ≡ blankEnds (now (s .entry)) ⌝ }
 {
     let mut most = 0u8;
     let mut i = 1;
@@ -278,6 +281,7 @@ fn is_filled(s: &[u8]) -> bool
 // Whether these 24 bytes are a legal name, filled.
 pub fn is_filled_name(s: &[u8]) -> bool
     requires { ⌜ length (now s) ≡ 24 ⌝ }
+    ensures { λ r. ⌜ r ≡ names.legalFilled (now (s .entry)) ⌝ }
 {
     if s[0] == 0x20 {
         return false;
@@ -291,6 +295,8 @@ pub fn is_filled_name(s: &[u8]) -> bool
 // Whether these 24 bytes are a bound of `len` digits: each 0x20 to 0x7D, and zero behind them.
 pub fn is_bound(s: &[u8], len: usize) -> bool
     requires { ⌜ length (now s) ≡ 24 ⌝ }
+    ensures { λ r.
+        ⌜ r ≡ (leb len 24 && names.legalBound (take len (now (s .entry))) && isZero (drop len (now (s .entry)))) ⌝ }
 {
     if 24 < len {
         return false;
