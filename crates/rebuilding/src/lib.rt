@@ -5,6 +5,9 @@
 ghost use mathlib.Core.Path.{_≡_};
 ghost use Prim.Native.Nat.{_≤_, _<_, _+_, _-_};
 ghost use lib.ListN.{length};
+ghost use mathlib.Core.Bool.{cond};
+ghost use lib.Dec.{ltb, eqb};
+ghost use Rattle.rebuilding.specs.Roots.{run, least, many, place, middle};
 use digits::index;
 use model::Cell;
 use model::Side;
@@ -25,7 +28,9 @@ fn short(x: usize) -> u16
     x as u16
 }
 
-fn lesser(x: u8, y: u8) -> u8 {
+fn lesser(x: u8, y: u8) -> u8
+    ensures { λ r. ⌜ r ≡ cond (ltb x y) x y ⌝ }
+{
     if x < y {
         return x;
     }
@@ -35,6 +40,7 @@ fn lesser(x: u8, y: u8) -> u8 {
 // The fewest digits that a string of the run has.
 fn fewest(lens: &[u8; 256], from: usize, to: usize) -> u8
     requires { ⌜ (from < to) × (to ≤ 256) ⌝ }
+    ensures { λ r. ⌜ r ≡ least 255 (run from to (now (lens .entry))) ⌝ }
 {
     let mut least = 255;
     let mut i = from;
@@ -48,7 +54,7 @@ fn fewest(lens: &[u8; 256], from: usize, to: usize) -> u8
 // One more where the two are equal.
 fn counted(n: usize, x: u8, y: u8) -> usize
     requires { ⌜ n < 256 ⌝ }
-    ensures { λ r. ⌜ r ≤ n + 1 ⌝ }
+    ensures { λ r. ⌜ (r ≤ n + 1) × (r ≡ cond (eqb x y) (n + 1) n) ⌝ }
 {
     if x == y {
         return n + 1;
@@ -59,7 +65,7 @@ fn counted(n: usize, x: u8, y: u8) -> usize
 // How many strings of the run have so many digits.
 fn how_many(lens: &[u8; 256], from: usize, to: usize, digits: u8) -> usize
     requires { ⌜ (from < to) × (to ≤ 256) ⌝ }
-    ensures { λ r. ⌜ r ≤ 256 ⌝ }
+    ensures { λ r. ⌜ (r ≤ 256) × (r ≡ many 0 digits (run from to (now (lens .entry)))) ⌝ }
 {
     let mut n = 0usize;
     let mut i = from;
@@ -73,7 +79,7 @@ fn how_many(lens: &[u8; 256], from: usize, to: usize, digits: u8) -> usize
 // The place of the string of the run with so many digits that has `before` such strings before it.
 fn place_of(lens: &[u8; 256], from: usize, to: usize, digits: u8, before: usize) -> usize
     requires { ⌜ (from < to) × (to ≤ 256) ⌝ }
-    ensures { λ r. ⌜ (from ≤ r) × (r < to) ⌝ }
+    ensures { λ r. ⌜ (from ≤ r) × (r < to) × (r ≡ place from from digits before (run from to (now (lens .entry)))) ⌝ }
 {
     let mut left = before;
     let mut i = from;
@@ -92,12 +98,12 @@ fn place_of(lens: &[u8; 256], from: usize, to: usize, digits: u8, before: usize)
 // Of a run, the root is the middle one of the strings with fewest digits; of an even number, the lower middle.
 fn root_of(lens: &[u8; 256], from: usize, to: usize) -> usize
     requires { ⌜ (from < to) × (to ≤ 256) ⌝ }
-    ensures { λ r. ⌜ (from ≤ r) × (r < to) ⌝ }
+    ensures { λ r. ⌜ (from ≤ r) × (r < to) × (r ≡ middle from (run from to (now (lens .entry)))) ⌝ }
 {
     let digits = fewest(lens, from, to);
     let n = how_many(lens, from, to, digits);
     if n == 0 {
-        return from;
+        return place_of(lens, from, to, digits, 0);
     }
     place_of(lens, from, to, digits, (n - 1) / 2)
 }

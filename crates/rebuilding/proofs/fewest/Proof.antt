@@ -10,7 +10,7 @@ use Rattle.rebuilding.proofs.fewest.Lts as lts
 use Rattle.rebuilding.proofs.lesser.Reads as lesser-reads
 
 abbrev Inv-loop : tie.InvT-loop
-Inv-loop lens from to least₀ i₀ least i = i ≤ to
+Inv-loop lens from to least₀ i₀ least i = (i ≤ to) × (from ≤ i) × (least 255 (run from to lens) ≡ least least_ (run i to lens))
 
 abbrev μ-loop : tie.MeasureT-loop
 μ-loop lens from to least₀ i₀ least i = to - i
