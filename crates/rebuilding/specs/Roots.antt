@@ -1,13 +1,18 @@
 -- The root of a run, from its strings' lengths alone: the middle one of those with fewest digits.
 use mathlib.Core.Bool.{cond}
 use mathlib.Core.List.{List, [], _∷_}
-use Prim.Native.Nat.{_+_, _-_, _/_, suc, ℕ}
+use Prim.Native.Nat.{_-_, _/_, suc, zero, ℕ}
 use lib.Dec.{eqb, ltb}
-use lib.ListN.{drop, take}
+use lib.ListN.{getD}
 
--- The numbers from one place on and below another.
+-- n numbers from a place on,
+unfoldable pub part : ℕ → ℕ → List ℕ → List ℕ
+part zero from xs = []
+part (suc n) from xs = getD xs from 0 ∷ part n (suc from) xs
+
+-- and the numbers from one place on and below another.
 abbrev pub run : ℕ → ℕ → List ℕ → List ℕ
-run from to xs = take (to - from) (drop from xs)
+run from to xs = part (to - from) from xs
 
 -- The least of these and n.
 unfoldable pub least : ℕ → List ℕ → ℕ
