@@ -58,6 +58,13 @@ fine-set (suc t) j runs v n h f = rw (at-set runs t j v (omega arith)) (f .0, f 
 abbrev pub pushed : ℕ → Run → ℕ
 pushed t v = t + cond (ltb (v .from) (v .to)) 1 0
 
+pub pushed-le : (t : ℕ) (v : Run) → pushed t v ≤ t + 1
+pushed-le t v = go (ltb (v .from) (v .to))
+  where
+    go : (b : Bool) → t + cond b 1 0 ≤ t + 1
+    go true = omega arith
+    go false = omega arith
+
 pub sizes-pushed : (t : ℕ) (runs : List Run) (v : Run) → t < length runs
     → sizes (pushed t v) (set runs t v) ≡ (v .to - v .from) + sizes t runs
 unfolding sizes
