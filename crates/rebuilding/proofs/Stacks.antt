@@ -19,7 +19,7 @@ use Rattle.rebuilding.specs.declared.Run.{Run}
 use Rattle.rebuilding.specs.Runs.{run-tree}
 use Rattle.rebuilding.proofs.Trees.{size-tree, tree, tree-leaf, tree-node}
 
-abbrev no-run : Run
+abbrev pub no-run : Run
 no-run = record { from = 0; to = 0 }
 
 -- The run at a place of the stack.

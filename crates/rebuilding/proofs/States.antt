@@ -11,9 +11,9 @@ use lib.ListN.{drop, getD, length, length-append, length-replicate, length-set, 
 use lib.Seq.{getD-set-same, sets, sets-eq}
 use borrow.Author.Tests.{lt-ltb}
 use Rattle.model.specs.declared.Cell.{Cell}
-use Rattle.model.specs.declared.Side.the-variants.{Cell as further}
+use Rattle.model.specs.declared.Side.the-variants.{Cell as further, Slot as slot}
 use Rattle.model.specs.declared.Trie.{Trie}
-use Rattle.model.specs.Tries.{Tree, first-leaf-of, leaf, node, size, zero-cell}
+use Rattle.model.specs.Tries.{Tree, first-leaf-of, trie-of, zero-cell}
 use Rattle.model.specs.Rebuilding.{lay, laid, side-of}
 use Rattle.model.proofs.Cells.{length-lay}
 use Rattle.rebuilding.specs.declared.Run.{Run}
@@ -57,11 +57,18 @@ pub record Top (n : ℕ) (runs : List Run) (top i : ℕ) : Type 0 where
   pub ends : at-run runs (top - 1) .to ≤ n
   pub room : i + (at-run runs (top - 1) .to - at-run runs (top - 1) .from) ≤ n
 
-module _ (lens digits slots : List ℕ) (n : ℕ) where
-  pub topped : (cells : List Cell) (runs : List Run) (top i : ℕ) → State lens digits slots n cells runs top i → i < n → Top n runs top i
+-- The two runs that a root leaves.
+abbrev right-of : ℕ → Run → Run
+right-of m r = record { from = m + 1; to = r .to }
+
+abbrev left-of : ℕ → Run → Run
+left-of m r = record { from = r .from; to = m }
+
+module _ {lens digits slots : List ℕ} {n : ℕ} where
+  pub topped : {cells : List Cell} {runs : List Run} {top i : ℕ} → State lens digits slots n cells runs top i → i < n → Top n runs top i
   unfolding Fine sizes
-  topped cells runs zero i s h = absurd (omega (arith, s .rest))
-  topped cells runs (suc t) i s h =
+  topped {top = zero} s h = absurd (omega (arith, s .rest))
+  topped {runs = runs} {top = suc t} s h =
       let e : suc t - 1 ≡ t = omega arith in
       let f = s .fine in
       let g = fine-top t runs n (f .2) in
@@ -73,6 +80,7 @@ module _ (lens digits slots : List ℕ) (n : ℕ) where
         room = rw e (omega (arith, s .rest));
       }
 
+module _ (lens digits slots : List ℕ) (n : ℕ) where
   pub started : (runs : List Run) (r : Run) → length runs ≡ 512 → r ≡ record { from = 0; to = n } → 0 < n → n ≤ 256
       → State lens digits slots n blank (set runs 0 r) 1 0
   unfolding Fine sizes todo
@@ -85,13 +93,6 @@ module _ (lens digits slots : List ℕ) (n : ℕ) where
         rest = rw g (omega arith);
         makes = rw (g, sub-zero n, append-nil);
       }
-
-  -- The two runs that a root leaves.
-  abbrev right-of : ℕ → Run → Run
-  right-of m r = record { from = m + 1; to = r .to }
-
-  abbrev left-of : ℕ → Run → Run
-  left-of m r = record { from = r .from; to = m }
 
   lay-next : (i m from to : ℕ) → from < to → m ≡ middle from (run from to lens)
       → lay i (tree lens digits slots from to)
@@ -152,7 +153,7 @@ module _ (lens digits slots : List ℕ) (n : ℕ) where
         makes = rw (sets-one cells i) q;
       }
 
-  pub next : (cells : List Cell) (runs : List Run) (top i m : ℕ) → State lens digits slots n cells runs top i → i < n
+  next : (cells : List Cell) (runs : List Run) (top i m : ℕ) → State lens digits slots n cells runs top i → i < n
       → m ≡ middle (at-run runs (top - 1) .from) (run (at-run runs (top - 1) .from) (at-run runs (top - 1) .to) lens)
       → State lens digits slots n
       (set cells i (cell-at (getD lens m 0) (getD digits m 0) slots (at-run runs (top - 1) .from) m (at-run runs (top - 1) .to) i))
@@ -160,8 +161,29 @@ module _ (lens digits slots : List ℕ) (n : ℕ) where
       (pushed (pushed (top - 1) (right-of m (at-run runs (top - 1)))) (left-of m (at-run runs (top - 1))))
       (i + 1)
   next cells runs top i m s h e =
-      let k : top ≡ suc (top - 1) = omega (arith, topped cells runs top i s h .some) in
+      let k : top ≡ suc (top - 1) = omega (arith, topped s h .some) in
       next-at cells runs (top - 1) i m (subst (λ (x : ℕ). State lens digits slots n cells runs x i) k s) h e
+
+  -- The same, of numbers and values that are known by equations.
+  pub stepped : {cells : List Cell} {runs : List Run} {top i : ℕ} {from to root right left kr kl : ℕ} {cell : Cell}
+      → State lens digits slots n cells runs top i → i < n
+      → from ≡ at-run runs (top - 1) .from
+      → to ≡ at-run runs (top - 1) .to
+      → root ≡ middle from (run from to lens)
+      → cell ≡ cell-at (getD lens root 0) (getD digits root 0) slots from root to i
+      → right ≡ root + 1
+      → left ≡ root
+      → kr ≡ cond (ltb (root + 1) to) 1 0
+      → kl ≡ cond (ltb from root) 1 0
+      → State lens digits slots n (set cells i cell)
+      (set (set runs (top - 1) (record { from = right; to = at-run runs (top - 1) .to })) (top - 1 + kr) (record { from = at-run runs (top - 1) .from; to = left }))
+      (top - 1 + kr + kl) (i + 1)
+  stepped {cells} {runs} {top} {i} {root = root} s h ef et em ec er el ekr ekl =
+      rw (ekr, ekl, ec, er, el, ef, et) (next cells runs top i root s h (rw (ef, et) at em))
+
+  pub none-rebuilt : (s : ℕ) → n ≡ 0 → s ≡ getD slots 0 0 → trie-of [] (slot s) ≡ rebuilt-of lens digits slots n
+  unfolding rebuilt-of run-tree
+  none-rebuilt s e f = rw (e, f)
 
   pub ended : (cells : List Cell) (runs : List Run) (top i : ℕ) → State lens digits slots n cells runs top i → n ≤ i → 0 < n
       → _≡_ {A = Trie} (record { cells = cells; count = n; first = 0 }) (rebuilt-of lens digits slots n)

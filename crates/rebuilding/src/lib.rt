@@ -7,7 +7,10 @@ ghost use Prim.Native.Nat.{_≤_, _<_, _+_, _-_};
 ghost use lib.ListN.{length};
 ghost use mathlib.Core.Bool.{cond};
 ghost use lib.Dec.{ltb, eqb};
+ghost use mathlib.Core.List.{[]};
+ghost use Rattle.model.specs.Tries.{trie-of};
 ghost use Rattle.rebuilding.specs.Roots.{run, least, many, place, middle};
+ghost use Rattle.rebuilding.specs.Runs.{cell-at, rebuilt-of, side-at};
 use digits::index;
 use model::Cell;
 use model::Side;
@@ -117,6 +120,7 @@ fn slot_number(x: u8) -> u16
 // The side that leads to a run: its first cell, or, where it is empty, the slot of the leaf that stands there.
 fn side_of(slots: &[u8; 257], from: usize, to: usize, cell: usize) -> Side
     requires { ⌜ (from ≤ 256) × (cell ≤ 256) ⌝ }
+    ensures { λ r. ⌜ r ≡ side-at (now (slots .entry)) from to cell ⌝ }
 {
     if from < to {
         return Side::Cell(short(cell));
@@ -124,7 +128,9 @@ fn side_of(slots: &[u8; 257], from: usize, to: usize, cell: usize) -> Side
     Side::Slot(slot_number(slots[from]))
 }
 
-fn one_less(len: u8) -> u8 {
+fn one_less(len: u8) -> u8
+    ensures { λ r. ⌜ r ≡ len - 1 ⌝ }
+{
     if len == 0 {
         return 0;
     }
@@ -142,6 +148,7 @@ fn cell_of(
     i: usize,
 ) -> Cell
     requires { ⌜ (from ≤ root) × (root < to) × (to ≤ 256) × (i + to ≤ 256 + from) ⌝ }
+    ensures { λ r. ⌜ r ≡ cell-at len digit (now (slots .entry)) from root to i ⌝ }
 {
     let left = side_of(slots, from, root, i + 1);
     let right = side_of(slots, root + 1, to, i + 1 + (root - from));
@@ -155,7 +162,7 @@ fn cell_of(
 
 // 1 where the run is not empty. An empty run is written to the stack too, and not kept.
 fn kept(from: usize, to: usize) -> usize
-    ensures { λ r. ⌜ r ≤ 1 ⌝ }
+    ensures { λ r. ⌜ (r ≤ 1) × (r ≡ cond (ltb from to) 1 0) ⌝ }
 {
     if from < to {
         return 1;
@@ -163,18 +170,35 @@ fn kept(from: usize, to: usize) -> usize
     0
 }
 
+// The trie with count 0 that leads every name to one slot.
+fn lone(first: u16) -> Trie
+    ensures { λ r. ⌜ r ≡ trie-of [] (Side.Slot first) ⌝ }
+{
+    Trie {
+        cells: [Cell {
+            digit: 0,
+            number: 0,
+            left: Side::Slot(0),
+            right: Side::Slot(0),
+        }; 256],
+        count: 0,
+        first,
+    }
+}
+
 // The trie of the strings.
 pub fn rebuilt(strings: Strings) -> Trie
     requires { ⌜ strings .count ≤ 256 ⌝ }
+    ensures { λ r. ⌜ r ≡ rebuilt-of (strings .lens) (strings .digits) (strings .slots) (strings .count) ⌝ }
 {
     let lens = strings.lens;
     let digits = strings.digits;
     let slots = strings.slots;
     let count = strings.count;
-    let mut trie = trie::lone(0);
     if count == 0 {
-        return trie::lone(slot_number(slots[0]));
+        return lone(slot_number(slots[0]));
     }
+    let mut trie = lone(0);
     let mut runs = [Run { from: 0, to: 0 }; 512];
     let whole = Run {
         from: 0,
@@ -184,22 +208,10 @@ pub fn rebuilt(strings: Strings) -> Trie
     let mut top = 1usize;
     let mut i = 0usize;
     while i < count {
-        if top == 0 {
-            return trie;
-        }
         top -= 1;
         let run = runs[top];
         let from = number(run.from);
         let to = number(run.to);
-        if to <= from {
-            return trie;
-        }
-        if count < to {
-            return trie;
-        }
-        if count - i < to - from {
-            return trie;
-        }
         let root = root_of(&lens, from, to);
         let cell = cell_of(lens[root], digits[root], &slots, from, root, to, i);
         trie.cells[i] = cell;
