@@ -1,14 +1,14 @@
 -- The model's root of a run is the middle one of its strings' lengths, from wherever places are counted.
-use mathlib.Core.Path.{_∙_, _≡_, ap, refl, sym}
+use mathlib.Core.Path.{_∙_, _≡_, refl, sym}
 use mathlib.Core.Bool.{Bool, cond, false, true}
 use mathlib.Core.List.{List, [], _∷_, map}
-use Prim.Native.Nat.{_+_, _-_, _/_, _<_, _≤_, min, suc, zero, ℕ}
+use Prim.Native.Nat.{_+_, _-_, _/_, _≤_, min, suc, zero, ℕ}
 use native.Mathlib.Decide.{ℕ-discrete}
-use native.Mathlib.Nat.{add-suc, add-zero, zero-add}
+use native.Mathlib.Nat.{add-suc, add-zero}
 use native.Mathlib.Omega.{arith}
 use lib.Dec.{eqb, ltb}
 use lib.ListN.{getD, length}
-use borrow.Author.Tests.{eq-eqb, le-ltb, lt-ltb, ltb-false, ltb-true, ne-eqb}
+use borrow.Author.Tests.{eq-eqb, ltb-false, ltb-true, ne-eqb}
 use Rattle.model.specs.Order.{Str}
 use Rattle.model.specs.Rebuilding.{fewest, kept, pick, places}
 use Rattle.rebuilding.specs.Roots.{least, many, middle, place}

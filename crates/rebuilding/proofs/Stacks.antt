@@ -1,23 +1,21 @@
 -- The stack of runs whose cells are not written yet, the run to write next on top: its cells, its sizes, and a push.
-use mathlib.Core.Path.{_∙_, _≡_, ap, refl, sym}
+use mathlib.Core.Path.{_≡_, refl}
 use mathlib.Core.Bool.{Bool, cond, false, true}
-use mathlib.Core.List.{List, [], _++_, _∷_, append-assoc}
+use mathlib.Core.List.{List, [], _++_}
 use Prim.Native.Nat.{_+_, _-_, _<_, _≤_, suc, zero, ℕ}
 use native.Mathlib.Omega.{arith}
 use native.Mathlib.Decide.{decLt}
 use native.Mathlib.Nat.{add-zero}
 use native.Mathlib.Numerals.{add-one}
 use lib.Dec.{ltb}
-use lib.ListN.{getD, length, set, length-append, length-set}
+use lib.ListN.{getD, length, set, length-append}
 use lib.Seq.{getD-set-other, getD-set-same}
 use borrow.Author.Tests.{le-ltb, lt-ltb}
 use Rattle.model.specs.declared.Cell.{Cell}
-use Rattle.model.specs.Tries.{Tree, leaf, node, size}
-use Rattle.model.specs.Rebuilding.{lay, side-of}
+use Rattle.model.specs.Rebuilding.{lay}
 use Rattle.model.proofs.Cells.{length-lay}
 use Rattle.rebuilding.specs.declared.Run.{Run}
-use Rattle.rebuilding.specs.Runs.{run-tree}
-use Rattle.rebuilding.proofs.Trees.{size-tree, tree, tree-leaf, tree-node}
+use Rattle.rebuilding.proofs.Trees.{size-tree, tree, tree-leaf}
 
 abbrev pub no-run : Run
 no-run = record { from = 0; to = 0 }

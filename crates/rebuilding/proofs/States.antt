@@ -1,20 +1,20 @@
 -- The loop of rebuild: what holds before each cell is written, at the start, from one cell to the next, and at the end.
 use mathlib.Core.Path.{_∙_, _≡_, refl, subst, sym}
-use mathlib.Core.Bool.{Bool, cond, false, true}
+use mathlib.Core.Bool.{cond}
 use mathlib.Core.List.{List, [], _++_, _∷_, append-assoc, append-nil}
 use Prim.Native.Nat.{_+_, _-_, _<_, _≤_, suc, zero, ℕ}
 use native.Mathlib.Omega.{arith}
-use native.Mathlib.Nat.{add-zero, sub-zero, suc-sub-suc, zero-add, zero-sub}
+use native.Mathlib.Nat.{sub-zero, suc-sub-suc, zero-add, zero-sub}
 use native.Mathlib.Numerals.{add-one}
 use lib.Dec.{ltb}
-use lib.ListN.{drop, getD, length, length-append, length-replicate, length-set, replicate, set, take}
+use lib.ListN.{drop, getD, length, length-replicate, length-set, replicate, set}
 use lib.Seq.{getD-set-same, sets, sets-eq}
 use borrow.Author.Tests.{lt-ltb}
 use Rattle.model.specs.declared.Cell.{Cell}
 use Rattle.model.specs.declared.Side.the-variants.{Cell as further, Slot as slot}
 use Rattle.model.specs.declared.Trie.{Trie}
-use Rattle.model.specs.Tries.{Tree, first-leaf-of, trie-of, zero-cell}
-use Rattle.model.specs.Rebuilding.{lay, laid, side-of}
+use Rattle.model.specs.Tries.{trie-of, zero-cell}
+use Rattle.model.specs.Rebuilding.{lay, side-of}
 use Rattle.model.proofs.Cells.{length-lay}
 use Rattle.rebuilding.specs.declared.Run.{Run}
 use Rattle.rebuilding.specs.Roots.{middle, run}

@@ -1,11 +1,8 @@
+-- `cell_of` meets its contract: it puts together what its parts ensure.
 use borrow.Author.Needs.{needs}
 use Rattle.rebuilding.specs.Runs.{cell-at}
 use Rattle.rebuilding.proofs.cell_of.Statement.{statement}
 use Rattle.rebuilding.proofs.cell_of.Tie as tie
-use Rattle.rebuilding.proofs.cell_of.Reads as reads
-use Rattle.rebuilding.proofs.cell_of.Lts as lts
-use Rattle.rebuilding.proofs.one_less.Reads as one-less-reads
-use Rattle.rebuilding.proofs.side_of.Reads as side-of-reads
 
 add-side-of : tie.Need-add-side-of
 add-side-of c = search needs

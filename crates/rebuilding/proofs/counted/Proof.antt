@@ -1,13 +1,9 @@
+-- `counted` meets its contract, by the test that led to each answer.
 use borrow.Author.Tests.{eq-eqb, ne-eqb}
-use Prim.Native.Nat.{ℕ, _≤_, _-_, _<_, _+_, _*_}
 use native.Mathlib.Omega.{arith}
-use mathlib.Core.Path.{_≡_, refl, sym, _∙_}
-use lib.ListN.{length, take, drop, getD}
 use borrow.Author.Needs.{needs}
 use Rattle.rebuilding.proofs.counted.Statement.{statement}
 use Rattle.rebuilding.proofs.counted.Tie as tie
-use Rattle.rebuilding.proofs.counted.Reads as reads
-use Rattle.rebuilding.proofs.counted.Lts as lts
 
 add-result : tie.Need-add-result
 add-result c = search needs

@@ -1,15 +1,11 @@
-use Prim.Native.Nat.{ℕ, _≤_, _-_, _<_, _+_, _*_}
-use native.Mathlib.Omega.{arith}
-use mathlib.Core.Path.{_≡_, refl, sym, _∙_}
-use lib.ListN.{length, take, drop, getD}
+-- `fewest` meets its contract: the least so far and what is left of the run have the run's least.
+use Prim.Native.Nat.{_≤_, _-_}
+use mathlib.Core.Path.{_≡_, sym, _∙_}
 use borrow.Author.Needs.{needs}
 use Rattle.rebuilding.specs.Roots.{run, least as leastOf}
 use Rattle.rebuilding.proofs.Laws.{least-end, least-next}
 use Rattle.rebuilding.proofs.fewest.Statement.{statement}
 use Rattle.rebuilding.proofs.fewest.Tie as tie
-use Rattle.rebuilding.proofs.fewest.Reads as reads
-use Rattle.rebuilding.proofs.fewest.Lts as lts
-use Rattle.rebuilding.proofs.lesser.Reads as lesser-reads
 
 abbrev Inv-loop : tie.InvT-loop
 Inv-loop lens from to least₀ i₀ least i = (i ≤ to) × (leastOf 255 (run from to lens) ≡ leastOf least (run i to lens))

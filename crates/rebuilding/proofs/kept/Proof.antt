@@ -1,3 +1,4 @@
+-- `kept` meets its contract, by the test that led to each answer.
 use borrow.Author.Tests.{le-ltb, lt-ltb}
 use native.Mathlib.Omega.{arith}
 use Rattle.rebuilding.proofs.kept.Statement.{statement}

@@ -1,13 +1,7 @@
+-- `lesser` meets its contract, by the test that led to each answer.
 use borrow.Author.Tests.{le-ltb, lt-ltb}
-use Prim.Native.Nat.{ℕ, _≤_, _-_, _<_, _+_, _*_}
-use native.Mathlib.Omega.{arith}
-use mathlib.Core.Path.{_≡_, refl, sym, _∙_}
-use lib.ListN.{length, take, drop, getD}
-use borrow.Author.Needs.{needs}
 use Rattle.rebuilding.proofs.lesser.Statement.{statement}
 use Rattle.rebuilding.proofs.lesser.Tie as tie
-use Rattle.rebuilding.proofs.lesser.Reads as reads
-use Rattle.rebuilding.proofs.lesser.Lts as lts
 
 returns : tie.Need-returns
 returns c = rw (lt-ltb _ _ (c .if1 .taken))

@@ -1,15 +1,12 @@
-use Prim.Native.Nat.{ℕ, _≤_, _-_, _<_, _+_, _*_}
-use native.Mathlib.Omega.{arith}
-use mathlib.Core.Path.{_≡_, refl, sym, _∙_}
-use lib.ListN.{length, take, drop, getD}
+-- `place_of` meets its contract: the place is the one that what is left of the run has.
+use Prim.Native.Nat.{_≤_, _-_}
+use mathlib.Core.Path.{_≡_, sym, _∙_}
 use borrow.Author.Needs.{needs}
 use mathlib.Core.Logic.{⊎-elim}
 use Rattle.rebuilding.specs.Roots.{place, run}
 use Rattle.rebuilding.proofs.Laws.{place-end, place-here, place-later, place-other}
 use Rattle.rebuilding.proofs.place_of.Statement.{statement}
 use Rattle.rebuilding.proofs.place_of.Tie as tie
-use Rattle.rebuilding.proofs.place_of.Reads as reads
-use Rattle.rebuilding.proofs.place_of.Lts as lts
 
 abbrev Inv-loop : tie.InvT-loop
 Inv-loop lens from to digits before left₀ i₀ left i = (from ≤ i) × (i ≤ to) × (place from from digits before (run from to lens) ≡ place from i digits left (run i to lens))

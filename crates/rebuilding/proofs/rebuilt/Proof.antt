@@ -1,21 +1,12 @@
+-- `rebuilt` meets its contract: the cells written and those of the stacked runs make the whole (proofs/States.antt).
 use borrow.Author.Needs.{needs}
-use Prim.Native.Nat.{_<_, _≤_, _-_}
+use Prim.Native.Nat.{_-_}
 use mathlib.Core.Path.{_≡_, _∙_, refl}
 use lib.ListN.{length-replicate, replicate}
-use native.Mathlib.Omega.{arith}
 use Rattle.rebuilding.proofs.Stacks.{no-run}
 use Rattle.rebuilding.proofs.States.{State, ended, none-rebuilt, started, stepped, topped}
 use Rattle.rebuilding.proofs.rebuilt.Statement.{statement}
 use Rattle.rebuilding.proofs.rebuilt.Tie as tie
-use Rattle.rebuilding.proofs.rebuilt.Reads as reads
-use Rattle.rebuilding.proofs.rebuilt.Lts as lts
-use Rattle.rebuilding.proofs.cell_of.Reads as cell-of-reads
-use Rattle.rebuilding.proofs.kept.Reads as kept-reads
-use Rattle.rebuilding.proofs.lone.Reads as lone-reads
-use Rattle.rebuilding.proofs.root_of.Reads as root-of-reads
-use Rattle.rebuilding.proofs.short.Reads as short-reads
-use Rattle.rebuilding.proofs.slot_number.Reads as slot-number-reads
-use Rattle.trie.proofs.number.Reads as number-reads
 
 abbrev Inv-loop : tie.InvT-loop
 Inv-loop lens digits slots count trie₀ runs₀ top₀ i₀ trie runs top i = State lens digits slots count (trie .cells) runs top i × (trie .first ≡ 0)

@@ -1,14 +1,10 @@
+-- `root_of` meets its contract: it puts together what its three parts ensure.
 use borrow.Author.Needs.{needs}
 use mathlib.Core.Path.{_∙_, sym}
 use Rattle.rebuilding.specs.Roots.{run}
 use Rattle.rebuilding.proofs.Laws.{middle-is}
 use Rattle.rebuilding.proofs.root_of.Statement.{statement}
 use Rattle.rebuilding.proofs.root_of.Tie as tie
-use Rattle.rebuilding.proofs.root_of.Reads as reads
-use Rattle.rebuilding.proofs.root_of.Lts as lts
-use Rattle.rebuilding.proofs.fewest.Reads as fewest-reads
-use Rattle.rebuilding.proofs.how_many.Reads as how-many-reads
-use Rattle.rebuilding.proofs.place_of.Reads as place-of-reads
 
 fewest-requires : tie.Need-fewest-requires
 fewest-requires c κs = search needs

@@ -1,12 +1,9 @@
+-- `side_of` meets its contract, by the test that led to each answer.
 use borrow.Author.Needs.{needs}
 use borrow.Author.Tests.{le-ltb, lt-ltb}
 use Rattle.rebuilding.specs.Runs.{side-at}
 use Rattle.rebuilding.proofs.side_of.Statement.{statement}
 use Rattle.rebuilding.proofs.side_of.Tie as tie
-use Rattle.rebuilding.proofs.side_of.Reads as reads
-use Rattle.rebuilding.proofs.side_of.Lts as lts
-use Rattle.rebuilding.proofs.short.Reads as short-reads
-use Rattle.rebuilding.proofs.slot_number.Reads as slot-number-reads
 
 short-requires : tie.Need-short-requires
 short-requires c κs = search needs
