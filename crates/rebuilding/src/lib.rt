@@ -5,6 +5,12 @@
 ghost use mathlib.Core.Path.{_≡_};
 ghost use Prim.Native.Nat.{_≤_, _<_, _+_, _-_};
 ghost use lib.ListN.{length};
+ghost use mathlib.Core.Bool.{cond};
+ghost use lib.Dec.{ltb, eqb};
+ghost use mathlib.Core.List.{[]};
+ghost use Rattle.model.specs.Tries.{trie-of};
+ghost use Rattle.rebuilding.specs.Roots.{run, least, many, place, middle};
+ghost use Rattle.rebuilding.specs.Runs.{cell-at, rebuilt-of, side-at};
 use digits::index;
 use model::Cell;
 use model::Side;
@@ -25,7 +31,9 @@ fn short(x: usize) -> u16
     x as u16
 }
 
-fn lesser(x: u8, y: u8) -> u8 {
+fn lesser(x: u8, y: u8) -> u8
+    ensures { λ r. ⌜ r ≡ cond (ltb x y) x y ⌝ }
+{
     if x < y {
         return x;
     }
@@ -35,6 +43,7 @@ fn lesser(x: u8, y: u8) -> u8 {
 // The fewest digits that a string of the run has.
 fn fewest(lens: &[u8; 256], from: usize, to: usize) -> u8
     requires { ⌜ (from < to) × (to ≤ 256) ⌝ }
+    ensures { λ r. ⌜ r ≡ least 255 (run from to (now (lens .entry))) ⌝ }
 {
     let mut least = 255;
     let mut i = from;
@@ -48,7 +57,7 @@ fn fewest(lens: &[u8; 256], from: usize, to: usize) -> u8
 // One more where the two are equal.
 fn counted(n: usize, x: u8, y: u8) -> usize
     requires { ⌜ n < 256 ⌝ }
-    ensures { λ r. ⌜ r ≤ n + 1 ⌝ }
+    ensures { λ r. ⌜ (r ≤ n + 1) × (r ≡ cond (eqb x y) (n + 1) n) ⌝ }
 {
     if x == y {
         return n + 1;
@@ -59,7 +68,7 @@ fn counted(n: usize, x: u8, y: u8) -> usize
 // How many strings of the run have so many digits.
 fn how_many(lens: &[u8; 256], from: usize, to: usize, digits: u8) -> usize
     requires { ⌜ (from < to) × (to ≤ 256) ⌝ }
-    ensures { λ r. ⌜ r ≤ 256 ⌝ }
+    ensures { λ r. ⌜ (r ≤ 256) × (r ≡ many 0 digits (run from to (now (lens .entry)))) ⌝ }
 {
     let mut n = 0usize;
     let mut i = from;
@@ -73,7 +82,7 @@ fn how_many(lens: &[u8; 256], from: usize, to: usize, digits: u8) -> usize
 // The place of the string of the run with so many digits that has `before` such strings before it.
 fn place_of(lens: &[u8; 256], from: usize, to: usize, digits: u8, before: usize) -> usize
     requires { ⌜ (from < to) × (to ≤ 256) ⌝ }
-    ensures { λ r. ⌜ (from ≤ r) × (r < to) ⌝ }
+    ensures { λ r. ⌜ (from ≤ r) × (r < to) × (r ≡ place from from digits before (run from to (now (lens .entry)))) ⌝ }
 {
     let mut left = before;
     let mut i = from;
@@ -92,12 +101,12 @@ fn place_of(lens: &[u8; 256], from: usize, to: usize, digits: u8, before: usize)
 // Of a run, the root is the middle one of the strings with fewest digits; of an even number, the lower middle.
 fn root_of(lens: &[u8; 256], from: usize, to: usize) -> usize
     requires { ⌜ (from < to) × (to ≤ 256) ⌝ }
-    ensures { λ r. ⌜ (from ≤ r) × (r < to) ⌝ }
+    ensures { λ r. ⌜ (from ≤ r) × (r < to) × (r ≡ middle from (run from to (now (lens .entry)))) ⌝ }
 {
     let digits = fewest(lens, from, to);
     let n = how_many(lens, from, to, digits);
     if n == 0 {
-        return from;
+        return place_of(lens, from, to, digits, 0);
     }
     place_of(lens, from, to, digits, (n - 1) / 2)
 }
@@ -111,6 +120,7 @@ fn slot_number(x: u8) -> u16
 // The side that leads to a run: its first cell, or, where it is empty, the slot of the leaf that stands there.
 fn side_of(slots: &[u8; 257], from: usize, to: usize, cell: usize) -> Side
     requires { ⌜ (from ≤ 256) × (cell ≤ 256) ⌝ }
+    ensures { λ r. ⌜ r ≡ side-at (now (slots .entry)) from to cell ⌝ }
 {
     if from < to {
         return Side::Cell(short(cell));
@@ -118,7 +128,9 @@ fn side_of(slots: &[u8; 257], from: usize, to: usize, cell: usize) -> Side
     Side::Slot(slot_number(slots[from]))
 }
 
-fn one_less(len: u8) -> u8 {
+fn one_less(len: u8) -> u8
+    ensures { λ r. ⌜ r ≡ len - 1 ⌝ }
+{
     if len == 0 {
         return 0;
     }
@@ -136,6 +148,7 @@ fn cell_of(
     i: usize,
 ) -> Cell
     requires { ⌜ (from ≤ root) × (root < to) × (to ≤ 256) × (i + to ≤ 256 + from) ⌝ }
+    ensures { λ r. ⌜ r ≡ cell-at len digit (now (slots .entry)) from root to i ⌝ }
 {
     let left = side_of(slots, from, root, i + 1);
     let right = side_of(slots, root + 1, to, i + 1 + (root - from));
@@ -149,7 +162,7 @@ fn cell_of(
 
 // 1 where the run is not empty. An empty run is written to the stack too, and not kept.
 fn kept(from: usize, to: usize) -> usize
-    ensures { λ r. ⌜ r ≤ 1 ⌝ }
+    ensures { λ r. ⌜ (r ≤ 1) × (r ≡ cond (ltb from to) 1 0) ⌝ }
 {
     if from < to {
         return 1;
@@ -157,18 +170,35 @@ fn kept(from: usize, to: usize) -> usize
     0
 }
 
+// The trie with count 0 that leads every name to one slot.
+fn lone(first: u16) -> Trie
+    ensures { λ r. ⌜ r ≡ trie-of [] (Side.Slot first) ⌝ }
+{
+    Trie {
+        cells: [Cell {
+            digit: 0,
+            number: 0,
+            left: Side::Slot(0),
+            right: Side::Slot(0),
+        }; 256],
+        count: 0,
+        first,
+    }
+}
+
 // The trie of the strings.
 pub fn rebuilt(strings: Strings) -> Trie
     requires { ⌜ strings .count ≤ 256 ⌝ }
+    ensures { λ r. ⌜ r ≡ rebuilt-of (strings .lens) (strings .digits) (strings .slots) (strings .count) ⌝ }
 {
     let lens = strings.lens;
     let digits = strings.digits;
     let slots = strings.slots;
     let count = strings.count;
-    let mut trie = trie::lone(0);
     if count == 0 {
-        return trie::lone(slot_number(slots[0]));
+        return lone(slot_number(slots[0]));
     }
+    let mut trie = lone(0);
     let mut runs = [Run { from: 0, to: 0 }; 512];
     let whole = Run {
         from: 0,
@@ -178,22 +208,10 @@ pub fn rebuilt(strings: Strings) -> Trie
     let mut top = 1usize;
     let mut i = 0usize;
     while i < count {
-        if top == 0 {
-            return trie;
-        }
         top -= 1;
         let run = runs[top];
         let from = number(run.from);
         let to = number(run.to);
-        if to <= from {
-            return trie;
-        }
-        if count < to {
-            return trie;
-        }
-        if count - i < to - from {
-            return trie;
-        }
         let root = root_of(&lens, from, to);
         let cell = cell_of(lens[root], digits[root], &slots, from, root, to, i);
         trie.cells[i] = cell;

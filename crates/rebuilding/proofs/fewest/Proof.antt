@@ -1,16 +1,14 @@
-use Prim.Native.Nat.{ℕ, _≤_, _-_, _<_, _+_, _*_}
-use native.Mathlib.Omega.{arith}
-use mathlib.Core.Path.{_≡_, refl, sym, _∙_}
-use lib.ListN.{length, take, drop, getD}
+-- `fewest` meets its contract: the least so far and what is left of the run have the run's least.
+use Prim.Native.Nat.{_≤_, _-_}
+use mathlib.Core.Path.{_≡_, sym, _∙_}
 use borrow.Author.Needs.{needs}
+use Rattle.rebuilding.specs.Roots.{run, least as leastOf}
+use Rattle.rebuilding.proofs.Laws.{least-end, least-next}
 use Rattle.rebuilding.proofs.fewest.Statement.{statement}
 use Rattle.rebuilding.proofs.fewest.Tie as tie
-use Rattle.rebuilding.proofs.fewest.Reads as reads
-use Rattle.rebuilding.proofs.fewest.Lts as lts
-use Rattle.rebuilding.proofs.lesser.Reads as lesser-reads
 
 abbrev Inv-loop : tie.InvT-loop
-Inv-loop lens from to least₀ i₀ least i = i ≤ to
+Inv-loop lens from to least₀ i₀ least i = (i ≤ to) × (leastOf 255 (run from to lens) ≡ leastOf least (run i to lens))
 
 abbrev μ-loop : tie.MeasureT-loop
 μ-loop lens from to least₀ i₀ least i = to - i
@@ -31,10 +29,16 @@ loop-less : tie.Need-loop-less Inv-loop μ-loop
 loop-less c = search needs
 
 loop-again : tie.Need-loop-again Inv-loop μ-loop
-loop-again c = search needs
+loop-again c =
+    let l = c .before .before .before in
+    let a = l .before .args in
+    (search needs, l .loop .inv .1 ∙ rw (c .lesser .ensures) (least-next (l .loop .least) (l .loop .i) (a .to) (a .lens .now) (search needs)))
 
 returns : tie.Need-returns Inv-loop μ-loop
-returns c = search needs
+returns c =
+    let l = c .before in
+    let a = l .before .args in
+    sym (l .loop .inv .1 ∙ least-end (l .loop .least) (l .loop .i) (a .to) (a .lens .now) (search needs))
 
 pub fewest-spec : {M : Type 1} → statement M
 fewest-spec =

@@ -1,16 +1,14 @@
-use Prim.Native.Nat.{ℕ, _≤_, _-_, _<_, _+_, _*_}
-use native.Mathlib.Omega.{arith}
-use mathlib.Core.Path.{_≡_, refl, sym, _∙_}
-use lib.ListN.{length, take, drop, getD}
+-- `how_many` meets its contract: the count so far and what is left of the run make the run's count.
+use Prim.Native.Nat.{_≤_, _-_}
+use mathlib.Core.Path.{_≡_, sym, _∙_}
 use borrow.Author.Needs.{needs}
+use Rattle.rebuilding.specs.Roots.{many, run}
+use Rattle.rebuilding.proofs.Laws.{many-end, many-next}
 use Rattle.rebuilding.proofs.how_many.Statement.{statement}
 use Rattle.rebuilding.proofs.how_many.Tie as tie
-use Rattle.rebuilding.proofs.how_many.Reads as reads
-use Rattle.rebuilding.proofs.how_many.Lts as lts
-use Rattle.rebuilding.proofs.counted.Reads as counted-reads
 
 abbrev Inv-loop : tie.InvT-loop
-Inv-loop lens from to digits n₀ i₀ n i = (i ≤ to) × (n ≤ i)
+Inv-loop lens from to digits n₀ i₀ n i = (i ≤ to) × (n ≤ i) × (many 0 digits (run from to lens) ≡ many n digits (run i to lens))
 
 abbrev μ-loop : tie.MeasureT-loop
 μ-loop lens from to digits n₀ i₀ n i = to - i
@@ -31,10 +29,19 @@ loop-less : tie.Need-loop-less Inv-loop μ-loop
 loop-less c = search needs
 
 loop-again : tie.Need-loop-again Inv-loop μ-loop
-loop-again c = search needs
+loop-again c =
+    let l = c .before .before .before in
+    let a = l .before .args in (
+      search needs,
+      search needs,
+      l .loop .inv .2 ∙ rw (c .counted .ensures .1) (many-next (l .loop .n) (l .loop .i) (a .to) (a .lens .now) (a .digits) (search needs)),
+    )
 
 returns : tie.Need-returns Inv-loop μ-loop
-returns c = search needs
+returns c =
+    let l = c .before in
+    let a = l .before .args in
+    (search needs, sym (l .loop .inv .2 ∙ many-end (l .loop .n) (l .loop .i) (a .to) (a .lens .now) (a .digits) (search needs)))
 
 pub how-many-spec : {M : Type 1} → statement M
 how-many-spec =

@@ -1,15 +1,15 @@
-use Prim.Native.Nat.{ℕ, _≤_, _-_, _<_, _+_, _*_}
-use native.Mathlib.Omega.{arith}
-use mathlib.Core.Path.{_≡_, refl, sym, _∙_}
-use lib.ListN.{length, take, drop, getD}
+-- `place_of` meets its contract: the place is the one that what is left of the run has.
+use Prim.Native.Nat.{_≤_, _-_}
+use mathlib.Core.Path.{_≡_, sym, _∙_}
 use borrow.Author.Needs.{needs}
+use mathlib.Core.Logic.{⊎-elim}
+use Rattle.rebuilding.specs.Roots.{place, run}
+use Rattle.rebuilding.proofs.Laws.{place-end, place-here, place-later, place-other}
 use Rattle.rebuilding.proofs.place_of.Statement.{statement}
 use Rattle.rebuilding.proofs.place_of.Tie as tie
-use Rattle.rebuilding.proofs.place_of.Reads as reads
-use Rattle.rebuilding.proofs.place_of.Lts as lts
 
 abbrev Inv-loop : tie.InvT-loop
-Inv-loop lens from to digits before left₀ i₀ left i = (from ≤ i) × (i ≤ to)
+Inv-loop lens from to digits before left₀ i₀ left i = (from ≤ i) × (i ≤ to) × (place from from digits before (run from to lens) ≡ place from i digits left (run i to lens))
 
 abbrev μ-loop : tie.MeasureT-loop
 μ-loop lens from to digits before left₀ i₀ left i = to - i
@@ -21,7 +21,10 @@ element-copy-out-if1 : tie.Need-element-copy-out-if1 Inv-loop μ-loop
 element-copy-out-if1 c = search needs
 
 returns : tie.Need-returns Inv-loop μ-loop
-returns c = search needs
+returns c =
+    let l = c .before .before .before .before in
+    let a = l .before .args in
+    (search needs, search needs, sym (l .loop .inv .2 ∙ place-here (a .from) (l .loop .i) (a .digits) (l .loop .left) (l .loop .i) (a .to) (a .lens .now) (search needs) (c .before .if1 .taken) (c .if2 .taken)))
 
 sub-left : tie.Need-sub-left Inv-loop μ-loop
 sub-left c = search needs
@@ -33,10 +36,22 @@ loop-less : tie.Need-loop-less Inv-loop μ-loop
 loop-less c = search needs
 
 loop-again : tie.Need-loop-again Inv-loop μ-loop
-loop-again c = search needs
+loop-again c =
+    let l = c .before .before .before in
+    let a = l .before .args in (
+      search needs,
+      search needs,
+      l .loop .inv .2 ∙ ⊎-elim
+          (λ w. rw (w .2) (place-later (a .from) (l .loop .i) (a .digits) (l .loop .left) (l .loop .i) (a .to) (a .lens .now) (search needs) (w .0 .taken) (w .1 .left)))
+          (λ w. rw (w .1) (place-other (a .from) (l .loop .i) (a .digits) (l .loop .left) (l .loop .i) (a .to) (a .lens .now) (search needs) (w .0 .left)))
+          (c .if1 .came),
+    )
 
 returns-2 : tie.Need-returns-2 Inv-loop μ-loop
-returns-2 c = search needs
+returns-2 c =
+    let l = c .before in
+    let a = l .before .args in
+    (search needs, search needs, sym (l .loop .inv .2 ∙ place-end (a .from) (l .loop .i) (a .digits) (l .loop .left) (l .loop .i) (a .to) (a .lens .now) (search needs)))
 
 pub place-of-spec : {M : Type 1} → statement M
 place-of-spec =
