@@ -12,10 +12,16 @@ index-requires : tie.Need-index-requires
 index-requires c κs = search needs
 
 returns : tie.Need-returns
-returns c = (count-most (c .before .before .before .before .args .b) (c .before .index .result) (c .before .before .before .before .args .slot .now) (c .before .index .ensures .0) (omega arith), omega arith)
+returns c =
+    let l = c .before in
+    let a = l .before .before .before .args in
+    (count-most (a .b) (l .index .result) (a .slot .now) (l .index .ensures .0) (omega arith), omega arith)
 
 returns-2 : tie.Need-returns-2
-returns-2 c = (count-read (c .before .before .before .before .args .b) (c .before .index .result) (c .before .before .before .before .args .slot .now) (c .before .index .ensures .0) (omega arith), omega arith)
+returns-2 c =
+    let l = c .before in
+    let a = l .before .before .before .args in
+    (count-read (a .b) (l .index .result) (a .slot .now) (l .index .ensures .0) (omega arith), omega arith)
 
 pub count-of-spec : {M : Type 1} → statement M
 count-of-spec = tie.close (tie.spec shared-slice-read-index index-requires returns returns-2)

@@ -21,7 +21,10 @@ part-result-end : tie.Need-part-result-end
 part-result-end c = search needs
 
 returns : tie.Need-returns
-returns c = (bound-none 3 32 (c .before .before .index .result) (c .before .before .before .before .before .args .slot .now) (c .before .before .index .ensures .0) (omega arith), omega arith)
+returns c =
+    let l = c .before .before in
+    let a = l .before .before .before .args in
+    (bound-none 3 32 (l .index .result) (a .slot .now) (l .index .ensures .0) (omega arith), omega arith)
 
 add-end : tie.Need-add-end
 add-end c = search needs
@@ -36,7 +39,10 @@ part-result-end-2 : tie.Need-part-result-end-2
 part-result-end-2 c = search needs
 
 returns-2 : tie.Need-returns-2
-returns-2 c = bound-read 3 32 (c .before .before .index .result) (c .before .before .before .before .before .args .slot .now) (c .before .before .index .ensures .0) (omega arith)
+returns-2 c =
+    let l = c .before .before in
+    let a = l .before .before .before .args in
+    bound-read 3 32 (l .index .result) (a .slot .now) (l .index .ensures .0) (omega arith)
 
 pub upper-of-spec : {M : Type 1} → statement M
 upper-of-spec =

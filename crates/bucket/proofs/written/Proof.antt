@@ -45,10 +45,17 @@ copy-requires-3 : tie.Need-copy-requires-3
 copy-requires-3 c κs = search needs
 
 returns : tie.Need-returns
-returns c = let a = c .before .before .before .before .before .before .before .before .before .before .before .before .before .before .before .args in
-    written-copies (a .lower .now) (a .upper .now) (a .entries .now) (c .before .before .before .before .before .before .before .copy .last .0) (c .before .before .before .before .copy2 .last .0) (c .before .copy3 .last .0)
-    (c .before .before .before .before .before .before .before .before .before .before .before .byte .result) (c .before .before .before .before .before .before .before .before .before .before .byte2 .result) (c .before .before .before .before .before .before .before .before .before .byte3 .result) (omega arith) (omega arith) (omega arith)
-    (c .before .before .before .before .before .before .before .before .before .before .before .byte .ensures) (c .before .before .before .before .before .before .before .before .before .before .byte2 .ensures) (c .before .before .before .before .before .before .before .before .before .byte3 .ensures) (c .before .before .before .before .before .before .before .copy .ensures) (c .before .before .before .before .copy2 .ensures) (c .before .copy3 .ensures)
+returns c =
+    let s₃ = c .before in
+    let s₂ = s₃ .before .before .before in
+    let s₁ = s₂ .before .before .before in
+    let b₃ = s₁ .before .before in
+    let b₂ = b₃ .before in
+    let b₁ = b₂ .before in
+    let a = b₁ .before .before .before .before .args in
+    written-copies (a .lower .now) (a .upper .now) (a .entries .now) (s₁ .copy .last .0) (s₂ .copy2 .last .0) (s₃ .copy3 .last .0)
+    (b₁ .byte .result) (b₂ .byte2 .result) (b₃ .byte3 .result) (omega arith) (omega arith) (omega arith)
+    (b₁ .byte .ensures) (b₂ .byte2 .ensures) (b₃ .byte3 .ensures) (s₁ .copy .ensures) (s₂ .copy2 .ensures) (s₃ .copy3 .ensures)
 
 pub written-spec : {M : Type 1} → statement M
 written-spec =

@@ -42,9 +42,13 @@ copy-requires-2 : tie.Need-copy-requires-2
 copy-requires-2 c κs = search needs
 
 returns : tie.Need-returns
-returns c = let a = c .before .before .before .before .before .before .before .before .before .before .args in
-    changed-copies (a .entries .now) (a .count) (a .i) (omega arith) (omega arith) (c .before .before .before .value-bytes .result)
-    (c .before .before .before .before .before .before .copy .last .0) (c .before .copy2 .last .0) (a .value) (omega arith) (c .before .before .before .value-bytes .ensures) (c .before .before .before .before .before .before .copy .ensures) (c .before .copy2 .ensures)
+returns c =
+    let m₂ = c .before in
+    let w = m₂ .before .before in
+    let m₁ = w .before .before .before in
+    let a = m₁ .before .before .before .before .args in
+    changed-copies (a .entries .now) (a .count) (a .i) (omega arith) (omega arith) (w .value-bytes .result) (m₁ .copy .last .0)
+    (m₂ .copy2 .last .0) (a .value) (omega arith) (w .value-bytes .ensures) (m₁ .copy .ensures) (m₂ .copy2 .ensures)
 
 pub changed-value-spec : {M : Type 1} → statement M
 changed-value-spec =

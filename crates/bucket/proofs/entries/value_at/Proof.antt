@@ -124,8 +124,16 @@ add-result-7 : tie.Need-add-result-7
 add-result-7 c = search needs
 
 returns : tie.Need-returns
-returns c = let a = c .before .before .before .before .before .before .before .before .before .before .before .before .before .before .before .before .before .args in
-    rw (c .before .before .before .before .before .before .before .before .before .before .before .before .before .before .wide .ensures .0, c .before .before .before .before .before .before .before .before .before .before .before .before .wide2 .ensures .0, c .before .before .before .before .before .before .before .before .before .before .wide3 .ensures .0, c .before .before .before .before .before .before .before .before .wide4 .ensures .0, c .before .before .before .before .before .before .wide5 .ensures .0, c .before .before .before .before .wide6 .ensures .0, c .before .before .wide7 .ensures .0, c .wide8 .ensures .0) (value-read (32 * a .i + 24) (a .entries .now) (omega arith))
+returns c =
+    let w₇ = c .before .before in
+    let w₆ = w₇ .before .before in
+    let w₅ = w₆ .before .before in
+    let w₄ = w₅ .before .before in
+    let w₃ = w₄ .before .before in
+    let w₂ = w₃ .before .before in
+    let w₁ = w₂ .before .before in
+    let a = w₁ .before .before .before .args in
+    rw (w₁ .wide .ensures .0, w₂ .wide2 .ensures .0, w₃ .wide3 .ensures .0, w₄ .wide4 .ensures .0, w₅ .wide5 .ensures .0, w₆ .wide6 .ensures .0, w₇ .wide7 .ensures .0, c .wide8 .ensures .0) (value-read (32 * a .i + 24) (a .entries .now) (omega arith))
 
 pub value-at-spec : {M : Type 1} → statement M
 value-at-spec =

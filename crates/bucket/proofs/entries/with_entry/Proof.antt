@@ -68,11 +68,17 @@ copy-requires-4 : tie.Need-copy-requires-4
 copy-requires-4 c κs = search needs
 
 returns : tie.Need-returns
-returns c = let a = c .before .before .before .before .before .before .before .before .before .before .before .before .before .before .before .before .before .before .args in
+returns c =
+    let m₄ = c .before in
+    let m₃ = m₄ .before .before .before .before in
+    let w = m₃ .before .before in
+    let m₂ = w .before .before .before in
+    let m₁ = m₂ .before .before .before .before in
+    let a = m₁ .before .before .before .before .args in
     let named : length (a .name .now) ≡ 24 = search needs in
-    with-copies (a .entries .now) (a .count) (a .i) (omega arith) (omega arith) (a .name .now) (c .before .before .before .before .before .before .before .value-bytes .result)
-    (c .before .before .before .before .before .before .before .before .before .before .before .before .before .before .copy .last .0) (c .before .before .before .before .before .before .before .before .before .before .copy2 .last .0) (c .before .before .before .before .before .copy3 .last .0) (c .before .copy4 .last .0) (a .value) (omega arith) named
-    (c .before .before .before .before .before .before .before .value-bytes .ensures) (c .before .before .before .before .before .before .before .before .before .before .before .before .before .before .copy .ensures) (c .before .before .before .before .before .before .before .before .before .before .copy2 .ensures) (c .before .before .before .before .before .copy3 .ensures) (c .before .copy4 .ensures)
+    with-copies (a .entries .now) (a .count) (a .i) (omega arith) (omega arith) (a .name .now) (w .value-bytes .result)
+    (m₁ .copy .last .0) (m₂ .copy2 .last .0) (m₃ .copy3 .last .0) (m₄ .copy4 .last .0) (a .value) (omega arith) named
+    (w .value-bytes .ensures) (m₁ .copy .ensures) (m₂ .copy2 .ensures) (m₃ .copy3 .ensures) (m₄ .copy4 .ensures)
 
 pub with-entry-spec : {M : Type 1} → statement M
 with-entry-spec =

@@ -45,9 +45,12 @@ copy-requires-2 : tie.Need-copy-requires-2
 copy-requires-2 c κs = search needs
 
 returns : tie.Need-returns
-returns c = let a = c .before .before .before .before .before .before .before .before .before .args in
-    without-copies (a .entries .now) (a .count) (a .i) (omega arith) (omega arith)
-    (c .before .before .before .before .before .copy .last .0) (c .before .copy2 .last .0) (omega arith) (c .before .before .before .before .before .copy .ensures) (c .before .copy2 .ensures)
+returns c =
+    let m₂ = c .before in
+    let m₁ = m₂ .before .before .before .before in
+    let a = m₁ .before .before .before .before .args in
+    without-copies (a .entries .now) (a .count) (a .i) (omega arith) (omega arith) (m₁ .copy .last .0) (m₂ .copy2 .last .0) (omega arith)
+    (m₁ .copy .ensures) (m₂ .copy2 .ensures)
 
 pub without-entry-spec : {M : Type 1} → statement M
 without-entry-spec =
