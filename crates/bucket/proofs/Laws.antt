@@ -1,5 +1,6 @@
 -- Bytes put one behind another into zeros, and what the entries of a bucket become on a change.
 use mathlib.Core.Path.{_∙_, _≡_, ap, ap₂, refl, sym}
+use mathlib.Core.Option.{Option, none as nothing, some}
 use mathlib.Core.List.{List, [], _++_, _∷_, append-assoc}
 use Prim.Native.Nat.{_%_, _*_, _+_, _-_, _/_, _<_, _≤_, suc, zero, ℕ}
 use native.Mathlib.Nat.{add-sub-cancel-left, add-zero, zero-add}
@@ -7,9 +8,16 @@ use native.Mathlib.Omega.{arith}
 use lib.ListN.{drop, getD, length, length-append, length-drop, length-replicate, length-take, replicate, set, take}
 use lib.Seq.{drop-append-add, drop-append-le, drop-at, drop-cons, length-paste, length-take-le, paste, take-all, take-append-add, take-append-le, take-at, take-length, take-take}
 use borrow.Author.Tests.{le-ltb, lt-ltb}
-use Rattle.model.specs.Format.{littleEndian, padded, valueBytes, valueOf}
-use Rattle.model.proofs.Format.{length-padded, length-valueBytes, padded-short}
-use Rattle.bucket.specs.Entries.{changedValue, withEntry, withoutEntry}
+use Rattle.model.specs.Order.{Low, Str, _◁_, le?, over, str?}
+use Rattle.model.specs.Names.{Legal}
+use Rattle.model.specs.Entries.{Entry, Row, entry, find, insert, keep, no-entries, not?, without}
+use Rattle.model.specs.Files.{used}
+use Rattle.model.specs.Format.{entriesBytes, entryBytes, littleEndian, lowDigits, padded, slotBytes, slotSize, valueBytes, valueOf}
+use Rattle.model.proofs.Order.{le-refl, low-at, low-lower}
+use Rattle.model.proofs.Names.{legal-length}
+use Rattle.model.proofs.Entries.{chosen-no, chosen-yes, keep-all}
+use Rattle.model.proofs.Format.{length-entriesBytes, length-padded, length-valueBytes, padded-short}
+use Rattle.bucket.specs.Entries.{changedValue, place, withEntry, withoutEntry}
 use Rattle.bucket.specs.Slots.{boundAt, countAt, writtenBytes}
 
 drop-zeros : (n m : ℕ) → _≡_ {A = List ℕ} (drop n (replicate m 0)) (replicate (m - n) 0)
@@ -216,3 +224,145 @@ written-copies lower upper entries m₁ m₂ m₃ a b c hl hu he i j k q₁ q₂
   where
     joined : (u x y z w : List ℕ) → u ++ x ++ y ++ z ++ w ≡ u ++ (x ++ (y ++ (z ++ w)))
     joined u x y z w = simp append-assoc
+
+-- A slot that is written whole is the slot's bytes, as far as its entries reach.
+pub written-slot : (b : ℕ) (l : Low) (u : Str) {k : Low} {v : Str} {es : List Entry} → Row k es v → b ≤ 16
+    → take (slotSize b) (writtenBytes (lowDigits l) u (entriesBytes es)) ≡ slotBytes b (used l u es)
+unfolding writtenBytes slotBytes slotSize
+written-slot b l u {es = es} r h =
+    let x = padded 24 (lowDigits l) in
+    let y = padded 24 u in
+    let z = padded 512 (entriesBytes es) in
+    let q : List ℕ = 1 ∷ length (entriesBytes es) / 32 ∷ length (lowDigits l) ∷ length u ∷ replicate 4 0 in
+    let n : length (entriesBytes es) / 32 ≡ length es = omega (arith, length-entriesBytes r) in
+    let lx : length x ≡ 24 = length-padded 24 (lowDigits l) in
+    let ly : length y ≡ 24 = length-padded 24 u in
+    let t : take (32 * b) z ≡ padded (32 * b) (entriesBytes es) = take-padded (32 * b) 512 (entriesBytes es) (omega arith) in
+    behind q (x ++ (y ++ (replicate 8 0 ++ z))) (64 + 32 * b) (56 + 32 * b) (omega arith)
+    ∙ ap (λ (w : List ℕ). q ++ w) (behind x (y ++ (replicate 8 0 ++ z)) (56 + 32 * b) (32 + 32 * b) (omega arith)
+    ∙ ap (λ (w : List ℕ). x ++ w) (behind y (replicate 8 0 ++ z) (32 + 32 * b) (8 + 32 * b) (omega arith)
+    ∙ ap (λ (w : List ℕ). y ++ w) (behind (replicate 8 0) z (8 + 32 * b) (32 * b) (omega arith) ∙ ap (λ (w : List ℕ). replicate 8 0 ++ w) t)))
+    ∙ rw n
+  where
+    behind : (p w : List ℕ) (k m : ℕ) → length p + m ≡ k → take k (p ++ w) ≡ p ++ take m w
+    behind p w k m e = rw (← e) (take-append-add p w m)
+
+-- Behind an entry that stays, a change of the others is the same change.
+module _ (e xs : List ℕ) (whole : length e ≡ 32) where
+  take-behind : (i : ℕ) → take (32 * suc i) (e ++ xs) ≡ e ++ take (32 * i) xs
+  take-behind i = let s : 32 * suc i ≡ length e + 32 * i = omega arith in rw s (take-append-add e xs (32 * i))
+
+  drop-behind : (i : ℕ) → drop (32 * suc i) (e ++ xs) ≡ drop (32 * i) xs
+  drop-behind i = let s : 32 * suc i ≡ length e + 32 * i = omega arith in rw s (drop-append-add e xs (32 * i))
+
+  with-behind : (count i : ℕ) (n : List ℕ) (v : ℕ) → withEntry (e ++ xs) (suc count) (suc i) n v ≡ e ++ withEntry xs count i n v
+  unfolding withEntry
+  with-behind count i n v = let s : suc count - suc i ≡ count - i = omega arith in rw (take-behind i, drop-behind i, s) (simp append-assoc)
+
+  without-behind : (count i : ℕ) → withoutEntry (e ++ xs) (suc count) (suc i) ≡ e ++ withoutEntry xs count i
+  unfolding withoutEntry
+  without-behind count i =
+      let s : suc count - suc (suc i) ≡ count - suc i = omega arith in
+      rw (take-behind i, drop-behind (suc i), s) (simp append-assoc)
+
+  changed-behind : (count i v : ℕ) → changedValue (e ++ xs) (suc count) (suc i) v ≡ e ++ changedValue xs count i v
+  unfolding changedValue
+  changed-behind count i v =
+      let f = take (32 * count) xs in
+      let s : 32 * suc i + 24 ≡ length e + (32 * i + 24) = omega arith in
+      let o : 32 * suc i + 24 + 8 ≡ length e + (32 * i + 24 + 8) = omega arith in
+      let t : take (32 * suc i + 24) (e ++ f) ≡ e ++ take (32 * i + 24) f = rw s (take-append-add e f (32 * i + 24)) in
+      let d : drop (32 * suc i + 24 + 8) (e ++ f) ≡ drop (32 * i + 24 + 8) f = rw o (drop-append-add e f (32 * i + 24 + 8)) in
+      rw (take-behind count, t, d) (simp append-assoc)
+
+-- The bytes of an entry, and of entries in front of others.
+length-entryBytes : (e : Entry) → Legal (e .0) → length (entryBytes e) ≡ 32
+unfolding entryBytes
+length-entryBytes e g = omega (arith, length-append (e .0) (valueBytes (e .1)), legal-length g, length-valueBytes (e .1))
+
+take-entries : {l : Low} {u : Str} {es : List Entry} (ys : List ℕ) → Row l es u → take (32 * length es) (entriesBytes es ++ ys) ≡ entriesBytes es
+take-entries {es = es} ys r = take-at (entriesBytes es) ys (32 * length es) (length-entriesBytes r)
+
+-- A name that is not above a row's lower limit is not held.
+find-not-over : {l : Low} {u : Str} {es : List Entry} (n : Str) → Row l es u → ¬ (l ◁ n) → find n es ≡ nothing
+unfolding find
+find-not-over n no-entries h = refl
+find-not-over n (entry {e = e} g a b r) h =
+    rw (chosen-no (str? n (e .0)) (λ q. h (rw q a))) (find-not-over n r (λ c. h (low-lower (low-at a) c)))
+
+-- The changes at the first place.
+with-first : {l : Low} {u : Str} {es : List Entry} (n : Str) (v : ℕ) (ys : List ℕ) → Row l es u
+    → withEntry (entriesBytes es ++ ys) (length es) 0 n v ≡ entriesBytes ((n, v) ∷ es)
+unfolding withEntry entriesBytes entryBytes
+with-first {es = es} n v ys r =
+    let z : length es - 0 ≡ length es = omega arith in
+    rw (z, take-entries ys r) (simp append-assoc)
+
+changed-first : {l : Low} {u : Str} {es : List Entry} (e : Entry) (v : ℕ) (ys : List ℕ) → Legal (e .0) → Row l es u
+    → changedValue (entryBytes e ++ (entriesBytes es ++ ys)) (suc (length es)) 0 v ≡ entriesBytes ((e .0, v) ∷ es)
+unfolding changedValue entriesBytes entryBytes
+changed-first {es = es} e v ys g r =
+    let x = entriesBytes es in
+    let t : take 24 (e .0 ++ valueBytes (e .1) ++ x) ≡ e .0 = rw append-assoc (take-at (e .0) (valueBytes (e .1) ++ x) 24 (legal-length g)) in
+    let w : take 8 (valueBytes v) ≡ valueBytes v = take-all 8 (valueBytes v) (omega (arith, length-valueBytes v)) in
+    let d : drop 32 (e .0 ++ valueBytes (e .1) ++ x) ≡ x = drop-at (entryBytes e) x 32 (length-entryBytes e g) in
+    rw (take-behind (entryBytes e) (x ++ ys) (length-entryBytes e g) (length es), take-entries ys r, t, w, d)
+
+without-first : {l : Low} {u : Str} {es : List Entry} (e ys : List ℕ) → length e ≡ 32 → Row l es u
+    → withoutEntry (e ++ (entriesBytes es ++ ys)) (suc (length es)) 0 ≡ entriesBytes es
+unfolding withoutEntry
+without-first {es = es} e ys h r =
+    let z : suc (length es) - 1 ≡ length es = omega arith in
+    rw (drop-at e (entriesBytes es ++ ys) 32 h, z) (take-entries ys r)
+
+-- In front of any bytes: an entry put at the place of a name that is not held is an insertion.
+pub with-insert : {l : Low} {u : Str} {es : List Entry} (n : Str) (v : ℕ) (ys : List ℕ) → Row l es u → find n es ≡ nothing
+    → withEntry (entriesBytes es ++ ys) (length es) (place n es) n v ≡ entriesBytes (insert n v es)
+unfolding entriesBytes place insert find
+with-insert {l} {u} n v ys no-entries h = with-first {l = l} {u = u} n v ys no-entries
+with-insert n v ys (entry {e = e} {es = es} g a b r) h = elim (le? n (e .0)) [
+  | no q ↦ let f : find n es ≡ nothing = sym (chosen-no (str? n (e .0)) (λ p. q (rw (← p) (le-refl n))) _ _) ∙ h in
+      rw (chosen-no (le? n (e .0)) q, chosen-no (le? n (e .0)) q, append-assoc)
+      (with-behind (entryBytes e) (entriesBytes es ++ ys) (length-entryBytes e g) (length es) (place n es) n v
+      ∙ ap (λ (w : List ℕ). entryBytes e ++ w) (with-insert n v ys r f))
+  | yes q ↦ elim (str? n (e .0)) [
+    | yes p ↦ let z : _≡_ {A = Option ℕ} nothing (some (e .1)) = sym h ∙ chosen-yes (str? n (e .0)) p _ _ in
+        let y : _≡_ {A = ℕ} 0 1 = cc in absurd (omega arith)
+    | no p ↦ rw (chosen-yes (le? n (e .0)) q, chosen-yes (le? n (e .0)) q, chosen-no (str? n (e .0)) p) (with-first n v ys (entry g a b r))
+  ]
+]
+
+-- The value changed at the place of a name that is held is an insertion.
+pub changed-insert : {l : Low} {u : Str} {es : List Entry} (n : Str) (v o : ℕ) (ys : List ℕ) → Row l es u → find n es ≡ some o
+    → changedValue (entriesBytes es ++ ys) (length es) (place n es) v ≡ entriesBytes (insert n v es)
+unfolding entriesBytes place insert find
+changed-insert n v o ys no-entries h = let y : _≡_ {A = ℕ} 0 1 = cc in absurd (omega arith)
+changed-insert n v o ys (entry {e = e} {es = es} g a b r) h = elim (le? n (e .0)) [
+  | no q ↦ let f : find n es ≡ some o = sym (chosen-no (str? n (e .0)) (λ p. q (rw (← p) (le-refl n))) _ _) ∙ h in
+      rw (chosen-no (le? n (e .0)) q, chosen-no (le? n (e .0)) q, append-assoc)
+      (changed-behind (entryBytes e) (entriesBytes es ++ ys) (length-entryBytes e g) (length es) (place n es) v
+      ∙ ap (λ (w : List ℕ). entryBytes e ++ w) (changed-insert n v o ys r f))
+  | yes q ↦ elim (str? n (e .0)) [
+    | yes p ↦ rw (chosen-yes (le? n (e .0)) q, chosen-yes (le? n (e .0)) q, chosen-yes (str? n (e .0)) p, append-assoc, p) (changed-first e v ys g r)
+    | no p ↦ let z : _≡_ {A = Option ℕ} nothing (some o) = sym (find-not-over n r (λ c. over c q)) ∙ sym (chosen-no (str? n (e .0)) p _ _) ∙ h in
+        let y : _≡_ {A = ℕ} 0 1 = cc in absurd (omega arith)
+  ]
+]
+
+-- The entry left out at the place of a name that is held is a removal.
+pub without-removal : {l : Low} {u : Str} {es : List Entry} (n : Str) (o : ℕ) (ys : List ℕ) → Row l es u → find n es ≡ some o
+    → withoutEntry (entriesBytes es ++ ys) (length es) (place n es) ≡ entriesBytes (without n es)
+unfolding entriesBytes place keep find
+without-removal n o ys no-entries h = let y : _≡_ {A = ℕ} 0 1 = cc in absurd (omega arith)
+without-removal n o ys (entry {e = e} {es = es} g a b r) h = elim (le? n (e .0)) [
+  | no q ↦ let f : find n es ≡ some o = sym (chosen-no (str? n (e .0)) (λ p. q (rw (← p) (le-refl n))) _ _) ∙ h in
+      rw (chosen-no (le? n (e .0)) q, chosen-yes (not? (str? (e .0) n)) (λ p. q (rw p (le-refl n))), append-assoc)
+      (without-behind (entryBytes e) (entriesBytes es ++ ys) (length-entryBytes e g) (length es) (place n es)
+      ∙ ap (λ (w : List ℕ). entryBytes e ++ w) (without-removal n o ys r f))
+  | yes q ↦ elim (str? n (e .0)) [
+    | yes p ↦ rw (chosen-yes (le? n (e .0)) q, chosen-no (not? (str? (e .0) n)) (λ f. f (sym p)), keep-all (λ k. not? (str? k n)) r (λ k c d. over c (rw d q)), append-assoc)
+        (without-first (entryBytes e) ys (length-entryBytes e g) r)
+    | no p ↦ let z : _≡_ {A = Option ℕ} nothing (some o) = sym (find-not-over n r (λ c. over c q)) ∙ sym (chosen-no (str? n (e .0)) p _ _) ∙ h in
+        let y : _≡_ {A = ℕ} 0 1 = cc in absurd (omega arith)
+  ]
+]
