@@ -1,11 +1,10 @@
--- Bytes put one behind another into zeros, and what the entries of a bucket become on a change.
-use mathlib.Core.Path.{_∙_, _≡_, ap, ap₂, refl, sym}
+-- Bytes put one behind another into zeros, the parts of a slot, and what the entries of a bucket become on a change.
+use mathlib.Core.Path.{_∙_, _≡_, ap, refl, sym}
 use mathlib.Core.Option.{Option, none as nothing, some}
 use mathlib.Core.List.{List, [], _++_, _∷_, append-assoc}
 use Prim.Native.Nat.{_%_, _*_, _+_, _-_, _/_, _<_, _≤_, suc, zero, ℕ}
-use native.Mathlib.Nat.{add-sub-cancel-left, add-zero, zero-add}
 use native.Mathlib.Omega.{arith}
-use lib.ListN.{drop, getD, length, length-append, length-drop, length-replicate, length-take, replicate, set, take}
+use lib.ListN.{drop, getD, length, length-append, length-drop, length-take, replicate, replicate-append-replicate, set, take}
 use lib.Seq.{drop-append-add, drop-append-le, drop-at, drop-cons, length-paste, length-take-le, paste, take-all, take-append-add, take-append-le, take-at, take-length, take-take}
 use borrow.Author.Tests.{le-ltb, lt-ltb}
 use Rattle.model.specs.Order.{Low, Str, _◁_, le?, over, str?}
@@ -18,16 +17,12 @@ use Rattle.model.proofs.Names.{legal-length}
 use Rattle.model.proofs.Entries.{chosen-no, chosen-yes, keep-all}
 use Rattle.model.proofs.Format.{length-entriesBytes, length-padded, length-valueBytes, padded-short}
 use Rattle.bucket.specs.Entries.{changedValue, place, withEntry, withoutEntry}
-use Rattle.bucket.specs.Slots.{boundAt, countAt, writtenBytes}
+use Rattle.bucket.specs.Slots.{boundAt, countAt, lowerAt, upperAt, writtenBytes}
 
 drop-zeros : (n m : ℕ) → _≡_ {A = List ℕ} (drop n (replicate m 0)) (replicate (m - n) 0)
 drop-zeros zero m = let e : m - 0 ≡ m = omega arith in rw e
 drop-zeros (suc n) zero = let e : 0 - suc n ≡ 0 = omega arith in rw e
 drop-zeros (suc n) (suc m) = let e : suc m - suc n ≡ m - n = omega arith in rw e (drop-zeros n m)
-
-zeros-zeros : (n m : ℕ) → _≡_ {A = List ℕ} (replicate n 0 ++ replicate m 0) (replicate (n + m) 0)
-zeros-zeros zero m = rw zero-add
-zeros-zeros (suc n) m = let e : suc n + m ≡ suc (n + m) = omega arith in rw e (ap (λ (r : List ℕ). 0 ∷ r) (zeros-zeros n m))
 
 -- As many zeros behind a list as wanted.
 take-zeros-behind : (j k m : ℕ) (xs : List ℕ) → j ≤ k → j ≤ m → take j (xs ++ replicate k 0) ≡ take j (xs ++ replicate m 0)
@@ -60,7 +55,7 @@ padded-append k m p xs h =
 -- Zeros behind, and bytes padded behind, are padding.
 pub padded-zeros : (k j : ℕ) (xs : List ℕ) → padded k (xs ++ replicate j 0) ≡ padded k xs
 unfolding padded
-padded-zeros k j xs = rw (append-assoc, zeros-zeros) (take-zeros-behind k (j + k) k xs (omega arith) (omega arith))
+padded-zeros k j xs = rw (append-assoc, replicate-append-replicate) (take-zeros-behind k (j + k) k xs (omega arith) (omega arith))
 
 pub padded-padded : (k j : ℕ) (p xs : List ℕ) → length xs ≤ j → padded k (p ++ padded j xs) ≡ padded k (p ++ xs)
 padded-padded k j p xs h = rw (padded-short j xs h, ← append-assoc) (padded-zeros k (j - length xs) (p ++ xs))
@@ -225,6 +220,12 @@ written-copies lower upper entries m₁ m₂ m₃ a b c hl hu he i j k q₁ q₂
     joined : (u x y z w : List ℕ) → u ++ x ++ y ++ z ++ w ≡ u ++ (x ++ (y ++ (z ++ w)))
     joined u x y z w = simp append-assoc
 
+take-past : (p w : List ℕ) (k m : ℕ) → length p + m ≡ k → take k (p ++ w) ≡ p ++ take m w
+take-past p w k m e = rw (← e) (take-append-add p w m)
+
+drop-past : (p w : List ℕ) (k m : ℕ) → length p + m ≡ k → drop k (p ++ w) ≡ drop m w
+drop-past p w k m e = rw (← e) (drop-append-add p w m)
+
 -- A slot that is written whole is the slot's bytes, as far as its entries reach.
 pub written-slot : (b : ℕ) (l : Low) (u : Str) {k : Low} {v : Str} {es : List Entry} → Row k es v → b ≤ 16
     → take (slotSize b) (writtenBytes (lowDigits l) u (entriesBytes es)) ≡ slotBytes b (used l u es)
@@ -238,14 +239,41 @@ written-slot b l u {es = es} r h =
     let lx : length x ≡ 24 = length-padded 24 (lowDigits l) in
     let ly : length y ≡ 24 = length-padded 24 u in
     let t : take (32 * b) z ≡ padded (32 * b) (entriesBytes es) = take-padded (32 * b) 512 (entriesBytes es) (omega arith) in
-    behind q (x ++ (y ++ (replicate 8 0 ++ z))) (64 + 32 * b) (56 + 32 * b) (omega arith)
-    ∙ ap (λ (w : List ℕ). q ++ w) (behind x (y ++ (replicate 8 0 ++ z)) (56 + 32 * b) (32 + 32 * b) (omega arith)
-    ∙ ap (λ (w : List ℕ). x ++ w) (behind y (replicate 8 0 ++ z) (32 + 32 * b) (8 + 32 * b) (omega arith)
-    ∙ ap (λ (w : List ℕ). y ++ w) (behind (replicate 8 0) z (8 + 32 * b) (32 * b) (omega arith) ∙ ap (λ (w : List ℕ). replicate 8 0 ++ w) t)))
+    take-past q (x ++ (y ++ (replicate 8 0 ++ z))) (64 + 32 * b) (56 + 32 * b) (omega arith)
+    ∙ ap (λ (w : List ℕ). q ++ w) (take-past x (y ++ (replicate 8 0 ++ z)) (56 + 32 * b) (32 + 32 * b) (omega arith)
+    ∙ ap (λ (w : List ℕ). x ++ w) (take-past y (replicate 8 0 ++ z) (32 + 32 * b) (8 + 32 * b) (omega arith)
+    ∙ ap (λ (w : List ℕ). y ++ w) (take-past (replicate 8 0) z (8 + 32 * b) (32 * b) (omega arith) ∙ ap (λ (w : List ℕ). replicate 8 0 ++ w) t)))
     ∙ rw n
-  where
-    behind : (p w : List ℕ) (k m : ℕ) → length p + m ≡ k → take k (p ++ w) ≡ p ++ take m w
-    behind p w k m e = rw (← e) (take-append-add p w m)
+
+-- The parts of a slot's bytes as they are read.
+module _ (b : ℕ) (l : Low) (u : Str) (es : List Entry) where
+  in-front : (k : ℕ) (xs ys : List ℕ) → length xs ≤ k → take (length xs) (padded k xs ++ ys) ≡ xs
+  in-front k xs ys h = take-append-le (length xs) (padded k xs) ys (omega (arith, length-padded k xs)) ∙ take-padded-whole (length xs) k xs refl h
+
+  pub lowerAt-slot : length (lowDigits l) ≤ 24 → lowerAt (slotBytes b (used l u es)) ≡ lowDigits l
+  unfolding boundAt slotBytes
+  lowerAt-slot h = rw (le-ltb 24 (length (lowDigits l)) h)
+      (in-front 24 (lowDigits l) (padded 24 u ++ (replicate 8 0 ++ padded (32 * b) (entriesBytes es))) h)
+
+  pub upperAt-slot : length u ≤ 24 → upperAt (slotBytes b (used l u es)) ≡ u
+  unfolding boundAt slotBytes
+  upperAt-slot h =
+      let y : List ℕ = padded 24 u ++ (replicate 8 0 ++ padded (32 * b) (entriesBytes es)) in
+      rw (le-ltb 24 (length u) h, drop-at (padded 24 (lowDigits l)) y 24 (length-padded 24 (lowDigits l)))
+      (in-front 24 u (replicate 8 0 ++ padded (32 * b) (entriesBytes es)) h)
+
+  pub countAt-slot : length es ≤ b → countAt b (slotBytes b (used l u es)) ≡ length es
+  unfolding countAt slotBytes
+  countAt-slot h = rw (le-ltb b (length es) h)
+
+  pub entries-slot : drop 64 (slotBytes b (used l u es)) ≡ padded (32 * b) (entriesBytes es)
+  unfolding slotBytes
+  entries-slot =
+      let x = padded 24 (lowDigits l) in
+      let y = padded 24 u in
+      let z = padded (32 * b) (entriesBytes es) in
+      drop-past x (y ++ (replicate 8 0 ++ z)) 56 32 (omega (arith, length-padded 24 (lowDigits l)))
+      ∙ drop-past y (replicate 8 0 ++ z) 32 8 (omega (arith, length-padded 24 u))
 
 -- Behind an entry that stays, a change of the others is the same change.
 module _ (e xs : List ℕ) (whole : length e ≡ 32) where
