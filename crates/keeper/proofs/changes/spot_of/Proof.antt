@@ -39,7 +39,7 @@ returns c =
     let i = c .before .before .before .before .index .ensures .0 in
     record {
       slot-inside = omega (arith, s .pre .surveyed .slots-inside (c .before .before .before .before .before .holder .result));
-      count-most = c .before .before .count-of .ensures;
+      count-most = c .before .before .count-of .ensures .1;
       place-most = c .rank .ensures;
     }
 
