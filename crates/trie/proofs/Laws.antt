@@ -1,10 +1,10 @@
 -- The walk cell by cell: the definition, the code's walk of it, and where it arrives.
 use mathlib.Core.Path.{_∙_, _≡_, ap, refl, subst, sym}
-use mathlib.Core.Bool.{Bool, _&&_, cond, false, not, true}
+use mathlib.Core.Bool.{Bool, cond, false, not, true}
 use mathlib.Core.Option.{Option, none as nothing, some}
-use mathlib.Core.List.{List, [], _++_, _∷_}
+use mathlib.Core.List.{List, []}
 use Prim.Native.Nat.{_+_, _-_, _<_, _≤_, suc, zero, ℕ}
-use native.Mathlib.Numerals.{add-one, sub-one}
+use native.Mathlib.Numerals.{add-one}
 use native.Mathlib.Omega.{arith}
 use borrow.Author.Tests.{le-leb, le-ltb, lt-leb, lt-ltb}
 use lib.Dec.{leb, ltb}
@@ -19,11 +19,10 @@ use Rattle.model.specs.Names.{within}
 use Rattle.model.specs.Tries.{at-cell, cell, root-side}
 use Rattle.model.specs.Growth.{Spot, left, right, root}
 use Rattle.model.specs.Calls.{arrive}
-use Rattle.trie.specs.declared.Arrival.{Arrival}
 use Rattle.trie.specs.declared.Arrival.the-variants.{At, Stale}
 use Rattle.trie.specs.declared.Walk.{Walk}
 use Rattle.trie.specs.declared.Walked.{Walked}
-use Rattle.trie.specs.Walks.{Begun, By, Ended, Stepped, Walks, arrival, arrivalOf, pathAfter, placeAfter, spotAfter, walkOf, walkRun}
+use Rattle.trie.specs.Walks.{Begun, By, Stepped, Walks, arrival, arrivalOf, pathAfter, placeAfter, spotAfter, walkOf, walkRun}
 
 -- Cell 0 is the root unless the count is 0.
 pub root-further : (count first : ℕ) → (count ≡ 0 → ⊥) → further 0 ≡ root-side count first
@@ -74,23 +73,27 @@ module _ (count : ℕ) (cs : List Cell) (n p : Str) (k : Spot) where
   run-last zero m h j l = refl
   run-last (suc f) m h j l = rw (lt-ltb m count h, le-leb _ _ j, lt-leb _ _ l)
 
-  -- A cell that is not refused is passed.
-  pub run-pass : (f m : ℕ) → (f ≡ 0 → ⊥) → m < count → at-cell cs m .number ≤ length p → at-cell cs m .number ≤ 23
-      → walkRun f count cs n p k (further m) ≡ walkRun (f - 1) count cs n (pathAfter n p (at-cell cs m)) (spotAfter n p m (at-cell cs m)) (placeAfter n p (at-cell cs m))
-  unfolding walkRun pathAfter spotAfter placeAfter
-  run-pass zero m z h j l = absurd (z refl)
-  run-pass (suc f) m z h j l = go (within n q) refl
-    where
-      c : Cell
-      c = at-cell cs m
+  -- A cell that is not refused is passed, to the one side or the other.
+  module _ (f m : ℕ) (h : m < count) (j : at-cell cs m .number ≤ length p) (l : at-cell cs m .number ≤ 23) where
+    pub run-left : within n (cell (at-cell cs m .digit) (at-cell cs m .number) p) ≡ true
+        → walkRun (suc f) count cs n p k (further m) ≡ walkRun f count cs n (cell (at-cell cs m .digit) (at-cell cs m .number) p) (left m) (at-cell cs m .left)
+    unfolding walkRun
+    run-left e = rw (lt-ltb m count h, le-leb _ _ j, le-leb _ _ l, e)
 
-      q : Str
-      q = cell (c .digit) (c .number) p
+    pub run-right : within n (cell (at-cell cs m .digit) (at-cell cs m .number) p) ≡ false
+        → walkRun (suc f) count cs n p k (further m) ≡ walkRun f count cs n p (right m) (at-cell cs m .right)
+    unfolding walkRun
+    run-right e = rw (lt-ltb m count h, le-leb _ _ j, le-leb _ _ l, e)
 
-      go : (b : Bool) → within n q ≡ b
-          → walkRun (suc f) count cs n p k (further m) ≡ walkRun (suc f - 1) count cs n (pathAfter n p c) (spotAfter n p m c) (placeAfter n p c)
-      go true e = rw (sub-one, lt-ltb m count h, le-leb _ _ j, le-leb _ _ l, e)
-      go false e = rw (sub-one, lt-ltb m count h, le-leb _ _ j, le-leb _ _ l, e)
+    pub run-pass : walkRun (suc f) count cs n p k (further m)
+        ≡ walkRun f count cs n (pathAfter n p (at-cell cs m)) (spotAfter n p m (at-cell cs m)) (placeAfter n p (at-cell cs m))
+    unfolding pathAfter spotAfter placeAfter
+    run-pass = go (within n (cell (at-cell cs m .digit) (at-cell cs m .number) p)) refl
+      where
+        go : (b : Bool) → within n (cell (at-cell cs m .digit) (at-cell cs m .number) p) ≡ b → walkRun (suc f) count cs n p k (further m)
+            ≡ walkRun f count cs n (pathAfter n p (at-cell cs m)) (spotAfter n p m (at-cell cs m)) (placeAfter n p (at-cell cs m))
+        go true e = rw e (run-left e)
+        go false e = rw e (run-right e)
 
 -- The code's walk on its way, with f cells left: it will end as `o`.
 pub record Underway (o : Option (Str × Spot × ℕ)) (f count : ℕ) (cs : List Cell) (n : Str) (w : Walk) : Type 0 where
@@ -153,12 +156,14 @@ module _ {o : Option (Str × Spot × ℕ)} {f count : ℕ} {cs : List Cell} {n :
           let j′ : at-cell cs m .number ≤ w .len = rw i at j in
           let l′ : at-cell cs m .number ≤ 23 = rw i at l in
           let T : Stepped n (take (w .len) (w .path)) m (at-cell cs m) v = rw i at S in
+          let e : f ≡ suc (f - 1) = omega (arith, z) in
+          let one = ap (λ (x : ℕ). walkRun x count cs n (take (w .len) (w .path)) (u .spot) (further m)) e in
           record {
             short = T .short;
             full = T .full;
             spot = spotAfter n (take (w .len) (w .path)) m (at-cell cs m);
             by = T .by;
-            rest = rw (T .path, T .place) (at-further ∙ run-pass count cs n (take (w .len) (w .path)) (u .spot) f m z h (rw path-length j′) l′);
+            rest = rw (T .path, T .place) (at-further ∙ one ∙ run-pass count cs n (take (w .len) (w .path)) (u .spot) (f - 1) m h (rw path-length j′) l′);
           }
 
 -- The slot of a walk, where it is one of the file's.

@@ -1,6 +1,6 @@
 -- The walk over any trie, damaged ones too: where it ends, and by which side it came there.
 use mathlib.Core.Path.{_≡_}
-use mathlib.Core.Bool.{Bool, _&&_, cond, false, true}
+use mathlib.Core.Bool.{_&&_, cond, false, true}
 use mathlib.Core.Option.{Option, none as nothing, some}
 use mathlib.Core.List.{List, []}
 use Prim.Native.Nat.{_≤_, suc, zero, ℕ}

@@ -1,5 +1,5 @@
 -- `arrival_of` is the model's arrival: the slot of the walk, where it is one of the file's.
-use mathlib.Core.Path.{_≡_, _∙_, refl, sym}
+use mathlib.Core.Path.{_∙_, sym}
 use native.Mathlib.Omega.{arith}
 use borrow.Author.Needs.{needs}
 use Rattle.trie.specs.Walks.{walkOf}
@@ -18,7 +18,9 @@ returns : tie.Need-returns
 returns c =
     let w = c .before .before .walk-of in
     let a = c .before .before .before .args in
-    (tt, sym (arrival-of-walk (a .trie) (a .name .now) (a .slots) ∙ lands-nowhere (a .slots) (w .result) (walkOf (a .trie) (a .name .now)) (w .ensures .1) (c .if1 .taken)))
+    let o = walkOf (a .trie) (a .name .now) in
+    let e = lands-nowhere (a .slots) (w .result) o (w .ensures .1) (c .if1 .taken) in
+    (tt, sym (arrival-of-walk (a .trie) (a .name .now) (a .slots) ∙ e))
 
 enum-known-place : tie.Need-enum-known-place
 enum-known-place c = search needs
@@ -28,29 +30,33 @@ number-requires c κs = search needs
 
 returns-2 : tie.Need-returns-2
 returns-2 c =
-    let w = c .before .before .before .before .before .before .before .before .walk-of in
-    let a = c .before .before .before .before .before .before .before .before .before .args in
-    let i = c .before .before .before .place .given .0 .0 in
-    let k = c .before .number .ensures .0 in
-    let e = lands-at (a .slots) (w .result) i (c .before .before .before .before .before .before .if1 .left) (c .before .before .before .place .given .1) (walkOf (a .trie) (a .name .now)) (w .ensures .1) (omega arith) in
-    (omega arith, rw k (sym (arrival-of-walk (a .trie) (a .name .now) (a .slots) ∙ e)))
+    let p = c .before .before .before in
+    let t = p .before .before .before in
+    let w = t .before .before .walk-of in
+    let a = t .before .before .before .args in
+    let o = walkOf (a .trie) (a .name .now) in
+    let e = lands-at (a .slots) (w .result) (p .place .given .0 .0) (t .if1 .left) (p .place .given .1) o (w .ensures .1) (omega arith) in
+    (omega arith, rw (c .before .number .ensures .0) (sym (arrival-of-walk (a .trie) (a .name .now) (a .slots) ∙ e)))
 
 enum-told : tie.Need-enum-told
 enum-told c = search needs
 
 returns-3 : tie.Need-returns-3
 returns-3 c =
-    let w = c .before .before .before .before .before .before .before .before .walk-of in
-    let a = c .before .before .before .before .before .before .before .before .before .args in
-    let i = c .before .before .before .place .given .0 .0 in
-    let e = lands-past (a .slots) (w .result) i (c .before .before .before .before .before .before .if1 .left) (c .before .before .before .place .given .1) (walkOf (a .trie) (a .name .now)) (w .ensures .1) (omega arith) in
+    let p = c .before .before .before in
+    let t = p .before .before .before in
+    let w = t .before .before .walk-of in
+    let a = t .before .before .before .args in
+    let o = walkOf (a .trie) (a .name .now) in
+    let e = lands-past (a .slots) (w .result) (p .place .given .0 .0) (t .if1 .left) (p .place .given .1) o (w .ensures .1) (omega arith) in
     (tt, sym (arrival-of-walk (a .trie) (a .name .now) (a .slots) ∙ e))
 
 returns-4 : tie.Need-returns-4
 returns-4 c =
     let w = c .before .before .before .before .before .walk-of in
     let a = c .before .before .before .before .before .before .args in
-    let e = lands-never (a .slots) (w .result) (walkOf (a .trie) (a .name .now)) (w .ensures .1) (c .enum-told .given .1) in
+    let o = walkOf (a .trie) (a .name .now) in
+    let e = lands-never (a .slots) (w .result) o (w .ensures .1) (c .enum-told .given .1) in
     (tt, sym (arrival-of-walk (a .trie) (a .name .now) (a .slots) ∙ e))
 
 pub arrival-of-spec : {M : Type 1} → statement M
