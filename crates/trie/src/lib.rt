@@ -1,7 +1,12 @@
 // The trie: its cells held together with their count and a first leaf, and the walk (document 000, A1).
+ghost use mathlib.Core.Bool.{false};
 ghost use mathlib.Core.Path.{_≡_};
 ghost use Prim.Native.Nat.{_≤_, _<_, _+_};
+ghost use lib.ListN.{take};
+ghost use Rattle.model.specs.Names as names;
+ghost use Rattle.model.specs.Tries.{root-side};
 ghost use Rattle.trie.specs.Arrivals.{Inside};
+ghost use Rattle.trie.specs.Walks.{Begun, Stepped, Walks, arrivalOf, walkOf};
 use digits::index;
 use model::Cell;
 use model::Side;
@@ -72,6 +77,7 @@ pub fn lone(first: u16) -> Trie {
 // Whether the name is within the string of the first digits.
 fn goes_left(name: &[u8; 24], string: &[u8; 24], len: usize) -> bool
     requires { ⌜ len ≤ 24 ⌝ }
+    ensures { λ r. ⌜ r ≡ names.within (now (name .entry)) (take len (now (string .entry))) ⌝ }
 {
     let whole = &string[..];
     digits::within(name, &whole[0..len])
@@ -80,7 +86,7 @@ fn goes_left(name: &[u8; 24], string: &[u8; 24], len: usize) -> bool
 impl Walk {
     // The path begins empty.
     pub fn begin(place: Side) -> Walk
-        ensures { λ r. ⌜ r .len ≤ 24 ⌝ }
+        ensures { λ r. ⌜ Begun place r ⌝ }
     {
         Walk {
             path: [0u8; 24],
@@ -94,8 +100,8 @@ impl Walk {
     // The cell's string is the first digits of the path, as many as its number says, then its digit. A name within that
     // string goes left and the path becomes that string; otherwise it goes right with the path unchanged.
     pub fn step(mut self, name: &[u8; 24], i: u16, cell: Cell) -> Walk
-        requires { ⌜ (self .len ≤ 24) × (cell .number ≤ 23) ⌝ }
-        ensures { λ r. ⌜ r .len ≤ 24 ⌝ }
+        requires { ⌜ (self .len ≤ 24) × (cell .number ≤ self .len) × (cell .number ≤ 23) ⌝ }
+        ensures { λ r. ⌜ Stepped (now (name .entry)) (take (self .len) (self .path)) i cell r ⌝ }
     {
         let at = index(cell.number);
         let end = at + 1;
@@ -124,7 +130,7 @@ impl Walk {
 }
 
 fn stale() -> Walked
-    ensures { λ r. ⌜ r .walk .len ≤ 24 ⌝ }
+    ensures { λ r. ⌜ (r .walk .len ≤ 24) × (r .ended ≡ false) ⌝ }
 {
     Walked {
         ended: false,
@@ -133,7 +139,9 @@ fn stale() -> Walked
 }
 
 // Cell 0 is the root. With count 0 the walk ends at the first leaf at once.
-fn root(count: u16, first: u16) -> Side {
+fn root(count: u16, first: u16) -> Side
+    ensures { λ r. ⌜ r ≡ root-side count first ⌝ }
+{
     if count == 0 {
         return Side::Slot(first);
     }
@@ -142,7 +150,7 @@ fn root(count: u16, first: u16) -> Side {
 
 // The walk of a filled name over any trie at all. It meets no more cells than the count.
 pub fn walk_of(trie: Trie, name: &[u8; 24]) -> Walked
-    ensures { λ r. ⌜ r .walk .len ≤ 24 ⌝ }
+    ensures { λ r. ⌜ (r .walk .len ≤ 24) × Walks r (walkOf trie (now (name .entry))) ⌝ }
 {
     let count = trie.count;
     if 256 < count {
@@ -181,7 +189,7 @@ pub fn walk_of(trie: Trie, name: &[u8; 24]) -> Walked
 
 // The slot that the walk of a filled name ends at, of a file with so many slots.
 pub fn arrival_of(trie: Trie, name: &[u8; 24], slots: usize) -> Arrival
-    ensures { λ r. ⌜ Inside r slots ⌝ }
+    ensures { λ r. ⌜ Inside r slots × (r ≡ arrivalOf trie (now (name .entry)) slots) ⌝ }
 {
     let end = walk_of(trie, name);
     if !end.ended {
