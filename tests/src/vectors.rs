@@ -13,14 +13,17 @@ use crate::damage::{damaged_file, damaged_trie};
 use crate::door::{read_image, write_image};
 use crate::make::{bound, cut_file, file_bytes, file_with_strings, illegal_name, names_near, shaped, value, Roots};
 use crate::model::calls::{self, Answer};
-use crate::model::file::{file_length, kind, Entry, File, Kind, HEADER};
+use crate::model::file::{file_length, kind, Bucket, Entry, File, Kind, Slot, HEADER};
 use crate::model::names::{filled, is_legal_name, is_within, Bound};
-use crate::model::trie::{agrees, strings, Trie, CELLS};
+use crate::model::trie::{agrees, strings, Cell, Place, Side, Trie, CELLS};
 use crate::situations::{NINE, WORDS};
 use sheet::{bytes, list, said, truth, written_cells, Sheet};
 
 /// Where the written cases stand, from the repository's top.
 pub const PLACE: &str = "crates/vectors/specs/Cases.antt";
+
+/// Where it is said that every list of them holds.
+pub const STATEMENT: &str = "crates/vectors/specs/Statement.antt";
 
 /// All cases, as the text of that file.
 pub fn text() -> String {
@@ -32,10 +35,12 @@ pub fn text() -> String {
     arrangements(&mut sheet);
     agreements(&mut sheet);
     checks(&mut sheet);
+    cut_or_not(&mut sheet);
     creates(&mut sheet);
     recovers(&mut sheet);
     rebuilds(&mut sheet);
     look_ups(&mut sheet);
+    wrong_tries(&mut sheet);
     puts(&mut sheet);
     removes(&mut sheet);
     lists(&mut sheet);
@@ -227,6 +232,9 @@ fn short_illegal_name(chance: &mut Chance) -> Vec<u8> {
 }
 
 fn legal_names(sheet: &mut Sheet) {
+    for name in [&[b'a'; 24][..], b"", &[b'a'; 25], b"}", b"~", b"!", b" ", b"a b"] {
+        sheet.case("legals", "legal", &[bytes(name), truth(is_legal_name(name))]);
+    }
     gather(1_000, "true 6, false 9", |chance, wanted| {
         let name = if chance.percent(50) { short_illegal_name(chance) } else { few_names(chance).remove(0) };
         let is = truth(is_legal_name(&name));
@@ -335,10 +343,43 @@ fn checks(sheet: &mut Sheet) {
             _ => sort(answer),
         };
         if wanted.takes(sort) {
-            let words = [sheet.file(&file), said(answer)];
-            sheet.case("checkings", "checks", &words);
+            check(sheet, &file);
         }
     });
+}
+
+fn check(sheet: &mut Sheet, file: &[u8]) {
+    let words = [sheet.file(file), said(calls::check(file))];
+    sheet.case("checkings", "checks", &words);
+}
+
+/// Two slots, both without an upper limit: the second has a copy of what the first has above "b", or nearly so.
+fn cut_or_not(sheet: &mut Sheet) {
+    let bucket = |lower: &str, entries: &str| {
+        let entry = |word: &str| Entry { name: filled(&word.as_bytes()[..1]), value: word.len() as u64 };
+        let entries = entries.split(' ').filter(|word| !word.is_empty()).map(entry).collect();
+        Slot::Used(Bucket { lower: Bound(lower.as_bytes().to_vec()), upper: Bound::empty(), entries })
+    };
+    // A name is the first letter of a word, its value the word's length.
+    for (a, n) in [
+        ("a c d", "c d"),
+        ("a c d", "c d e"),
+        ("a c d", "b! c d"),
+        ("a b d", "d"),
+        ("B a b", ""),
+        ("a c d", "c"),
+        ("a c d", "c dd"),
+        ("a c d", "c e"),
+        ("B a b", "d e"),
+        ("a c", "c"),
+        ("a c d", "c c! d"),
+    ] {
+        check(sheet, &file_bytes(3, &[bucket("", a), bucket("b", n)]));
+    }
+    check(sheet, &file_bytes(3, &[bucket("b", "c d"), bucket("", "a c d"), Slot::Free]));
+    check(sheet, &file_bytes(3, &[bucket("", "a c d"), bucket("", "a c d")]));
+    check(sheet, &file_bytes(3, &[bucket("b", "c d"), Slot::Free]));
+    check(sheet, &file_bytes(3, &[Slot::Free, Slot::Free]));
 }
 
 fn creates(sheet: &mut Sheet) {
@@ -423,6 +464,69 @@ fn look_ups(sheet: &mut Sheet) {
             look_up(sheet, "lookings", &file, &trie, &name);
         }
     });
+}
+
+/// Tries that are wrong in one way each, beside document 01's file of rate1, rate2 and rate3. Look up meets some of it,
+/// and overlooks the rest.
+fn wrong_tries(sheet: &mut Sheet) {
+    let mut file = vec![0; file_length(2, 4)];
+    let (_, mut trie) = calls::create(&mut file, 1, 2, 4);
+    for name in ["rate1", "rate2", "rate3"] {
+        calls::put(&mut file, &mut trie, name.as_bytes(), 1, 2);
+    }
+    let set = |place: Place, side: Side| move |trie: &mut Trie| trie.set(place, side);
+    let changes: [&dyn Fn(&mut Trie); 17] = [
+        &set(Place::Left(4), Side::Slot(4)),
+        &set(Place::Left(4), Side::Slot(2)),
+        &set(Place::Left(4), Side::Slot(1)),
+        &set(Place::Right(3), Side::Slot(0)),
+        &set(Place::Left(4), Side::Cell(5)),
+        &set(Place::Left(4), Side::Cell(0)),
+        &set(Place::Right(0), Side::Cell(4)),
+        &|trie| trie.cells[2].number = 3,
+        &|trie| trie.cells[2].number = 1,
+        &|trie| trie.cells[4].digit = b'0',
+        &|trie| trie.cells[5].digit = 1,
+        &|trie| trie.cells[255].number = 1,
+        &|trie| trie.cells[5].right = Side::Slot(1),
+        &|trie| trie.first_leaf = 1,
+        &|trie| trie.count = 4,
+        &|trie| trie.count = 6,
+        &|trie| trie.count = 257,
+    ];
+    let mut tries: Vec<Trie> = changes.iter().map(|change| changed(&trie, change)).collect();
+    // The second cell is met twice on the way of rate1, with paths "r" and "z": four visits, which a count of 4 allows.
+    let cell = |digit: u8, number: usize, left: Side, right: Side| Cell { digit, number, left, right };
+    for count in [3, 4] {
+        let mut twice = Trie::empty(0);
+        twice.cells[0] = cell(b'r', 0, Side::Cell(1), Side::Slot(1));
+        twice.cells[1] = cell(b'!', 1, Side::Slot(0), Side::Cell(2));
+        twice.cells[2] = cell(b'z', 0, Side::Cell(1), Side::Slot(1));
+        twice.count = count;
+        tries.push(twice);
+    }
+    // Numbers 0 to 24 on a path that gets 24 digits.
+    for last in [23, 24] {
+        let mut long = Trie::empty(0);
+        for number in 0..=last {
+            long.cells[number] = cell(b'r', number, Side::Cell(number + 1), Side::Slot(1));
+        }
+        long.cells[last].left = Side::Slot(0);
+        long.count = last + 1;
+        tries.push(long);
+    }
+    for trie in &tries {
+        look_up(sheet, "wrongs", &file, trie, b"rate1");
+        look_up(sheet, "wrongs", &file, trie, b"rate3");
+        let words = [sheet.file(&file), sheet.trie(trie), truth(agrees(trie, &File::read(&file).expect("a header")))];
+        sheet.case("wrongs", "agrees", &words);
+    }
+}
+
+fn changed(trie: &Trie, change: &dyn Fn(&mut Trie)) -> Trie {
+    let mut trie = trie.clone();
+    change(&mut trie);
+    trie
 }
 
 /// What is put, and how many stores may be made.

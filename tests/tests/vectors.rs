@@ -18,3 +18,14 @@ fn the_cases_are_the_models() {
         vectors::PLACE
     );
 }
+
+#[test]
+fn the_statement_names_every_list() {
+    let place = Path::new(env!("CARGO_MANIFEST_DIR")).join("..").join(vectors::STATEMENT);
+    let statement = std::fs::read_to_string(place).expect("the statement can be read");
+    let text = vectors::text();
+    let lists = text.lines().filter_map(|line| line.strip_prefix("abbrev pub ")?.strip_suffix(" : List Case"));
+    for list in lists {
+        assert!(statement.contains(&format!(": allHold {list} ≡ true\n")), "the statement lacks the list {list}");
+    }
+}

@@ -44,6 +44,7 @@ every-case = record {
   recoverings-hold = refl;
   rebuildings-hold = refl;
   lookings-hold = refl;
+  wrongs-hold = refl;
   puttings-hold = refl;
   removings-hold = refl;
   listings-hold = refl;

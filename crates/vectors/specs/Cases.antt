@@ -475,43 +475,160 @@ file44 =
 
 abbrev pub file45 : Parts
 file45 =
-    blanks 16
-    ∷ blanks 256 ∷ []
+    text "TKF" ∷ byte 0x01 ∷ byte 0x00 ∷ byte 0x03 ∷ byte 0x02 ∷ zeros 9
+    ∷ byte 0x01 ∷ byte 0x03 ∷ zeros 62 ∷ text "a" ∷ blanks 23 ∷ byte 0x01 ∷ zeros 7 ∷ text "c" ∷ blanks 23 ∷ byte 0x01
+    ∷ zeros 7 ∷ text "d" ∷ blanks 23 ∷ byte 0x01 ∷ zeros 7
+    ∷ byte 0x01 ∷ byte 0x02 ∷ byte 0x01 ∷ zeros 5 ∷ text "b" ∷ zeros 55 ∷ text "c" ∷ blanks 23 ∷ byte 0x01 ∷ zeros 7
+    ∷ text "d" ∷ blanks 23 ∷ byte 0x01 ∷ zeros 39 ∷ []
 
 abbrev pub file46 : Parts
 file46 =
+    text "TKF" ∷ byte 0x01 ∷ byte 0x00 ∷ byte 0x03 ∷ byte 0x02 ∷ zeros 9
+    ∷ byte 0x01 ∷ byte 0x03 ∷ zeros 62 ∷ text "a" ∷ blanks 23 ∷ byte 0x01 ∷ zeros 7 ∷ text "c" ∷ blanks 23 ∷ byte 0x01
+    ∷ zeros 7 ∷ text "d" ∷ blanks 23 ∷ byte 0x01 ∷ zeros 7
+    ∷ byte 0x01 ∷ byte 0x03 ∷ byte 0x01 ∷ zeros 5 ∷ text "b" ∷ zeros 55 ∷ text "c" ∷ blanks 23 ∷ byte 0x01 ∷ zeros 7
+    ∷ text "d" ∷ blanks 23 ∷ byte 0x01 ∷ zeros 7 ∷ text "e" ∷ blanks 23 ∷ byte 0x01 ∷ zeros 7 ∷ []
+
+abbrev pub file47 : Parts
+file47 =
+    text "TKF" ∷ byte 0x01 ∷ byte 0x00 ∷ byte 0x03 ∷ byte 0x02 ∷ zeros 9
+    ∷ byte 0x01 ∷ byte 0x03 ∷ zeros 62 ∷ text "a" ∷ blanks 23 ∷ byte 0x01 ∷ zeros 7 ∷ text "c" ∷ blanks 23 ∷ byte 0x01
+    ∷ zeros 7 ∷ text "d" ∷ blanks 23 ∷ byte 0x01 ∷ zeros 7
+    ∷ byte 0x01 ∷ byte 0x03 ∷ byte 0x01 ∷ zeros 5 ∷ text "b" ∷ zeros 55 ∷ text "b" ∷ blanks 23 ∷ byte 0x02 ∷ zeros 7
+    ∷ text "c" ∷ blanks 23 ∷ byte 0x01 ∷ zeros 7 ∷ text "d" ∷ blanks 23 ∷ byte 0x01 ∷ zeros 7 ∷ []
+
+abbrev pub file48 : Parts
+file48 =
+    text "TKF" ∷ byte 0x01 ∷ byte 0x00 ∷ byte 0x03 ∷ byte 0x02 ∷ zeros 9
+    ∷ byte 0x01 ∷ byte 0x03 ∷ zeros 62 ∷ text "a" ∷ blanks 23 ∷ byte 0x01 ∷ zeros 7 ∷ text "b" ∷ blanks 23 ∷ byte 0x01
+    ∷ zeros 7 ∷ text "d" ∷ blanks 23 ∷ byte 0x01 ∷ zeros 7
+    ∷ byte 0x01 ∷ byte 0x01 ∷ byte 0x01 ∷ zeros 5 ∷ text "b" ∷ zeros 55 ∷ text "d" ∷ blanks 23 ∷ byte 0x01 ∷ zeros 71
+    ∷ []
+
+abbrev pub file49 : Parts
+file49 =
+    text "TKF" ∷ byte 0x01 ∷ byte 0x00 ∷ byte 0x03 ∷ byte 0x02 ∷ zeros 9
+    ∷ byte 0x01 ∷ byte 0x03 ∷ zeros 62 ∷ text "B" ∷ blanks 23 ∷ byte 0x01 ∷ zeros 7 ∷ text "a" ∷ blanks 23 ∷ byte 0x01
+    ∷ zeros 7 ∷ text "b" ∷ blanks 23 ∷ byte 0x01 ∷ zeros 7
+    ∷ byte 0x01 ∷ byte 0x00 ∷ byte 0x01 ∷ zeros 5 ∷ text "b" ∷ zeros 151 ∷ []
+
+abbrev pub file50 : Parts
+file50 =
+    text "TKF" ∷ byte 0x01 ∷ byte 0x00 ∷ byte 0x03 ∷ byte 0x02 ∷ zeros 9
+    ∷ byte 0x01 ∷ byte 0x03 ∷ zeros 62 ∷ text "a" ∷ blanks 23 ∷ byte 0x01 ∷ zeros 7 ∷ text "c" ∷ blanks 23 ∷ byte 0x01
+    ∷ zeros 7 ∷ text "d" ∷ blanks 23 ∷ byte 0x01 ∷ zeros 7
+    ∷ byte 0x01 ∷ byte 0x01 ∷ byte 0x01 ∷ zeros 5 ∷ text "b" ∷ zeros 55 ∷ text "c" ∷ blanks 23 ∷ byte 0x01 ∷ zeros 71
+    ∷ []
+
+abbrev pub file51 : Parts
+file51 =
+    text "TKF" ∷ byte 0x01 ∷ byte 0x00 ∷ byte 0x03 ∷ byte 0x02 ∷ zeros 9
+    ∷ byte 0x01 ∷ byte 0x03 ∷ zeros 62 ∷ text "a" ∷ blanks 23 ∷ byte 0x01 ∷ zeros 7 ∷ text "c" ∷ blanks 23 ∷ byte 0x01
+    ∷ zeros 7 ∷ text "d" ∷ blanks 23 ∷ byte 0x01 ∷ zeros 7
+    ∷ byte 0x01 ∷ byte 0x02 ∷ byte 0x01 ∷ zeros 5 ∷ text "b" ∷ zeros 55 ∷ text "c" ∷ blanks 23 ∷ byte 0x01 ∷ zeros 7
+    ∷ text "d" ∷ blanks 23 ∷ byte 0x02 ∷ zeros 39 ∷ []
+
+abbrev pub file52 : Parts
+file52 =
+    text "TKF" ∷ byte 0x01 ∷ byte 0x00 ∷ byte 0x03 ∷ byte 0x02 ∷ zeros 9
+    ∷ byte 0x01 ∷ byte 0x03 ∷ zeros 62 ∷ text "a" ∷ blanks 23 ∷ byte 0x01 ∷ zeros 7 ∷ text "c" ∷ blanks 23 ∷ byte 0x01
+    ∷ zeros 7 ∷ text "d" ∷ blanks 23 ∷ byte 0x01 ∷ zeros 7
+    ∷ byte 0x01 ∷ byte 0x02 ∷ byte 0x01 ∷ zeros 5 ∷ text "b" ∷ zeros 55 ∷ text "c" ∷ blanks 23 ∷ byte 0x01 ∷ zeros 7
+    ∷ text "e" ∷ blanks 23 ∷ byte 0x01 ∷ zeros 39 ∷ []
+
+abbrev pub file53 : Parts
+file53 =
+    text "TKF" ∷ byte 0x01 ∷ byte 0x00 ∷ byte 0x03 ∷ byte 0x02 ∷ zeros 9
+    ∷ byte 0x01 ∷ byte 0x03 ∷ zeros 62 ∷ text "B" ∷ blanks 23 ∷ byte 0x01 ∷ zeros 7 ∷ text "a" ∷ blanks 23 ∷ byte 0x01
+    ∷ zeros 7 ∷ text "b" ∷ blanks 23 ∷ byte 0x01 ∷ zeros 7
+    ∷ byte 0x01 ∷ byte 0x02 ∷ byte 0x01 ∷ zeros 5 ∷ text "b" ∷ zeros 55 ∷ text "d" ∷ blanks 23 ∷ byte 0x01 ∷ zeros 7
+    ∷ text "e" ∷ blanks 23 ∷ byte 0x01 ∷ zeros 39 ∷ []
+
+abbrev pub file54 : Parts
+file54 =
+    text "TKF" ∷ byte 0x01 ∷ byte 0x00 ∷ byte 0x03 ∷ byte 0x02 ∷ zeros 9
+    ∷ byte 0x01 ∷ byte 0x02 ∷ zeros 62 ∷ text "a" ∷ blanks 23 ∷ byte 0x01 ∷ zeros 7 ∷ text "c" ∷ blanks 23 ∷ byte 0x01
+    ∷ zeros 39
+    ∷ byte 0x01 ∷ byte 0x01 ∷ byte 0x01 ∷ zeros 5 ∷ text "b" ∷ zeros 55 ∷ text "c" ∷ blanks 23 ∷ byte 0x01 ∷ zeros 71
+    ∷ []
+
+abbrev pub file55 : Parts
+file55 =
+    text "TKF" ∷ byte 0x01 ∷ byte 0x00 ∷ byte 0x03 ∷ byte 0x02 ∷ zeros 9
+    ∷ byte 0x01 ∷ byte 0x03 ∷ zeros 62 ∷ text "a" ∷ blanks 23 ∷ byte 0x01 ∷ zeros 7 ∷ text "c" ∷ blanks 23 ∷ byte 0x01
+    ∷ zeros 7 ∷ text "d" ∷ blanks 23 ∷ byte 0x01 ∷ zeros 7
+    ∷ byte 0x01 ∷ byte 0x03 ∷ byte 0x01 ∷ zeros 5 ∷ text "b" ∷ zeros 55 ∷ text "c" ∷ blanks 23 ∷ byte 0x01 ∷ zeros 7
+    ∷ text "c" ∷ blanks 23 ∷ byte 0x02 ∷ zeros 7 ∷ text "d" ∷ blanks 23 ∷ byte 0x01 ∷ zeros 7 ∷ []
+
+abbrev pub file56 : Parts
+file56 =
+    text "TKF" ∷ byte 0x01 ∷ byte 0x00 ∷ byte 0x03 ∷ byte 0x03 ∷ zeros 9
+    ∷ byte 0x01 ∷ byte 0x02 ∷ byte 0x01 ∷ zeros 5 ∷ text "b" ∷ zeros 55 ∷ text "c" ∷ blanks 23 ∷ byte 0x01 ∷ zeros 7
+    ∷ text "d" ∷ blanks 23 ∷ byte 0x01 ∷ zeros 39
+    ∷ byte 0x01 ∷ byte 0x03 ∷ zeros 62 ∷ text "a" ∷ blanks 23 ∷ byte 0x01 ∷ zeros 7 ∷ text "c" ∷ blanks 23 ∷ byte 0x01
+    ∷ zeros 7 ∷ text "d" ∷ blanks 23 ∷ byte 0x01 ∷ zeros 7
+    ∷ zeros 160 ∷ []
+
+abbrev pub file57 : Parts
+file57 =
+    text "TKF" ∷ byte 0x01 ∷ byte 0x00 ∷ byte 0x03 ∷ byte 0x02 ∷ zeros 9
+    ∷ byte 0x01 ∷ byte 0x03 ∷ zeros 62 ∷ text "a" ∷ blanks 23 ∷ byte 0x01 ∷ zeros 7 ∷ text "c" ∷ blanks 23 ∷ byte 0x01
+    ∷ zeros 7 ∷ text "d" ∷ blanks 23 ∷ byte 0x01 ∷ zeros 7
+    ∷ byte 0x01 ∷ byte 0x03 ∷ zeros 62 ∷ text "a" ∷ blanks 23 ∷ byte 0x01 ∷ zeros 7 ∷ text "c" ∷ blanks 23 ∷ byte 0x01
+    ∷ zeros 7 ∷ text "d" ∷ blanks 23 ∷ byte 0x01 ∷ zeros 7 ∷ []
+
+abbrev pub file58 : Parts
+file58 =
+    text "TKF" ∷ byte 0x01 ∷ byte 0x00 ∷ byte 0x03 ∷ byte 0x02 ∷ zeros 9
+    ∷ byte 0x01 ∷ byte 0x02 ∷ byte 0x01 ∷ zeros 5 ∷ text "b" ∷ zeros 55 ∷ text "c" ∷ blanks 23 ∷ byte 0x01 ∷ zeros 7
+    ∷ text "d" ∷ blanks 23 ∷ byte 0x01 ∷ zeros 39
+    ∷ zeros 160 ∷ []
+
+abbrev pub file59 : Parts
+file59 =
+    text "TKF" ∷ byte 0x01 ∷ byte 0x00 ∷ byte 0x03 ∷ byte 0x02 ∷ zeros 9
+    ∷ zeros 160
+    ∷ zeros 160 ∷ []
+
+abbrev pub file60 : Parts
+file60 =
+    blanks 16
+    ∷ blanks 256 ∷ []
+
+abbrev pub file61 : Parts
+file61 =
     text "TKF" ∷ byte 0x01 ∷ byte 0x00 ∷ byte 0x02 ∷ byte 0x02 ∷ zeros 9
     ∷ byte 0x01 ∷ zeros 127
     ∷ zeros 128 ∷ []
 
-abbrev pub file47 : Parts
-file47 =
+abbrev pub file62 : Parts
+file62 =
     blanks 16
     ∷ blanks 480 ∷ []
 
-abbrev pub file48 : Parts
-file48 =
+abbrev pub file63 : Parts
+file63 =
     text "TKF" ∷ byte 0x01 ∷ byte 0x00 ∷ byte 0x03 ∷ byte 0x03 ∷ zeros 9
     ∷ byte 0x01 ∷ zeros 159
     ∷ zeros 160
     ∷ zeros 160 ∷ []
 
-abbrev pub file49 : Parts
-file49 =
+abbrev pub file64 : Parts
+file64 =
     blanks 16
     ∷ blanks 481 ∷ []
 
-abbrev pub file50 : Parts
-file50 =
+abbrev pub file65 : Parts
+file65 =
     blanks 16
     ∷ blanks 96 ∷ []
 
-abbrev pub file51 : Parts
-file51 =
+abbrev pub file66 : Parts
+file66 =
     blanks 16 ∷ []
 
-abbrev pub file52 : Parts
-file52 =
+abbrev pub file67 : Parts
+file67 =
     text "TKF" ∷ byte 0x01 ∷ byte 0x00 ∷ byte 0x02 ∷ byte 0x04 ∷ zeros 9
     ∷ byte 0x01 ∷ byte 0x02 ∷ byte 0x00 ∷ byte 0x03 ∷ zeros 28 ∷ text "oi" ∷ byte 0x20 ∷ zeros 29 ∷ text "n" ∷ blanks 23
     ∷ text "." ∷ byte 0x02 ∷ zeros 6 ∷ text "oi" ∷ blanks 22 ∷ zeros 8
@@ -521,8 +638,8 @@ file52 =
     ∷ byte 0x95 ∷ zeros 39
     ∷ zeros 128 ∷ []
 
-abbrev pub file53 : Parts
-file53 =
+abbrev pub file68 : Parts
+file68 =
     text "TKF" ∷ byte 0x01 ∷ byte 0x00 ∷ byte 0x02 ∷ byte 0x04 ∷ zeros 9
     ∷ byte 0x01 ∷ byte 0x02 ∷ byte 0x00 ∷ byte 0x02 ∷ zeros 28 ∷ text "a!" ∷ zeros 30 ∷ text "a" ∷ blanks 23 ∷ byte 0xAB
     ∷ byte 0xD5 ∷ byte 0xEB ∷ text "(sz" ∷ byte 0xE4 ∷ byte 0x1D ∷ text "a!" ∷ blanks 22 ∷ byte 0x00 ∷ byte 0x02
@@ -533,23 +650,23 @@ file53 =
     ∷ zeros 128
     ∷ zeros 128 ∷ []
 
-abbrev pub file54 : Parts
-file54 =
+abbrev pub file69 : Parts
+file69 =
     text "TKF" ∷ byte 0x01 ∷ byte 0x00 ∷ byte 0x02 ∷ byte 0x02 ∷ zeros 9
     ∷ byte 0x01 ∷ byte 0x02 ∷ byte 0x00 ∷ byte 0x02 ∷ zeros 28 ∷ text "rs" ∷ zeros 30 ∷ text "r" ∷ blanks 23 ∷ byte 0xC4
     ∷ byte 0x01 ∷ zeros 6 ∷ text "rs" ∷ blanks 22 ∷ byte 0xA5 ∷ zeros 7
     ∷ byte 0x01 ∷ byte 0x01 ∷ byte 0x02 ∷ zeros 5 ∷ text "rs" ∷ zeros 54 ∷ text "rts" ∷ blanks 21 ∷ text "V" ∷ byte 0x01
     ∷ zeros 38 ∷ []
 
-abbrev pub file55 : Parts
-file55 =
+abbrev pub file70 : Parts
+file70 =
     text "TKF" ∷ byte 0x01 ∷ byte 0x00 ∷ byte 0x03 ∷ byte 0x02 ∷ zeros 9
     ∷ byte 0x01 ∷ byte 0x03 ∷ zeros 62 ∷ text "a!a" ∷ blanks 21 ∷ byte 0x91 ∷ zeros 7 ∷ text "aa!" ∷ blanks 21 ∷ zeros 8
     ∷ text "a}!" ∷ blanks 21 ∷ byte 0xB6 ∷ byte 0x01 ∷ zeros 6
     ∷ zeros 160 ∷ []
 
-abbrev pub file56 : Parts
-file56 =
+abbrev pub file71 : Parts
+file71 =
     text "TKF" ∷ byte 0x01 ∷ byte 0x00 ∷ byte 0x02 ∷ byte 0x04 ∷ zeros 9
     ∷ byte 0x01 ∷ byte 0x02 ∷ zeros 62 ∷ text "aab" ∷ blanks 21 ∷ text "H" ∷ byte 0x02 ∷ zeros 6 ∷ text "abb"
     ∷ blanks 21 ∷ text "#" ∷ zeros 7
@@ -558,8 +675,8 @@ file56 =
     ∷ zeros 128
     ∷ zeros 128 ∷ []
 
-abbrev pub file57 : Parts
-file57 =
+abbrev pub file72 : Parts
+file72 =
     text "TKF" ∷ byte 0x01 ∷ byte 0x00 ∷ byte 0x02 ∷ byte 0x04 ∷ zeros 9
     ∷ byte 0x01 ∷ byte 0x02 ∷ zeros 62 ∷ text "aab" ∷ blanks 21 ∷ text "H" ∷ byte 0x02 ∷ zeros 6 ∷ text "abb"
     ∷ blanks 21 ∷ text "#" ∷ zeros 7
@@ -567,23 +684,23 @@ file57 =
     ∷ zeros 128
     ∷ zeros 128 ∷ []
 
-abbrev pub file58 : Parts
-file58 =
+abbrev pub file73 : Parts
+file73 =
     text "TKF" ∷ byte 0x01 ∷ byte 0x00 ∷ byte 0x03 ∷ byte 0x02 ∷ zeros 9
     ∷ byte 0x01 ∷ byte 0x03 ∷ zeros 62 ∷ text "iii" ∷ blanks 21 ∷ text "4" ∷ byte 0x02 ∷ zeros 6 ∷ text "o" ∷ blanks 23
     ∷ text "n" ∷ byte 0x03 ∷ zeros 6 ∷ text "oo" ∷ blanks 22 ∷ text "L" ∷ zeros 7
     ∷ byte 0x01 ∷ byte 0x02 ∷ byte 0x01 ∷ zeros 5 ∷ text "i" ∷ zeros 55 ∷ text "o" ∷ blanks 23 ∷ text "n" ∷ byte 0x03
     ∷ zeros 6 ∷ text "oo" ∷ blanks 22 ∷ text "L" ∷ zeros 39 ∷ []
 
-abbrev pub file59 : Parts
-file59 =
+abbrev pub file74 : Parts
+file74 =
     text "TKF" ∷ byte 0x01 ∷ byte 0x00 ∷ byte 0x03 ∷ byte 0x02 ∷ zeros 9
     ∷ byte 0x01 ∷ byte 0x03 ∷ zeros 62 ∷ text "iii" ∷ blanks 21 ∷ text "4" ∷ byte 0x02 ∷ zeros 6 ∷ text "o" ∷ blanks 23
     ∷ text "n" ∷ byte 0x03 ∷ zeros 6 ∷ text "oo" ∷ blanks 22 ∷ text "L" ∷ zeros 7
     ∷ zeros 160 ∷ []
 
-abbrev pub file60 : Parts
-file60 =
+abbrev pub file75 : Parts
+file75 =
     text "TKF" ∷ byte 0x01 ∷ byte 0x00 ∷ byte 0x02 ∷ byte 0x04 ∷ zeros 9
     ∷ byte 0x01 ∷ byte 0x02 ∷ zeros 62 ∷ text "ba" ∷ blanks 22 ∷ text "/" ∷ byte 0x03 ∷ zeros 6 ∷ text "baaab"
     ∷ blanks 19 ∷ text "u" ∷ zeros 7
@@ -591,8 +708,8 @@ file60 =
     ∷ zeros 128
     ∷ zeros 128 ∷ []
 
-abbrev pub file61 : Parts
-file61 =
+abbrev pub file76 : Parts
+file76 =
     text "TKF" ∷ byte 0x01 ∷ byte 0x00 ∷ byte 0x02 ∷ byte 0x04 ∷ zeros 9
     ∷ byte 0x01 ∷ byte 0x02 ∷ zeros 62 ∷ text "ba" ∷ blanks 22 ∷ text "/" ∷ byte 0x03 ∷ zeros 6 ∷ text "baaab"
     ∷ blanks 19 ∷ text "u" ∷ zeros 7
@@ -600,23 +717,23 @@ file61 =
     ∷ zeros 128
     ∷ zeros 128 ∷ []
 
-abbrev pub file62 : Parts
-file62 =
+abbrev pub file77 : Parts
+file77 =
     text "TKF" ∷ byte 0x01 ∷ byte 0x00 ∷ byte 0x02 ∷ byte 0x03 ∷ zeros 9
     ∷ byte 0x01 ∷ zeros 63 ∷ text "non" ∷ blanks 21 ∷ text "J" ∷ byte 0x02 ∷ zeros 38
     ∷ zeros 128
     ∷ zeros 128 ∷ []
 
-abbrev pub file63 : Parts
-file63 =
+abbrev pub file78 : Parts
+file78 =
     text "TKF" ∷ byte 0x01 ∷ byte 0x00 ∷ byte 0x02 ∷ byte 0x02 ∷ zeros 9
     ∷ byte 0x01 ∷ byte 0x01 ∷ byte 0x00 ∷ byte 0x01 ∷ zeros 28 ∷ text "i" ∷ zeros 31 ∷ text "iii" ∷ blanks 21
     ∷ byte 0x9D ∷ byte 0x01 ∷ zeros 38
     ∷ byte 0x01 ∷ byte 0x02 ∷ byte 0x01 ∷ zeros 5 ∷ text "i" ∷ zeros 55 ∷ text "oi" ∷ byte 0xA0 ∷ blanks 21 ∷ text "!"
     ∷ zeros 7 ∷ text "oo" ∷ blanks 22 ∷ zeros 8 ∷ []
 
-abbrev pub file64 : Parts
-file64 =
+abbrev pub file79 : Parts
+file79 =
     text "TKF" ∷ byte 0x01 ∷ byte 0x00 ∷ byte 0x02 ∷ byte 0x03 ∷ zeros 9
     ∷ byte 0x01 ∷ byte 0x02 ∷ byte 0x00 ∷ byte 0x10 ∷ zeros 28 ∷ text "}}}}}!}}}}!!!}!!" ∷ zeros 16 ∷ text "}!"
     ∷ blanks 22 ∷ byte 0xFB ∷ byte 0xD8 ∷ byte 0xAB ∷ text "N" ∷ byte 0xFD ∷ byte 0x91 ∷ byte 0x84 ∷ byte 0x9B
@@ -627,8 +744,8 @@ file64 =
     ∷ byte 0x01 ∷ byte 0x01 ∷ byte 0x11 ∷ byte 0x10 ∷ zeros 4 ∷ text "}}}}}!}}}}!!!}!!!" ∷ zeros 7
     ∷ text "}}}}}!}}}}!!!}!!" ∷ zeros 16 ∷ text "}}}}}!}}}}!!!}!!}!" ∷ blanks 6 ∷ byte 0x06 ∷ zeros 39 ∷ []
 
-abbrev pub file65 : Parts
-file65 =
+abbrev pub file80 : Parts
+file80 =
     text "TKF" ∷ byte 0x01 ∷ byte 0x00 ∷ byte 0x02 ∷ byte 0x03 ∷ zeros 9
     ∷ byte 0x01 ∷ byte 0x02 ∷ byte 0x00 ∷ byte 0x01 ∷ zeros 28 ∷ text "s" ∷ zeros 31 ∷ text "rt" ∷ blanks 22 ∷ text "}"
     ∷ byte 0x03 ∷ zeros 6 ∷ text "s" ∷ blanks 23 ∷ byte 0x06 ∷ byte 0xBD ∷ text "S" ∷ byte 0xFC ∷ byte 0x18 ∷ byte 0x97
@@ -638,8 +755,8 @@ file65 =
     ∷ byte 0x01 ∷ byte 0x01 ∷ byte 0x02 ∷ zeros 5 ∷ text "tr" ∷ zeros 54 ∷ text "tts" ∷ blanks 21 ∷ byte 0x9B
     ∷ byte 0x02 ∷ zeros 38 ∷ []
 
-abbrev pub file66 : Parts
-file66 =
+abbrev pub file81 : Parts
+file81 =
     text "TKF" ∷ byte 0x01 ∷ byte 0x00 ∷ byte 0x02 ∷ byte 0x04 ∷ zeros 9
     ∷ byte 0x01 ∷ byte 0x02 ∷ byte 0x00 ∷ byte 0x01 ∷ zeros 28 ∷ text "a" ∷ zeros 31 ∷ text "ab" ∷ blanks 22 ∷ text "'"
     ∷ byte 0x02 ∷ zeros 6 ∷ text "aba" ∷ blanks 21 ∷ byte 0x1A ∷ byte 0x02 ∷ zeros 6
@@ -649,8 +766,8 @@ file66 =
     ∷ blanks 22 ∷ zeros 40
     ∷ zeros 128 ∷ []
 
-abbrev pub file67 : Parts
-file67 =
+abbrev pub file82 : Parts
+file82 =
     text "TKF" ∷ byte 0x01 ∷ byte 0x00 ∷ byte 0x02 ∷ byte 0x04 ∷ zeros 9
     ∷ byte 0x01 ∷ byte 0x02 ∷ byte 0x00 ∷ byte 0x04 ∷ zeros 28 ∷ text "noii" ∷ zeros 28 ∷ text "nnio" ∷ blanks 20
     ∷ byte 0xCE ∷ byte 0x01 ∷ zeros 6 ∷ text "noii" ∷ blanks 20 ∷ text "i" ∷ byte 0x01 ∷ zeros 6
@@ -660,8 +777,8 @@ file67 =
     ∷ text "noin" ∷ blanks 20 ∷ byte 0x14 ∷ byte 0x01 ∷ zeros 38
     ∷ zeros 15 ∷ byte 0x02 ∷ zeros 112 ∷ []
 
-abbrev pub file68 : Parts
-file68 =
+abbrev pub file83 : Parts
+file83 =
     text "TKF" ∷ byte 0x01 ∷ byte 0x00 ∷ byte 0x02 ∷ byte 0x02 ∷ zeros 9
     ∷ byte 0x01 ∷ byte 0x02 ∷ byte 0x00 ∷ byte 0x03 ∷ zeros 28 ∷ text "}!" ∷ byte 0x20 ∷ zeros 29 ∷ text "!}!"
     ∷ blanks 21 ∷ byte 0x90 ∷ text "E2" ∷ byte 0xE0 ∷ byte 0xAF ∷ byte 0xE0 ∷ byte 0x9F ∷ byte 0xA2 ∷ text "}!"
@@ -669,8 +786,8 @@ file68 =
     ∷ byte 0x01 ∷ byte 0x01 ∷ byte 0x03 ∷ zeros 5 ∷ text "}!" ∷ byte 0x20 ∷ zeros 53 ∷ text "}!}" ∷ blanks 21
     ∷ byte 0xA3 ∷ byte 0xAC ∷ byte 0x91 ∷ byte 0x15 ∷ text "{" ∷ byte 0xD7 ∷ byte 0xBA ∷ byte 0xCB ∷ zeros 32 ∷ []
 
-abbrev pub file69 : Parts
-file69 =
+abbrev pub file84 : Parts
+file84 =
     text "TKF" ∷ byte 0x01 ∷ byte 0x00 ∷ byte 0x03 ∷ byte 0x04 ∷ zeros 9
     ∷ byte 0x01 ∷ byte 0x02 ∷ byte 0x00 ∷ byte 0x17 ∷ zeros 28 ∷ text "aabaaaaababaabbaaabaaaa" ∷ zeros 9
     ∷ text "aabaaaaababaabbaaabaaaa" ∷ byte 0x20 ∷ byte 0x13 ∷ text "O" ∷ byte 0xC7 ∷ text "(R" ∷ byte 0xBA ∷ byte 0xB8
@@ -681,8 +798,8 @@ file69 =
     ∷ zeros 160
     ∷ zeros 160 ∷ []
 
-abbrev pub file70 : Parts
-file70 =
+abbrev pub file85 : Parts
+file85 =
     text "TKF" ∷ byte 0x01 ∷ byte 0x00 ∷ byte 0x02 ∷ byte 0x03 ∷ zeros 9
     ∷ byte 0x01 ∷ byte 0x02 ∷ byte 0x00 ∷ byte 0x01 ∷ zeros 28 ∷ text "n" ∷ zeros 31 ∷ text "iio" ∷ blanks 21 ∷ text "s"
     ∷ byte 0x01 ∷ zeros 6 ∷ text "nn" ∷ blanks 22 ∷ byte 0xBC ∷ byte 0xAB ∷ text "(J!f" ∷ byte 0x82 ∷ byte 0xC0
@@ -691,8 +808,8 @@ file70 =
     ∷ byte 0x01 ∷ byte 0x01 ∷ byte 0x01 ∷ byte 0x02 ∷ zeros 4 ∷ text "n" ∷ zeros 23 ∷ text "o" ∷ byte 0x20 ∷ zeros 30
     ∷ text "o" ∷ blanks 23 ∷ text "." ∷ byte 0x01 ∷ zeros 38 ∷ []
 
-abbrev pub file71 : Parts
-file71 =
+abbrev pub file86 : Parts
+file86 =
     text "TKF" ∷ byte 0x01 ∷ byte 0x00 ∷ byte 0x02 ∷ byte 0x04 ∷ zeros 9
     ∷ byte 0x01 ∷ byte 0x02 ∷ byte 0x00 ∷ byte 0x03 ∷ zeros 28 ∷ text "aa" ∷ byte 0x20 ∷ zeros 29 ∷ text "a" ∷ blanks 23
     ∷ text "H" ∷ zeros 7 ∷ text "aa" ∷ blanks 22 ∷ byte 0xA6 ∷ byte 0x01 ∷ zeros 6
@@ -701,8 +818,8 @@ file71 =
     ∷ zeros 128
     ∷ zeros 128 ∷ []
 
-abbrev pub file72 : Parts
-file72 =
+abbrev pub file87 : Parts
+file87 =
     text "TKF" ∷ byte 0x01 ∷ byte 0x00 ∷ byte 0x02 ∷ byte 0x02 ∷ zeros 9
     ∷ byte 0x01 ∷ byte 0x02 ∷ byte 0x00 ∷ byte 0x17 ∷ zeros 28 ∷ text "zyxzxyyxxxxzxyxyxzxxzxx" ∷ zeros 9
     ∷ text "zyxzxyyxxxxzxyxyxzxxzx" ∷ blanks 2 ∷ byte 0x05 ∷ byte 0x02 ∷ zeros 6 ∷ text "zyxzxyyxxxxzxyxyxzxxzxx"
@@ -711,16 +828,16 @@ file72 =
     ∷ text "zyxzxyyxxxxzxyxyxzxxzxyx" ∷ byte 0xAB ∷ byte 0x02 ∷ zeros 6 ∷ text "zyxzxyyxxxxzxyxyxzxxzxz" ∷ byte 0x20
     ∷ zeros 8 ∷ []
 
-abbrev pub file73 : Parts
-file73 =
+abbrev pub file88 : Parts
+file88 =
     text "TKF" ∷ byte 0x01 ∷ byte 0x00 ∷ byte 0x02 ∷ byte 0x02 ∷ zeros 9
     ∷ byte 0x01 ∷ byte 0x01 ∷ byte 0x00 ∷ byte 0x02 ∷ zeros 28 ∷ text "z" ∷ byte 0x20 ∷ zeros 30 ∷ text "z" ∷ blanks 23
     ∷ byte 0xFF ∷ byte 0xFF ∷ byte 0xFF ∷ byte 0xFF ∷ byte 0xFF ∷ byte 0xFF ∷ byte 0xFF ∷ byte 0xFF ∷ zeros 32
     ∷ byte 0x01 ∷ byte 0x02 ∷ byte 0x02 ∷ zeros 5 ∷ text "z" ∷ byte 0x20 ∷ zeros 54 ∷ text "zy" ∷ blanks 22 ∷ text "l"
     ∷ byte 0x03 ∷ zeros 6 ∷ text "zyyy" ∷ blanks 20 ∷ zeros 8 ∷ []
 
-abbrev pub file74 : Parts
-file74 =
+abbrev pub file89 : Parts
+file89 =
     text "TKF" ∷ byte 0x01 ∷ byte 0x00 ∷ byte 0x03 ∷ byte 0x04 ∷ zeros 9
     ∷ byte 0x01 ∷ byte 0x03 ∷ zeros 62 ∷ text "i" ∷ blanks 23 ∷ text "0" ∷ byte 0x02 ∷ zeros 6 ∷ text "n" ∷ blanks 23
     ∷ byte 0xCA ∷ byte 0x01 ∷ zeros 6 ∷ text "ni" ∷ blanks 22 ∷ text "S" ∷ byte 0x01 ∷ zeros 6
@@ -730,16 +847,16 @@ file74 =
     ∷ zeros 160
     ∷ zeros 160 ∷ []
 
-abbrev pub file75 : Parts
-file75 =
+abbrev pub file90 : Parts
+file90 =
     text "TKF" ∷ byte 0x01 ∷ byte 0x00 ∷ byte 0x02 ∷ byte 0x02 ∷ zeros 9
     ∷ byte 0x01 ∷ byte 0x02 ∷ byte 0x00 ∷ byte 0x02 ∷ zeros 28 ∷ text "a" ∷ byte 0x20 ∷ zeros 30 ∷ text "!" ∷ blanks 23
     ∷ byte 0xAC ∷ zeros 7 ∷ text "a" ∷ blanks 23 ∷ byte 0xD5 ∷ byte 0x02 ∷ zeros 6
     ∷ byte 0x01 ∷ byte 0x01 ∷ byte 0x02 ∷ zeros 5 ∷ text "a" ∷ byte 0x20 ∷ zeros 54 ∷ text "a!" ∷ blanks 22 ∷ byte 0xC1
     ∷ byte 0x01 ∷ zeros 38 ∷ []
 
-abbrev pub file76 : Parts
-file76 =
+abbrev pub file91 : Parts
+file91 =
     text "TKF" ∷ byte 0x01 ∷ byte 0x00 ∷ byte 0x02 ∷ byte 0x03 ∷ zeros 9
     ∷ byte 0x01 ∷ byte 0x02 ∷ byte 0x00 ∷ byte 0x01 ∷ zeros 28 ∷ text "a" ∷ zeros 31 ∷ text "a" ∷ blanks 23 ∷ byte 0x00
     ∷ byte 0x02 ∷ zeros 6 ∷ text "ab" ∷ blanks 22 ∷ text "8" ∷ byte 0x02 ∷ zeros 6
@@ -749,8 +866,8 @@ file76 =
     ∷ text "b" ∷ blanks 23 ∷ text "G" ∷ byte 0xCC ∷ byte 0xFC ∷ byte 0x20 ∷ byte 0xD9 ∷ byte 0xA7 ∷ byte 0xF5 ∷ text "8"
     ∷ zeros 32 ∷ []
 
-abbrev pub file77 : Parts
-file77 =
+abbrev pub file92 : Parts
+file92 =
     text "TKF" ∷ byte 0x01 ∷ byte 0x00 ∷ byte 0x02 ∷ byte 0x04 ∷ zeros 9
     ∷ byte 0x01 ∷ byte 0x02 ∷ byte 0x00 ∷ byte 0x02 ∷ zeros 28 ∷ text "}" ∷ byte 0x20 ∷ zeros 30 ∷ text "a}" ∷ blanks 22
     ∷ text "V" ∷ byte 0x02 ∷ zeros 6 ∷ text "}" ∷ blanks 23 ∷ byte 0xDE ∷ byte 0x02 ∷ zeros 6
@@ -759,8 +876,8 @@ file77 =
     ∷ zeros 128
     ∷ zeros 128 ∷ []
 
-abbrev pub file78 : Parts
-file78 =
+abbrev pub file93 : Parts
+file93 =
     text "TKF" ∷ byte 0x01 ∷ byte 0x00 ∷ byte 0x02 ∷ byte 0x03 ∷ zeros 9
     ∷ byte 0x01 ∷ byte 0x02 ∷ byte 0x00 ∷ byte 0x01 ∷ zeros 28 ∷ text "a" ∷ zeros 31 ∷ text "aab" ∷ blanks 21
     ∷ byte 0xE0 ∷ byte 0x16 ∷ byte 0x96 ∷ byte 0xAA ∷ byte 0x01 ∷ byte 0xCE ∷ text "u" ∷ byte 0xC2 ∷ text "aba"
@@ -770,8 +887,8 @@ file78 =
     ∷ blanks 23 ∷ text "g" ∷ byte 0x02 ∷ zeros 6 ∷ text "baa" ∷ blanks 21 ∷ text "*" ∷ byte 0xF2 ∷ text "mv" ∷ byte 0x9F
     ∷ byte 0xA0 ∷ byte 0x9E ∷ byte 0x16 ∷ []
 
-abbrev pub file79 : Parts
-file79 =
+abbrev pub file94 : Parts
+file94 =
     text "TKF" ∷ byte 0x01 ∷ byte 0x00 ∷ byte 0x02 ∷ byte 0x04 ∷ zeros 9
     ∷ byte 0x01 ∷ byte 0x02 ∷ byte 0x00 ∷ byte 0x06 ∷ zeros 28 ∷ text "baaaaa" ∷ zeros 26 ∷ text "baaaa" ∷ blanks 19
     ∷ text "h" ∷ byte 0x01 ∷ zeros 6 ∷ text "baaaaaa" ∷ blanks 17 ∷ byte 0xFB ∷ byte 0xE6 ∷ text "q:" ∷ byte 0xE8
@@ -782,16 +899,16 @@ file79 =
     ∷ text "baaaaba" ∷ blanks 17 ∷ text "[" ∷ byte 0x02 ∷ zeros 6 ∷ text "baabaa" ∷ blanks 18 ∷ zeros 8
     ∷ zeros 128 ∷ []
 
-abbrev pub file80 : Parts
-file80 =
+abbrev pub file95 : Parts
+file95 =
     text "TKF" ∷ byte 0x01 ∷ byte 0x00 ∷ byte 0x02 ∷ byte 0x02 ∷ zeros 9
     ∷ byte 0x01 ∷ byte 0x02 ∷ byte 0x00 ∷ byte 0x03 ∷ zeros 28 ∷ text "zyx" ∷ zeros 29 ∷ text "zy" ∷ blanks 22
     ∷ byte 0xD7 ∷ byte 0x03 ∷ zeros 6 ∷ text "zyxx" ∷ blanks 20 ∷ zeros 8
     ∷ byte 0x01 ∷ byte 0x01 ∷ byte 0x03 ∷ zeros 5 ∷ text "zyx" ∷ zeros 53 ∷ text "zyyyx" ∷ blanks 19 ∷ text "3_"
     ∷ byte 0x9B ∷ text "a" ∷ byte 0xE9 ∷ byte 0x91 ∷ byte 0x7F ∷ text "$" ∷ zeros 32 ∷ []
 
-abbrev pub file81 : Parts
-file81 =
+abbrev pub file96 : Parts
+file96 =
     text "TKF" ∷ byte 0x01 ∷ byte 0x00 ∷ byte 0x02 ∷ byte 0x02 ∷ zeros 9
     ∷ byte 0x01 ∷ byte 0x02 ∷ byte 0x00 ∷ byte 0x18 ∷ zeros 28 ∷ text "nnoinonooiniooinnnooonoi" ∷ zeros 8
     ∷ text "nnoinonooiniooinnnooonn" ∷ byte 0x20 ∷ text "i" ∷ byte 0x91 ∷ byte 0x01 ∷ byte 0xEB ∷ byte 0x09 ∷ text "2-"
@@ -800,8 +917,8 @@ file81 =
     ∷ text "nnoinonooiniooinnnooonon" ∷ byte 0xD9 ∷ text "y" ∷ byte 0x8D ∷ text "w" ∷ byte 0x89 ∷ byte 0xCA ∷ byte 0xEA
     ∷ text "&" ∷ zeros 32 ∷ []
 
-abbrev pub file82 : Parts
-file82 =
+abbrev pub file97 : Parts
+file97 =
     text "TKF" ∷ byte 0x01 ∷ byte 0x00 ∷ byte 0x02 ∷ byte 0x03 ∷ zeros 9
     ∷ byte 0x01 ∷ byte 0x02 ∷ byte 0x00 ∷ byte 0x05 ∷ zeros 28 ∷ text "zzxyx" ∷ zeros 27 ∷ text "zzxy" ∷ blanks 20
     ∷ byte 0xEA ∷ byte 0xC4 ∷ byte 0x20 ∷ byte 0x9A ∷ text "Y" ∷ byte 0xF4 ∷ text ")" ∷ byte 0xC8 ∷ text "zzxyxzx"
@@ -810,8 +927,8 @@ file82 =
     ∷ byte 0x02 ∷ zeros 38
     ∷ zeros 128 ∷ []
 
-abbrev pub file83 : Parts
-file83 =
+abbrev pub file98 : Parts
+file98 =
     text "TKF" ∷ byte 0x01 ∷ byte 0x00 ∷ byte 0x02 ∷ byte 0x03 ∷ zeros 9
     ∷ byte 0x01 ∷ byte 0x02 ∷ byte 0x00 ∷ byte 0x02 ∷ zeros 28 ∷ text "b" ∷ byte 0x20 ∷ zeros 30 ∷ text "a" ∷ blanks 23
     ∷ byte 0xA3 ∷ byte 0x03 ∷ zeros 6 ∷ text "b" ∷ blanks 23 ∷ byte 0xB3 ∷ byte 0x15 ∷ byte 0xBE ∷ text "?" ∷ byte 0x93
@@ -820,8 +937,8 @@ file83 =
     ∷ zeros 39
     ∷ zeros 128 ∷ []
 
-abbrev pub file84 : Parts
-file84 =
+abbrev pub file99 : Parts
+file99 =
     text "TKF" ∷ byte 0x01 ∷ byte 0x00 ∷ byte 0x02 ∷ byte 0x03 ∷ zeros 9
     ∷ byte 0x01 ∷ byte 0x02 ∷ byte 0x00 ∷ byte 0x03 ∷ zeros 28 ∷ text "ba" ∷ byte 0x20 ∷ zeros 29 ∷ text "aaa"
     ∷ blanks 21 ∷ text "(" ∷ byte 0xD6 ∷ byte 0x0E ∷ byte 0x00 ∷ byte 0xBA ∷ text "A]" ∷ byte 0xCF ∷ text "ba"
@@ -830,8 +947,8 @@ file84 =
     ∷ byte 0xDD ∷ byte 0xA1 ∷ byte 0xA1 ∷ text "a" ∷ byte 0xFA ∷ byte 0xD5 ∷ byte 0x12 ∷ byte 0xDE ∷ zeros 32
     ∷ zeros 128 ∷ []
 
-abbrev pub file85 : Parts
-file85 =
+abbrev pub file100 : Parts
+file100 =
     text "TKF" ∷ byte 0x01 ∷ byte 0x00 ∷ byte 0x02 ∷ byte 0x04 ∷ zeros 9
     ∷ byte 0x01 ∷ byte 0x02 ∷ byte 0x00 ∷ byte 0x02 ∷ zeros 28 ∷ text "yy" ∷ zeros 30 ∷ text "yxx" ∷ blanks 21
     ∷ byte 0x0E ∷ byte 0x14 ∷ byte 0xE4 ∷ text "<A]I" ∷ byte 0xD2 ∷ text "yy" ∷ blanks 22 ∷ byte 0x9B ∷ byte 0x01
@@ -843,8 +960,8 @@ file85 =
     ∷ blanks 21 ∷ byte 0x8B ∷ zeros 39
     ∷ zeros 128 ∷ []
 
-abbrev pub file86 : Parts
-file86 =
+abbrev pub file101 : Parts
+file101 =
     text "TKF" ∷ byte 0x01 ∷ byte 0x00 ∷ byte 0x02 ∷ byte 0x04 ∷ zeros 9
     ∷ byte 0x01 ∷ byte 0x02 ∷ byte 0x00 ∷ byte 0x02 ∷ zeros 28 ∷ text "yy" ∷ zeros 30 ∷ text "yy" ∷ blanks 22
     ∷ byte 0xE9 ∷ zeros 7 ∷ text "yyzy" ∷ blanks 20 ∷ text "R" ∷ zeros 7
@@ -854,8 +971,8 @@ file86 =
     ∷ byte 0x8C ∷ byte 0xF6 ∷ text "An" ∷ byte 0xA1 ∷ byte 0x85 ∷ byte 0xA2 ∷ zeros 32
     ∷ zeros 128 ∷ []
 
-abbrev pub file87 : Parts
-file87 =
+abbrev pub file102 : Parts
+file102 =
     text "TKF" ∷ byte 0x01 ∷ byte 0x00 ∷ byte 0x02 ∷ byte 0x02 ∷ zeros 9
     ∷ byte 0x01 ∷ byte 0x02 ∷ byte 0x00 ∷ byte 0x04 ∷ zeros 28 ∷ text "nnni" ∷ zeros 28 ∷ text "nnn" ∷ blanks 21
     ∷ byte 0xFF ∷ byte 0xFF ∷ byte 0xFF ∷ byte 0xFF ∷ byte 0xFF ∷ byte 0xFF ∷ byte 0xFF ∷ byte 0xFF ∷ text "nnnio"
@@ -863,8 +980,8 @@ file87 =
     ∷ byte 0x01 ∷ byte 0x01 ∷ byte 0x04 ∷ zeros 5 ∷ text "nnni" ∷ zeros 52 ∷ text "nnnoi" ∷ blanks 19 ∷ byte 0x0A
     ∷ byte 0x02 ∷ zeros 38 ∷ []
 
-abbrev pub file88 : Parts
-file88 =
+abbrev pub file103 : Parts
+file103 =
     text "TKF" ∷ byte 0x01 ∷ byte 0x00 ∷ byte 0x03 ∷ byte 0x02 ∷ zeros 9
     ∷ byte 0x01 ∷ byte 0x02 ∷ byte 0x00 ∷ byte 0x06 ∷ zeros 28 ∷ text "!}a}!" ∷ byte 0x20 ∷ zeros 26 ∷ text "!}a}"
     ∷ blanks 20 ∷ byte 0xF8 ∷ byte 0x9B ∷ text "o;[" ∷ byte 0xD8 ∷ byte 0xA4 ∷ text "o!}a}!" ∷ blanks 19 ∷ text "["
@@ -873,8 +990,8 @@ file88 =
     ∷ text "d" ∷ byte 0x03 ∷ zeros 6 ∷ text "!}a}!}}}}!a}a!" ∷ blanks 10 ∷ byte 0x09 ∷ byte 0xF5 ∷ text "-" ∷ byte 0x00
     ∷ byte 0xFF ∷ byte 0x9A ∷ byte 0xC1 ∷ byte 0x98 ∷ text "!}a}!}}}}!a}a!}a}aa}!a!}G" ∷ byte 0x01 ∷ zeros 6 ∷ []
 
-abbrev pub file89 : Parts
-file89 =
+abbrev pub file104 : Parts
+file104 =
     text "TKF" ∷ byte 0x01 ∷ byte 0x00 ∷ byte 0x03 ∷ byte 0x03 ∷ zeros 9
     ∷ byte 0x01 ∷ byte 0x02 ∷ byte 0x00 ∷ byte 0x04 ∷ zeros 28 ∷ text "bbba" ∷ zeros 28 ∷ text "bbba" ∷ blanks 20
     ∷ text "1" ∷ byte 0x0A ∷ text "SB" ∷ byte 0x8C ∷ byte 0x90 ∷ byte 0xBD ∷ text "2bbbaab" ∷ blanks 18 ∷ byte 0x12
@@ -883,8 +1000,8 @@ file89 =
     ∷ byte 0x02 ∷ zeros 6 ∷ text "bbbba" ∷ blanks 19 ∷ byte 0xD3 ∷ zeros 39
     ∷ zeros 160 ∷ []
 
-abbrev pub file90 : Parts
-file90 =
+abbrev pub file105 : Parts
+file105 =
     text "TKF" ∷ byte 0x01 ∷ byte 0x00 ∷ byte 0x02 ∷ byte 0x03 ∷ zeros 9
     ∷ byte 0x01 ∷ byte 0x02 ∷ byte 0x00 ∷ byte 0x02 ∷ zeros 28 ∷ text "xx" ∷ zeros 30 ∷ text "xx" ∷ blanks 22
     ∷ byte 0xA9 ∷ byte 0x0C ∷ byte 0x8E ∷ byte 0x87 ∷ text "lK" ∷ byte 0x9F ∷ byte 0x8D ∷ text "xxxz" ∷ blanks 20
@@ -894,8 +1011,8 @@ file90 =
     ∷ byte 0xFF
     ∷ zeros 128 ∷ []
 
-abbrev pub file91 : Parts
-file91 =
+abbrev pub file106 : Parts
+file106 =
     text "TKF" ∷ byte 0x01 ∷ byte 0x00 ∷ byte 0x02 ∷ byte 0x02 ∷ zeros 9
     ∷ byte 0x01 ∷ byte 0x02 ∷ byte 0x00 ∷ byte 0x05 ∷ zeros 28 ∷ text "oonnn" ∷ zeros 27 ∷ text "oonnnio" ∷ blanks 17
     ∷ byte 0xE6 ∷ zeros 7 ∷ text "oonnin" ∷ blanks 18 ∷ text "#" ∷ byte 0x01 ∷ zeros 6
@@ -903,8 +1020,8 @@ file91 =
     ∷ byte 0x01 ∷ zeros 6 ∷ text "oonnooo" ∷ blanks 17 ∷ byte 0x8F ∷ text "d" ∷ byte 0x04 ∷ byte 0xFC ∷ byte 0xF2
     ∷ byte 0x22 ∷ byte 0xEA ∷ byte 0x0D ∷ []
 
-abbrev pub file92 : Parts
-file92 =
+abbrev pub file107 : Parts
+file107 =
     text "TKF" ∷ byte 0x01 ∷ byte 0x00 ∷ byte 0x02 ∷ byte 0x02 ∷ zeros 9
     ∷ byte 0x01 ∷ byte 0x02 ∷ byte 0xFF ∷ byte 0x04 ∷ zeros 28 ∷ text "oon" ∷ byte 0x20 ∷ zeros 28 ∷ text "ooio"
     ∷ blanks 20 ∷ byte 0x93 ∷ byte 0x01 ∷ zeros 6 ∷ text "oon" ∷ blanks 21 ∷ byte 0xA3 ∷ byte 0xB5 ∷ byte 0x82
@@ -912,29 +1029,39 @@ file92 =
     ∷ byte 0x01 ∷ byte 0x01 ∷ byte 0x04 ∷ zeros 5 ∷ text "oon" ∷ byte 0x20 ∷ zeros 52 ∷ text "oonni" ∷ blanks 19
     ∷ byte 0xFF ∷ byte 0xFF ∷ byte 0xFF ∷ byte 0xFF ∷ byte 0xFF ∷ byte 0xFF ∷ byte 0xFF ∷ byte 0xFF ∷ zeros 32 ∷ []
 
-abbrev pub file93 : Parts
-file93 =
+abbrev pub file108 : Parts
+file108 =
     text "TKF" ∷ byte 0x01 ∷ byte 0x00 ∷ byte 0x02 ∷ byte 0x01 ∷ zeros 9
     ∷ byte 0x01 ∷ byte 0x02 ∷ byte 0x00 ∷ byte 0x04 ∷ text "'" ∷ zeros 27 ∷ text "bbba" ∷ zeros 28 ∷ text "bbba"
     ∷ blanks 20 ∷ text "{" ∷ byte 0x02 ∷ zeros 6 ∷ text "bbbaa" ∷ blanks 19 ∷ byte 0x16 ∷ zeros 7 ∷ []
 
-abbrev pub file94 : Parts
-file94 =
+abbrev pub file109 : Parts
+file109 =
+    text "TKF" ∷ byte 0x01 ∷ byte 0x00 ∷ byte 0x02 ∷ byte 0x04 ∷ zeros 9
+    ∷ byte 0x01 ∷ byte 0x02 ∷ byte 0x00 ∷ byte 0x05 ∷ zeros 28 ∷ text "rate2" ∷ zeros 27 ∷ text "rate1" ∷ blanks 19
+    ∷ byte 0x01 ∷ zeros 7 ∷ text "rate2" ∷ blanks 19 ∷ byte 0x01 ∷ zeros 7
+    ∷ byte 0x01 ∷ byte 0x01 ∷ byte 0x05 ∷ zeros 5 ∷ text "rate2" ∷ zeros 51 ∷ text "rate3" ∷ blanks 19 ∷ byte 0x01
+    ∷ zeros 39
+    ∷ zeros 128
+    ∷ zeros 128 ∷ []
+
+abbrev pub file110 : Parts
+file110 =
     text "TKF" ∷ byte 0x01 ∷ byte 0x00 ∷ byte 0x02 ∷ byte 0x02 ∷ zeros 9
     ∷ byte 0x01 ∷ byte 0x02 ∷ byte 0x00 ∷ byte 0x01 ∷ zeros 28 ∷ text "y" ∷ zeros 31 ∷ text "xy" ∷ blanks 22 ∷ byte 0x92
     ∷ zeros 7 ∷ text "y" ∷ blanks 23 ∷ text "+" ∷ zeros 7
     ∷ byte 0x01 ∷ byte 0x01 ∷ byte 0x01 ∷ zeros 5 ∷ text "y" ∷ zeros 55 ∷ text "z" ∷ blanks 23 ∷ byte 0xDF ∷ zeros 39
     ∷ []
 
-abbrev pub file95 : Parts
-file95 =
+abbrev pub file111 : Parts
+file111 =
     text "TKF" ∷ byte 0x01 ∷ byte 0x00 ∷ byte 0x03 ∷ byte 0x02 ∷ zeros 9
     ∷ byte 0x01 ∷ byte 0x02 ∷ zeros 62 ∷ text "}}a}a!}!!!}aaaa}!!}a}!!a@" ∷ byte 0x01 ∷ zeros 6
     ∷ text "}}a}a!}!!!}aaaa}!!}a}aa" ∷ byte 0x20 ∷ text "*" ∷ byte 0x03 ∷ zeros 38
     ∷ zeros 160 ∷ []
 
-abbrev pub file96 : Parts
-file96 =
+abbrev pub file112 : Parts
+file112 =
     text "TKF" ∷ byte 0x01 ∷ byte 0x00 ∷ byte 0x02 ∷ byte 0x04 ∷ zeros 9
     ∷ byte 0x01 ∷ byte 0x02 ∷ byte 0x00 ∷ byte 0x04 ∷ zeros 28 ∷ text "a!!!" ∷ zeros 28 ∷ text "a!!" ∷ blanks 21
     ∷ text "m" ∷ byte 0x02 ∷ zeros 6 ∷ text "a!!!!" ∷ blanks 19 ∷ byte 0xD9 ∷ byte 0x01 ∷ zeros 6
@@ -943,8 +1070,8 @@ file96 =
     ∷ zeros 128
     ∷ zeros 128 ∷ []
 
-abbrev pub file97 : Parts
-file97 =
+abbrev pub file113 : Parts
+file113 =
     text "TKF" ∷ byte 0x01 ∷ byte 0x00 ∷ byte 0x03 ∷ byte 0x02 ∷ zeros 6 ∷ byte 0x01 ∷ zeros 2
     ∷ byte 0x01 ∷ byte 0x02 ∷ byte 0x02 ∷ zeros 5 ∷ text "xx" ∷ zeros 54 ∷ text "xyy" ∷ blanks 21 ∷ text "u" ∷ byte 0x01
     ∷ zeros 6 ∷ text "xyz" ∷ blanks 21 ∷ byte 0xD0 ∷ byte 0xEF ∷ text "Z`" ∷ byte 0xA9 ∷ byte 0x92 ∷ byte 0xA2
@@ -952,8 +1079,8 @@ file97 =
     ∷ text "xxyyy" ∷ blanks 19 ∷ byte 0xC5 ∷ byte 0xB9 ∷ text "F" ∷ byte 0x1B ∷ text "5" ∷ byte 0xF1 ∷ text "<"
     ∷ byte 0xA2 ∷ text "xxzzx" ∷ blanks 19 ∷ byte 0x0A ∷ zeros 39 ∷ []
 
-abbrev pub file98 : Parts
-file98 =
+abbrev pub file114 : Parts
+file114 =
     text "TKF" ∷ byte 0x01 ∷ byte 0x00 ∷ byte 0x02 ∷ byte 0x04 ∷ zeros 9
     ∷ byte 0x01 ∷ byte 0x02 ∷ byte 0x00 ∷ byte 0x02 ∷ zeros 28 ∷ text "aa" ∷ zeros 30 ∷ text "a" ∷ blanks 23 ∷ byte 0xDD
     ∷ byte 0x01 ∷ zeros 6 ∷ text "aa" ∷ blanks 22 ∷ byte 0xE8 ∷ zeros 7
@@ -965,8 +1092,8 @@ file98 =
     ∷ byte 0x01 ∷ byte 0x01 ∷ byte 0x02 ∷ byte 0x03 ∷ zeros 4 ∷ text "aa" ∷ zeros 22 ∷ text "ab" ∷ byte 0x20 ∷ zeros 29
     ∷ text "ab" ∷ blanks 22 ∷ zeros 40 ∷ []
 
-abbrev pub file99 : Parts
-file99 =
+abbrev pub file115 : Parts
+file115 =
     text "TKF" ∷ byte 0x01 ∷ byte 0x00 ∷ byte 0x03 ∷ byte 0x04 ∷ zeros 9
     ∷ byte 0x01 ∷ byte 0x02 ∷ byte 0x00 ∷ byte 0x02 ∷ zeros 28 ∷ text "zx" ∷ zeros 30 ∷ text "z" ∷ blanks 23
     ∷ text "2Gr" ∷ byte 0xC4 ∷ byte 0xE1 ∷ text "I]" ∷ byte 0xA7 ∷ text "zxy" ∷ blanks 21 ∷ byte 0xFF ∷ byte 0xFF
@@ -977,8 +1104,8 @@ file99 =
     ∷ zeros 160
     ∷ zeros 160 ∷ []
 
-abbrev pub file100 : Parts
-file100 =
+abbrev pub file116 : Parts
+file116 =
     text "TKF" ∷ byte 0x01 ∷ byte 0x00 ∷ byte 0x03 ∷ byte 0x03 ∷ zeros 9
     ∷ byte 0x01 ∷ byte 0x02 ∷ byte 0x00 ∷ byte 0x01 ∷ zeros 28 ∷ text "i" ∷ zeros 31 ∷ text "i" ∷ blanks 23 ∷ zeros 8
     ∷ text "io" ∷ blanks 22 ∷ byte 0xBC ∷ text "!" ∷ byte 0xBF ∷ text "j" ∷ byte 0xB2 ∷ byte 0x88 ∷ text "H" ∷ byte 0xA7
@@ -988,8 +1115,8 @@ file100 =
     ∷ zeros 32
     ∷ zeros 160 ∷ []
 
-abbrev pub file101 : Parts
-file101 =
+abbrev pub file117 : Parts
+file117 =
     text "TKF" ∷ byte 0x01 ∷ byte 0x00 ∷ byte 0x03 ∷ byte 0x03 ∷ zeros 9
     ∷ byte 0x01 ∷ byte 0x02 ∷ byte 0x00 ∷ byte 0x01 ∷ zeros 28 ∷ text "i" ∷ zeros 31 ∷ text "i" ∷ blanks 23 ∷ zeros 8
     ∷ text "io" ∷ blanks 22 ∷ byte 0xBC ∷ text "!" ∷ byte 0xBF ∷ text "j" ∷ byte 0xB2 ∷ byte 0x88 ∷ text "H" ∷ byte 0xA7
@@ -999,16 +1126,16 @@ file101 =
     ∷ zeros 32
     ∷ zeros 160 ∷ []
 
-abbrev pub file102 : Parts
-file102 =
+abbrev pub file118 : Parts
+file118 =
     text "TKF" ∷ byte 0x01 ∷ byte 0x00 ∷ byte 0x02 ∷ byte 0x03 ∷ zeros 9
     ∷ byte 0x01 ∷ byte 0x02 ∷ zeros 62 ∷ text "a" ∷ blanks 23 ∷ text "." ∷ byte 0x01 ∷ zeros 6 ∷ text "aba" ∷ blanks 21
     ∷ byte 0xA2 ∷ byte 0x02 ∷ zeros 6
     ∷ zeros 128
     ∷ zeros 128 ∷ []
 
-abbrev pub file103 : Parts
-file103 =
+abbrev pub file119 : Parts
+file119 =
     text "TKF" ∷ byte 0x01 ∷ byte 0x00 ∷ byte 0x02 ∷ byte 0x03 ∷ zeros 9
     ∷ byte 0x01 ∷ byte 0x02 ∷ zeros 62 ∷ text "yyyx" ∷ blanks 20 ∷ text "n" ∷ zeros 7 ∷ text "yyzx" ∷ blanks 20
     ∷ byte 0xDC ∷ byte 0x02 ∷ zeros 6
@@ -1016,8 +1143,8 @@ file103 =
     ∷ byte 0x02 ∷ zeros 38
     ∷ zeros 128 ∷ []
 
-abbrev pub file104 : Parts
-file104 =
+abbrev pub file120 : Parts
+file120 =
     text "TKF" ∷ byte 0x01 ∷ byte 0x00 ∷ byte 0x02 ∷ byte 0x02 ∷ zeros 9
     ∷ byte 0x01 ∷ byte 0x02 ∷ byte 0x00 ∷ byte 0x03 ∷ zeros 28 ∷ text "str" ∷ zeros 29 ∷ text "st" ∷ blanks 22
     ∷ byte 0x02 ∷ text "," ∷ byte 0xD9 ∷ text "*n" ∷ byte 0x0F ∷ byte 0x84 ∷ text "ustrtt" ∷ blanks 19 ∷ text "f"
@@ -1025,16 +1152,16 @@ file104 =
     ∷ byte 0x01 ∷ byte 0x02 ∷ byte 0x03 ∷ zeros 5 ∷ text "str" ∷ zeros 53 ∷ text "stss" ∷ blanks 20 ∷ byte 0xDD
     ∷ byte 0x03 ∷ zeros 6 ∷ text "sttt" ∷ blanks 20 ∷ byte 0xB5 ∷ byte 0x03 ∷ zeros 6 ∷ []
 
-abbrev pub file105 : Parts
-file105 =
+abbrev pub file121 : Parts
+file121 =
     text "TKF" ∷ byte 0x01 ∷ byte 0x00 ∷ byte 0x02 ∷ byte 0x02 ∷ zeros 9
     ∷ byte 0x01 ∷ byte 0x02 ∷ byte 0x00 ∷ byte 0x03 ∷ zeros 28 ∷ text "str" ∷ zeros 29 ∷ text "st" ∷ blanks 22
     ∷ byte 0xAE ∷ byte 0x03 ∷ zeros 6 ∷ text "strtt" ∷ blanks 19 ∷ text "f" ∷ zeros 7
     ∷ byte 0x01 ∷ byte 0x02 ∷ byte 0x03 ∷ zeros 5 ∷ text "str" ∷ zeros 53 ∷ text "stss" ∷ blanks 20 ∷ byte 0xDD
     ∷ byte 0x03 ∷ zeros 6 ∷ text "sttt" ∷ blanks 20 ∷ byte 0xB5 ∷ byte 0x03 ∷ zeros 6 ∷ []
 
-abbrev pub file106 : Parts
-file106 =
+abbrev pub file122 : Parts
+file122 =
     text "TKF" ∷ byte 0x01 ∷ byte 0x00 ∷ byte 0x02 ∷ byte 0x04 ∷ zeros 9
     ∷ byte 0x01 ∷ byte 0x02 ∷ byte 0x00 ∷ byte 0x04 ∷ zeros 28 ∷ text "!}}!" ∷ zeros 28 ∷ text "!}}" ∷ blanks 21
     ∷ byte 0x85 ∷ text "6" ∷ byte 0xCA ∷ text "0'{" ∷ byte 0xBF ∷ byte 0x83 ∷ text "!}}!" ∷ blanks 20 ∷ byte 0xC5
@@ -1044,8 +1171,8 @@ file106 =
     ∷ zeros 128
     ∷ zeros 128 ∷ []
 
-abbrev pub file107 : Parts
-file107 =
+abbrev pub file123 : Parts
+file123 =
     text "TKF" ∷ byte 0x01 ∷ byte 0x00 ∷ byte 0x03 ∷ byte 0x04 ∷ zeros 9
     ∷ byte 0x01 ∷ byte 0x02 ∷ zeros 62 ∷ text "onooinioooin" ∷ blanks 12 ∷ byte 0xE1 ∷ zeros 7
     ∷ text "onooinioooiniioiinniini" ∷ byte 0x20 ∷ text "n" ∷ byte 0x02 ∷ zeros 38
@@ -1053,8 +1180,8 @@ file107 =
     ∷ zeros 160
     ∷ zeros 160 ∷ []
 
-abbrev pub file108 : Parts
-file108 =
+abbrev pub file124 : Parts
+file124 =
     text "TKF" ∷ byte 0x01 ∷ byte 0x00 ∷ byte 0x03 ∷ byte 0x04 ∷ zeros 9
     ∷ byte 0x01 ∷ byte 0x03 ∷ zeros 62 ∷ text "onooinioooin" ∷ blanks 12 ∷ byte 0xE1 ∷ zeros 7
     ∷ text "onooinioooiniioiinniini" ∷ byte 0x20 ∷ text "n" ∷ byte 0x02 ∷ zeros 6 ∷ text "onooinioooiniioiinnni"
@@ -1063,8 +1190,8 @@ file108 =
     ∷ zeros 160
     ∷ zeros 160 ∷ []
 
-abbrev pub file109 : Parts
-file109 =
+abbrev pub file125 : Parts
+file125 =
     text "TKF" ∷ byte 0x01 ∷ byte 0x00 ∷ byte 0x02 ∷ byte 0x03 ∷ zeros 9
     ∷ byte 0x01 ∷ byte 0x02 ∷ byte 0x00 ∷ byte 0x03 ∷ zeros 28 ∷ text "on" ∷ byte 0x20 ∷ zeros 29 ∷ text "oio"
     ∷ blanks 21 ∷ text "+" ∷ byte 0x02 ∷ zeros 6 ∷ text "on" ∷ blanks 22 ∷ byte 0xA6 ∷ zeros 7
@@ -1074,8 +1201,8 @@ file109 =
     ∷ text "onin" ∷ blanks 20 ∷ byte 0x0A ∷ byte 0x22 ∷ byte 0xD9 ∷ text "I" ∷ byte 0xC0 ∷ text "_;" ∷ byte 0xF3
     ∷ text "onon" ∷ blanks 20 ∷ byte 0xA1 ∷ byte 0x03 ∷ zeros 6 ∷ []
 
-abbrev pub file110 : Parts
-file110 =
+abbrev pub file126 : Parts
+file126 =
     text "TKF" ∷ byte 0x01 ∷ byte 0x00 ∷ byte 0x02 ∷ byte 0x04 ∷ zeros 9
     ∷ byte 0x01 ∷ byte 0x02 ∷ byte 0x00 ∷ byte 0x05 ∷ zeros 28 ∷ text "srttr" ∷ zeros 27 ∷ text "srtt" ∷ blanks 20
     ∷ text "<1HT" ∷ byte 0xC3 ∷ text "Oo4srttr" ∷ blanks 19 ∷ text "J" ∷ byte 0x01 ∷ zeros 6
@@ -1084,8 +1211,8 @@ file110 =
     ∷ zeros 128
     ∷ zeros 128 ∷ []
 
-abbrev pub file111 : Parts
-file111 =
+abbrev pub file127 : Parts
+file127 =
     text "TKF" ∷ byte 0x01 ∷ byte 0x00 ∷ byte 0x02 ∷ byte 0x04 ∷ zeros 9
     ∷ byte 0x01 ∷ byte 0x02 ∷ byte 0x00 ∷ byte 0x06 ∷ zeros 28 ∷ text "srttr" ∷ byte 0x20 ∷ zeros 26 ∷ text "srtt"
     ∷ blanks 20 ∷ text "<1HT" ∷ byte 0xC3 ∷ text "Oo4srttr" ∷ blanks 19 ∷ text "J" ∷ byte 0x01 ∷ zeros 6
@@ -1095,8 +1222,8 @@ file111 =
     ∷ zeros 27 ∷ text "srttrr" ∷ blanks 18 ∷ text "r" ∷ byte 0x02 ∷ zeros 38
     ∷ zeros 128 ∷ []
 
-abbrev pub file112 : Parts
-file112 =
+abbrev pub file128 : Parts
+file128 =
     text "TKF" ∷ byte 0x01 ∷ byte 0x00 ∷ byte 0x02 ∷ byte 0x04 ∷ zeros 9
     ∷ byte 0x01 ∷ byte 0x02 ∷ byte 0x00 ∷ byte 0x03 ∷ zeros 28 ∷ text "!}" ∷ byte 0x20 ∷ zeros 29 ∷ text "!" ∷ blanks 23
     ∷ text "4" ∷ byte 0x01 ∷ zeros 6 ∷ text "!}" ∷ blanks 22 ∷ byte 0xC8 ∷ byte 0x01 ∷ zeros 6
@@ -1105,8 +1232,8 @@ file112 =
     ∷ zeros 128
     ∷ zeros 128 ∷ []
 
-abbrev pub file113 : Parts
-file113 =
+abbrev pub file129 : Parts
+file129 =
     text "TKF" ∷ byte 0x01 ∷ byte 0x00 ∷ byte 0x02 ∷ byte 0x04 ∷ zeros 9
     ∷ byte 0x01 ∷ byte 0x02 ∷ byte 0x00 ∷ byte 0x03 ∷ zeros 28 ∷ text "!}" ∷ byte 0x20 ∷ zeros 29 ∷ text "!" ∷ blanks 23
     ∷ text "4" ∷ byte 0x01 ∷ zeros 6 ∷ text "!}" ∷ blanks 22 ∷ byte 0xC8 ∷ byte 0x01 ∷ zeros 6
@@ -1115,16 +1242,16 @@ file113 =
     ∷ zeros 128
     ∷ zeros 128 ∷ []
 
-abbrev pub file114 : Parts
-file114 =
+abbrev pub file130 : Parts
+file130 =
     text "TKF" ∷ byte 0x01 ∷ byte 0x00 ∷ byte 0x03 ∷ byte 0x02 ∷ zeros 9
     ∷ byte 0x01 ∷ byte 0x03 ∷ zeros 62 ∷ text "abbaaaababaaaaaaabab" ∷ blanks 4 ∷ text "N" ∷ byte 0x01 ∷ zeros 6
     ∷ text "abbaaaababaaaaaaababa" ∷ blanks 3 ∷ byte 0x81 ∷ byte 0x03 ∷ zeros 6 ∷ text "abbaaaababaaaaaaababaaa"
     ∷ byte 0x20 ∷ byte 0xCC ∷ byte 0x02 ∷ zeros 6
     ∷ zeros 160 ∷ []
 
-abbrev pub file115 : Parts
-file115 =
+abbrev pub file131 : Parts
+file131 =
     text "TKF" ∷ byte 0x01 ∷ byte 0x00 ∷ byte 0x03 ∷ byte 0x02 ∷ zeros 9
     ∷ byte 0x01 ∷ byte 0x02 ∷ byte 0x00 ∷ byte 0x16 ∷ zeros 28 ∷ text "abbaaaababaaaaaaababa" ∷ byte 0x20 ∷ zeros 10
     ∷ text "abbaaaababaaaaaaabab" ∷ blanks 4 ∷ text "N" ∷ byte 0x01 ∷ zeros 6 ∷ text "abbaaaababaaaaaaababa" ∷ blanks 3
@@ -1133,8 +1260,8 @@ file115 =
     ∷ text "abbaaaababaaaaaaababaa" ∷ blanks 2 ∷ byte 0x99 ∷ byte 0x02 ∷ zeros 6 ∷ text "abbaaaababaaaaaaababaaa"
     ∷ byte 0x20 ∷ byte 0xCC ∷ byte 0x02 ∷ zeros 38 ∷ []
 
-abbrev pub file116 : Parts
-file116 =
+abbrev pub file132 : Parts
+file132 =
     text "TKF" ∷ byte 0x01 ∷ byte 0x00 ∷ byte 0x03 ∷ byte 0x03 ∷ zeros 9
     ∷ byte 0x01 ∷ byte 0x02 ∷ byte 0x00 ∷ byte 0x02 ∷ zeros 28 ∷ text "a" ∷ byte 0x20 ∷ zeros 30 ∷ text "!" ∷ blanks 24
     ∷ byte 0x8F ∷ byte 0xCE ∷ byte 0xAD ∷ byte 0xE8 ∷ text "l" ∷ byte 0xF2 ∷ byte 0x14 ∷ text "a" ∷ blanks 23
@@ -1144,8 +1271,8 @@ file116 =
     ∷ text "aa" ∷ blanks 22 ∷ text "D" ∷ byte 0x03 ∷ zeros 6 ∷ text "a}!" ∷ blanks 21 ∷ text "P" ∷ byte 0x03 ∷ zeros 38
     ∷ []
 
-abbrev pub file117 : Parts
-file117 =
+abbrev pub file133 : Parts
+file133 =
     text "TKF" ∷ byte 0x01 ∷ byte 0x00 ∷ byte 0x03 ∷ byte 0x03 ∷ zeros 9
     ∷ byte 0x01 ∷ byte 0x02 ∷ byte 0x00 ∷ byte 0x02 ∷ zeros 28 ∷ text "a" ∷ byte 0x20 ∷ zeros 30 ∷ text "!" ∷ blanks 24
     ∷ byte 0x8F ∷ byte 0xCE ∷ byte 0xAD ∷ byte 0xE8 ∷ text "l" ∷ byte 0xF2 ∷ byte 0x14 ∷ text "a" ∷ blanks 23
@@ -1156,8 +1283,8 @@ file117 =
     ∷ text "aa" ∷ blanks 22 ∷ text "D" ∷ byte 0x03 ∷ zeros 6 ∷ text "a}!" ∷ blanks 21 ∷ text "P" ∷ byte 0x03 ∷ zeros 38
     ∷ []
 
-abbrev pub file118 : Parts
-file118 =
+abbrev pub file134 : Parts
+file134 =
     text "TKF" ∷ byte 0x01 ∷ byte 0x00 ∷ byte 0x02 ∷ byte 0x03 ∷ zeros 9
     ∷ byte 0x01 ∷ byte 0x02 ∷ byte 0x00 ∷ byte 0x04 ∷ zeros 28 ∷ text "srr" ∷ byte 0x20 ∷ zeros 28 ∷ text "s"
     ∷ blanks 23 ∷ byte 0xF8 ∷ byte 0x02 ∷ zeros 6 ∷ text "srr" ∷ blanks 21 ∷ byte 0x07 ∷ byte 0x02 ∷ zeros 6
@@ -1166,8 +1293,8 @@ file118 =
     ∷ byte 0x01 ∷ byte 0x02 ∷ byte 0x04 ∷ byte 0x02 ∷ zeros 4 ∷ text "srr" ∷ byte 0x20 ∷ zeros 20 ∷ text "sr" ∷ zeros 30
     ∷ text "srrs" ∷ blanks 20 ∷ byte 0xA6 ∷ byte 0x03 ∷ zeros 6 ∷ text "srtss" ∷ blanks 19 ∷ byte 0xEB ∷ zeros 7 ∷ []
 
-abbrev pub file119 : Parts
-file119 =
+abbrev pub file135 : Parts
+file135 =
     text "TKF" ∷ byte 0x01 ∷ byte 0x00 ∷ byte 0x02 ∷ byte 0x04 ∷ zeros 9
     ∷ byte 0x01 ∷ byte 0x02 ∷ byte 0x00 ∷ byte 0x03 ∷ zeros 28 ∷ text "bba" ∷ zeros 29 ∷ text "bb" ∷ blanks 22
     ∷ byte 0x89 ∷ zeros 7 ∷ text "bbaa" ∷ blanks 20 ∷ text "S" ∷ zeros 7
@@ -1178,8 +1305,8 @@ file119 =
     ∷ byte 0xEA ∷ text "o" ∷ zeros 32
     ∷ zeros 128 ∷ []
 
-abbrev pub file120 : Parts
-file120 =
+abbrev pub file136 : Parts
+file136 =
     text "TKF" ∷ byte 0x01 ∷ byte 0x00 ∷ byte 0x02 ∷ byte 0x04 ∷ zeros 9
     ∷ byte 0x01 ∷ byte 0x02 ∷ byte 0x00 ∷ byte 0x05 ∷ zeros 28 ∷ text "bbaa" ∷ byte 0x20 ∷ zeros 27 ∷ text "bb"
     ∷ blanks 22 ∷ byte 0x89 ∷ zeros 7 ∷ text "bbaa" ∷ blanks 20 ∷ text "S" ∷ zeros 7
@@ -1191,8 +1318,8 @@ file120 =
     ∷ byte 0x01 ∷ byte 0x01 ∷ byte 0x05 ∷ byte 0x03 ∷ zeros 4 ∷ text "bbaa" ∷ byte 0x20 ∷ zeros 19 ∷ text "bba"
     ∷ zeros 29 ∷ text "bbaab" ∷ blanks 19 ∷ text "2" ∷ byte 0x02 ∷ zeros 38 ∷ []
 
-abbrev pub file121 : Parts
-file121 =
+abbrev pub file137 : Parts
+file137 =
     text "TKF" ∷ byte 0x01 ∷ byte 0x00 ∷ byte 0x03 ∷ byte 0x03 ∷ zeros 9
     ∷ byte 0x01 ∷ byte 0x03 ∷ zeros 62 ∷ text "ba" ∷ blanks 22 ∷ byte 0xA7 ∷ byte 0x91 ∷ byte 0x01 ∷ text "c"
     ∷ byte 0xFA ∷ byte 0xB7 ∷ text "10baa" ∷ blanks 21 ∷ text "*" ∷ byte 0x02 ∷ zeros 6 ∷ text "baab" ∷ blanks 20
@@ -1200,8 +1327,8 @@ file121 =
     ∷ zeros 160
     ∷ zeros 160 ∷ []
 
-abbrev pub file122 : Parts
-file122 =
+abbrev pub file138 : Parts
+file138 =
     text "TKF" ∷ byte 0x01 ∷ byte 0x00 ∷ byte 0x03 ∷ byte 0x03 ∷ zeros 9
     ∷ byte 0x01 ∷ byte 0x03 ∷ zeros 62 ∷ text "ba" ∷ blanks 22 ∷ byte 0xA7 ∷ byte 0x91 ∷ byte 0x01 ∷ text "c"
     ∷ byte 0xFA ∷ byte 0xB7 ∷ text "10baa" ∷ blanks 21 ∷ text "*" ∷ byte 0x02 ∷ zeros 6 ∷ text "baab" ∷ blanks 20
@@ -1210,8 +1337,8 @@ file122 =
     ∷ text "=" ∷ zeros 7 ∷ text "baabb" ∷ blanks 19 ∷ byte 0xB1 ∷ zeros 39
     ∷ zeros 160 ∷ []
 
-abbrev pub file123 : Parts
-file123 =
+abbrev pub file139 : Parts
+file139 =
     text "TKF" ∷ byte 0x01 ∷ byte 0x00 ∷ byte 0x02 ∷ byte 0x04 ∷ zeros 9
     ∷ byte 0x01 ∷ byte 0x02 ∷ byte 0x00 ∷ byte 0x02 ∷ zeros 28 ∷ text "!!" ∷ zeros 30 ∷ text "!" ∷ blanks 23 ∷ byte 0x8D
     ∷ byte 0x03 ∷ zeros 6 ∷ text "!!" ∷ blanks 22 ∷ text ">" ∷ byte 0x01 ∷ zeros 6
@@ -1221,8 +1348,8 @@ file123 =
     ∷ zeros 38
     ∷ zeros 128 ∷ []
 
-abbrev pub file124 : Parts
-file124 =
+abbrev pub file140 : Parts
+file140 =
     text "TKF" ∷ byte 0x01 ∷ byte 0x00 ∷ byte 0x02 ∷ byte 0x04 ∷ zeros 9
     ∷ byte 0x01 ∷ byte 0x02 ∷ byte 0x00 ∷ byte 0x02 ∷ zeros 28 ∷ text "!!" ∷ zeros 30 ∷ text "!" ∷ blanks 23 ∷ byte 0x8D
     ∷ byte 0x03 ∷ zeros 6 ∷ text "!!" ∷ blanks 22 ∷ text ">" ∷ byte 0x01 ∷ zeros 6
@@ -1233,8 +1360,8 @@ file124 =
     ∷ byte 0x01 ∷ byte 0x01 ∷ byte 0x04 ∷ byte 0x01 ∷ zeros 4 ∷ text "!}}!" ∷ zeros 20 ∷ text "!" ∷ zeros 31
     ∷ text "!}}}!}" ∷ blanks 18 ∷ text "4" ∷ byte 0x01 ∷ zeros 38 ∷ []
 
-abbrev pub file125 : Parts
-file125 =
+abbrev pub file141 : Parts
+file141 =
     text "TKF" ∷ byte 0x01 ∷ byte 0x00 ∷ byte 0x02 ∷ byte 0x03 ∷ zeros 9
     ∷ byte 0x01 ∷ byte 0x02 ∷ byte 0x00 ∷ byte 0x02 ∷ zeros 28 ∷ text "zx" ∷ zeros 30 ∷ text "x" ∷ blanks 23 ∷ text "b"
     ∷ zeros 7 ∷ text "zxx" ∷ blanks 21 ∷ text "h" ∷ byte 0x01 ∷ zeros 6
@@ -1242,8 +1369,8 @@ file125 =
     ∷ zeros 38
     ∷ zeros 128 ∷ []
 
-abbrev pub file126 : Parts
-file126 =
+abbrev pub file142 : Parts
+file142 =
     text "TKF" ∷ byte 0x01 ∷ byte 0x00 ∷ byte 0x02 ∷ byte 0x03 ∷ zeros 9
     ∷ byte 0x01 ∷ byte 0x02 ∷ byte 0x00 ∷ byte 0x02 ∷ zeros 28 ∷ text "zx" ∷ zeros 30 ∷ text "x" ∷ blanks 23 ∷ text "b"
     ∷ zeros 7 ∷ text "zxx" ∷ blanks 21 ∷ text "h" ∷ byte 0x01 ∷ zeros 6
@@ -1252,8 +1379,8 @@ file126 =
     ∷ byte 0x01 ∷ byte 0x01 ∷ byte 0x02 ∷ byte 0x02 ∷ zeros 4 ∷ text "z" ∷ byte 0x20 ∷ zeros 22 ∷ text "zx" ∷ zeros 30
     ∷ text "zxx" ∷ blanks 21 ∷ text "h" ∷ byte 0x01 ∷ zeros 38 ∷ []
 
-abbrev pub file127 : Parts
-file127 =
+abbrev pub file143 : Parts
+file143 =
     text "TKF" ∷ byte 0x01 ∷ byte 0x00 ∷ byte 0x02 ∷ byte 0x04 ∷ zeros 9
     ∷ byte 0x01 ∷ byte 0x02 ∷ byte 0x00 ∷ byte 0x02 ∷ zeros 28 ∷ text "b" ∷ byte 0x20 ∷ zeros 30 ∷ text "abb"
     ∷ blanks 21 ∷ text "z" ∷ byte 0x03 ∷ zeros 6 ∷ text "b" ∷ blanks 23 ∷ byte 0xA9 ∷ byte 0x01 ∷ zeros 6
@@ -1263,8 +1390,8 @@ file127 =
     ∷ zeros 128
     ∷ zeros 128 ∷ []
 
-abbrev pub file128 : Parts
-file128 =
+abbrev pub file144 : Parts
+file144 =
     text "TKF" ∷ byte 0x01 ∷ byte 0x00 ∷ byte 0x02 ∷ byte 0x04 ∷ zeros 9
     ∷ byte 0x01 ∷ byte 0x02 ∷ byte 0x00 ∷ byte 0x01 ∷ zeros 28 ∷ text "a" ∷ zeros 31 ∷ text "aaa" ∷ blanks 21
     ∷ byte 0xC8 ∷ byte 0x03 ∷ zeros 6 ∷ text "abb" ∷ blanks 21 ∷ text "z" ∷ byte 0x03 ∷ zeros 6
@@ -1275,8 +1402,8 @@ file128 =
     ∷ text "b" ∷ blanks 23 ∷ byte 0xA9 ∷ byte 0x01 ∷ zeros 38
     ∷ zeros 128 ∷ []
 
-abbrev pub file129 : Parts
-file129 =
+abbrev pub file145 : Parts
+file145 =
     text "TKF" ∷ byte 0x01 ∷ byte 0x00 ∷ byte 0x02 ∷ byte 0x04 ∷ zeros 9
     ∷ byte 0x01 ∷ byte 0x02 ∷ byte 0x00 ∷ byte 0x02 ∷ zeros 28 ∷ text "n" ∷ byte 0x20 ∷ zeros 30 ∷ text "iin"
     ∷ blanks 21 ∷ byte 0xC9 ∷ byte 0x02 ∷ zeros 6 ∷ text "n" ∷ blanks 23 ∷ text "A" ∷ zeros 7
@@ -1286,8 +1413,8 @@ file129 =
     ∷ text "v'" ∷ byte 0xD4 ∷ byte 0x89 ∷ byte 0x15 ∷ byte 0xE6 ∷ byte 0xBD ∷ byte 0x10 ∷ zeros 32
     ∷ zeros 128 ∷ []
 
-abbrev pub file130 : Parts
-file130 =
+abbrev pub file146 : Parts
+file146 =
     text "TKF" ∷ byte 0x01 ∷ byte 0x00 ∷ byte 0x02 ∷ byte 0x04 ∷ zeros 9
     ∷ byte 0x01 ∷ byte 0x02 ∷ byte 0x00 ∷ byte 0x02 ∷ zeros 28 ∷ text "n" ∷ byte 0x20 ∷ zeros 30 ∷ text "iin"
     ∷ blanks 21 ∷ byte 0xC9 ∷ byte 0x02 ∷ zeros 6 ∷ text "n" ∷ blanks 23 ∷ text "A" ∷ zeros 7
@@ -1299,8 +1426,8 @@ file130 =
     ∷ byte 0x01 ∷ byte 0x01 ∷ byte 0x01 ∷ byte 0x03 ∷ zeros 4 ∷ text "n" ∷ zeros 23 ∷ text "oo" ∷ byte 0x20 ∷ zeros 29
     ∷ text "oo" ∷ blanks 22 ∷ byte 0xAD ∷ zeros 39 ∷ []
 
-abbrev pub file131 : Parts
-file131 =
+abbrev pub file147 : Parts
+file147 =
     text "TKF" ∷ byte 0x01 ∷ byte 0x00 ∷ byte 0x02 ∷ byte 0x03 ∷ zeros 9
     ∷ byte 0x01 ∷ byte 0x02 ∷ byte 0x00 ∷ byte 0x02 ∷ zeros 28 ∷ text "a" ∷ byte 0x20 ∷ zeros 30 ∷ text "!}" ∷ blanks 22
     ∷ byte 0x9F ∷ byte 0x01 ∷ zeros 6 ∷ text "a" ∷ blanks 23 ∷ byte 0xF6 ∷ byte 0x01 ∷ zeros 6
@@ -1309,8 +1436,8 @@ file131 =
     ∷ byte 0x5C ∷ zeros 7
     ∷ zeros 128 ∷ []
 
-abbrev pub file132 : Parts
-file132 =
+abbrev pub file148 : Parts
+file148 =
     text "TKF" ∷ byte 0x01 ∷ byte 0x00 ∷ byte 0x02 ∷ byte 0x03 ∷ zeros 9
     ∷ byte 0x01 ∷ byte 0x02 ∷ byte 0x00 ∷ byte 0x02 ∷ zeros 28 ∷ text "a" ∷ byte 0x20 ∷ zeros 30 ∷ text "!}" ∷ blanks 22
     ∷ byte 0x9F ∷ byte 0x01 ∷ zeros 6 ∷ text "a" ∷ blanks 23 ∷ byte 0xF6 ∷ byte 0x01 ∷ zeros 6
@@ -1320,8 +1447,8 @@ file132 =
     ∷ byte 0x01 ∷ byte 0x01 ∷ byte 0x03 ∷ zeros 5 ∷ text "}}" ∷ byte 0x20 ∷ zeros 53 ∷ text "}}}" ∷ blanks 21
     ∷ byte 0xD9 ∷ byte 0x01 ∷ zeros 38 ∷ []
 
-abbrev pub file133 : Parts
-file133 =
+abbrev pub file149 : Parts
+file149 =
     text "TKF" ∷ byte 0x01 ∷ byte 0x00 ∷ byte 0x02 ∷ byte 0x03 ∷ zeros 9
     ∷ byte 0x01 ∷ byte 0x02 ∷ byte 0x00 ∷ byte 0x04 ∷ zeros 28 ∷ text "str" ∷ byte 0x20 ∷ zeros 28 ∷ text "st"
     ∷ blanks 22 ∷ byte 0x9F ∷ byte 0x01 ∷ zeros 6 ∷ text "str" ∷ blanks 21 ∷ text "I" ∷ byte 0xD0 ∷ byte 0x8B
@@ -1331,8 +1458,8 @@ file133 =
     ∷ byte 0xC1 ∷ text ")" ∷ byte 0xD5 ∷ text "w"
     ∷ zeros 128 ∷ []
 
-abbrev pub file134 : Parts
-file134 =
+abbrev pub file150 : Parts
+file150 =
     text "TKF" ∷ byte 0x01 ∷ byte 0x00 ∷ byte 0x02 ∷ byte 0x03 ∷ zeros 9
     ∷ byte 0x01 ∷ byte 0x02 ∷ byte 0x00 ∷ byte 0x04 ∷ zeros 28 ∷ text "str" ∷ byte 0x20 ∷ zeros 28 ∷ text "st"
     ∷ blanks 22 ∷ byte 0x9F ∷ byte 0x01 ∷ zeros 6 ∷ text "str" ∷ blanks 21 ∷ text "I" ∷ byte 0xD0 ∷ byte 0x8B
@@ -1343,8 +1470,8 @@ file134 =
     ∷ byte 0x01 ∷ byte 0x01 ∷ byte 0x03 ∷ zeros 5 ∷ text "str" ∷ zeros 53 ∷ text "sttr" ∷ blanks 20 ∷ text "("
     ∷ byte 0x01 ∷ zeros 38 ∷ []
 
-abbrev pub file135 : Parts
-file135 =
+abbrev pub file151 : Parts
+file151 =
     text "TKF" ∷ byte 0x01 ∷ byte 0x00 ∷ byte 0x02 ∷ byte 0x04 ∷ zeros 9
     ∷ byte 0x01 ∷ byte 0x02 ∷ byte 0x00 ∷ byte 0x03 ∷ zeros 28 ∷ text "a!a" ∷ zeros 29 ∷ text "a!!!" ∷ blanks 20
     ∷ byte 0x07 ∷ byte 0x02 ∷ zeros 6 ∷ text "a!a!" ∷ blanks 20 ∷ zeros 8
@@ -1353,8 +1480,8 @@ file135 =
     ∷ zeros 128
     ∷ zeros 128 ∷ []
 
-abbrev pub file136 : Parts
-file136 =
+abbrev pub file152 : Parts
+file152 =
     text "TKF" ∷ byte 0x01 ∷ byte 0x00 ∷ byte 0x02 ∷ byte 0x04 ∷ zeros 9
     ∷ byte 0x01 ∷ byte 0x02 ∷ byte 0x00 ∷ byte 0x03 ∷ zeros 28 ∷ text "a!a" ∷ zeros 29 ∷ text "a!!!" ∷ blanks 20
     ∷ byte 0x07 ∷ byte 0x02 ∷ zeros 6 ∷ text "a!a!" ∷ blanks 20 ∷ zeros 8
@@ -1364,8 +1491,8 @@ file136 =
     ∷ byte 0xDF ∷ byte 0xEC ∷ byte 0x14 ∷ text ":" ∷ byte 0xE4 ∷ byte 0xB0 ∷ byte 0x9A ∷ byte 0x5C ∷ zeros 32
     ∷ zeros 128 ∷ []
 
-abbrev pub file137 : Parts
-file137 =
+abbrev pub file153 : Parts
+file153 =
     text "TKF" ∷ byte 0x01 ∷ byte 0x00 ∷ byte 0x03 ∷ byte 0x04 ∷ zeros 9
     ∷ byte 0x01 ∷ byte 0x02 ∷ byte 0x00 ∷ byte 0x06 ∷ zeros 28 ∷ text "aaaba" ∷ byte 0x20 ∷ zeros 26 ∷ text "aaab"
     ∷ blanks 20 ∷ byte 0xE9 ∷ byte 0xCE ∷ text "t=" ∷ byte 0xE9 ∷ text "HN" ∷ byte 0xF9 ∷ text "aaaba" ∷ blanks 19
@@ -1376,8 +1503,8 @@ file137 =
     ∷ zeros 160
     ∷ zeros 160 ∷ []
 
-abbrev pub file138 : Parts
-file138 =
+abbrev pub file154 : Parts
+file154 =
     text "TKF" ∷ byte 0x01 ∷ byte 0x00 ∷ byte 0x03 ∷ byte 0x04 ∷ zeros 9
     ∷ byte 0x01 ∷ byte 0x02 ∷ byte 0x00 ∷ byte 0x06 ∷ zeros 28 ∷ text "aaaba" ∷ byte 0x20 ∷ zeros 26 ∷ text "aaab"
     ∷ blanks 20 ∷ byte 0xE9 ∷ byte 0xCE ∷ text "t=" ∷ byte 0xE9 ∷ text "HN" ∷ byte 0xF9 ∷ text "aaaba" ∷ blanks 19
@@ -1389,8 +1516,8 @@ file138 =
     ∷ byte 0x02 ∷ zeros 6 ∷ text "aaabbba" ∷ blanks 17 ∷ text "H" ∷ zeros 39
     ∷ zeros 160 ∷ []
 
-abbrev pub file139 : Parts
-file139 =
+abbrev pub file155 : Parts
+file155 =
     text "TKF" ∷ byte 0x01 ∷ byte 0x00 ∷ byte 0x02 ∷ byte 0x03 ∷ zeros 9
     ∷ byte 0x01 ∷ byte 0x02 ∷ byte 0x00 ∷ byte 0x04 ∷ zeros 28 ∷ text "}}!" ∷ byte 0x20 ∷ zeros 28 ∷ text "}}"
     ∷ blanks 22 ∷ text "q" ∷ byte 0x03 ∷ zeros 6 ∷ text "}}!" ∷ blanks 21 ∷ byte 0x99 ∷ zeros 7
@@ -1398,8 +1525,8 @@ file139 =
     ∷ byte 0x01 ∷ byte 0x01 ∷ byte 0x04 ∷ byte 0x03 ∷ zeros 4 ∷ text "}}!" ∷ byte 0x20 ∷ zeros 20 ∷ text "}}!"
     ∷ zeros 29 ∷ text "}}!!!" ∷ blanks 19 ∷ byte 0xEE ∷ byte 0x02 ∷ zeros 38 ∷ []
 
-abbrev pub file140 : Parts
-file140 =
+abbrev pub file156 : Parts
+file156 =
     text "TKF" ∷ byte 0x01 ∷ byte 0x00 ∷ byte 0x02 ∷ byte 0x04 ∷ zeros 9
     ∷ byte 0x01 ∷ byte 0x02 ∷ byte 0x00 ∷ byte 0x17 ∷ zeros 28 ∷ text "ttttsstsrssrststtstrss" ∷ byte 0x20 ∷ zeros 9
     ∷ text "ttttsstsrssrrrr" ∷ blanks 9 ∷ byte 0x05 ∷ byte 0x03 ∷ zeros 6 ∷ text "ttttsstsrssrststtstrss" ∷ blanks 2
@@ -1410,8 +1537,8 @@ file140 =
     ∷ zeros 128
     ∷ zeros 128 ∷ []
 
-abbrev pub file141 : Parts
-file141 =
+abbrev pub file157 : Parts
+file157 =
     text "TKF" ∷ byte 0x01 ∷ byte 0x00 ∷ byte 0x02 ∷ byte 0x04 ∷ zeros 9
     ∷ byte 0x01 ∷ byte 0x02 ∷ byte 0x00 ∷ byte 0x17 ∷ zeros 28 ∷ text "ttttsstsrssrststtstrss" ∷ byte 0x20 ∷ zeros 9
     ∷ text "ttttsstsrssrrrr" ∷ blanks 9 ∷ byte 0x05 ∷ byte 0x03 ∷ zeros 6 ∷ text "ttttsstsrssrststtstrss" ∷ blanks 2
@@ -1421,16 +1548,16 @@ file141 =
     ∷ zeros 128
     ∷ zeros 128 ∷ []
 
-abbrev pub file142 : Parts
-file142 =
+abbrev pub file158 : Parts
+file158 =
     text "TKF" ∷ byte 0x01 ∷ byte 0x00 ∷ byte 0x02 ∷ byte 0x02 ∷ zeros 9
     ∷ byte 0x01 ∷ byte 0x01 ∷ byte 0x00 ∷ byte 0x02 ∷ zeros 28 ∷ text "tr" ∷ zeros 30 ∷ text "trr" ∷ blanks 21
     ∷ byte 0x11 ∷ byte 0x01 ∷ zeros 38
     ∷ byte 0x01 ∷ byte 0x01 ∷ byte 0x02 ∷ zeros 5 ∷ text "tr" ∷ zeros 54 ∷ text "tst" ∷ blanks 21 ∷ text "m" ∷ byte 0x03
     ∷ zeros 38 ∷ []
 
-abbrev pub file143 : Parts
-file143 =
+abbrev pub file159 : Parts
+file159 =
     text "TKF" ∷ byte 0x01 ∷ byte 0x00 ∷ byte 0x03 ∷ byte 0x04 ∷ zeros 9
     ∷ byte 0x01 ∷ byte 0x03 ∷ zeros 62 ∷ text "xzx" ∷ blanks 21 ∷ zeros 8 ∷ text "xzxyz" ∷ blanks 19 ∷ byte 0xB6
     ∷ byte 0xB3 ∷ byte 0xC8 ∷ text "p" ∷ byte 0x95 ∷ byte 0xB9 ∷ byte 0xDA ∷ text "yxzxzyy" ∷ blanks 18 ∷ byte 0x1A
@@ -1440,8 +1567,8 @@ file143 =
     ∷ zeros 160
     ∷ zeros 160 ∷ []
 
-abbrev pub file144 : Parts
-file144 =
+abbrev pub file160 : Parts
+file160 =
     text "TKF" ∷ byte 0x01 ∷ byte 0x00 ∷ byte 0x03 ∷ byte 0x04 ∷ zeros 9
     ∷ byte 0x01 ∷ byte 0x01 ∷ byte 0x00 ∷ byte 0x02 ∷ zeros 28 ∷ text "zx" ∷ zeros 30 ∷ text "zxy" ∷ blanks 21
     ∷ text "`" ∷ byte 0x01 ∷ zeros 70
@@ -1451,8 +1578,8 @@ file144 =
     ∷ zeros 160
     ∷ zeros 160 ∷ []
 
-abbrev pub file145 : Parts
-file145 =
+abbrev pub file161 : Parts
+file161 =
     text "TKF" ∷ byte 0x01 ∷ byte 0x00 ∷ byte 0x02 ∷ byte 0x02 ∷ zeros 9
     ∷ byte 0x01 ∷ byte 0x02 ∷ byte 0x00 ∷ byte 0x04 ∷ zeros 28 ∷ text "}!}!" ∷ zeros 28 ∷ text "}!}" ∷ blanks 21
     ∷ byte 0xD7 ∷ zeros 7 ∷ text "}!}!" ∷ blanks 20 ∷ text "Y" ∷ zeros 7
@@ -1460,24 +1587,24 @@ file145 =
     ∷ byte 0x05 ∷ byte 0xB8 ∷ byte 0x13 ∷ byte 0xD6 ∷ byte 0x1C ∷ text "r" ∷ byte 0xCF ∷ text "}!}}}" ∷ blanks 19
     ∷ byte 0x91 ∷ zeros 7 ∷ []
 
-abbrev pub file146 : Parts
-file146 =
+abbrev pub file162 : Parts
+file162 =
     text "TKF" ∷ byte 0x01 ∷ byte 0x00 ∷ byte 0x02 ∷ byte 0x02 ∷ zeros 9
     ∷ byte 0x01 ∷ byte 0x02 ∷ byte 0x00 ∷ byte 0x05 ∷ zeros 28 ∷ text "nooo" ∷ byte 0x20 ∷ zeros 27 ∷ text "noo"
     ∷ blanks 21 ∷ byte 0x87 ∷ zeros 7 ∷ text "nooo" ∷ blanks 20 ∷ byte 0xA4 ∷ byte 0x03 ∷ zeros 6
     ∷ byte 0x01 ∷ byte 0x01 ∷ byte 0x05 ∷ zeros 5 ∷ text "nooo" ∷ byte 0x20 ∷ zeros 51 ∷ text "noooio" ∷ blanks 18
     ∷ byte 0xE7 ∷ byte 0x02 ∷ zeros 38 ∷ []
 
-abbrev pub file147 : Parts
-file147 =
+abbrev pub file163 : Parts
+file163 =
     text "TKF" ∷ byte 0x01 ∷ byte 0x00 ∷ byte 0x02 ∷ byte 0x02 ∷ zeros 9
     ∷ byte 0x01 ∷ byte 0x01 ∷ byte 0x00 ∷ byte 0x05 ∷ zeros 28 ∷ text "nooo" ∷ byte 0x20 ∷ zeros 27 ∷ text "nooo"
     ∷ blanks 20 ∷ byte 0xA4 ∷ byte 0x03 ∷ zeros 38
     ∷ byte 0x01 ∷ byte 0x01 ∷ byte 0x05 ∷ zeros 5 ∷ text "nooo" ∷ byte 0x20 ∷ zeros 51 ∷ text "noooio" ∷ blanks 18
     ∷ byte 0xE7 ∷ byte 0x02 ∷ zeros 38 ∷ []
 
-abbrev pub file148 : Parts
-file148 =
+abbrev pub file164 : Parts
+file164 =
     text "TKF" ∷ byte 0x01 ∷ byte 0x00 ∷ byte 0x03 ∷ byte 0x04 ∷ zeros 9
     ∷ byte 0x01 ∷ byte 0x02 ∷ byte 0x00 ∷ byte 0x05 ∷ zeros 28 ∷ text "yxyyx" ∷ zeros 27 ∷ text "yxyyx" ∷ blanks 19
     ∷ text "]" ∷ zeros 7 ∷ text "yxyyxz" ∷ blanks 18 ∷ byte 0x06 ∷ byte 0x01 ∷ zeros 38
@@ -1488,8 +1615,8 @@ file148 =
     ∷ byte 0xB2 ∷ byte 0x88 ∷ text "W" ∷ byte 0x8E ∷ zeros 32
     ∷ zeros 160 ∷ []
 
-abbrev pub file149 : Parts
-file149 =
+abbrev pub file165 : Parts
+file165 =
     text "TKF" ∷ byte 0x01 ∷ byte 0x00 ∷ byte 0x02 ∷ byte 0x04 ∷ zeros 9
     ∷ byte 0x01 ∷ byte 0x02 ∷ byte 0x00 ∷ byte 0x02 ∷ zeros 28 ∷ text "zy" ∷ zeros 30 ∷ text "xyy" ∷ blanks 21
     ∷ text "U" ∷ byte 0x02 ∷ zeros 6 ∷ text "zyy" ∷ blanks 21 ∷ byte 0xF7 ∷ byte 0x01 ∷ zeros 6
@@ -1499,8 +1626,8 @@ file149 =
     ∷ zeros 128
     ∷ zeros 128 ∷ []
 
-abbrev pub file150 : Parts
-file150 =
+abbrev pub file166 : Parts
+file166 =
     text "TKF" ∷ byte 0x01 ∷ byte 0x00 ∷ byte 0x02 ∷ byte 0x04 ∷ zeros 9
     ∷ byte 0x01 ∷ byte 0x01 ∷ byte 0x00 ∷ byte 0x02 ∷ zeros 28 ∷ text "zy" ∷ zeros 30 ∷ text "xyy" ∷ blanks 21
     ∷ text "U" ∷ byte 0x02 ∷ zeros 38
@@ -1510,8 +1637,8 @@ file150 =
     ∷ zeros 128
     ∷ zeros 128 ∷ []
 
-abbrev pub file151 : Parts
-file151 =
+abbrev pub file167 : Parts
+file167 =
     text "TKF" ∷ byte 0x01 ∷ byte 0x00 ∷ byte 0x02 ∷ byte 0x04 ∷ zeros 9
     ∷ byte 0x01 ∷ byte 0x02 ∷ byte 0x00 ∷ byte 0x05 ∷ zeros 28 ∷ text "xzzxx" ∷ zeros 27 ∷ text "xzzx" ∷ blanks 20
     ∷ text "L" ∷ byte 0xCD ∷ byte 0x96 ∷ text "L" ∷ byte 0x0A ∷ text ">" ∷ byte 0xED ∷ byte 0xA6 ∷ text "xzzxx"
@@ -1521,8 +1648,8 @@ file151 =
     ∷ zeros 2 ∷ byte 0xFF ∷ zeros 125
     ∷ zeros 128 ∷ []
 
-abbrev pub file152 : Parts
-file152 =
+abbrev pub file168 : Parts
+file168 =
     text "TKF" ∷ byte 0x01 ∷ byte 0x00 ∷ byte 0x02 ∷ byte 0x03 ∷ zeros 9
     ∷ byte 0x01 ∷ byte 0x02 ∷ byte 0x00 ∷ byte 0x04 ∷ zeros 28 ∷ text "!!}!" ∷ zeros 28 ∷ text "!!!" ∷ blanks 21
     ∷ byte 0x1F ∷ byte 0x02 ∷ zeros 6 ∷ text "!!}!!" ∷ blanks 19 ∷ text "m" ∷ byte 0x01 ∷ zeros 6
@@ -1531,8 +1658,8 @@ file152 =
     ∷ byte 0xF9 ∷ text "h"
     ∷ zeros 128 ∷ []
 
-abbrev pub file153 : Parts
-file153 =
+abbrev pub file169 : Parts
+file169 =
     text "TKF" ∷ byte 0x01 ∷ byte 0x00 ∷ byte 0x02 ∷ byte 0x02 ∷ zeros 9
     ∷ byte 0x01 ∷ byte 0x02 ∷ byte 0x00 ∷ byte 0x04 ∷ zeros 28 ∷ text "!}!!" ∷ zeros 28 ∷ text "!}!" ∷ blanks 21
     ∷ text "n" ∷ byte 0x03 ∷ zeros 6 ∷ text "!}!!a" ∷ blanks 19 ∷ text "m" ∷ byte 0x10 ∷ byte 0xA1 ∷ text "C"
@@ -1540,8 +1667,8 @@ file153 =
     ∷ byte 0x01 ∷ byte 0x02 ∷ byte 0x03 ∷ zeros 5 ∷ text "!}!!" ∷ zeros 52 ∷ text "!}!}" ∷ blanks 20 ∷ byte 0xF7
     ∷ byte 0x01 ∷ zeros 6 ∷ text "!}a}}" ∷ blanks 19 ∷ byte 0xA0 ∷ byte 0x01 ∷ zeros 6 ∷ []
 
-abbrev pub file154 : Parts
-file154 =
+abbrev pub file170 : Parts
+file170 =
     text "TKF" ∷ byte 0x01 ∷ byte 0x00 ∷ byte 0x03 ∷ byte 0x03 ∷ zeros 9
     ∷ byte 0x01 ∷ byte 0x02 ∷ byte 0x00 ∷ byte 0x05 ∷ zeros 28 ∷ text "zzxxx" ∷ zeros 27 ∷ text "zzxx" ∷ blanks 20
     ∷ byte 0x1D ∷ byte 0x03 ∷ zeros 6 ∷ text "zzxxx" ∷ blanks 19 ∷ byte 0xCD ∷ text "(" ∷ byte 0xCA ∷ byte 0xD5
@@ -1552,8 +1679,8 @@ file154 =
     ∷ byte 0xFF ∷ byte 0xFF ∷ byte 0xFF ∷ byte 0xFF ∷ byte 0xFF ∷ byte 0xFF
     ∷ zeros 160 ∷ []
 
-abbrev pub file155 : Parts
-file155 =
+abbrev pub file171 : Parts
+file171 =
     text "TKF" ∷ byte 0x01 ∷ byte 0x00 ∷ byte 0x02 ∷ byte 0x04 ∷ zeros 9
     ∷ byte 0x01 ∷ byte 0x02 ∷ byte 0x00 ∷ byte 0x01 ∷ zeros 28 ∷ text "!" ∷ zeros 31 ∷ text "!!}!}" ∷ blanks 19
     ∷ byte 0xEC ∷ byte 0x02 ∷ zeros 6 ∷ text "!}" ∷ blanks 22 ∷ byte 0x8B ∷ byte 0xC6 ∷ byte 0x03 ∷ byte 0xBA
@@ -1564,8 +1691,8 @@ file155 =
     ∷ blanks 22 ∷ byte 0x8B ∷ byte 0xC6 ∷ byte 0x03 ∷ byte 0xBA ∷ byte 0x02 ∷ text "W@Z" ∷ zeros 32
     ∷ zeros 128 ∷ []
 
-abbrev pub file156 : Parts
-file156 =
+abbrev pub file172 : Parts
+file172 =
     text "TKF" ∷ byte 0x01 ∷ byte 0x00 ∷ byte 0x03 ∷ byte 0x04 ∷ zeros 9
     ∷ byte 0x01 ∷ byte 0x02 ∷ byte 0x00 ∷ byte 0x04 ∷ zeros 28 ∷ text "onoi" ∷ zeros 28 ∷ text "o" ∷ blanks 23
     ∷ byte 0x1F ∷ byte 0x01 ∷ zeros 6 ∷ text "onoinn" ∷ blanks 18 ∷ byte 0xD5 ∷ byte 0x01 ∷ zeros 38
@@ -1575,8 +1702,8 @@ file156 =
     ∷ zeros 160
     ∷ zeros 160 ∷ []
 
-abbrev pub file157 : Parts
-file157 =
+abbrev pub file173 : Parts
+file173 =
     text "TKF" ∷ byte 0x01 ∷ byte 0x00 ∷ byte 0x03 ∷ byte 0x04 ∷ zeros 9
     ∷ byte 0x01 ∷ byte 0x03 ∷ byte 0x00 ∷ byte 0x04 ∷ zeros 28 ∷ text "}!!!" ∷ zeros 28 ∷ text "}!!" ∷ blanks 21
     ∷ byte 0xD6 ∷ byte 0xF9 ∷ text "/" ∷ byte 0xDA ∷ text "x#" ∷ byte 0xB0 ∷ text "J}!!!" ∷ blanks 20 ∷ byte 0xC6
@@ -1586,8 +1713,8 @@ file157 =
     ∷ zeros 160
     ∷ zeros 160 ∷ []
 
-abbrev pub file158 : Parts
-file158 =
+abbrev pub file174 : Parts
+file174 =
     text "TKF" ∷ byte 0x01 ∷ byte 0x00 ∷ byte 0x03 ∷ byte 0x04 ∷ zeros 9
     ∷ byte 0x01 ∷ byte 0x03 ∷ byte 0x00 ∷ byte 0x03 ∷ zeros 28 ∷ text "!}!" ∷ zeros 29 ∷ text "!}!}!" ∷ blanks 19
     ∷ byte 0xAD ∷ text "CC" ∷ byte 0x0A ∷ byte 0x19 ∷ text "g" ∷ byte 0xD5 ∷ byte 0xE1 ∷ text "!}!}!!}!}}}" ∷ blanks 13
@@ -1597,8 +1724,8 @@ file158 =
     ∷ zeros 160
     ∷ zeros 160 ∷ []
 
-abbrev pub file159 : Parts
-file159 =
+abbrev pub file175 : Parts
+file175 =
     text "TKF" ∷ byte 0x01 ∷ byte 0x00 ∷ byte 0x02 ∷ byte 0x03 ∷ zeros 9
     ∷ byte 0x01 ∷ byte 0x02 ∷ byte 0x00 ∷ byte 0x02 ∷ zeros 28 ∷ text "aa" ∷ zeros 30 ∷ text "aaa" ∷ blanks 21
     ∷ byte 0xFF ∷ byte 0xFF ∷ byte 0xFF ∷ byte 0xFF ∷ byte 0xFF ∷ byte 0xFF ∷ byte 0xFF ∷ byte 0xFF ∷ text "aab"
@@ -1608,8 +1735,8 @@ file159 =
     ∷ byte 0x01 ∷ byte 0x01 ∷ byte 0x02 ∷ byte 0x01 ∷ zeros 4 ∷ text "aa" ∷ zeros 22 ∷ text "a" ∷ zeros 31 ∷ text "abb"
     ∷ blanks 21 ∷ text "w" ∷ byte 0x03 ∷ zeros 38 ∷ []
 
-abbrev pub file160 : Parts
-file160 =
+abbrev pub file176 : Parts
+file176 =
     text "TKF" ∷ byte 0x01 ∷ byte 0x00 ∷ byte 0x02 ∷ byte 0x04 ∷ zeros 9
     ∷ byte 0x01 ∷ byte 0x02 ∷ byte 0x00 ∷ byte 0x03 ∷ zeros 28 ∷ text "sss" ∷ zeros 29 ∷ text "ssss" ∷ blanks 20
     ∷ byte 0xC9 ∷ byte 0x02 ∷ zeros 6 ∷ text "ssst" ∷ blanks 20 ∷ byte 0xCB ∷ byte 0xBA ∷ byte 0xE1 ∷ byte 0xC6
@@ -1619,8 +1746,8 @@ file160 =
     ∷ zeros 128
     ∷ zeros 128 ∷ []
 
-abbrev pub file161 : Parts
-file161 =
+abbrev pub file177 : Parts
+file177 =
     text "TKF" ∷ byte 0x01 ∷ byte 0x00 ∷ byte 0x02 ∷ byte 0x03 ∷ zeros 9
     ∷ byte 0x01 ∷ byte 0x02 ∷ byte 0x00 ∷ byte 0x04 ∷ zeros 28 ∷ text "abb" ∷ byte 0x20 ∷ zeros 28 ∷ text "ab"
     ∷ blanks 22 ∷ zeros 8 ∷ text "abb" ∷ blanks 21 ∷ byte 0x97 ∷ byte 0x8C ∷ text "p" ∷ byte 0x81 ∷ text "v>"
@@ -1630,8 +1757,8 @@ file161 =
     ∷ byte 0x01 ∷ byte 0x01 ∷ byte 0x04 ∷ byte 0x04 ∷ zeros 4 ∷ text "abb" ∷ byte 0x20 ∷ zeros 20 ∷ text "abba"
     ∷ zeros 28 ∷ text "abba" ∷ blanks 20 ∷ text "E" ∷ byte 0x01 ∷ zeros 38 ∷ []
 
-abbrev pub file162 : Parts
-file162 =
+abbrev pub file178 : Parts
+file178 =
     text "TKF" ∷ byte 0x01 ∷ byte 0x00 ∷ byte 0x02 ∷ byte 0x03 ∷ zeros 9
     ∷ byte 0x01 ∷ byte 0x02 ∷ byte 0x00 ∷ byte 0x01 ∷ zeros 28 ∷ text "i" ∷ zeros 31 ∷ text "ii" ∷ blanks 22 ∷ byte 0xC5
     ∷ text "(" ∷ byte 0x01 ∷ byte 0xE7 ∷ text "&p3Zio" ∷ blanks 22 ∷ byte 0x1B ∷ text "4" ∷ byte 0xE5 ∷ byte 0xB5
@@ -1642,8 +1769,8 @@ file162 =
     ∷ byte 0x01 ∷ byte 0x01 ∷ byte 0x01 ∷ byte 0x02 ∷ zeros 4 ∷ text "i" ∷ zeros 23 ∷ text "o" ∷ byte 0x20 ∷ zeros 30
     ∷ text "o" ∷ blanks 23 ∷ text "V" ∷ byte 0x01 ∷ zeros 38 ∷ []
 
-abbrev pub file163 : Parts
-file163 =
+abbrev pub file179 : Parts
+file179 =
     text "TKF" ∷ byte 0x01 ∷ byte 0x00 ∷ byte 0x02 ∷ byte 0x03 ∷ zeros 9
     ∷ byte 0x01 ∷ byte 0x02 ∷ byte 0x00 ∷ byte 0x04 ∷ zeros 28 ∷ text "}}!!" ∷ zeros 28 ∷ text "}}!" ∷ blanks 21
     ∷ text "&" ∷ byte 0x02 ∷ zeros 6 ∷ text "}}!!" ∷ blanks 20 ∷ byte 0xD8 ∷ text "E" ∷ byte 0xA2 ∷ byte 0xA2
@@ -1654,24 +1781,24 @@ file163 =
     ∷ byte 0x01 ∷ byte 0x01 ∷ byte 0x04 ∷ byte 0x05 ∷ zeros 4 ∷ text "}}!!" ∷ zeros 20 ∷ text "}}!}" ∷ byte 0x20
     ∷ zeros 27 ∷ text "}}!}" ∷ blanks 20 ∷ text "$" ∷ byte 0x01 ∷ zeros 38 ∷ []
 
-abbrev pub file164 : Parts
-file164 =
+abbrev pub file180 : Parts
+file180 =
     text "TKF" ∷ byte 0x01 ∷ byte 0x00 ∷ byte 0x02 ∷ byte 0x04 ∷ zeros 9
     ∷ byte 0x01 ∷ zeros 127
     ∷ zeros 128
     ∷ zeros 128
     ∷ zeros 128 ∷ []
 
-abbrev pub file165 : Parts
-file165 =
+abbrev pub file181 : Parts
+file181 =
     text "TKF" ∷ byte 0x01 ∷ byte 0x00 ∷ byte 0x02 ∷ byte 0x04 ∷ zeros 9
     ∷ byte 0x01 ∷ byte 0x01 ∷ zeros 62 ∷ text "rate1" ∷ blanks 19 ∷ byte 0x01 ∷ zeros 39
     ∷ zeros 128
     ∷ zeros 128
     ∷ zeros 128 ∷ []
 
-abbrev pub file166 : Parts
-file166 =
+abbrev pub file182 : Parts
+file182 =
     text "TKF" ∷ byte 0x01 ∷ byte 0x00 ∷ byte 0x02 ∷ byte 0x04 ∷ zeros 9
     ∷ byte 0x01 ∷ byte 0x02 ∷ zeros 62 ∷ text "rate1" ∷ blanks 19 ∷ byte 0x01 ∷ zeros 7 ∷ text "rate2" ∷ blanks 19
     ∷ byte 0x02 ∷ zeros 7
@@ -1679,8 +1806,8 @@ file166 =
     ∷ zeros 128
     ∷ zeros 128 ∷ []
 
-abbrev pub file167 : Parts
-file167 =
+abbrev pub file183 : Parts
+file183 =
     text "TKF" ∷ byte 0x01 ∷ byte 0x00 ∷ byte 0x02 ∷ byte 0x04 ∷ zeros 9
     ∷ byte 0x01 ∷ byte 0x02 ∷ byte 0x00 ∷ byte 0x05 ∷ zeros 28 ∷ text "rate2" ∷ zeros 27 ∷ text "rate1" ∷ blanks 19
     ∷ byte 0x01 ∷ zeros 7 ∷ text "rate2" ∷ blanks 19 ∷ byte 0x02 ∷ zeros 7
@@ -1689,8 +1816,8 @@ file167 =
     ∷ zeros 128
     ∷ zeros 128 ∷ []
 
-abbrev pub file168 : Parts
-file168 =
+abbrev pub file184 : Parts
+file184 =
     text "TKF" ∷ byte 0x01 ∷ byte 0x00 ∷ byte 0x02 ∷ byte 0x04 ∷ zeros 9
     ∷ byte 0x01 ∷ byte 0x02 ∷ byte 0x00 ∷ byte 0x05 ∷ zeros 28 ∷ text "rate2" ∷ zeros 27 ∷ text "rate1" ∷ blanks 19
     ∷ byte 0x01 ∷ zeros 7 ∷ text "rate2" ∷ blanks 19 ∷ byte 0x02 ∷ zeros 7
@@ -1699,8 +1826,8 @@ file168 =
     ∷ zeros 128
     ∷ zeros 128 ∷ []
 
-abbrev pub file169 : Parts
-file169 =
+abbrev pub file185 : Parts
+file185 =
     text "TKF" ∷ byte 0x01 ∷ byte 0x00 ∷ byte 0x02 ∷ byte 0x04 ∷ zeros 9
     ∷ byte 0x01 ∷ byte 0x02 ∷ byte 0x00 ∷ byte 0x05 ∷ zeros 28 ∷ text "rate2" ∷ zeros 27 ∷ text "rate1" ∷ blanks 19
     ∷ byte 0x01 ∷ zeros 7 ∷ text "rate2" ∷ blanks 19 ∷ byte 0x02 ∷ zeros 7
@@ -1709,8 +1836,8 @@ file169 =
     ∷ byte 0x01 ∷ byte 0x01 ∷ byte 0x02 ∷ zeros 5 ∷ text "ra" ∷ zeros 54 ∷ text "rz" ∷ blanks 22 ∷ byte 0x05 ∷ zeros 39
     ∷ zeros 128 ∷ []
 
-abbrev pub file170 : Parts
-file170 =
+abbrev pub file186 : Parts
+file186 =
     text "TKF" ∷ byte 0x01 ∷ byte 0x00 ∷ byte 0x02 ∷ byte 0x04 ∷ zeros 9
     ∷ byte 0x01 ∷ byte 0x02 ∷ byte 0x00 ∷ byte 0x05 ∷ zeros 28 ∷ text "rate2" ∷ zeros 27 ∷ text "rate1" ∷ blanks 19
     ∷ byte 0x01 ∷ zeros 7 ∷ text "rate2" ∷ blanks 19 ∷ byte 0x02 ∷ zeros 7
@@ -1719,13 +1846,13 @@ file170 =
     ∷ byte 0x01 ∷ byte 0x01 ∷ byte 0x02 ∷ zeros 5 ∷ text "ra" ∷ zeros 54 ∷ text "rz" ∷ blanks 22 ∷ byte 0x05 ∷ zeros 39
     ∷ zeros 128 ∷ []
 
-abbrev pub file171 : Parts
-file171 =
+abbrev pub file187 : Parts
+file187 =
     zeros 16
     ∷ zeros 1536 ∷ []
 
-abbrev pub file172 : Parts
-file172 =
+abbrev pub file188 : Parts
+file188 =
     text "TKF" ∷ byte 0x01 ∷ byte 0x00 ∷ byte 0x04 ∷ byte 0x08 ∷ zeros 9
     ∷ byte 0x01 ∷ byte 0x03 ∷ byte 0x00 ∷ byte 0x02 ∷ zeros 28 ∷ text "i" ∷ byte 0x20 ∷ zeros 30 ∷ text "a" ∷ blanks 23
     ∷ byte 0x05 ∷ zeros 7 ∷ text "and" ∷ blanks 21 ∷ byte 0x03 ∷ zeros 7 ∷ text "i" ∷ blanks 23 ∷ byte 0x09 ∷ zeros 39
@@ -1740,13 +1867,13 @@ file172 =
     ∷ zeros 192
     ∷ zeros 192 ∷ []
 
-abbrev pub file173 : Parts
-file173 =
+abbrev pub file189 : Parts
+file189 =
     zeros 16
     ∷ zeros 3072 ∷ []
 
-abbrev pub file174 : Parts
-file174 =
+abbrev pub file190 : Parts
+file190 =
     text "TKF" ∷ byte 0x01 ∷ byte 0x00 ∷ byte 0x04 ∷ byte 0x10 ∷ zeros 9
     ∷ byte 0x01 ∷ byte 0x03 ∷ byte 0x00 ∷ byte 0x02 ∷ zeros 28 ∷ text "ar" ∷ zeros 30 ∷ text "a" ∷ blanks 23 ∷ byte 0x05
     ∷ zeros 7 ∷ text "and" ∷ blanks 21 ∷ byte 0x03 ∷ zeros 7 ∷ text "are" ∷ blanks 21 ∷ byte 0x18 ∷ zeros 39
@@ -1782,8 +1909,8 @@ file174 =
     ∷ zeros 192
     ∷ zeros 192 ∷ []
 
-abbrev pub file175 : Parts
-file175 =
+abbrev pub file191 : Parts
+file191 =
     text "TKF" ∷ byte 0x01 ∷ byte 0x00 ∷ byte 0x02 ∷ byte 0x0D ∷ zeros 9
     ∷ byte 0x01 ∷ byte 0x00 ∷ byte 0x17 ∷ zeros 5 ∷ text "p}}!}!!}" ∷ byte 0x20 ∷ text "!!" ∷ byte 0x20 ∷ text "a!}!aa}"
     ∷ byte 0x20 ∷ text "!aa" ∷ zeros 97
@@ -1831,8 +1958,8 @@ file175 =
     ∷ byte 0x20 ∷ text "a" ∷ byte 0x20 ∷ text "aaa" ∷ byte 0x20 ∷ text "aa}" ∷ byte 0x20 ∷ zeros 74
     ∷ zeros 128 ∷ []
 
-abbrev pub file176 : Parts
-file176 =
+abbrev pub file192 : Parts
+file192 =
     text "TKF" ∷ byte 0x01 ∷ byte 0x00 ∷ byte 0x02 ∷ byte 0x0C ∷ zeros 9
     ∷ byte 0x01 ∷ byte 0x02 ∷ byte 0x18 ∷ byte 0x18 ∷ zeros 4 ∷ text ".a" ∷ byte 0x20 ∷ text "}a!}}a}" ∷ byte 0x20
     ∷ text "!aaa!}!}a" ∷ byte 0x20 ∷ text "}!a0aa}a!a" ∷ byte 0x20 ∷ text "}!!}!a!a" ∷ byte 0x20 ∷ text "a" ∷ byte 0x20
@@ -2057,67 +2184,257 @@ trie35 =
 
 abbrev pub trie36 : Trie
 trie36 =
-    trie 257 0 (cell 0x79 0 (slot 0) (slot 1) ∷ [])
+    trie 5 0 (cell 0x72 0 (further 1) (slot 1) ∷ cell 0x61 1 (further 2) (slot 1) ∷ cell 0x74 2 (further 3) (slot 1)
+    ∷ cell 0x65 3 (further 4) (slot 1) ∷ cell 0x32 4 (slot 4) (slot 1) ∷ [])
 
 abbrev pub trie37 : Trie
 trie37 =
-    trie 188 8192 ([])
+    trie 5 0 (cell 0x72 0 (further 1) (slot 1) ∷ cell 0x61 1 (further 2) (slot 1) ∷ cell 0x74 2 (further 3) (slot 1)
+    ∷ cell 0x65 3 (further 4) (slot 1) ∷ cell 0x32 4 (slot 2) (slot 1) ∷ [])
 
 abbrev pub trie38 : Trie
 trie38 =
-    trie 4 0 (cell 0x61 0 (further 1) (slot 1) ∷ cell 0x21 1 (further 2) (slot 1) ∷ cell 0x21 2 (further 3) (slot 1)
-    ∷ cell 0x21 3 (slot 0) (slot 1) ∷ [])
+    trie 5 0 (cell 0x72 0 (further 1) (slot 1) ∷ cell 0x61 1 (further 2) (slot 1) ∷ cell 0x74 2 (further 3) (slot 1)
+    ∷ cell 0x65 3 (further 4) (slot 1) ∷ cell 0x32 4 (slot 1) (slot 1) ∷ [])
 
 abbrev pub trie39 : Trie
 trie39 =
-    trie 2 0 (cell 0x78 0 (further 1) (slot 1) ∷ cell 0x78 1 (slot 0) (further 1) ∷ [])
+    trie 5 0 (cell 0x72 0 (further 1) (slot 1) ∷ cell 0x61 1 (further 2) (slot 1) ∷ cell 0x74 2 (further 3) (slot 1)
+    ∷ cell 0x65 3 (further 4) (slot 0) ∷ cell 0x32 4 (slot 0) (slot 1) ∷ [])
 
 abbrev pub trie40 : Trie
 trie40 =
-    trie 4 0 (cell 0x61 0 (further 1) (slot 1) ∷ cell 0x62 1 (further 2) (slot 2) ∷ cell 0x20 2 (further 3)
-    (further 257) ∷ cell 0x61 1 (slot 0) (slot 3) ∷ [])
+    trie 5 0 (cell 0x72 0 (further 1) (slot 1) ∷ cell 0x61 1 (further 2) (slot 1) ∷ cell 0x74 2 (further 3) (slot 1)
+    ∷ cell 0x65 3 (further 4) (slot 1) ∷ cell 0x32 4 (further 5) (slot 1) ∷ [])
 
 abbrev pub trie41 : Trie
 trie41 =
-    trie 2 0 (cell 0x78 1 (slot 0) (slot 1) ∷ cell 0x7A 0 (further 1) (slot 1) ∷ [])
+    trie 5 0 (cell 0x72 0 (further 1) (slot 1) ∷ cell 0x61 1 (further 2) (slot 1) ∷ cell 0x74 2 (further 3) (slot 1)
+    ∷ cell 0x65 3 (further 4) (slot 1) ∷ cell 0x32 4 (further 0) (slot 1) ∷ [])
 
 abbrev pub trie42 : Trie
 trie42 =
-    trie 1 0 (cell 0x69 0 (slot 0) (slot 1) ∷ [])
+    trie 5 0 (cell 0x72 0 (further 1) (further 4) ∷ cell 0x61 1 (further 2) (slot 1) ∷ cell 0x74 2 (further 3) (slot 1)
+    ∷ cell 0x65 3 (further 4) (slot 1) ∷ cell 0x32 4 (slot 0) (slot 1) ∷ [])
 
 abbrev pub trie43 : Trie
 trie43 =
-    trie 2 0 (cell 0x79 0 (further 1) (slot 1) ∷ cell 0x79 1 (slot 0) (slot 1) ∷ [])
+    trie 5 0 (cell 0x72 0 (further 1) (slot 1) ∷ cell 0x61 1 (further 2) (slot 1) ∷ cell 0x74 3 (further 3) (slot 1)
+    ∷ cell 0x65 3 (further 4) (slot 1) ∷ cell 0x32 4 (slot 0) (slot 1) ∷ [])
 
 abbrev pub trie44 : Trie
 trie44 =
-    trie 3 0 (cell 0x73 0 (further 1) (slot 1) ∷ cell 0x74 1 (further 2) (slot 1) ∷ cell 0x72 2 (slot 0) (slot 1) ∷ [])
+    trie 5 0 (cell 0x72 0 (further 1) (slot 1) ∷ cell 0x61 1 (further 2) (slot 1) ∷ cell 0x74 1 (further 3) (slot 1)
+    ∷ cell 0x65 3 (further 4) (slot 1) ∷ cell 0x32 4 (slot 0) (slot 1) ∷ [])
 
 abbrev pub trie45 : Trie
 trie45 =
-    trie 4 0 (cell 0x21 0 (further 3) (slot 1) ∷ cell 0x21 3 (slot 0) (slot 1) ∷ cell 0x7D 2 (further 1) (slot 1)
-    ∷ cell 0x7D 1 (further 2) (slot 1) ∷ [])
+    trie 5 0 (cell 0x72 0 (further 1) (slot 1) ∷ cell 0x61 1 (further 2) (slot 1) ∷ cell 0x74 2 (further 3) (slot 1)
+    ∷ cell 0x65 3 (further 4) (slot 1) ∷ cell 0x30 4 (slot 0) (slot 1) ∷ [])
 
 abbrev pub trie46 : Trie
 trie46 =
-    trie 3 0 (cell 0x6F 0 (further 1) (slot 1) ∷ cell 0x6E 1 (further 2) (slot 1) ∷ cell 0x20 2 (slot 0) (slot 2) ∷ [])
+    trie 5 0 (cell 0x72 0 (further 1) (slot 1) ∷ cell 0x61 1 (further 2) (slot 1) ∷ cell 0x74 2 (further 3) (slot 1)
+    ∷ cell 0x65 3 (further 4) (slot 1) ∷ cell 0x32 4 (slot 0) (slot 1) ∷ cell 0x01 0 (slot 0) (slot 0) ∷ [])
 
 abbrev pub trie47 : Trie
 trie47 =
-    trie 5 0 (cell 0x73 0 (further 1) (slot 1) ∷ cell 0x72 1 (further 2) (slot 1) ∷ cell 0x74 2 (further 3) (slot 1)
-    ∷ cell 0x74 3 (further 4) (slot 1) ∷ cell 0x72 4 (slot 0) (slot 1) ∷ [])
+    trie 5 0 (cell 0x72 0 (further 1) (slot 1) ∷ cell 0x61 1 (further 2) (slot 1) ∷ cell 0x74 2 (further 3) (slot 1)
+    ∷ cell 0x65 3 (further 4) (slot 1) ∷ cell 0x32 4 (slot 0) (slot 1) ∷ cell 0x00 0 (slot 0) (slot 0) ∷ cell 0x00 0
+    (slot 0) (slot 0) ∷ cell 0x00 0 (slot 0) (slot 0) ∷ cell 0x00 0 (slot 0) (slot 0) ∷ cell 0x00 0 (slot 0) (slot 0)
+    ∷ cell 0x00 0 (slot 0) (slot 0) ∷ cell 0x00 0 (slot 0) (slot 0) ∷ cell 0x00 0 (slot 0) (slot 0) ∷ cell 0x00 0
+    (slot 0) (slot 0) ∷ cell 0x00 0 (slot 0) (slot 0) ∷ cell 0x00 0 (slot 0) (slot 0) ∷ cell 0x00 0 (slot 0) (slot 0)
+    ∷ cell 0x00 0 (slot 0) (slot 0) ∷ cell 0x00 0 (slot 0) (slot 0) ∷ cell 0x00 0 (slot 0) (slot 0) ∷ cell 0x00 0
+    (slot 0) (slot 0) ∷ cell 0x00 0 (slot 0) (slot 0) ∷ cell 0x00 0 (slot 0) (slot 0) ∷ cell 0x00 0 (slot 0) (slot 0)
+    ∷ cell 0x00 0 (slot 0) (slot 0) ∷ cell 0x00 0 (slot 0) (slot 0) ∷ cell 0x00 0 (slot 0) (slot 0) ∷ cell 0x00 0
+    (slot 0) (slot 0) ∷ cell 0x00 0 (slot 0) (slot 0) ∷ cell 0x00 0 (slot 0) (slot 0) ∷ cell 0x00 0 (slot 0) (slot 0)
+    ∷ cell 0x00 0 (slot 0) (slot 0) ∷ cell 0x00 0 (slot 0) (slot 0) ∷ cell 0x00 0 (slot 0) (slot 0) ∷ cell 0x00 0
+    (slot 0) (slot 0) ∷ cell 0x00 0 (slot 0) (slot 0) ∷ cell 0x00 0 (slot 0) (slot 0) ∷ cell 0x00 0 (slot 0) (slot 0)
+    ∷ cell 0x00 0 (slot 0) (slot 0) ∷ cell 0x00 0 (slot 0) (slot 0) ∷ cell 0x00 0 (slot 0) (slot 0) ∷ cell 0x00 0
+    (slot 0) (slot 0) ∷ cell 0x00 0 (slot 0) (slot 0) ∷ cell 0x00 0 (slot 0) (slot 0) ∷ cell 0x00 0 (slot 0) (slot 0)
+    ∷ cell 0x00 0 (slot 0) (slot 0) ∷ cell 0x00 0 (slot 0) (slot 0) ∷ cell 0x00 0 (slot 0) (slot 0) ∷ cell 0x00 0
+    (slot 0) (slot 0) ∷ cell 0x00 0 (slot 0) (slot 0) ∷ cell 0x00 0 (slot 0) (slot 0) ∷ cell 0x00 0 (slot 0) (slot 0)
+    ∷ cell 0x00 0 (slot 0) (slot 0) ∷ cell 0x00 0 (slot 0) (slot 0) ∷ cell 0x00 0 (slot 0) (slot 0) ∷ cell 0x00 0
+    (slot 0) (slot 0) ∷ cell 0x00 0 (slot 0) (slot 0) ∷ cell 0x00 0 (slot 0) (slot 0) ∷ cell 0x00 0 (slot 0) (slot 0)
+    ∷ cell 0x00 0 (slot 0) (slot 0) ∷ cell 0x00 0 (slot 0) (slot 0) ∷ cell 0x00 0 (slot 0) (slot 0) ∷ cell 0x00 0
+    (slot 0) (slot 0) ∷ cell 0x00 0 (slot 0) (slot 0) ∷ cell 0x00 0 (slot 0) (slot 0) ∷ cell 0x00 0 (slot 0) (slot 0)
+    ∷ cell 0x00 0 (slot 0) (slot 0) ∷ cell 0x00 0 (slot 0) (slot 0) ∷ cell 0x00 0 (slot 0) (slot 0) ∷ cell 0x00 0
+    (slot 0) (slot 0) ∷ cell 0x00 0 (slot 0) (slot 0) ∷ cell 0x00 0 (slot 0) (slot 0) ∷ cell 0x00 0 (slot 0) (slot 0)
+    ∷ cell 0x00 0 (slot 0) (slot 0) ∷ cell 0x00 0 (slot 0) (slot 0) ∷ cell 0x00 0 (slot 0) (slot 0) ∷ cell 0x00 0
+    (slot 0) (slot 0) ∷ cell 0x00 0 (slot 0) (slot 0) ∷ cell 0x00 0 (slot 0) (slot 0) ∷ cell 0x00 0 (slot 0) (slot 0)
+    ∷ cell 0x00 0 (slot 0) (slot 0) ∷ cell 0x00 0 (slot 0) (slot 0) ∷ cell 0x00 0 (slot 0) (slot 0) ∷ cell 0x00 0
+    (slot 0) (slot 0) ∷ cell 0x00 0 (slot 0) (slot 0) ∷ cell 0x00 0 (slot 0) (slot 0) ∷ cell 0x00 0 (slot 0) (slot 0)
+    ∷ cell 0x00 0 (slot 0) (slot 0) ∷ cell 0x00 0 (slot 0) (slot 0) ∷ cell 0x00 0 (slot 0) (slot 0) ∷ cell 0x00 0
+    (slot 0) (slot 0) ∷ cell 0x00 0 (slot 0) (slot 0) ∷ cell 0x00 0 (slot 0) (slot 0) ∷ cell 0x00 0 (slot 0) (slot 0)
+    ∷ cell 0x00 0 (slot 0) (slot 0) ∷ cell 0x00 0 (slot 0) (slot 0) ∷ cell 0x00 0 (slot 0) (slot 0) ∷ cell 0x00 0
+    (slot 0) (slot 0) ∷ cell 0x00 0 (slot 0) (slot 0) ∷ cell 0x00 0 (slot 0) (slot 0) ∷ cell 0x00 0 (slot 0) (slot 0)
+    ∷ cell 0x00 0 (slot 0) (slot 0) ∷ cell 0x00 0 (slot 0) (slot 0) ∷ cell 0x00 0 (slot 0) (slot 0) ∷ cell 0x00 0
+    (slot 0) (slot 0) ∷ cell 0x00 0 (slot 0) (slot 0) ∷ cell 0x00 0 (slot 0) (slot 0) ∷ cell 0x00 0 (slot 0) (slot 0)
+    ∷ cell 0x00 0 (slot 0) (slot 0) ∷ cell 0x00 0 (slot 0) (slot 0) ∷ cell 0x00 0 (slot 0) (slot 0) ∷ cell 0x00 0
+    (slot 0) (slot 0) ∷ cell 0x00 0 (slot 0) (slot 0) ∷ cell 0x00 0 (slot 0) (slot 0) ∷ cell 0x00 0 (slot 0) (slot 0)
+    ∷ cell 0x00 0 (slot 0) (slot 0) ∷ cell 0x00 0 (slot 0) (slot 0) ∷ cell 0x00 0 (slot 0) (slot 0) ∷ cell 0x00 0
+    (slot 0) (slot 0) ∷ cell 0x00 0 (slot 0) (slot 0) ∷ cell 0x00 0 (slot 0) (slot 0) ∷ cell 0x00 0 (slot 0) (slot 0)
+    ∷ cell 0x00 0 (slot 0) (slot 0) ∷ cell 0x00 0 (slot 0) (slot 0) ∷ cell 0x00 0 (slot 0) (slot 0) ∷ cell 0x00 0
+    (slot 0) (slot 0) ∷ cell 0x00 0 (slot 0) (slot 0) ∷ cell 0x00 0 (slot 0) (slot 0) ∷ cell 0x00 0 (slot 0) (slot 0)
+    ∷ cell 0x00 0 (slot 0) (slot 0) ∷ cell 0x00 0 (slot 0) (slot 0) ∷ cell 0x00 0 (slot 0) (slot 0) ∷ cell 0x00 0
+    (slot 0) (slot 0) ∷ cell 0x00 0 (slot 0) (slot 0) ∷ cell 0x00 0 (slot 0) (slot 0) ∷ cell 0x00 0 (slot 0) (slot 0)
+    ∷ cell 0x00 0 (slot 0) (slot 0) ∷ cell 0x00 0 (slot 0) (slot 0) ∷ cell 0x00 0 (slot 0) (slot 0) ∷ cell 0x00 0
+    (slot 0) (slot 0) ∷ cell 0x00 0 (slot 0) (slot 0) ∷ cell 0x00 0 (slot 0) (slot 0) ∷ cell 0x00 0 (slot 0) (slot 0)
+    ∷ cell 0x00 0 (slot 0) (slot 0) ∷ cell 0x00 0 (slot 0) (slot 0) ∷ cell 0x00 0 (slot 0) (slot 0) ∷ cell 0x00 0
+    (slot 0) (slot 0) ∷ cell 0x00 0 (slot 0) (slot 0) ∷ cell 0x00 0 (slot 0) (slot 0) ∷ cell 0x00 0 (slot 0) (slot 0)
+    ∷ cell 0x00 0 (slot 0) (slot 0) ∷ cell 0x00 0 (slot 0) (slot 0) ∷ cell 0x00 0 (slot 0) (slot 0) ∷ cell 0x00 0
+    (slot 0) (slot 0) ∷ cell 0x00 0 (slot 0) (slot 0) ∷ cell 0x00 0 (slot 0) (slot 0) ∷ cell 0x00 0 (slot 0) (slot 0)
+    ∷ cell 0x00 0 (slot 0) (slot 0) ∷ cell 0x00 0 (slot 0) (slot 0) ∷ cell 0x00 0 (slot 0) (slot 0) ∷ cell 0x00 0
+    (slot 0) (slot 0) ∷ cell 0x00 0 (slot 0) (slot 0) ∷ cell 0x00 0 (slot 0) (slot 0) ∷ cell 0x00 0 (slot 0) (slot 0)
+    ∷ cell 0x00 0 (slot 0) (slot 0) ∷ cell 0x00 0 (slot 0) (slot 0) ∷ cell 0x00 0 (slot 0) (slot 0) ∷ cell 0x00 0
+    (slot 0) (slot 0) ∷ cell 0x00 0 (slot 0) (slot 0) ∷ cell 0x00 0 (slot 0) (slot 0) ∷ cell 0x00 0 (slot 0) (slot 0)
+    ∷ cell 0x00 0 (slot 0) (slot 0) ∷ cell 0x00 0 (slot 0) (slot 0) ∷ cell 0x00 0 (slot 0) (slot 0) ∷ cell 0x00 0
+    (slot 0) (slot 0) ∷ cell 0x00 0 (slot 0) (slot 0) ∷ cell 0x00 0 (slot 0) (slot 0) ∷ cell 0x00 0 (slot 0) (slot 0)
+    ∷ cell 0x00 0 (slot 0) (slot 0) ∷ cell 0x00 0 (slot 0) (slot 0) ∷ cell 0x00 0 (slot 0) (slot 0) ∷ cell 0x00 0
+    (slot 0) (slot 0) ∷ cell 0x00 0 (slot 0) (slot 0) ∷ cell 0x00 0 (slot 0) (slot 0) ∷ cell 0x00 0 (slot 0) (slot 0)
+    ∷ cell 0x00 0 (slot 0) (slot 0) ∷ cell 0x00 0 (slot 0) (slot 0) ∷ cell 0x00 0 (slot 0) (slot 0) ∷ cell 0x00 0
+    (slot 0) (slot 0) ∷ cell 0x00 0 (slot 0) (slot 0) ∷ cell 0x00 0 (slot 0) (slot 0) ∷ cell 0x00 0 (slot 0) (slot 0)
+    ∷ cell 0x00 0 (slot 0) (slot 0) ∷ cell 0x00 0 (slot 0) (slot 0) ∷ cell 0x00 0 (slot 0) (slot 0) ∷ cell 0x00 0
+    (slot 0) (slot 0) ∷ cell 0x00 0 (slot 0) (slot 0) ∷ cell 0x00 0 (slot 0) (slot 0) ∷ cell 0x00 0 (slot 0) (slot 0)
+    ∷ cell 0x00 0 (slot 0) (slot 0) ∷ cell 0x00 0 (slot 0) (slot 0) ∷ cell 0x00 0 (slot 0) (slot 0) ∷ cell 0x00 0
+    (slot 0) (slot 0) ∷ cell 0x00 0 (slot 0) (slot 0) ∷ cell 0x00 0 (slot 0) (slot 0) ∷ cell 0x00 0 (slot 0) (slot 0)
+    ∷ cell 0x00 0 (slot 0) (slot 0) ∷ cell 0x00 0 (slot 0) (slot 0) ∷ cell 0x00 0 (slot 0) (slot 0) ∷ cell 0x00 0
+    (slot 0) (slot 0) ∷ cell 0x00 0 (slot 0) (slot 0) ∷ cell 0x00 0 (slot 0) (slot 0) ∷ cell 0x00 0 (slot 0) (slot 0)
+    ∷ cell 0x00 0 (slot 0) (slot 0) ∷ cell 0x00 0 (slot 0) (slot 0) ∷ cell 0x00 0 (slot 0) (slot 0) ∷ cell 0x00 0
+    (slot 0) (slot 0) ∷ cell 0x00 0 (slot 0) (slot 0) ∷ cell 0x00 0 (slot 0) (slot 0) ∷ cell 0x00 0 (slot 0) (slot 0)
+    ∷ cell 0x00 0 (slot 0) (slot 0) ∷ cell 0x00 0 (slot 0) (slot 0) ∷ cell 0x00 0 (slot 0) (slot 0) ∷ cell 0x00 0
+    (slot 0) (slot 0) ∷ cell 0x00 0 (slot 0) (slot 0) ∷ cell 0x00 0 (slot 0) (slot 0) ∷ cell 0x00 0 (slot 0) (slot 0)
+    ∷ cell 0x00 0 (slot 0) (slot 0) ∷ cell 0x00 0 (slot 0) (slot 0) ∷ cell 0x00 0 (slot 0) (slot 0) ∷ cell 0x00 0
+    (slot 0) (slot 0) ∷ cell 0x00 0 (slot 0) (slot 0) ∷ cell 0x00 0 (slot 0) (slot 0) ∷ cell 0x00 0 (slot 0) (slot 0)
+    ∷ cell 0x00 0 (slot 0) (slot 0) ∷ cell 0x00 0 (slot 0) (slot 0) ∷ cell 0x00 0 (slot 0) (slot 0) ∷ cell 0x00 0
+    (slot 0) (slot 0) ∷ cell 0x00 0 (slot 0) (slot 0) ∷ cell 0x00 0 (slot 0) (slot 0) ∷ cell 0x00 0 (slot 0) (slot 0)
+    ∷ cell 0x00 0 (slot 0) (slot 0) ∷ cell 0x00 0 (slot 0) (slot 0) ∷ cell 0x00 0 (slot 0) (slot 0) ∷ cell 0x00 0
+    (slot 0) (slot 0) ∷ cell 0x00 0 (slot 0) (slot 0) ∷ cell 0x00 0 (slot 0) (slot 0) ∷ cell 0x00 0 (slot 0) (slot 0)
+    ∷ cell 0x00 0 (slot 0) (slot 0) ∷ cell 0x00 0 (slot 0) (slot 0) ∷ cell 0x00 0 (slot 0) (slot 0) ∷ cell 0x00 0
+    (slot 0) (slot 0) ∷ cell 0x00 0 (slot 0) (slot 0) ∷ cell 0x00 0 (slot 0) (slot 0) ∷ cell 0x00 0 (slot 0) (slot 0)
+    ∷ cell 0x00 1 (slot 0) (slot 0) ∷ [])
 
 abbrev pub trie48 : Trie
 trie48 =
-    trie 6 0 (cell 0x73 0 (further 1) (slot 1) ∷ cell 0x72 1 (further 2) (slot 1) ∷ cell 0x74 2 (further 3) (slot 1)
-    ∷ cell 0x74 3 (further 4) (slot 1) ∷ cell 0x72 4 (further 5) (slot 1) ∷ cell 0x20 5 (slot 0) (slot 2) ∷ [])
+    trie 5 0 (cell 0x72 0 (further 1) (slot 1) ∷ cell 0x61 1 (further 2) (slot 1) ∷ cell 0x74 2 (further 3) (slot 1)
+    ∷ cell 0x65 3 (further 4) (slot 1) ∷ cell 0x32 4 (slot 0) (slot 1) ∷ cell 0x00 0 (slot 0) (slot 1) ∷ [])
 
 abbrev pub trie49 : Trie
 trie49 =
-    trie 3 0 (cell 0x21 0 (further 1) (slot 1) ∷ cell 0x7D 1 (further 2) (slot 1) ∷ cell 0x20 2 (slot 0) (slot 1) ∷ [])
+    trie 5 1 (cell 0x72 0 (further 1) (slot 1) ∷ cell 0x61 1 (further 2) (slot 1) ∷ cell 0x74 2 (further 3) (slot 1)
+    ∷ cell 0x65 3 (further 4) (slot 1) ∷ cell 0x32 4 (slot 0) (slot 1) ∷ [])
 
 abbrev pub trie50 : Trie
 trie50 =
+    trie 4 0 (cell 0x72 0 (further 1) (slot 1) ∷ cell 0x61 1 (further 2) (slot 1) ∷ cell 0x74 2 (further 3) (slot 1)
+    ∷ cell 0x65 3 (further 4) (slot 1) ∷ cell 0x32 4 (slot 0) (slot 1) ∷ [])
+
+abbrev pub trie51 : Trie
+trie51 =
+    trie 6 0 (cell 0x72 0 (further 1) (slot 1) ∷ cell 0x61 1 (further 2) (slot 1) ∷ cell 0x74 2 (further 3) (slot 1)
+    ∷ cell 0x65 3 (further 4) (slot 1) ∷ cell 0x32 4 (slot 0) (slot 1) ∷ [])
+
+abbrev pub trie52 : Trie
+trie52 =
+    trie 257 0 (cell 0x72 0 (further 1) (slot 1) ∷ cell 0x61 1 (further 2) (slot 1) ∷ cell 0x74 2 (further 3) (slot 1)
+    ∷ cell 0x65 3 (further 4) (slot 1) ∷ cell 0x32 4 (slot 0) (slot 1) ∷ [])
+
+abbrev pub trie53 : Trie
+trie53 =
+    trie 3 0 (cell 0x72 0 (further 1) (slot 1) ∷ cell 0x21 1 (slot 0) (further 2) ∷ cell 0x7A 0 (further 1) (slot 1)
+    ∷ [])
+
+abbrev pub trie54 : Trie
+trie54 =
+    trie 4 0 (cell 0x72 0 (further 1) (slot 1) ∷ cell 0x21 1 (slot 0) (further 2) ∷ cell 0x7A 0 (further 1) (slot 1)
+    ∷ [])
+
+abbrev pub trie55 : Trie
+trie55 =
+    trie 24 0 (cell 0x72 0 (further 1) (slot 1) ∷ cell 0x72 1 (further 2) (slot 1) ∷ cell 0x72 2 (further 3) (slot 1)
+    ∷ cell 0x72 3 (further 4) (slot 1) ∷ cell 0x72 4 (further 5) (slot 1) ∷ cell 0x72 5 (further 6) (slot 1)
+    ∷ cell 0x72 6 (further 7) (slot 1) ∷ cell 0x72 7 (further 8) (slot 1) ∷ cell 0x72 8 (further 9) (slot 1)
+    ∷ cell 0x72 9 (further 10) (slot 1) ∷ cell 0x72 10 (further 11) (slot 1) ∷ cell 0x72 11 (further 12) (slot 1)
+    ∷ cell 0x72 12 (further 13) (slot 1) ∷ cell 0x72 13 (further 14) (slot 1) ∷ cell 0x72 14 (further 15) (slot 1)
+    ∷ cell 0x72 15 (further 16) (slot 1) ∷ cell 0x72 16 (further 17) (slot 1) ∷ cell 0x72 17 (further 18) (slot 1)
+    ∷ cell 0x72 18 (further 19) (slot 1) ∷ cell 0x72 19 (further 20) (slot 1) ∷ cell 0x72 20 (further 21) (slot 1)
+    ∷ cell 0x72 21 (further 22) (slot 1) ∷ cell 0x72 22 (further 23) (slot 1) ∷ cell 0x72 23 (slot 0) (slot 1) ∷ [])
+
+abbrev pub trie56 : Trie
+trie56 =
+    trie 25 0 (cell 0x72 0 (further 1) (slot 1) ∷ cell 0x72 1 (further 2) (slot 1) ∷ cell 0x72 2 (further 3) (slot 1)
+    ∷ cell 0x72 3 (further 4) (slot 1) ∷ cell 0x72 4 (further 5) (slot 1) ∷ cell 0x72 5 (further 6) (slot 1)
+    ∷ cell 0x72 6 (further 7) (slot 1) ∷ cell 0x72 7 (further 8) (slot 1) ∷ cell 0x72 8 (further 9) (slot 1)
+    ∷ cell 0x72 9 (further 10) (slot 1) ∷ cell 0x72 10 (further 11) (slot 1) ∷ cell 0x72 11 (further 12) (slot 1)
+    ∷ cell 0x72 12 (further 13) (slot 1) ∷ cell 0x72 13 (further 14) (slot 1) ∷ cell 0x72 14 (further 15) (slot 1)
+    ∷ cell 0x72 15 (further 16) (slot 1) ∷ cell 0x72 16 (further 17) (slot 1) ∷ cell 0x72 17 (further 18) (slot 1)
+    ∷ cell 0x72 18 (further 19) (slot 1) ∷ cell 0x72 19 (further 20) (slot 1) ∷ cell 0x72 20 (further 21) (slot 1)
+    ∷ cell 0x72 21 (further 22) (slot 1) ∷ cell 0x72 22 (further 23) (slot 1) ∷ cell 0x72 23 (further 24) (slot 1)
+    ∷ cell 0x72 24 (slot 0) (slot 1) ∷ [])
+
+abbrev pub trie57 : Trie
+trie57 =
+    trie 257 0 (cell 0x79 0 (slot 0) (slot 1) ∷ [])
+
+abbrev pub trie58 : Trie
+trie58 =
+    trie 188 8192 ([])
+
+abbrev pub trie59 : Trie
+trie59 =
+    trie 4 0 (cell 0x61 0 (further 1) (slot 1) ∷ cell 0x21 1 (further 2) (slot 1) ∷ cell 0x21 2 (further 3) (slot 1)
+    ∷ cell 0x21 3 (slot 0) (slot 1) ∷ [])
+
+abbrev pub trie60 : Trie
+trie60 =
+    trie 2 0 (cell 0x78 0 (further 1) (slot 1) ∷ cell 0x78 1 (slot 0) (further 1) ∷ [])
+
+abbrev pub trie61 : Trie
+trie61 =
+    trie 4 0 (cell 0x61 0 (further 1) (slot 1) ∷ cell 0x62 1 (further 2) (slot 2) ∷ cell 0x20 2 (further 3)
+    (further 257) ∷ cell 0x61 1 (slot 0) (slot 3) ∷ [])
+
+abbrev pub trie62 : Trie
+trie62 =
+    trie 2 0 (cell 0x78 1 (slot 0) (slot 1) ∷ cell 0x7A 0 (further 1) (slot 1) ∷ [])
+
+abbrev pub trie63 : Trie
+trie63 =
+    trie 1 0 (cell 0x69 0 (slot 0) (slot 1) ∷ [])
+
+abbrev pub trie64 : Trie
+trie64 =
+    trie 2 0 (cell 0x79 0 (further 1) (slot 1) ∷ cell 0x79 1 (slot 0) (slot 1) ∷ [])
+
+abbrev pub trie65 : Trie
+trie65 =
+    trie 3 0 (cell 0x73 0 (further 1) (slot 1) ∷ cell 0x74 1 (further 2) (slot 1) ∷ cell 0x72 2 (slot 0) (slot 1) ∷ [])
+
+abbrev pub trie66 : Trie
+trie66 =
+    trie 4 0 (cell 0x21 0 (further 3) (slot 1) ∷ cell 0x21 3 (slot 0) (slot 1) ∷ cell 0x7D 2 (further 1) (slot 1)
+    ∷ cell 0x7D 1 (further 2) (slot 1) ∷ [])
+
+abbrev pub trie67 : Trie
+trie67 =
+    trie 3 0 (cell 0x6F 0 (further 1) (slot 1) ∷ cell 0x6E 1 (further 2) (slot 1) ∷ cell 0x20 2 (slot 0) (slot 2) ∷ [])
+
+abbrev pub trie68 : Trie
+trie68 =
+    trie 5 0 (cell 0x73 0 (further 1) (slot 1) ∷ cell 0x72 1 (further 2) (slot 1) ∷ cell 0x74 2 (further 3) (slot 1)
+    ∷ cell 0x74 3 (further 4) (slot 1) ∷ cell 0x72 4 (slot 0) (slot 1) ∷ [])
+
+abbrev pub trie69 : Trie
+trie69 =
+    trie 6 0 (cell 0x73 0 (further 1) (slot 1) ∷ cell 0x72 1 (further 2) (slot 1) ∷ cell 0x74 2 (further 3) (slot 1)
+    ∷ cell 0x74 3 (further 4) (slot 1) ∷ cell 0x72 4 (further 5) (slot 1) ∷ cell 0x20 5 (slot 0) (slot 2) ∷ [])
+
+abbrev pub trie70 : Trie
+trie70 =
+    trie 3 0 (cell 0x21 0 (further 1) (slot 1) ∷ cell 0x7D 1 (further 2) (slot 1) ∷ cell 0x20 2 (slot 0) (slot 1) ∷ [])
+
+abbrev pub trie71 : Trie
+trie71 =
     trie 22 0 (cell 0x61 0 (further 1) (slot 1) ∷ cell 0x62 1 (further 2) (slot 1) ∷ cell 0x62 2 (further 3) (slot 1)
     ∷ cell 0x61 3 (further 4) (slot 1) ∷ cell 0x61 4 (further 5) (slot 1) ∷ cell 0x61 5 (further 6) (slot 1)
     ∷ cell 0x61 6 (further 7) (slot 1) ∷ cell 0x62 7 (further 8) (slot 1) ∷ cell 0x61 8 (further 9) (slot 1)
@@ -2127,94 +2444,94 @@ trie50 =
     ∷ cell 0x61 18 (further 19) (slot 1) ∷ cell 0x62 19 (further 20) (slot 1) ∷ cell 0x61 20 (further 21) (slot 1)
     ∷ cell 0x20 21 (slot 0) (slot 1) ∷ [])
 
-abbrev pub trie51 : Trie
-trie51 =
+abbrev pub trie72 : Trie
+trie72 =
     trie 2 0 (cell 0x61 0 (further 1) (slot 1) ∷ cell 0x20 1 (slot 0) (slot 2) ∷ [])
 
-abbrev pub trie52 : Trie
-trie52 =
+abbrev pub trie73 : Trie
+trie73 =
     trie 4 0 (cell 0x73 0 (further 1) (slot 1) ∷ cell 0x72 1 (further 2) (slot 1) ∷ cell 0x72 2 (further 3) (slot 2)
     ∷ cell 0x20 3 (slot 0) (slot 2) ∷ [])
 
-abbrev pub trie53 : Trie
-trie53 =
+abbrev pub trie74 : Trie
+trie74 =
     trie 5 0 (cell 0x62 0 (further 3) (slot 1) ∷ cell 0x61 2 (slot 0) (further 4) ∷ cell 0x62 2 (further 1) (slot 1)
     ∷ cell 0x62 1 (further 2) (slot 1) ∷ cell 0x20 3 (slot 2) (slot 1) ∷ [])
 
-abbrev pub trie54 : Trie
-trie54 =
+abbrev pub trie75 : Trie
+trie75 =
     trie 7 0 (cell 0x62 0 (further 3) (slot 1) ∷ cell 0x61 2 (further 5) (further 4) ∷ cell 0x62 2 (further 1) (slot 1)
     ∷ cell 0x62 1 (further 2) (slot 1) ∷ cell 0x20 3 (slot 2) (slot 1) ∷ cell 0x61 3 (further 6) (slot 3) ∷ cell 0x20 4
     (slot 0) (slot 3) ∷ [])
 
-abbrev pub trie55 : Trie
-trie55 =
+abbrev pub trie76 : Trie
+trie76 =
     trie 2 0 (cell 0x21 0 (further 1) (slot 2) ∷ cell 0x21 1 (slot 0) (slot 1) ∷ [])
 
-abbrev pub trie56 : Trie
-trie56 =
+abbrev pub trie77 : Trie
+trie77 =
     trie 5 0 (cell 0x21 0 (further 1) (slot 2) ∷ cell 0x21 1 (slot 0) (further 2) ∷ cell 0x7D 1 (further 3) (slot 3)
     ∷ cell 0x7D 2 (further 4) (slot 3) ∷ cell 0x21 3 (slot 1) (slot 3) ∷ [])
 
-abbrev pub trie57 : Trie
-trie57 =
+abbrev pub trie78 : Trie
+trie78 =
     trie 2 0 (cell 0x7A 0 (further 1) (slot 1) ∷ cell 0x78 1 (slot 0) (slot 1) ∷ [])
 
-abbrev pub trie58 : Trie
-trie58 =
+abbrev pub trie79 : Trie
+trie79 =
     trie 2 0 (cell 0x62 0 (further 1) (slot 1) ∷ cell 0x20 1 (slot 0) (slot 1) ∷ [])
 
-abbrev pub trie59 : Trie
-trie59 =
+abbrev pub trie80 : Trie
+trie80 =
     trie 5 0 (cell 0x6E 0 (further 1) (further 2) ∷ cell 0x20 1 (slot 0) (slot 1) ∷ cell 0x6F 0 (further 3) (slot 2)
     ∷ cell 0x6F 1 (further 4) (slot 2) ∷ cell 0x20 2 (slot 1) (slot 2) ∷ [])
 
-abbrev pub trie60 : Trie
-trie60 =
+abbrev pub trie81 : Trie
+trie81 =
     trie 5 0 (cell 0x6E 0 (further 1) (further 2) ∷ cell 0x20 1 (slot 0) (slot 1) ∷ cell 0x6F 0 (further 3) (slot 2)
     ∷ cell 0x6F 1 (further 4) (slot 2) ∷ cell 0x20 2 (slot 3) (slot 2) ∷ [])
 
-abbrev pub trie61 : Trie
-trie61 =
+abbrev pub trie82 : Trie
+trie82 =
     trie 5 0 (cell 0x61 0 (further 1) (further 2) ∷ cell 0x20 1 (slot 0) (slot 1) ∷ cell 0x7D 0 (further 3) (slot 2)
     ∷ cell 0x7D 1 (further 4) (slot 2) ∷ cell 0x20 2 (slot 1) (slot 2) ∷ [])
 
-abbrev pub trie62 : Trie
-trie62 =
+abbrev pub trie83 : Trie
+trie83 =
     trie 4 0 (cell 0x73 0 (further 1) (slot 1) ∷ cell 0x74 1 (further 2) (slot 1) ∷ cell 0x72 2 (further 3) (slot 1)
     ∷ cell 0x20 3 (slot 0) (slot 1) ∷ [])
 
-abbrev pub trie63 : Trie
-trie63 =
+abbrev pub trie84 : Trie
+trie84 =
     trie 4 0 (cell 0x73 0 (further 1) (slot 2) ∷ cell 0x74 1 (further 2) (slot 2) ∷ cell 0x72 2 (further 3) (slot 2)
     ∷ cell 0x20 3 (slot 0) (slot 1) ∷ [])
 
-abbrev pub trie64 : Trie
-trie64 =
+abbrev pub trie85 : Trie
+trie85 =
     trie 3 0 (cell 0x61 0 (further 1) (slot 1) ∷ cell 0x21 1 (further 2) (slot 1) ∷ cell 0x61 2 (slot 0) (slot 1) ∷ [])
 
-abbrev pub trie65 : Trie
-trie65 =
+abbrev pub trie86 : Trie
+trie86 =
     trie 5 0 (cell 0x61 0 (further 1) (slot 2) ∷ cell 0x21 1 (further 2) (further 3) ∷ cell 0x61 2 (slot 0) (slot 1)
     ∷ cell 0x61 1 (further 4) (slot 2) ∷ cell 0x20 2 (slot 1) (slot 2) ∷ [])
 
-abbrev pub trie66 : Trie
-trie66 =
+abbrev pub trie87 : Trie
+trie87 =
     trie 6 0 (cell 0x61 0 (further 1) (slot 1) ∷ cell 0x61 1 (further 2) (slot 1) ∷ cell 0x61 2 (further 3) (slot 1)
     ∷ cell 0x62 3 (further 4) (slot 1) ∷ cell 0x61 4 (further 5) (slot 1) ∷ cell 0x20 5 (slot 0) (slot 1) ∷ [])
 
-abbrev pub trie67 : Trie
-trie67 =
+abbrev pub trie88 : Trie
+trie88 =
     trie 6 0 (cell 0x61 0 (further 1) (slot 2) ∷ cell 0x61 1 (further 2) (slot 2) ∷ cell 0x61 2 (further 3) (slot 2)
     ∷ cell 0x62 3 (further 4) (slot 2) ∷ cell 0x61 4 (further 5) (slot 2) ∷ cell 0x20 5 (slot 0) (slot 1) ∷ [])
 
-abbrev pub trie68 : Trie
-trie68 =
+abbrev pub trie89 : Trie
+trie89 =
     trie 4 0 (cell 0x7D 0 (further 2) (slot 1) ∷ cell 0x21 2 (further 3) (slot 1) ∷ cell 0x7D 1 (further 1) (slot 1)
     ∷ cell 0x20 3 (slot 0) (slot 2) ∷ [])
 
-abbrev pub trie69 : Trie
-trie69 =
+abbrev pub trie90 : Trie
+trie90 =
     trie 23 0 (cell 0x74 0 (further 17) (slot 1) ∷ cell 0x73 20 (further 16) (slot 1) ∷ cell 0x73 10 (further 18)
     (slot 1) ∷ cell 0x73 17 (further 21) (slot 1) ∷ cell 0x20 22 (slot 0) (slot 1) ∷ cell 0x73 9 (further 2) (slot 1)
     ∷ cell 0x74 16 (further 3) (slot 1) ∷ cell 0x73 12 (further 9) (slot 1) ∷ cell 0x74 2 (further 13) (slot 1)
@@ -2224,123 +2541,123 @@ trie69 =
     ∷ cell 0x72 11 (further 7) (slot 1) ∷ cell 0x74 15 (further 6) (slot 1) ∷ cell 0x73 4 (further 10) (slot 1)
     ∷ cell 0x74 18 (further 12) (slot 1) ∷ cell 0x73 7 (further 15) (slot 1) ∷ [])
 
-abbrev pub trie70 : Trie
-trie70 =
-    trie 2 0 (cell 0x74 21 (further 1) (slot 1) ∷ cell 0x72 1 (slot 0) (slot 1) ∷ [])
-
-abbrev pub trie71 : Trie
-trie71 =
-    trie 4 0 (cell 0x78 0 (further 1) (slot 1) ∷ cell 0x7A 1 (further 2) (slot 1) ∷ cell 0x78 2 (further 3) (slot 1)
-    ∷ cell 0x79 3 (slot 0) (slot 1) ∷ [])
-
-abbrev pub trie72 : Trie
-trie72 =
-    trie 4 32768 (cell 0x7D 0 (further 1) (slot 1) ∷ cell 0x21 1 (further 2) (slot 1) ∷ cell 0x7D 2 (further 3) (slot 1)
-    ∷ cell 0x21 3 (slot 0) (slot 1) ∷ [])
-
-abbrev pub trie73 : Trie
-trie73 =
-    trie 5 0 (cell 0x6E 0 (further 1) (slot 1) ∷ cell 0x6F 1 (further 2) (slot 1) ∷ cell 0x6F 2 (further 3) (slot 1)
-    ∷ cell 0x6F 3 (further 4) (slot 1) ∷ cell 0x20 4 (slot 0) (slot 1) ∷ [])
-
-abbrev pub trie74 : Trie
-trie74 =
-    trie 5 0 (cell 0x79 0 (further 1) (slot 1) ∷ cell 0x78 1 (further 2) (slot 1) ∷ cell 0x79 2 (further 3) (slot 1)
-    ∷ cell 0x79 3 (further 4) (slot 1) ∷ cell 0x78 4 (slot 0) (slot 2) ∷ [])
-
-abbrev pub trie75 : Trie
-trie75 =
-    trie 2 0 (cell 0x7A 0 (further 1) (slot 1) ∷ cell 0x79 1 (slot 0) (slot 1) ∷ [])
-
-abbrev pub trie76 : Trie
-trie76 =
-    trie 5 0 (cell 0x78 0 (further 1) (slot 1) ∷ cell 0x7A 1 (further 2) (slot 1) ∷ cell 0x7A 2 (further 3) (slot 1)
-    ∷ cell 0x78 3 (further 4) (slot 1) ∷ cell 0x78 4 (slot 0) (slot 1) ∷ [])
-
-abbrev pub trie77 : Trie
-trie77 =
-    trie 4 0 (cell 0x21 0 (further 1) (slot 1) ∷ cell 0x21 1 (further 2) (slot 1) ∷ cell 0x7D 2 (further 3) (slot 0)
-    ∷ cell 0x21 3 (slot 0) (slot 1) ∷ [])
-
-abbrev pub trie78 : Trie
-trie78 =
-    trie 5 0 (cell 0x7A 0 (further 4) (slot 1) ∷ cell 0x78 4 (slot 0) (slot 1) ∷ cell 0x78 2 (further 3) (slot 1)
-    ∷ cell 0x78 3 (further 1) (slot 1) ∷ cell 0x7A 1 (further 2) (slot 1) ∷ [])
-
-abbrev pub trie79 : Trie
-trie79 =
-    trie 2 0 (cell 0x21 0 (further 1) (slot 1) ∷ cell 0x21 1 (slot 0) (slot 2) ∷ [])
-
-abbrev pub trie80 : Trie
-trie80 =
-    trie 4 0 (cell 0x6F 0 (further 1) (slot 1) ∷ cell 0x6E 1 (further 2) (slot 1) ∷ cell 0x6F 2 (further 3) (slot 1)
-    ∷ cell 0x69 3 (slot 0) (slot 1) ∷ [])
-
-abbrev pub trie81 : Trie
-trie81 =
-    trie 4 0 (cell 0x7D 0 (further 1) (slot 1) ∷ cell 0x21 1 (further 5) (slot 1) ∷ cell 0x21 2 (further 3) (slot 1)
-    ∷ cell 0x21 3 (slot 0) (slot 1) ∷ [])
-
-abbrev pub trie82 : Trie
-trie82 =
-    trie 3 0 (cell 0x21 0 (further 1) (slot 1) ∷ cell 0x7D 1 (further 2) (slot 1) ∷ cell 0x21 2 (slot 0) (slot 1) ∷ [])
-
-abbrev pub trie83 : Trie
-trie83 =
-    trie 2 0 (cell 0x61 0 (further 1) (slot 1) ∷ cell 0x61 1 (slot 0) (slot 2) ∷ [])
-
-abbrev pub trie84 : Trie
-trie84 =
-    trie 3 0 (cell 0x73 0 (further 1) (slot 1) ∷ cell 0x73 1 (further 2) (slot 1) ∷ cell 0x73 2 (slot 0) (slot 1) ∷ [])
-
-abbrev pub trie85 : Trie
-trie85 =
-    trie 5 0 (cell 0x61 0 (further 1) (slot 1) ∷ cell 0x62 1 (further 2) (slot 1) ∷ cell 0x62 2 (further 3) (slot 1)
-    ∷ cell 0x61 3 (further 4) (slot 1) ∷ cell 0x20 3 (slot 0) (slot 2) ∷ [])
-
-abbrev pub trie86 : Trie
-trie86 =
-    trie 3 0 (cell 0x6F 0 (further 1) (slot 1) ∷ cell 0x20 1 (further 2) (slot 1) ∷ cell 0x69 0 (slot 0) (slot 2) ∷ [])
-
-abbrev pub trie87 : Trie
-trie87 =
-    trie 6 0 (cell 0x7D 0 (further 1) (slot 1) ∷ cell 0x7D 1 (further 2) (slot 1) ∷ cell 0x21 2 (further 3) (slot 1)
-    ∷ cell 0x7D 3 (further 4) (slot 1) ∷ cell 0x20 4 (further 5) (slot 1) ∷ cell 0x21 3 (slot 0) (slot 2) ∷ [])
-
-abbrev pub trie88 : Trie
-trie88 =
-    trie 5 0 (cell 0x72 0 (further 1) (slot 1) ∷ cell 0x61 1 (further 2) (slot 1) ∷ cell 0x74 2 (further 3) (slot 1)
-    ∷ cell 0x65 3 (further 4) (slot 1) ∷ cell 0x32 4 (slot 0) (slot 1) ∷ [])
-
-abbrev pub trie89 : Trie
-trie89 =
-    trie 5 0 (cell 0x72 0 (further 1) (slot 2) ∷ cell 0x61 1 (further 2) (slot 2) ∷ cell 0x74 2 (further 3) (slot 1)
-    ∷ cell 0x65 3 (further 4) (slot 1) ∷ cell 0x32 4 (slot 0) (slot 1) ∷ [])
-
-abbrev pub trie90 : Trie
-trie90 =
-    trie 3 0 (cell 0x6F 0 (further 1) (slot 1) ∷ cell 0x69 0 (further 2) (slot 2) ∷ cell 0x20 1 (slot 0) (slot 3) ∷ [])
-
 abbrev pub trie91 : Trie
 trie91 =
-    trie 3 0 (cell 0x69 0 (further 1) (further 2) ∷ cell 0x20 1 (slot 0) (slot 3) ∷ cell 0x6F 0 (slot 2) (slot 1) ∷ [])
+    trie 2 0 (cell 0x74 21 (further 1) (slot 1) ∷ cell 0x72 1 (slot 0) (slot 1) ∷ [])
 
 abbrev pub trie92 : Trie
 trie92 =
+    trie 4 0 (cell 0x78 0 (further 1) (slot 1) ∷ cell 0x7A 1 (further 2) (slot 1) ∷ cell 0x78 2 (further 3) (slot 1)
+    ∷ cell 0x79 3 (slot 0) (slot 1) ∷ [])
+
+abbrev pub trie93 : Trie
+trie93 =
+    trie 4 32768 (cell 0x7D 0 (further 1) (slot 1) ∷ cell 0x21 1 (further 2) (slot 1) ∷ cell 0x7D 2 (further 3) (slot 1)
+    ∷ cell 0x21 3 (slot 0) (slot 1) ∷ [])
+
+abbrev pub trie94 : Trie
+trie94 =
+    trie 5 0 (cell 0x6E 0 (further 1) (slot 1) ∷ cell 0x6F 1 (further 2) (slot 1) ∷ cell 0x6F 2 (further 3) (slot 1)
+    ∷ cell 0x6F 3 (further 4) (slot 1) ∷ cell 0x20 4 (slot 0) (slot 1) ∷ [])
+
+abbrev pub trie95 : Trie
+trie95 =
+    trie 5 0 (cell 0x79 0 (further 1) (slot 1) ∷ cell 0x78 1 (further 2) (slot 1) ∷ cell 0x79 2 (further 3) (slot 1)
+    ∷ cell 0x79 3 (further 4) (slot 1) ∷ cell 0x78 4 (slot 0) (slot 2) ∷ [])
+
+abbrev pub trie96 : Trie
+trie96 =
+    trie 2 0 (cell 0x7A 0 (further 1) (slot 1) ∷ cell 0x79 1 (slot 0) (slot 1) ∷ [])
+
+abbrev pub trie97 : Trie
+trie97 =
+    trie 5 0 (cell 0x78 0 (further 1) (slot 1) ∷ cell 0x7A 1 (further 2) (slot 1) ∷ cell 0x7A 2 (further 3) (slot 1)
+    ∷ cell 0x78 3 (further 4) (slot 1) ∷ cell 0x78 4 (slot 0) (slot 1) ∷ [])
+
+abbrev pub trie98 : Trie
+trie98 =
+    trie 4 0 (cell 0x21 0 (further 1) (slot 1) ∷ cell 0x21 1 (further 2) (slot 1) ∷ cell 0x7D 2 (further 3) (slot 0)
+    ∷ cell 0x21 3 (slot 0) (slot 1) ∷ [])
+
+abbrev pub trie99 : Trie
+trie99 =
+    trie 5 0 (cell 0x7A 0 (further 4) (slot 1) ∷ cell 0x78 4 (slot 0) (slot 1) ∷ cell 0x78 2 (further 3) (slot 1)
+    ∷ cell 0x78 3 (further 1) (slot 1) ∷ cell 0x7A 1 (further 2) (slot 1) ∷ [])
+
+abbrev pub trie100 : Trie
+trie100 =
+    trie 2 0 (cell 0x21 0 (further 1) (slot 1) ∷ cell 0x21 1 (slot 0) (slot 2) ∷ [])
+
+abbrev pub trie101 : Trie
+trie101 =
+    trie 4 0 (cell 0x6F 0 (further 1) (slot 1) ∷ cell 0x6E 1 (further 2) (slot 1) ∷ cell 0x6F 2 (further 3) (slot 1)
+    ∷ cell 0x69 3 (slot 0) (slot 1) ∷ [])
+
+abbrev pub trie102 : Trie
+trie102 =
+    trie 4 0 (cell 0x7D 0 (further 1) (slot 1) ∷ cell 0x21 1 (further 5) (slot 1) ∷ cell 0x21 2 (further 3) (slot 1)
+    ∷ cell 0x21 3 (slot 0) (slot 1) ∷ [])
+
+abbrev pub trie103 : Trie
+trie103 =
+    trie 3 0 (cell 0x21 0 (further 1) (slot 1) ∷ cell 0x7D 1 (further 2) (slot 1) ∷ cell 0x21 2 (slot 0) (slot 1) ∷ [])
+
+abbrev pub trie104 : Trie
+trie104 =
+    trie 2 0 (cell 0x61 0 (further 1) (slot 1) ∷ cell 0x61 1 (slot 0) (slot 2) ∷ [])
+
+abbrev pub trie105 : Trie
+trie105 =
+    trie 3 0 (cell 0x73 0 (further 1) (slot 1) ∷ cell 0x73 1 (further 2) (slot 1) ∷ cell 0x73 2 (slot 0) (slot 1) ∷ [])
+
+abbrev pub trie106 : Trie
+trie106 =
+    trie 5 0 (cell 0x61 0 (further 1) (slot 1) ∷ cell 0x62 1 (further 2) (slot 1) ∷ cell 0x62 2 (further 3) (slot 1)
+    ∷ cell 0x61 3 (further 4) (slot 1) ∷ cell 0x20 3 (slot 0) (slot 2) ∷ [])
+
+abbrev pub trie107 : Trie
+trie107 =
+    trie 3 0 (cell 0x6F 0 (further 1) (slot 1) ∷ cell 0x20 1 (further 2) (slot 1) ∷ cell 0x69 0 (slot 0) (slot 2) ∷ [])
+
+abbrev pub trie108 : Trie
+trie108 =
+    trie 6 0 (cell 0x7D 0 (further 1) (slot 1) ∷ cell 0x7D 1 (further 2) (slot 1) ∷ cell 0x21 2 (further 3) (slot 1)
+    ∷ cell 0x7D 3 (further 4) (slot 1) ∷ cell 0x20 4 (further 5) (slot 1) ∷ cell 0x21 3 (slot 0) (slot 2) ∷ [])
+
+abbrev pub trie109 : Trie
+trie109 =
+    trie 5 0 (cell 0x72 0 (further 1) (slot 1) ∷ cell 0x61 1 (further 2) (slot 1) ∷ cell 0x74 2 (further 3) (slot 1)
+    ∷ cell 0x65 3 (further 4) (slot 1) ∷ cell 0x32 4 (slot 0) (slot 1) ∷ [])
+
+abbrev pub trie110 : Trie
+trie110 =
+    trie 5 0 (cell 0x72 0 (further 1) (slot 2) ∷ cell 0x61 1 (further 2) (slot 2) ∷ cell 0x74 2 (further 3) (slot 1)
+    ∷ cell 0x65 3 (further 4) (slot 1) ∷ cell 0x32 4 (slot 0) (slot 1) ∷ [])
+
+abbrev pub trie111 : Trie
+trie111 =
+    trie 3 0 (cell 0x6F 0 (further 1) (slot 1) ∷ cell 0x69 0 (further 2) (slot 2) ∷ cell 0x20 1 (slot 0) (slot 3) ∷ [])
+
+abbrev pub trie112 : Trie
+trie112 =
+    trie 3 0 (cell 0x69 0 (further 1) (further 2) ∷ cell 0x20 1 (slot 0) (slot 3) ∷ cell 0x6F 0 (slot 2) (slot 1) ∷ [])
+
+abbrev pub trie113 : Trie
+trie113 =
     trie 10 0 (cell 0x6F 0 (further 1) (further 4) ∷ cell 0x69 0 (further 2) (slot 2) ∷ cell 0x20 1 (further 3) (slot 3)
     ∷ cell 0x61 0 (further 8) (further 5) ∷ cell 0x74 0 (slot 1) (slot 5) ∷ cell 0x68 0 (further 6) (slot 6)
     ∷ cell 0x66 0 (further 9) (further 7) ∷ cell 0x65 1 (slot 7) (slot 8) ∷ cell 0x72 1 (slot 0) (slot 9) ∷ cell 0x62 0
     (slot 4) (slot 10) ∷ [])
 
-abbrev pub trie93 : Trie
-trie93 =
+abbrev pub trie114 : Trie
+trie114 =
     trie 10 0 (cell 0x68 0 (further 1) (further 6) ∷ cell 0x62 0 (further 2) (further 4) ∷ cell 0x61 0 (further 3)
     (slot 4) ∷ cell 0x72 1 (slot 0) (slot 9) ∷ cell 0x66 0 (slot 10) (further 5) ∷ cell 0x65 1 (slot 7) (slot 8)
     ∷ cell 0x6F 0 (further 7) (further 9) ∷ cell 0x69 0 (further 8) (slot 2) ∷ cell 0x20 1 (slot 6) (slot 3)
     ∷ cell 0x74 0 (slot 1) (slot 5) ∷ [])
 
-abbrev pub trie94 : Trie
-trie94 =
+abbrev pub trie115 : Trie
+trie115 =
     trie 256 0 (cell 0x5B 0 (further 1) (further 139) ∷ cell 0x38 0 (further 2) (further 70) ∷ cell 0x28 0 (further 3)
     (further 25) ∷ cell 0x21 1 (further 4) (slot 4) ∷ cell 0x7D 2 (further 5) (slot 4) ∷ cell 0x20 3 (further 6)
     (slot 4) ∷ cell 0x20 4 (further 7) (slot 4) ∷ cell 0x21 5 (further 8) (slot 4) ∷ cell 0x61 6 (further 9) (slot 4)
@@ -2430,7 +2747,15 @@ trie94 =
 
 abbrev pub legals : List Case
 legals =
-    legal (text "6(ix" ∷ byte 0xFF ∷ text "b" ∷ []) false
+    legal (text "aaaaaaaaaaaaaaaaaaaaaaaa" ∷ []) true
+    ∷ legal [] false
+    ∷ legal (text "aaaaaaaaaaaaaaaaaaaaaaaaa" ∷ []) false
+    ∷ legal (text "}" ∷ []) true
+    ∷ legal (byte 0x7E ∷ []) false
+    ∷ legal (text "!" ∷ []) true
+    ∷ legal (byte 0x20 ∷ []) false
+    ∷ legal (text "a" ∷ byte 0x20 ∷ text "b" ∷ []) false
+    ∷ legal (text "6(ix" ∷ byte 0xFF ∷ text "b" ∷ []) false
     ∷ legal (text "-x-" ∷ byte 0x80 ∷ text "`BLBCKs" ∷ []) false
     ∷ legal [] false
     ∷ legal (text "aaaa" ∷ []) true
@@ -2565,170 +2890,251 @@ checkings =
     ∷ checks file41 (142, [])
     ∷ checks file42 (142, [])
     ∷ checks file43 (142, [])
-    ∷ checks file44 (142, []) ∷ []
+    ∷ checks file44 (142, [])
+    ∷ checks file45 (141, [])
+    ∷ checks file46 (141, [])
+    ∷ checks file47 (142, [])
+    ∷ checks file48 (141, [])
+    ∷ checks file49 (141, [])
+    ∷ checks file50 (142, [])
+    ∷ checks file51 (142, [])
+    ∷ checks file52 (142, [])
+    ∷ checks file53 (142, [])
+    ∷ checks file54 (142, [])
+    ∷ checks file55 (142, [])
+    ∷ checks file56 (141, [])
+    ∷ checks file57 (142, [])
+    ∷ checks file58 (142, [])
+    ∷ checks file59 (142, []) ∷ []
 
 abbrev pub creatings : List Case
 creatings =
-    creates file45 1 2 2 (150, []) file46 trie12
-    ∷ creates file47 1 3 3 (150, []) file48 trie12
-    ∷ creates file49 1 3 3 (8, []) file49 trie12
-    ∷ creates file45 2 2 2 (8, []) file45 trie12
-    ∷ creates file50 1 1 1 (8, []) file50 trie12
-    ∷ creates file51 1 2 0 (8, []) file51 trie12 ∷ []
+    creates file60 1 2 2 (150, []) file61 trie12
+    ∷ creates file62 1 3 3 (150, []) file63 trie12
+    ∷ creates file64 1 3 3 (8, []) file64 trie12
+    ∷ creates file60 2 2 2 (8, []) file60 trie12
+    ∷ creates file65 1 1 1 (8, []) file65 trie12
+    ∷ creates file66 1 2 0 (8, []) file66 trie12 ∷ []
 
 abbrev pub recoverings : List Case
 recoverings =
-    recovers file52 0 (112, 0 ∷ []) file52
-    ∷ recovers file53 3 (8, []) file53
-    ∷ recovers file54 2 (131, []) file54
-    ∷ recovers file55 2 (131, []) file55
-    ∷ recovers file56 1 (130, 1 ∷ []) file57
-    ∷ recovers file58 2 (130, 1 ∷ []) file59
-    ∷ recovers file60 1 (130, 1 ∷ []) file61
-    ∷ recovers file62 0 (2, []) file62
-    ∷ recovers file63 2 (2, []) file63 ∷ []
+    recovers file67 0 (112, 0 ∷ []) file67
+    ∷ recovers file68 3 (8, []) file68
+    ∷ recovers file69 2 (131, []) file69
+    ∷ recovers file70 2 (131, []) file70
+    ∷ recovers file71 1 (130, 1 ∷ []) file72
+    ∷ recovers file73 2 (130, 1 ∷ []) file74
+    ∷ recovers file75 1 (130, 1 ∷ []) file76
+    ∷ recovers file77 0 (2, []) file77
+    ∷ recovers file78 2 (2, []) file78 ∷ []
 
 abbrev pub rebuildings : List Case
 rebuildings =
-    rebuilds file64 (3, []) trie12
-    ∷ rebuilds file65 (151, []) trie14
-    ∷ rebuilds file66 (151, []) trie15
-    ∷ rebuilds file67 (2, []) trie12
-    ∷ rebuilds file68 (151, []) trie16
-    ∷ rebuilds file69 (151, []) trie17
-    ∷ rebuilds file70 (151, []) trie18
-    ∷ rebuilds file71 (151, []) trie19
-    ∷ rebuilds file72 (151, []) trie20 ∷ []
+    rebuilds file79 (3, []) trie12
+    ∷ rebuilds file80 (151, []) trie14
+    ∷ rebuilds file81 (151, []) trie15
+    ∷ rebuilds file82 (2, []) trie12
+    ∷ rebuilds file83 (151, []) trie16
+    ∷ rebuilds file84 (151, []) trie17
+    ∷ rebuilds file85 (151, []) trie18
+    ∷ rebuilds file86 (151, []) trie19
+    ∷ rebuilds file87 (151, []) trie20 ∷ []
 
 abbrev pub lookings : List Case
 lookings =
-    looks-up file73 trie21 (text "z" ∷ []) (100, 18446744073709551615 ∷ 0 ∷ [])
-    ∷ looks-up file74 trie22 (text "!.r%v" ∷ byte 0x80 ∷ text "'jgmqd3=9m*" ∷ []) (1, [])
-    ∷ looks-up file75 trie23 (text "!" ∷ []) (100, 172 ∷ 0 ∷ [])
-    ∷ looks-up file76 trie24 (text "bbb" ∷ []) (100, 12850606331452738838 ∷ 0 ∷ [])
-    ∷ looks-up file77 trie25 (text "!a!" ∷ []) (101, [])
-    ∷ looks-up file78 trie26 (text "baa" ∷ []) (4, [])
-    ∷ looks-up file79 trie27 (text "baabaa" ∷ []) (100, 0 ∷ 0 ∷ [])
-    ∷ looks-up file80 trie28 (text "zyyz" ∷ []) (101, [])
-    ∷ looks-up file81 trie12 (text "nnoinonooiniooinnnooonon" ∷ []) (4, [])
-    ∷ looks-up file82 trie29 (text "zzxzx" ∷ []) (101, [])
-    ∷ looks-up file83 trie12 (text "ba" ∷ []) (4, [])
-    ∷ looks-up file84 trie30 (text "a" ∷ []) (4, [])
-    ∷ looks-up file85 trie31 (text "yy" ∷ []) (4, [])
-    ∷ looks-up file86 trie32 (text "yzz" ∷ []) (100, 11710943900971994272 ∷ 0 ∷ [])
-    ∷ looks-up file87 trie12 (text "nnnio" ∷ []) (100, 496 ∷ 0 ∷ [])
-    ∷ looks-up file88 trie33 (text "!}a}!}}}}!a}a!" ∷ []) (100, 11007249384280552713 ∷ 0 ∷ [])
-    ∷ looks-up file89 trie12 (text "bbbba" ∷ []) (4, [])
-    ∷ looks-up file90 trie12 (text "xyx" ∷ []) (4, [])
-    ∷ looks-up file91 trie34 (text "oonnni" ∷ []) (2, [])
-    ∷ looks-up file92 trie12 (text "ooooi" ∷ []) (2, [])
-    ∷ looks-up file93 trie35 (text "bbb" ∷ []) (2, []) ∷ []
+    looks-up file88 trie21 (text "z" ∷ []) (100, 18446744073709551615 ∷ 0 ∷ [])
+    ∷ looks-up file89 trie22 (text "!.r%v" ∷ byte 0x80 ∷ text "'jgmqd3=9m*" ∷ []) (1, [])
+    ∷ looks-up file90 trie23 (text "!" ∷ []) (100, 172 ∷ 0 ∷ [])
+    ∷ looks-up file91 trie24 (text "bbb" ∷ []) (100, 12850606331452738838 ∷ 0 ∷ [])
+    ∷ looks-up file92 trie25 (text "!a!" ∷ []) (101, [])
+    ∷ looks-up file93 trie26 (text "baa" ∷ []) (4, [])
+    ∷ looks-up file94 trie27 (text "baabaa" ∷ []) (100, 0 ∷ 0 ∷ [])
+    ∷ looks-up file95 trie28 (text "zyyz" ∷ []) (101, [])
+    ∷ looks-up file96 trie12 (text "nnoinonooiniooinnnooonon" ∷ []) (4, [])
+    ∷ looks-up file97 trie29 (text "zzxzx" ∷ []) (101, [])
+    ∷ looks-up file98 trie12 (text "ba" ∷ []) (4, [])
+    ∷ looks-up file99 trie30 (text "a" ∷ []) (4, [])
+    ∷ looks-up file100 trie31 (text "yy" ∷ []) (4, [])
+    ∷ looks-up file101 trie32 (text "yzz" ∷ []) (100, 11710943900971994272 ∷ 0 ∷ [])
+    ∷ looks-up file102 trie12 (text "nnnio" ∷ []) (100, 496 ∷ 0 ∷ [])
+    ∷ looks-up file103 trie33 (text "!}a}!}}}}!a}a!" ∷ []) (100, 11007249384280552713 ∷ 0 ∷ [])
+    ∷ looks-up file104 trie12 (text "bbbba" ∷ []) (4, [])
+    ∷ looks-up file105 trie12 (text "xyx" ∷ []) (4, [])
+    ∷ looks-up file106 trie34 (text "oonnni" ∷ []) (2, [])
+    ∷ looks-up file107 trie12 (text "ooooi" ∷ []) (2, [])
+    ∷ looks-up file108 trie35 (text "bbb" ∷ []) (2, []) ∷ []
+
+abbrev pub wrongs : List Case
+wrongs =
+    looks-up file109 trie36 (text "rate1" ∷ []) (4, [])
+    ∷ looks-up file109 trie36 (text "rate3" ∷ []) (100, 1 ∷ 0 ∷ [])
+    ∷ agrees file109 trie36 false
+    ∷ looks-up file109 trie37 (text "rate1" ∷ []) (4, [])
+    ∷ looks-up file109 trie37 (text "rate3" ∷ []) (100, 1 ∷ 0 ∷ [])
+    ∷ agrees file109 trie37 false
+    ∷ looks-up file109 trie38 (text "rate1" ∷ []) (4, [])
+    ∷ looks-up file109 trie38 (text "rate3" ∷ []) (100, 1 ∷ 0 ∷ [])
+    ∷ agrees file109 trie38 false
+    ∷ looks-up file109 trie39 (text "rate1" ∷ []) (100, 1 ∷ 0 ∷ [])
+    ∷ looks-up file109 trie39 (text "rate3" ∷ []) (100, 1 ∷ 0 ∷ [])
+    ∷ agrees file109 trie39 false
+    ∷ looks-up file109 trie40 (text "rate1" ∷ []) (4, [])
+    ∷ looks-up file109 trie40 (text "rate3" ∷ []) (100, 1 ∷ 0 ∷ [])
+    ∷ agrees file109 trie40 false
+    ∷ looks-up file109 trie41 (text "rate1" ∷ []) (4, [])
+    ∷ looks-up file109 trie41 (text "rate3" ∷ []) (100, 1 ∷ 0 ∷ [])
+    ∷ agrees file109 trie41 false
+    ∷ looks-up file109 trie42 (text "rate1" ∷ []) (100, 1 ∷ 0 ∷ [])
+    ∷ looks-up file109 trie42 (text "rate3" ∷ []) (100, 1 ∷ 0 ∷ [])
+    ∷ agrees file109 trie42 false
+    ∷ looks-up file109 trie43 (text "rate1" ∷ []) (4, [])
+    ∷ looks-up file109 trie43 (text "rate3" ∷ []) (4, [])
+    ∷ agrees file109 trie43 false
+    ∷ looks-up file109 trie44 (text "rate1" ∷ []) (4, [])
+    ∷ looks-up file109 trie44 (text "rate3" ∷ []) (4, [])
+    ∷ agrees file109 trie44 false
+    ∷ looks-up file109 trie45 (text "rate1" ∷ []) (4, [])
+    ∷ looks-up file109 trie45 (text "rate3" ∷ []) (100, 1 ∷ 0 ∷ [])
+    ∷ agrees file109 trie45 false
+    ∷ looks-up file109 trie46 (text "rate1" ∷ []) (100, 1 ∷ 0 ∷ [])
+    ∷ looks-up file109 trie46 (text "rate3" ∷ []) (100, 1 ∷ 0 ∷ [])
+    ∷ agrees file109 trie46 false
+    ∷ looks-up file109 trie47 (text "rate1" ∷ []) (100, 1 ∷ 0 ∷ [])
+    ∷ looks-up file109 trie47 (text "rate3" ∷ []) (100, 1 ∷ 0 ∷ [])
+    ∷ agrees file109 trie47 false
+    ∷ looks-up file109 trie48 (text "rate1" ∷ []) (100, 1 ∷ 0 ∷ [])
+    ∷ looks-up file109 trie48 (text "rate3" ∷ []) (100, 1 ∷ 0 ∷ [])
+    ∷ agrees file109 trie48 false
+    ∷ looks-up file109 trie49 (text "rate1" ∷ []) (100, 1 ∷ 0 ∷ [])
+    ∷ looks-up file109 trie49 (text "rate3" ∷ []) (100, 1 ∷ 0 ∷ [])
+    ∷ agrees file109 trie49 false
+    ∷ looks-up file109 trie50 (text "rate1" ∷ []) (4, [])
+    ∷ looks-up file109 trie50 (text "rate3" ∷ []) (4, [])
+    ∷ agrees file109 trie50 false
+    ∷ looks-up file109 trie51 (text "rate1" ∷ []) (100, 1 ∷ 0 ∷ [])
+    ∷ looks-up file109 trie51 (text "rate3" ∷ []) (100, 1 ∷ 0 ∷ [])
+    ∷ agrees file109 trie51 false
+    ∷ looks-up file109 trie52 (text "rate1" ∷ []) (4, [])
+    ∷ looks-up file109 trie52 (text "rate3" ∷ []) (4, [])
+    ∷ agrees file109 trie52 false
+    ∷ looks-up file109 trie53 (text "rate1" ∷ []) (4, [])
+    ∷ looks-up file109 trie53 (text "rate3" ∷ []) (4, [])
+    ∷ agrees file109 trie53 false
+    ∷ looks-up file109 trie54 (text "rate1" ∷ []) (100, 1 ∷ 0 ∷ [])
+    ∷ looks-up file109 trie54 (text "rate3" ∷ []) (4, [])
+    ∷ agrees file109 trie54 false
+    ∷ looks-up file109 trie55 (text "rate1" ∷ []) (100, 1 ∷ 0 ∷ [])
+    ∷ looks-up file109 trie55 (text "rate3" ∷ []) (4, [])
+    ∷ agrees file109 trie55 false
+    ∷ looks-up file109 trie56 (text "rate1" ∷ []) (4, [])
+    ∷ looks-up file109 trie56 (text "rate3" ∷ []) (4, [])
+    ∷ agrees file109 trie56 false ∷ []
 
 abbrev pub puttings : List Case
 puttings =
-    puts file94 trie36 (text "zzy" ∷ []) 720 2 (4, []) file94 trie36
-    ∷ puts file95 trie37 (text "}}a}a!}!!!}aaaa}!!}a}!!a" ∷ []) 14857651898243523872 2 (4, []) file95 trie37
-    ∷ puts file96 trie38 (text "a!!" ∷ []) 875 0 (112, 0 ∷ []) file96 trie38
-    ∷ puts file97 trie39 (text "xxyyy" ∷ []) 673 2 (2, []) file97 trie39
-    ∷ puts file98 trie40 (text "bba" ∷ []) 20 3 (8, []) file98 trie40
-    ∷ puts file99 trie41 (text "zxy" ∷ []) 299 0 (4, []) file99 trie41
-    ∷ puts file100 trie42 (text "o" ∷ []) 8758465151403428026 2 (111, 11788320792815648892 ∷ 0 ∷ []) file101 trie42
-    ∷ puts file102 trie12 [] 379 2 (1, []) file102 trie12
-    ∷ puts file103 trie43 (text "yyyx" ∷ []) 202 2 (3, []) file103 trie43
-    ∷ puts file104 trie44 (text "st" ∷ []) 942 1 (111, 8467910165203069954 ∷ 0 ∷ []) file105 trie44
-    ∷ puts file106 trie45 (text "!}}" ∷ []) 186 0 (112, 0 ∷ []) file106 trie45
-    ∷ puts file107 trie12 (text "onooinioooiniioiinnni" ∷ []) 255 2 (110, []) file108 trie12
-    ∷ puts file109 trie46 (text "oiii" ∷ []) 196 2 (5, []) file109 trie46
-    ∷ puts file110 trie47 (text "srttrr" ∷ []) 626 2 (110, []) file111 trie48
-    ∷ puts file112 trie49 (text "}}" ∷ []) 692 1 (110, []) file113 trie49
-    ∷ puts file114 trie12 (text "abbaaaababaaaaaaababaa" ∷ []) 665 2 (110, []) file115 trie50
-    ∷ puts file116 trie51 (text "}}" ∷ []) 845 2 (110, []) file117 trie51
-    ∷ puts file118 trie52 (text "sr" ∷ []) 643 2 (5, []) file118 trie52
-    ∷ puts file119 trie53 (text "bbaab" ∷ []) 562 2 (110, []) file120 trie54
-    ∷ puts file121 trie12 (text "baabb" ∷ []) 177 1 (112, 1 ∷ []) file122 trie12
-    ∷ puts file123 trie55 (text "!}" ∷ []) 612 2 (110, []) file124 trie56
-    ∷ puts file125 trie57 (text "z" ∷ []) 13775280876643653427 1 (112, 1 ∷ []) file126 trie57
-    ∷ puts file127 trie58 (text "aaa" ∷ []) 968 2 (110, []) file128 trie24
-    ∷ puts file129 trie59 (text "non" ∷ []) 18446744073709551615 2 (110, []) file130 trie60
-    ∷ puts file131 trie23 (text "}}}" ∷ []) 473 2 (110, []) file132 trie61
-    ∷ puts file133 trie62 (text "sttr" ∷ []) 296 2 (110, []) file134 trie63
-    ∷ puts file135 trie64 (text "aaa" ∷ []) 6672840292176293087 2 (110, []) file136 trie65
-    ∷ puts file137 trie66 (text "aaabb" ∷ []) 571 2 (110, []) file138 trie67 ∷ []
+    puts file110 trie57 (text "zzy" ∷ []) 720 2 (4, []) file110 trie57
+    ∷ puts file111 trie58 (text "}}a}a!}!!!}aaaa}!!}a}!!a" ∷ []) 14857651898243523872 2 (4, []) file111 trie58
+    ∷ puts file112 trie59 (text "a!!" ∷ []) 875 0 (112, 0 ∷ []) file112 trie59
+    ∷ puts file113 trie60 (text "xxyyy" ∷ []) 673 2 (2, []) file113 trie60
+    ∷ puts file114 trie61 (text "bba" ∷ []) 20 3 (8, []) file114 trie61
+    ∷ puts file115 trie62 (text "zxy" ∷ []) 299 0 (4, []) file115 trie62
+    ∷ puts file116 trie63 (text "o" ∷ []) 8758465151403428026 2 (111, 11788320792815648892 ∷ 0 ∷ []) file117 trie63
+    ∷ puts file118 trie12 [] 379 2 (1, []) file118 trie12
+    ∷ puts file119 trie64 (text "yyyx" ∷ []) 202 2 (3, []) file119 trie64
+    ∷ puts file120 trie65 (text "st" ∷ []) 942 1 (111, 8467910165203069954 ∷ 0 ∷ []) file121 trie65
+    ∷ puts file122 trie66 (text "!}}" ∷ []) 186 0 (112, 0 ∷ []) file122 trie66
+    ∷ puts file123 trie12 (text "onooinioooiniioiinnni" ∷ []) 255 2 (110, []) file124 trie12
+    ∷ puts file125 trie67 (text "oiii" ∷ []) 196 2 (5, []) file125 trie67
+    ∷ puts file126 trie68 (text "srttrr" ∷ []) 626 2 (110, []) file127 trie69
+    ∷ puts file128 trie70 (text "}}" ∷ []) 692 1 (110, []) file129 trie70
+    ∷ puts file130 trie12 (text "abbaaaababaaaaaaababaa" ∷ []) 665 2 (110, []) file131 trie71
+    ∷ puts file132 trie72 (text "}}" ∷ []) 845 2 (110, []) file133 trie72
+    ∷ puts file134 trie73 (text "sr" ∷ []) 643 2 (5, []) file134 trie73
+    ∷ puts file135 trie74 (text "bbaab" ∷ []) 562 2 (110, []) file136 trie75
+    ∷ puts file137 trie12 (text "baabb" ∷ []) 177 1 (112, 1 ∷ []) file138 trie12
+    ∷ puts file139 trie76 (text "!}" ∷ []) 612 2 (110, []) file140 trie77
+    ∷ puts file141 trie78 (text "z" ∷ []) 13775280876643653427 1 (112, 1 ∷ []) file142 trie78
+    ∷ puts file143 trie79 (text "aaa" ∷ []) 968 2 (110, []) file144 trie24
+    ∷ puts file145 trie80 (text "non" ∷ []) 18446744073709551615 2 (110, []) file146 trie81
+    ∷ puts file147 trie23 (text "}}}" ∷ []) 473 2 (110, []) file148 trie82
+    ∷ puts file149 trie83 (text "sttr" ∷ []) 296 2 (110, []) file150 trie84
+    ∷ puts file151 trie85 (text "aaa" ∷ []) 6672840292176293087 2 (110, []) file152 trie86
+    ∷ puts file153 trie87 (text "aaabb" ∷ []) 571 2 (110, []) file154 trie88 ∷ []
 
 abbrev pub removings : List Case
 removings =
-    removes file139 trie68 (text "aaaaaaaaaaaaaaaaaaaaaaaaa" ∷ []) 3 (8, []) file139
-    ∷ removes file140 trie69 (text "ttttsstsrssrststtstrssr" ∷ []) 2 (120, []) file141
-    ∷ removes file142 trie70 (text "tst" ∷ []) 1 (4, []) file142
-    ∷ removes file143 trie71 (text "xzxyz" ∷ []) 2 (3, []) file143
-    ∷ removes file144 trie57 (text "y" ∷ []) 2 (101, []) file144
-    ∷ removes file145 trie72 (text "aaaaaaaaaaaaaaaaaaaaaaaaa" ∷ []) 2 (1, []) file145
-    ∷ removes file146 trie73 (text "noo" ∷ []) 2 (120, []) file147
-    ∷ removes file135 trie64 (text "aaa" ∷ []) 0 (101, []) file135
-    ∷ removes file148 trie74 (text "yxyz" ∷ []) 0 (112, 0 ∷ []) file148
-    ∷ removes file149 trie75 (text "zyy" ∷ []) 2 (120, []) file150
-    ∷ removes file151 trie76 (text "xzzx" ∷ []) 0 (2, []) file151 ∷ []
+    removes file155 trie89 (text "aaaaaaaaaaaaaaaaaaaaaaaaa" ∷ []) 3 (8, []) file155
+    ∷ removes file156 trie90 (text "ttttsstsrssrststtstrssr" ∷ []) 2 (120, []) file157
+    ∷ removes file158 trie91 (text "tst" ∷ []) 1 (4, []) file158
+    ∷ removes file159 trie92 (text "xzxyz" ∷ []) 2 (3, []) file159
+    ∷ removes file160 trie78 (text "y" ∷ []) 2 (101, []) file160
+    ∷ removes file161 trie93 (text "aaaaaaaaaaaaaaaaaaaaaaaaa" ∷ []) 2 (1, []) file161
+    ∷ removes file162 trie94 (text "noo" ∷ []) 2 (120, []) file163
+    ∷ removes file151 trie85 (text "aaa" ∷ []) 0 (101, []) file151
+    ∷ removes file164 trie95 (text "yxyz" ∷ []) 0 (112, 0 ∷ []) file164
+    ∷ removes file165 trie96 (text "zyy" ∷ []) 2 (120, []) file166
+    ∷ removes file167 trie97 (text "xzzx" ∷ []) 0 (2, []) file167 ∷ []
 
 abbrev pub listings : List Case
 listings =
-    lists file152 trie77 (text "!!}" ∷ []) (text "}}" ∷ []) (blanks 33 ∷ []) (4, []) (blanks 33 ∷ [])
-    ∷ lists file153 trie12 (text "!}a!" ∷ []) (text "!}a!" ∷ []) (blanks 96 ∷ []) (2, []) (blanks 96 ∷ [])
-    ∷ lists file154 trie78 (text "zzxxyzy" ∷ []) (text "zzxxx" ∷ []) (blanks 34 ∷ []) (152, 0 ∷ []) (blanks 34 ∷ [])
-    ∷ lists file155 trie79 (text "!!}!}" ∷ []) (text "!!}!" ∷ []) (blanks 192 ∷ []) (3, []) (blanks 192 ∷ [])
-    ∷ lists file156 trie80 (text "onoon" ∷ []) (text "onoooni" ∷ []) (blanks 162 ∷ []) (152, 2 ∷ []) (text "onoon"
+    lists file168 trie98 (text "!!}" ∷ []) (text "}}" ∷ []) (blanks 33 ∷ []) (4, []) (blanks 33 ∷ [])
+    ∷ lists file169 trie12 (text "!}a!" ∷ []) (text "!}a!" ∷ []) (blanks 96 ∷ []) (2, []) (blanks 96 ∷ [])
+    ∷ lists file170 trie99 (text "zzxxyzy" ∷ []) (text "zzxxx" ∷ []) (blanks 34 ∷ []) (152, 0 ∷ []) (blanks 34 ∷ [])
+    ∷ lists file171 trie100 (text "!!}!}" ∷ []) (text "!!}!" ∷ []) (blanks 192 ∷ []) (3, []) (blanks 192 ∷ [])
+    ∷ lists file172 trie101 (text "onoon" ∷ []) (text "onoooni" ∷ []) (blanks 162 ∷ []) (152, 2 ∷ []) (text "onoon"
     ∷ blanks 19 ∷ byte 0xD1 ∷ byte 0x93 ∷ text "U" ∷ byte 0x07 ∷ text "B" ∷ byte 0x19 ∷ text "z" ∷ byte 0xDA
     ∷ text "onoooni" ∷ blanks 17 ∷ text "j" ∷ byte 0x01 ∷ zeros 6 ∷ blanks 98 ∷ [])
-    ∷ lists file157 trie81 (text "}!!}!}" ∷ []) (text "aaaaaaaaaaaaaaaaaaaaaaaaa" ∷ []) (blanks 128 ∷ []) (1, [])
+    ∷ lists file173 trie102 (text "}!!}!}" ∷ []) (text "aaaaaaaaaaaaaaaaaaaaaaaaa" ∷ []) (blanks 128 ∷ []) (1, [])
     (blanks 128 ∷ [])
-    ∷ lists file158 trie82 (text "!}!}!" ∷ []) (text "!}!}!!}!}}}" ∷ []) (blanks 192 ∷ []) (152, 2 ∷ []) (text "!}!}!"
+    ∷ lists file174 trie103 (text "!}!}!" ∷ []) (text "!}!}!!}!}}}" ∷ []) (blanks 192 ∷ []) (152, 2 ∷ []) (text "!}!}!"
     ∷ blanks 19 ∷ byte 0xAD ∷ text "CC" ∷ byte 0x0A ∷ byte 0x19 ∷ text "g" ∷ byte 0xD5 ∷ byte 0xE1 ∷ text "!}!}!!}!}}}"
     ∷ blanks 13 ∷ byte 0x93 ∷ byte 0x02 ∷ zeros 6 ∷ blanks 128 ∷ [])
-    ∷ lists file159 trie83 (text "aaa" ∷ []) (text "bab" ∷ []) (blanks 98 ∷ []) (7, []) (blanks 98 ∷ [])
-    ∷ lists file160 trie84 (text "ss" ∷ []) (text "ssst" ∷ []) (blanks 194 ∷ []) (152, 2 ∷ []) (text "ssss" ∷ blanks 20
+    ∷ lists file175 trie104 (text "aaa" ∷ []) (text "bab" ∷ []) (blanks 98 ∷ []) (7, []) (blanks 98 ∷ [])
+    ∷ lists file176 trie105 (text "ss" ∷ []) (text "ssst" ∷ []) (blanks 194 ∷ []) (152, 2 ∷ []) (text "ssss" ∷ blanks 20
     ∷ byte 0xC9 ∷ byte 0x02 ∷ zeros 6 ∷ text "ssst" ∷ blanks 20 ∷ byte 0xCB ∷ byte 0xBA ∷ byte 0xE1 ∷ byte 0xC6
     ∷ text "1" ∷ byte 0xB7 ∷ byte 0xAA ∷ byte 0x04 ∷ blanks 130 ∷ [])
-    ∷ lists file161 trie85 (text "ab" ∷ []) (text "abbb" ∷ []) (blanks 161 ∷ []) (152, 4 ∷ []) (text "ab" ∷ blanks 22
+    ∷ lists file177 trie106 (text "ab" ∷ []) (text "abbb" ∷ []) (blanks 161 ∷ []) (152, 4 ∷ []) (text "ab" ∷ blanks 22
     ∷ zeros 8 ∷ text "abb" ∷ blanks 21 ∷ byte 0x97 ∷ byte 0x8C ∷ text "p" ∷ byte 0x81 ∷ text "v>" ∷ byte 0x19
     ∷ text "4abba" ∷ blanks 20 ∷ text "E" ∷ byte 0x01 ∷ zeros 6 ∷ text "abbb" ∷ blanks 20 ∷ byte 0x14 ∷ byte 0x02
     ∷ zeros 6 ∷ blanks 33 ∷ [])
-    ∷ lists file162 trie86 (text "o" ∷ []) (text "o" ∷ []) (blanks 34 ∷ []) (152, 1 ∷ []) (text "o" ∷ blanks 23
+    ∷ lists file178 trie107 (text "o" ∷ []) (text "o" ∷ []) (blanks 34 ∷ []) (152, 1 ∷ []) (text "o" ∷ blanks 23
     ∷ text "V" ∷ byte 0x01 ∷ zeros 6 ∷ blanks 2 ∷ [])
-    ∷ lists file163 trie87 (text "}}!" ∷ []) (text "}}!}" ∷ []) (blanks 64 ∷ []) (7, []) (blanks 64 ∷ []) ∷ []
+    ∷ lists file179 trie108 (text "}}!" ∷ []) (text "}}!}" ∷ []) (blanks 64 ∷ []) (7, []) (blanks 64 ∷ []) ∷ []
 
 abbrev pub worked : List Case
 worked =
-    puts file164 trie12 (text "rate1" ∷ []) 1 2 (110, []) file165 trie12
-    ∷ puts file165 trie12 (text "rate2" ∷ []) 2 2 (110, []) file166 trie12
-    ∷ puts file166 trie12 (text "rate3" ∷ []) 3 2 (110, []) file167 trie88
-    ∷ puts file167 trie88 (text "razz" ∷ []) 4 2 (110, []) file168 trie88
-    ∷ looks-up file168 trie88 (text "rb" ∷ []) (101, [])
-    ∷ puts file168 trie88 (text "rz" ∷ []) 5 2 (110, []) file169 trie89
-    ∷ puts file168 trie88 (text "rz" ∷ []) 5 1 (112, 1 ∷ []) file170 trie88
-    ∷ recovers file170 1 (130, 2 ∷ []) file168
-    ∷ rebuilds file168 (151, []) trie88
-    ∷ looks-up file168 trie88 (text "rz" ∷ []) (101, []) ∷ []
+    puts file180 trie12 (text "rate1" ∷ []) 1 2 (110, []) file181 trie12
+    ∷ puts file181 trie12 (text "rate2" ∷ []) 2 2 (110, []) file182 trie12
+    ∷ puts file182 trie12 (text "rate3" ∷ []) 3 2 (110, []) file183 trie109
+    ∷ puts file183 trie109 (text "razz" ∷ []) 4 2 (110, []) file184 trie109
+    ∷ looks-up file184 trie109 (text "rb" ∷ []) (101, [])
+    ∷ puts file184 trie109 (text "rz" ∷ []) 5 2 (110, []) file185 trie110
+    ∷ puts file184 trie109 (text "rz" ∷ []) 5 1 (112, 1 ∷ []) file186 trie109
+    ∷ recovers file186 1 (130, 2 ∷ []) file184
+    ∷ rebuilds file184 (151, []) trie109
+    ∷ looks-up file184 trie109 (text "rz" ∷ []) (101, []) ∷ []
 
 abbrev pub words : List Case
 words =
-    grows file171 4 8 ((text "the" ∷ []) ∷ (text "of" ∷ []) ∷ (text "and" ∷ []) ∷ (text "to" ∷ []) ∷ (text "a" ∷ []) ∷
-    (text "in" ∷ []) ∷ (text "that" ∷ []) ∷ (text "is" ∷ []) ∷ (text "i" ∷ []) ∷ []) file172 trie90
-    ∷ agrees file172 trie90 true
-    ∷ arranged file172 (0 ∷ 3 ∷ 2 ∷ 1 ∷ []) ((text "i" ∷ byte 0x20 ∷ []) ∷ (text "i" ∷ []) ∷ (text "o" ∷ []) ∷ [])
-    ∷ rebuilds file172 (151, []) trie91
-    ∷ grows file173 4 16 ((text "the" ∷ []) ∷ (text "of" ∷ []) ∷ (text "and" ∷ []) ∷ (text "to" ∷ []) ∷ (text "a" ∷ [])
+    grows file187 4 8 ((text "the" ∷ []) ∷ (text "of" ∷ []) ∷ (text "and" ∷ []) ∷ (text "to" ∷ []) ∷ (text "a" ∷ []) ∷
+    (text "in" ∷ []) ∷ (text "that" ∷ []) ∷ (text "is" ∷ []) ∷ (text "i" ∷ []) ∷ []) file188 trie111
+    ∷ agrees file188 trie111 true
+    ∷ arranged file188 (0 ∷ 3 ∷ 2 ∷ 1 ∷ []) ((text "i" ∷ byte 0x20 ∷ []) ∷ (text "i" ∷ []) ∷ (text "o" ∷ []) ∷ [])
+    ∷ rebuilds file188 (151, []) trie112
+    ∷ grows file189 4 16 ((text "the" ∷ []) ∷ (text "of" ∷ []) ∷ (text "and" ∷ []) ∷ (text "to" ∷ []) ∷ (text "a" ∷ [])
     ∷ (text "in" ∷ []) ∷ (text "that" ∷ []) ∷ (text "is" ∷ []) ∷ (text "i" ∷ []) ∷ (text "it" ∷ []) ∷ (text "for" ∷ [])
     ∷ (text "as" ∷ []) ∷ (text "with" ∷ []) ∷ (text "was" ∷ []) ∷ (text "his" ∷ []) ∷ (text "he" ∷ []) ∷ (text "be"
     ∷ []) ∷ (text "not" ∷ []) ∷ (text "by" ∷ []) ∷ (text "but" ∷ []) ∷ (text "have" ∷ []) ∷ (text "you" ∷ []) ∷
     (text "which" ∷ []) ∷ (text "are" ∷ []) ∷ (text "on" ∷ []) ∷ (text "or" ∷ []) ∷ (text "her" ∷ []) ∷ (text "had"
-    ∷ []) ∷ (text "at" ∷ []) ∷ (text "from" ∷ []) ∷ (text "this" ∷ []) ∷ []) file174 trie92
-    ∷ agrees file174 trie92 true
-    ∷ arranged file174 (0 ∷ 9 ∷ 4 ∷ 10 ∷ 7 ∷ 8 ∷ 6 ∷ 3 ∷ 2 ∷ 1 ∷ 5 ∷ []) ((text "ar" ∷ []) ∷ (text "a" ∷ []) ∷ (text "b"
+    ∷ []) ∷ (text "at" ∷ []) ∷ (text "from" ∷ []) ∷ (text "this" ∷ []) ∷ []) file190 trie113
+    ∷ agrees file190 trie113 true
+    ∷ arranged file190 (0 ∷ 9 ∷ 4 ∷ 10 ∷ 7 ∷ 8 ∷ 6 ∷ 3 ∷ 2 ∷ 1 ∷ 5 ∷ []) ((text "ar" ∷ []) ∷ (text "a" ∷ []) ∷ (text "b"
     ∷ []) ∷ (text "f" ∷ []) ∷ (text "he" ∷ []) ∷ (text "h" ∷ []) ∷ (text "i" ∷ byte 0x20 ∷ []) ∷ (text "i" ∷ []) ∷
     (text "o" ∷ []) ∷ (text "t" ∷ []) ∷ [])
-    ∷ rebuilds file174 (151, []) trie93 ∷ []
+    ∷ rebuilds file190 (151, []) trie114 ∷ []
 
 abbrev pub fullest : List Case
 fullest =
-    rebuilds file175 (151, []) trie94
-    ∷ rebuilds file176 (6, []) trie12
-    ∷ puts file175 trie94 (text "!" ∷ []) 1 2 (6, []) file175 trie94 ∷ []
+    rebuilds file191 (151, []) trie115
+    ∷ rebuilds file192 (6, []) trie12
+    ∷ puts file191 trie115 (text "!" ∷ []) 1 2 (6, []) file191 trie115 ∷ []

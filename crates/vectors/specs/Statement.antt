@@ -2,7 +2,7 @@
 use mathlib.Core.Path.{_≡_}
 use mathlib.Core.Bool.{true}
 use Rattle.vectors.specs.Vectors.{allHold}
-use Rattle.vectors.specs.Cases.{agreements, arrangements, checkings, creatings, fullest, insides, legals, listings, lookings, orders, puttings, rebuildings, recoverings, removings, strings, words, worked}
+use Rattle.vectors.specs.Cases.{agreements, arrangements, checkings, creatings, fullest, insides, legals, listings, lookings, orders, puttings, rebuildings, recoverings, removings, strings, words, worked, wrongs}
 
 pub record EveryCase : Type 0 where
   pub legals-hold : allHold legals ≡ true
@@ -16,6 +16,7 @@ pub record EveryCase : Type 0 where
   pub recoverings-hold : allHold recoverings ≡ true
   pub rebuildings-hold : allHold rebuildings ≡ true
   pub lookings-hold : allHold lookings ≡ true
+  pub wrongs-hold : allHold wrongs ≡ true
   pub puttings-hold : allHold puttings ≡ true
   pub removings-hold : allHold removings ≡ true
   pub listings-hold : allHold listings ≡ true
