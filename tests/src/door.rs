@@ -93,7 +93,7 @@ pub fn write_image(trie: &Trie) -> Vec<u8> {
 }
 
 /// The answer's number, and the words of `out` that it names.
-fn number_and_words(answer: Answer) -> (u64, Vec<u64>) {
+pub fn number_and_words(answer: Answer) -> (u64, Vec<u64>) {
     match answer {
         Answer::Refused(number) => (number, vec![]),
         // "word 0: value, word 1: run"; "`run` is ignored, and word 1 is 0"

@@ -12,4 +12,5 @@ pub mod run;
 pub mod situations;
 pub mod stories;
 pub mod sweeps;
+pub mod vectors;
 pub mod watch;

@@ -284,7 +284,7 @@ pub fn the_last_put_stopped_after_one_store(door: Door) {
 }
 
 /// The nine words of the program, as it puts them.
-const NINE: [&str; 9] = ["the", "of", "and", "to", "a", "in", "that", "is", "i"];
+pub const NINE: [&str; 9] = ["the", "of", "and", "to", "a", "in", "that", "is", "i"];
 
 /// What the program prints for the nine words.
 pub fn the_nine_words_and_the_table(door: Door) {
@@ -314,7 +314,7 @@ pub fn the_nine_words_rebuilt(door: Door) {
 }
 
 /// The insertions of document 000, Fig 1 (a).
-const WORDS: [&str; 31] = [
+pub const WORDS: [&str; 31] = [
     "the", "of", "and", "to", "a", "in", "that", "is", "i", "it", "for", "as", "with", "was", "his", "he", "be", "not",
     "by", "but", "have", "you", "which", "are", "on", "or", "her", "had", "at", "from", "this",
 ];
