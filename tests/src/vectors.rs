@@ -36,6 +36,7 @@ pub fn text() -> String {
     agreements(&mut sheet);
     checks(&mut sheet);
     cut_or_not(&mut sheet);
+    wrong_headers(&mut sheet);
     creates(&mut sheet);
     recovers(&mut sheet);
     rebuilds(&mut sheet);
@@ -382,6 +383,21 @@ fn cut_or_not(sheet: &mut Sheet) {
     check(sheet, &file_bytes(3, &[Slot::Free, Slot::Free]));
 }
 
+/// A new file whose header is wrong in one byte, or whose length is.
+fn wrong_headers(sheet: &mut Sheet) {
+    let mut file = vec![0; file_length(2, 2)];
+    calls::create(&mut file, 1, 2, 2);
+    for place in [0, 1, 2, 3, 4, 5, 6, 7, 15] {
+        let mut wrong = file.clone();
+        wrong[place] += 1;
+        check(sheet, &wrong);
+    }
+    check(sheet, &file[..file.len() - 1]);
+    check(sheet, &[&file[..], &[0]].concat());
+    check(sheet, &file[..HEADER]);
+    check(sheet, &[]);
+}
+
 fn creates(sheet: &mut Sheet) {
     for (length, [version, b, slots]) in [
         (file_length(2, 2), [1, 2, 2]),
@@ -475,7 +491,8 @@ fn wrong_tries(sheet: &mut Sheet) {
         calls::put(&mut file, &mut trie, name.as_bytes(), 1, 2);
     }
     let set = |place: Place, side: Side| move |trie: &mut Trie| trie.set(place, side);
-    let changes: [&dyn Fn(&mut Trie); 17] = [
+    let changes: [&dyn Fn(&mut Trie); 18] = [
+        &set(Place::Right(0), Side::Slot(4)),
         &set(Place::Left(4), Side::Slot(4)),
         &set(Place::Left(4), Side::Slot(2)),
         &set(Place::Left(4), Side::Slot(1)),
@@ -516,8 +533,9 @@ fn wrong_tries(sheet: &mut Sheet) {
         tries.push(long);
     }
     for trie in &tries {
-        look_up(sheet, "wrongs", &file, trie, b"rate1");
-        look_up(sheet, "wrongs", &file, trie, b"rate3");
+        for name in ["rate1", "rate3", "s"] {
+            look_up(sheet, "wrongs", &file, trie, name.as_bytes());
+        }
         let words = [sheet.file(&file), sheet.trie(trie), truth(agrees(trie, &File::read(&file).expect("a header")))];
         sheet.case("wrongs", "agrees", &words);
     }
@@ -582,14 +600,18 @@ fn removes(sheet: &mut Sheet) {
 }
 
 fn lists(sheet: &mut Sheet) {
-    gather(13_000, "none 1, one 1, several 4, 1 1, 2 1, 3 1, 4 1, 7 2", |chance, wanted| {
+    gather(13_000, "none 1, one 1, several 3, exact 2, 1 1, 2 1, 3 1, 4 1, 7 2", |chance, wanted| {
         let small = Small::new(chance);
         let (file, trie) = (small.some_file(chance), small.some_trie(chance));
         let (first, second) = (small.some_name(chance), small.some_name(chance));
         let output = vec![0x20; 32 * chance.below(7) + chance.below(3)];
         let mut after = output.clone();
         let answer = calls::list(&file, &trie, &first, &second, &mut after);
-        if small.trie.count > 1 && wanted.takes(sort(answer)) {
+        let sort = match answer {
+            Answer::Listed(many) if many > 0 && output.len() as u64 == 32 * many => "exact",
+            _ => sort(answer),
+        };
+        if small.trie.count > 1 && wanted.takes(sort) {
             let asked = format!("{} {} {}", bytes(&first), bytes(&second), bytes(&output));
             let words = [sheet.file(&file), sheet.trie(&trie), asked, said(answer), bytes(&after)];
             sheet.case("listings", "lists", &words);

@@ -592,43 +592,106 @@ file59 =
 
 abbrev pub file60 : Parts
 file60 =
-    blanks 16
-    ∷ blanks 256 ∷ []
+    text "UKF" ∷ byte 0x01 ∷ byte 0x00 ∷ byte 0x02 ∷ byte 0x02 ∷ zeros 9
+    ∷ byte 0x01 ∷ zeros 255 ∷ []
 
 abbrev pub file61 : Parts
 file61 =
+    text "TLF" ∷ byte 0x01 ∷ byte 0x00 ∷ byte 0x02 ∷ byte 0x02 ∷ zeros 9
+    ∷ byte 0x01 ∷ zeros 255 ∷ []
+
+abbrev pub file62 : Parts
+file62 =
+    text "TKG" ∷ byte 0x01 ∷ byte 0x00 ∷ byte 0x02 ∷ byte 0x02 ∷ zeros 9
+    ∷ byte 0x01 ∷ zeros 255 ∷ []
+
+abbrev pub file63 : Parts
+file63 =
+    text "TKF" ∷ byte 0x02 ∷ byte 0x00 ∷ byte 0x02 ∷ byte 0x02 ∷ zeros 9
+    ∷ byte 0x01 ∷ zeros 255 ∷ []
+
+abbrev pub file64 : Parts
+file64 =
+    text "TKF" ∷ byte 0x01 ∷ byte 0x01 ∷ byte 0x02 ∷ byte 0x02 ∷ zeros 9
+    ∷ byte 0x01 ∷ zeros 255 ∷ []
+
+abbrev pub file65 : Parts
+file65 =
+    text "TKF" ∷ byte 0x01 ∷ byte 0x00 ∷ byte 0x03 ∷ byte 0x02 ∷ zeros 9
+    ∷ byte 0x01 ∷ zeros 255 ∷ []
+
+abbrev pub file66 : Parts
+file66 =
+    text "TKF" ∷ byte 0x01 ∷ byte 0x00 ∷ byte 0x02 ∷ byte 0x03 ∷ zeros 9
+    ∷ byte 0x01 ∷ zeros 255 ∷ []
+
+abbrev pub file67 : Parts
+file67 =
+    text "TKF" ∷ byte 0x01 ∷ byte 0x00 ∷ byte 0x02 ∷ byte 0x02 ∷ byte 0x01 ∷ zeros 8
+    ∷ byte 0x01 ∷ zeros 255 ∷ []
+
+abbrev pub file68 : Parts
+file68 =
+    text "TKF" ∷ byte 0x01 ∷ byte 0x00 ∷ byte 0x02 ∷ byte 0x02 ∷ zeros 8 ∷ byte 0x01
+    ∷ byte 0x01 ∷ zeros 255 ∷ []
+
+abbrev pub file69 : Parts
+file69 =
+    text "TKF" ∷ byte 0x01 ∷ byte 0x00 ∷ byte 0x02 ∷ byte 0x02 ∷ zeros 9
+    ∷ byte 0x01 ∷ zeros 254 ∷ []
+
+abbrev pub file70 : Parts
+file70 =
+    text "TKF" ∷ byte 0x01 ∷ byte 0x00 ∷ byte 0x02 ∷ byte 0x02 ∷ zeros 9
+    ∷ byte 0x01 ∷ zeros 256 ∷ []
+
+abbrev pub file71 : Parts
+file71 =
+    text "TKF" ∷ byte 0x01 ∷ byte 0x00 ∷ byte 0x02 ∷ byte 0x02 ∷ zeros 9 ∷ []
+
+abbrev pub file72 : Parts
+file72 =
+    []
+
+abbrev pub file73 : Parts
+file73 =
+    blanks 16
+    ∷ blanks 256 ∷ []
+
+abbrev pub file74 : Parts
+file74 =
     text "TKF" ∷ byte 0x01 ∷ byte 0x00 ∷ byte 0x02 ∷ byte 0x02 ∷ zeros 9
     ∷ byte 0x01 ∷ zeros 127
     ∷ zeros 128 ∷ []
 
-abbrev pub file62 : Parts
-file62 =
+abbrev pub file75 : Parts
+file75 =
     blanks 16
     ∷ blanks 480 ∷ []
 
-abbrev pub file63 : Parts
-file63 =
+abbrev pub file76 : Parts
+file76 =
     text "TKF" ∷ byte 0x01 ∷ byte 0x00 ∷ byte 0x03 ∷ byte 0x03 ∷ zeros 9
     ∷ byte 0x01 ∷ zeros 159
     ∷ zeros 160
     ∷ zeros 160 ∷ []
 
-abbrev pub file64 : Parts
-file64 =
+abbrev pub file77 : Parts
+file77 =
     blanks 16
     ∷ blanks 481 ∷ []
 
-abbrev pub file65 : Parts
-file65 =
+abbrev pub file78 : Parts
+file78 =
     blanks 16
     ∷ blanks 96 ∷ []
 
-abbrev pub file66 : Parts
-file66 =
+abbrev pub file79 : Parts
+file79 =
     blanks 16 ∷ []
 
-abbrev pub file67 : Parts
-file67 =
+abbrev pub file80 : Parts
+file80 =
     text "TKF" ∷ byte 0x01 ∷ byte 0x00 ∷ byte 0x02 ∷ byte 0x04 ∷ zeros 9
     ∷ byte 0x01 ∷ byte 0x02 ∷ byte 0x00 ∷ byte 0x03 ∷ zeros 28 ∷ text "oi" ∷ byte 0x20 ∷ zeros 29 ∷ text "n" ∷ blanks 23
     ∷ text "." ∷ byte 0x02 ∷ zeros 6 ∷ text "oi" ∷ blanks 22 ∷ zeros 8
@@ -638,8 +701,8 @@ file67 =
     ∷ byte 0x95 ∷ zeros 39
     ∷ zeros 128 ∷ []
 
-abbrev pub file68 : Parts
-file68 =
+abbrev pub file81 : Parts
+file81 =
     text "TKF" ∷ byte 0x01 ∷ byte 0x00 ∷ byte 0x02 ∷ byte 0x04 ∷ zeros 9
     ∷ byte 0x01 ∷ byte 0x02 ∷ byte 0x00 ∷ byte 0x02 ∷ zeros 28 ∷ text "a!" ∷ zeros 30 ∷ text "a" ∷ blanks 23 ∷ byte 0xAB
     ∷ byte 0xD5 ∷ byte 0xEB ∷ text "(sz" ∷ byte 0xE4 ∷ byte 0x1D ∷ text "a!" ∷ blanks 22 ∷ byte 0x00 ∷ byte 0x02
@@ -650,23 +713,23 @@ file68 =
     ∷ zeros 128
     ∷ zeros 128 ∷ []
 
-abbrev pub file69 : Parts
-file69 =
+abbrev pub file82 : Parts
+file82 =
     text "TKF" ∷ byte 0x01 ∷ byte 0x00 ∷ byte 0x02 ∷ byte 0x02 ∷ zeros 9
     ∷ byte 0x01 ∷ byte 0x02 ∷ byte 0x00 ∷ byte 0x02 ∷ zeros 28 ∷ text "rs" ∷ zeros 30 ∷ text "r" ∷ blanks 23 ∷ byte 0xC4
     ∷ byte 0x01 ∷ zeros 6 ∷ text "rs" ∷ blanks 22 ∷ byte 0xA5 ∷ zeros 7
     ∷ byte 0x01 ∷ byte 0x01 ∷ byte 0x02 ∷ zeros 5 ∷ text "rs" ∷ zeros 54 ∷ text "rts" ∷ blanks 21 ∷ text "V" ∷ byte 0x01
     ∷ zeros 38 ∷ []
 
-abbrev pub file70 : Parts
-file70 =
+abbrev pub file83 : Parts
+file83 =
     text "TKF" ∷ byte 0x01 ∷ byte 0x00 ∷ byte 0x03 ∷ byte 0x02 ∷ zeros 9
     ∷ byte 0x01 ∷ byte 0x03 ∷ zeros 62 ∷ text "a!a" ∷ blanks 21 ∷ byte 0x91 ∷ zeros 7 ∷ text "aa!" ∷ blanks 21 ∷ zeros 8
     ∷ text "a}!" ∷ blanks 21 ∷ byte 0xB6 ∷ byte 0x01 ∷ zeros 6
     ∷ zeros 160 ∷ []
 
-abbrev pub file71 : Parts
-file71 =
+abbrev pub file84 : Parts
+file84 =
     text "TKF" ∷ byte 0x01 ∷ byte 0x00 ∷ byte 0x02 ∷ byte 0x04 ∷ zeros 9
     ∷ byte 0x01 ∷ byte 0x02 ∷ zeros 62 ∷ text "aab" ∷ blanks 21 ∷ text "H" ∷ byte 0x02 ∷ zeros 6 ∷ text "abb"
     ∷ blanks 21 ∷ text "#" ∷ zeros 7
@@ -675,8 +738,8 @@ file71 =
     ∷ zeros 128
     ∷ zeros 128 ∷ []
 
-abbrev pub file72 : Parts
-file72 =
+abbrev pub file85 : Parts
+file85 =
     text "TKF" ∷ byte 0x01 ∷ byte 0x00 ∷ byte 0x02 ∷ byte 0x04 ∷ zeros 9
     ∷ byte 0x01 ∷ byte 0x02 ∷ zeros 62 ∷ text "aab" ∷ blanks 21 ∷ text "H" ∷ byte 0x02 ∷ zeros 6 ∷ text "abb"
     ∷ blanks 21 ∷ text "#" ∷ zeros 7
@@ -684,23 +747,23 @@ file72 =
     ∷ zeros 128
     ∷ zeros 128 ∷ []
 
-abbrev pub file73 : Parts
-file73 =
+abbrev pub file86 : Parts
+file86 =
     text "TKF" ∷ byte 0x01 ∷ byte 0x00 ∷ byte 0x03 ∷ byte 0x02 ∷ zeros 9
     ∷ byte 0x01 ∷ byte 0x03 ∷ zeros 62 ∷ text "iii" ∷ blanks 21 ∷ text "4" ∷ byte 0x02 ∷ zeros 6 ∷ text "o" ∷ blanks 23
     ∷ text "n" ∷ byte 0x03 ∷ zeros 6 ∷ text "oo" ∷ blanks 22 ∷ text "L" ∷ zeros 7
     ∷ byte 0x01 ∷ byte 0x02 ∷ byte 0x01 ∷ zeros 5 ∷ text "i" ∷ zeros 55 ∷ text "o" ∷ blanks 23 ∷ text "n" ∷ byte 0x03
     ∷ zeros 6 ∷ text "oo" ∷ blanks 22 ∷ text "L" ∷ zeros 39 ∷ []
 
-abbrev pub file74 : Parts
-file74 =
+abbrev pub file87 : Parts
+file87 =
     text "TKF" ∷ byte 0x01 ∷ byte 0x00 ∷ byte 0x03 ∷ byte 0x02 ∷ zeros 9
     ∷ byte 0x01 ∷ byte 0x03 ∷ zeros 62 ∷ text "iii" ∷ blanks 21 ∷ text "4" ∷ byte 0x02 ∷ zeros 6 ∷ text "o" ∷ blanks 23
     ∷ text "n" ∷ byte 0x03 ∷ zeros 6 ∷ text "oo" ∷ blanks 22 ∷ text "L" ∷ zeros 7
     ∷ zeros 160 ∷ []
 
-abbrev pub file75 : Parts
-file75 =
+abbrev pub file88 : Parts
+file88 =
     text "TKF" ∷ byte 0x01 ∷ byte 0x00 ∷ byte 0x02 ∷ byte 0x04 ∷ zeros 9
     ∷ byte 0x01 ∷ byte 0x02 ∷ zeros 62 ∷ text "ba" ∷ blanks 22 ∷ text "/" ∷ byte 0x03 ∷ zeros 6 ∷ text "baaab"
     ∷ blanks 19 ∷ text "u" ∷ zeros 7
@@ -708,8 +771,8 @@ file75 =
     ∷ zeros 128
     ∷ zeros 128 ∷ []
 
-abbrev pub file76 : Parts
-file76 =
+abbrev pub file89 : Parts
+file89 =
     text "TKF" ∷ byte 0x01 ∷ byte 0x00 ∷ byte 0x02 ∷ byte 0x04 ∷ zeros 9
     ∷ byte 0x01 ∷ byte 0x02 ∷ zeros 62 ∷ text "ba" ∷ blanks 22 ∷ text "/" ∷ byte 0x03 ∷ zeros 6 ∷ text "baaab"
     ∷ blanks 19 ∷ text "u" ∷ zeros 7
@@ -717,23 +780,23 @@ file76 =
     ∷ zeros 128
     ∷ zeros 128 ∷ []
 
-abbrev pub file77 : Parts
-file77 =
+abbrev pub file90 : Parts
+file90 =
     text "TKF" ∷ byte 0x01 ∷ byte 0x00 ∷ byte 0x02 ∷ byte 0x03 ∷ zeros 9
     ∷ byte 0x01 ∷ zeros 63 ∷ text "non" ∷ blanks 21 ∷ text "J" ∷ byte 0x02 ∷ zeros 38
     ∷ zeros 128
     ∷ zeros 128 ∷ []
 
-abbrev pub file78 : Parts
-file78 =
+abbrev pub file91 : Parts
+file91 =
     text "TKF" ∷ byte 0x01 ∷ byte 0x00 ∷ byte 0x02 ∷ byte 0x02 ∷ zeros 9
     ∷ byte 0x01 ∷ byte 0x01 ∷ byte 0x00 ∷ byte 0x01 ∷ zeros 28 ∷ text "i" ∷ zeros 31 ∷ text "iii" ∷ blanks 21
     ∷ byte 0x9D ∷ byte 0x01 ∷ zeros 38
     ∷ byte 0x01 ∷ byte 0x02 ∷ byte 0x01 ∷ zeros 5 ∷ text "i" ∷ zeros 55 ∷ text "oi" ∷ byte 0xA0 ∷ blanks 21 ∷ text "!"
     ∷ zeros 7 ∷ text "oo" ∷ blanks 22 ∷ zeros 8 ∷ []
 
-abbrev pub file79 : Parts
-file79 =
+abbrev pub file92 : Parts
+file92 =
     text "TKF" ∷ byte 0x01 ∷ byte 0x00 ∷ byte 0x02 ∷ byte 0x03 ∷ zeros 9
     ∷ byte 0x01 ∷ byte 0x02 ∷ byte 0x00 ∷ byte 0x10 ∷ zeros 28 ∷ text "}}}}}!}}}}!!!}!!" ∷ zeros 16 ∷ text "}!"
     ∷ blanks 22 ∷ byte 0xFB ∷ byte 0xD8 ∷ byte 0xAB ∷ text "N" ∷ byte 0xFD ∷ byte 0x91 ∷ byte 0x84 ∷ byte 0x9B
@@ -744,8 +807,8 @@ file79 =
     ∷ byte 0x01 ∷ byte 0x01 ∷ byte 0x11 ∷ byte 0x10 ∷ zeros 4 ∷ text "}}}}}!}}}}!!!}!!!" ∷ zeros 7
     ∷ text "}}}}}!}}}}!!!}!!" ∷ zeros 16 ∷ text "}}}}}!}}}}!!!}!!}!" ∷ blanks 6 ∷ byte 0x06 ∷ zeros 39 ∷ []
 
-abbrev pub file80 : Parts
-file80 =
+abbrev pub file93 : Parts
+file93 =
     text "TKF" ∷ byte 0x01 ∷ byte 0x00 ∷ byte 0x02 ∷ byte 0x03 ∷ zeros 9
     ∷ byte 0x01 ∷ byte 0x02 ∷ byte 0x00 ∷ byte 0x01 ∷ zeros 28 ∷ text "s" ∷ zeros 31 ∷ text "rt" ∷ blanks 22 ∷ text "}"
     ∷ byte 0x03 ∷ zeros 6 ∷ text "s" ∷ blanks 23 ∷ byte 0x06 ∷ byte 0xBD ∷ text "S" ∷ byte 0xFC ∷ byte 0x18 ∷ byte 0x97
@@ -755,8 +818,8 @@ file80 =
     ∷ byte 0x01 ∷ byte 0x01 ∷ byte 0x02 ∷ zeros 5 ∷ text "tr" ∷ zeros 54 ∷ text "tts" ∷ blanks 21 ∷ byte 0x9B
     ∷ byte 0x02 ∷ zeros 38 ∷ []
 
-abbrev pub file81 : Parts
-file81 =
+abbrev pub file94 : Parts
+file94 =
     text "TKF" ∷ byte 0x01 ∷ byte 0x00 ∷ byte 0x02 ∷ byte 0x04 ∷ zeros 9
     ∷ byte 0x01 ∷ byte 0x02 ∷ byte 0x00 ∷ byte 0x01 ∷ zeros 28 ∷ text "a" ∷ zeros 31 ∷ text "ab" ∷ blanks 22 ∷ text "'"
     ∷ byte 0x02 ∷ zeros 6 ∷ text "aba" ∷ blanks 21 ∷ byte 0x1A ∷ byte 0x02 ∷ zeros 6
@@ -766,8 +829,8 @@ file81 =
     ∷ blanks 22 ∷ zeros 40
     ∷ zeros 128 ∷ []
 
-abbrev pub file82 : Parts
-file82 =
+abbrev pub file95 : Parts
+file95 =
     text "TKF" ∷ byte 0x01 ∷ byte 0x00 ∷ byte 0x02 ∷ byte 0x04 ∷ zeros 9
     ∷ byte 0x01 ∷ byte 0x02 ∷ byte 0x00 ∷ byte 0x04 ∷ zeros 28 ∷ text "noii" ∷ zeros 28 ∷ text "nnio" ∷ blanks 20
     ∷ byte 0xCE ∷ byte 0x01 ∷ zeros 6 ∷ text "noii" ∷ blanks 20 ∷ text "i" ∷ byte 0x01 ∷ zeros 6
@@ -777,8 +840,8 @@ file82 =
     ∷ text "noin" ∷ blanks 20 ∷ byte 0x14 ∷ byte 0x01 ∷ zeros 38
     ∷ zeros 15 ∷ byte 0x02 ∷ zeros 112 ∷ []
 
-abbrev pub file83 : Parts
-file83 =
+abbrev pub file96 : Parts
+file96 =
     text "TKF" ∷ byte 0x01 ∷ byte 0x00 ∷ byte 0x02 ∷ byte 0x02 ∷ zeros 9
     ∷ byte 0x01 ∷ byte 0x02 ∷ byte 0x00 ∷ byte 0x03 ∷ zeros 28 ∷ text "}!" ∷ byte 0x20 ∷ zeros 29 ∷ text "!}!"
     ∷ blanks 21 ∷ byte 0x90 ∷ text "E2" ∷ byte 0xE0 ∷ byte 0xAF ∷ byte 0xE0 ∷ byte 0x9F ∷ byte 0xA2 ∷ text "}!"
@@ -786,8 +849,8 @@ file83 =
     ∷ byte 0x01 ∷ byte 0x01 ∷ byte 0x03 ∷ zeros 5 ∷ text "}!" ∷ byte 0x20 ∷ zeros 53 ∷ text "}!}" ∷ blanks 21
     ∷ byte 0xA3 ∷ byte 0xAC ∷ byte 0x91 ∷ byte 0x15 ∷ text "{" ∷ byte 0xD7 ∷ byte 0xBA ∷ byte 0xCB ∷ zeros 32 ∷ []
 
-abbrev pub file84 : Parts
-file84 =
+abbrev pub file97 : Parts
+file97 =
     text "TKF" ∷ byte 0x01 ∷ byte 0x00 ∷ byte 0x03 ∷ byte 0x04 ∷ zeros 9
     ∷ byte 0x01 ∷ byte 0x02 ∷ byte 0x00 ∷ byte 0x17 ∷ zeros 28 ∷ text "aabaaaaababaabbaaabaaaa" ∷ zeros 9
     ∷ text "aabaaaaababaabbaaabaaaa" ∷ byte 0x20 ∷ byte 0x13 ∷ text "O" ∷ byte 0xC7 ∷ text "(R" ∷ byte 0xBA ∷ byte 0xB8
@@ -798,8 +861,8 @@ file84 =
     ∷ zeros 160
     ∷ zeros 160 ∷ []
 
-abbrev pub file85 : Parts
-file85 =
+abbrev pub file98 : Parts
+file98 =
     text "TKF" ∷ byte 0x01 ∷ byte 0x00 ∷ byte 0x02 ∷ byte 0x03 ∷ zeros 9
     ∷ byte 0x01 ∷ byte 0x02 ∷ byte 0x00 ∷ byte 0x01 ∷ zeros 28 ∷ text "n" ∷ zeros 31 ∷ text "iio" ∷ blanks 21 ∷ text "s"
     ∷ byte 0x01 ∷ zeros 6 ∷ text "nn" ∷ blanks 22 ∷ byte 0xBC ∷ byte 0xAB ∷ text "(J!f" ∷ byte 0x82 ∷ byte 0xC0
@@ -808,8 +871,8 @@ file85 =
     ∷ byte 0x01 ∷ byte 0x01 ∷ byte 0x01 ∷ byte 0x02 ∷ zeros 4 ∷ text "n" ∷ zeros 23 ∷ text "o" ∷ byte 0x20 ∷ zeros 30
     ∷ text "o" ∷ blanks 23 ∷ text "." ∷ byte 0x01 ∷ zeros 38 ∷ []
 
-abbrev pub file86 : Parts
-file86 =
+abbrev pub file99 : Parts
+file99 =
     text "TKF" ∷ byte 0x01 ∷ byte 0x00 ∷ byte 0x02 ∷ byte 0x04 ∷ zeros 9
     ∷ byte 0x01 ∷ byte 0x02 ∷ byte 0x00 ∷ byte 0x03 ∷ zeros 28 ∷ text "aa" ∷ byte 0x20 ∷ zeros 29 ∷ text "a" ∷ blanks 23
     ∷ text "H" ∷ zeros 7 ∷ text "aa" ∷ blanks 22 ∷ byte 0xA6 ∷ byte 0x01 ∷ zeros 6
@@ -818,8 +881,8 @@ file86 =
     ∷ zeros 128
     ∷ zeros 128 ∷ []
 
-abbrev pub file87 : Parts
-file87 =
+abbrev pub file100 : Parts
+file100 =
     text "TKF" ∷ byte 0x01 ∷ byte 0x00 ∷ byte 0x02 ∷ byte 0x02 ∷ zeros 9
     ∷ byte 0x01 ∷ byte 0x02 ∷ byte 0x00 ∷ byte 0x17 ∷ zeros 28 ∷ text "zyxzxyyxxxxzxyxyxzxxzxx" ∷ zeros 9
     ∷ text "zyxzxyyxxxxzxyxyxzxxzx" ∷ blanks 2 ∷ byte 0x05 ∷ byte 0x02 ∷ zeros 6 ∷ text "zyxzxyyxxxxzxyxyxzxxzxx"
@@ -828,16 +891,16 @@ file87 =
     ∷ text "zyxzxyyxxxxzxyxyxzxxzxyx" ∷ byte 0xAB ∷ byte 0x02 ∷ zeros 6 ∷ text "zyxzxyyxxxxzxyxyxzxxzxz" ∷ byte 0x20
     ∷ zeros 8 ∷ []
 
-abbrev pub file88 : Parts
-file88 =
+abbrev pub file101 : Parts
+file101 =
     text "TKF" ∷ byte 0x01 ∷ byte 0x00 ∷ byte 0x02 ∷ byte 0x02 ∷ zeros 9
     ∷ byte 0x01 ∷ byte 0x01 ∷ byte 0x00 ∷ byte 0x02 ∷ zeros 28 ∷ text "z" ∷ byte 0x20 ∷ zeros 30 ∷ text "z" ∷ blanks 23
     ∷ byte 0xFF ∷ byte 0xFF ∷ byte 0xFF ∷ byte 0xFF ∷ byte 0xFF ∷ byte 0xFF ∷ byte 0xFF ∷ byte 0xFF ∷ zeros 32
     ∷ byte 0x01 ∷ byte 0x02 ∷ byte 0x02 ∷ zeros 5 ∷ text "z" ∷ byte 0x20 ∷ zeros 54 ∷ text "zy" ∷ blanks 22 ∷ text "l"
     ∷ byte 0x03 ∷ zeros 6 ∷ text "zyyy" ∷ blanks 20 ∷ zeros 8 ∷ []
 
-abbrev pub file89 : Parts
-file89 =
+abbrev pub file102 : Parts
+file102 =
     text "TKF" ∷ byte 0x01 ∷ byte 0x00 ∷ byte 0x03 ∷ byte 0x04 ∷ zeros 9
     ∷ byte 0x01 ∷ byte 0x03 ∷ zeros 62 ∷ text "i" ∷ blanks 23 ∷ text "0" ∷ byte 0x02 ∷ zeros 6 ∷ text "n" ∷ blanks 23
     ∷ byte 0xCA ∷ byte 0x01 ∷ zeros 6 ∷ text "ni" ∷ blanks 22 ∷ text "S" ∷ byte 0x01 ∷ zeros 6
@@ -847,16 +910,16 @@ file89 =
     ∷ zeros 160
     ∷ zeros 160 ∷ []
 
-abbrev pub file90 : Parts
-file90 =
+abbrev pub file103 : Parts
+file103 =
     text "TKF" ∷ byte 0x01 ∷ byte 0x00 ∷ byte 0x02 ∷ byte 0x02 ∷ zeros 9
     ∷ byte 0x01 ∷ byte 0x02 ∷ byte 0x00 ∷ byte 0x02 ∷ zeros 28 ∷ text "a" ∷ byte 0x20 ∷ zeros 30 ∷ text "!" ∷ blanks 23
     ∷ byte 0xAC ∷ zeros 7 ∷ text "a" ∷ blanks 23 ∷ byte 0xD5 ∷ byte 0x02 ∷ zeros 6
     ∷ byte 0x01 ∷ byte 0x01 ∷ byte 0x02 ∷ zeros 5 ∷ text "a" ∷ byte 0x20 ∷ zeros 54 ∷ text "a!" ∷ blanks 22 ∷ byte 0xC1
     ∷ byte 0x01 ∷ zeros 38 ∷ []
 
-abbrev pub file91 : Parts
-file91 =
+abbrev pub file104 : Parts
+file104 =
     text "TKF" ∷ byte 0x01 ∷ byte 0x00 ∷ byte 0x02 ∷ byte 0x03 ∷ zeros 9
     ∷ byte 0x01 ∷ byte 0x02 ∷ byte 0x00 ∷ byte 0x01 ∷ zeros 28 ∷ text "a" ∷ zeros 31 ∷ text "a" ∷ blanks 23 ∷ byte 0x00
     ∷ byte 0x02 ∷ zeros 6 ∷ text "ab" ∷ blanks 22 ∷ text "8" ∷ byte 0x02 ∷ zeros 6
@@ -866,8 +929,8 @@ file91 =
     ∷ text "b" ∷ blanks 23 ∷ text "G" ∷ byte 0xCC ∷ byte 0xFC ∷ byte 0x20 ∷ byte 0xD9 ∷ byte 0xA7 ∷ byte 0xF5 ∷ text "8"
     ∷ zeros 32 ∷ []
 
-abbrev pub file92 : Parts
-file92 =
+abbrev pub file105 : Parts
+file105 =
     text "TKF" ∷ byte 0x01 ∷ byte 0x00 ∷ byte 0x02 ∷ byte 0x04 ∷ zeros 9
     ∷ byte 0x01 ∷ byte 0x02 ∷ byte 0x00 ∷ byte 0x02 ∷ zeros 28 ∷ text "}" ∷ byte 0x20 ∷ zeros 30 ∷ text "a}" ∷ blanks 22
     ∷ text "V" ∷ byte 0x02 ∷ zeros 6 ∷ text "}" ∷ blanks 23 ∷ byte 0xDE ∷ byte 0x02 ∷ zeros 6
@@ -876,8 +939,8 @@ file92 =
     ∷ zeros 128
     ∷ zeros 128 ∷ []
 
-abbrev pub file93 : Parts
-file93 =
+abbrev pub file106 : Parts
+file106 =
     text "TKF" ∷ byte 0x01 ∷ byte 0x00 ∷ byte 0x02 ∷ byte 0x03 ∷ zeros 9
     ∷ byte 0x01 ∷ byte 0x02 ∷ byte 0x00 ∷ byte 0x01 ∷ zeros 28 ∷ text "a" ∷ zeros 31 ∷ text "aab" ∷ blanks 21
     ∷ byte 0xE0 ∷ byte 0x16 ∷ byte 0x96 ∷ byte 0xAA ∷ byte 0x01 ∷ byte 0xCE ∷ text "u" ∷ byte 0xC2 ∷ text "aba"
@@ -887,8 +950,8 @@ file93 =
     ∷ blanks 23 ∷ text "g" ∷ byte 0x02 ∷ zeros 6 ∷ text "baa" ∷ blanks 21 ∷ text "*" ∷ byte 0xF2 ∷ text "mv" ∷ byte 0x9F
     ∷ byte 0xA0 ∷ byte 0x9E ∷ byte 0x16 ∷ []
 
-abbrev pub file94 : Parts
-file94 =
+abbrev pub file107 : Parts
+file107 =
     text "TKF" ∷ byte 0x01 ∷ byte 0x00 ∷ byte 0x02 ∷ byte 0x04 ∷ zeros 9
     ∷ byte 0x01 ∷ byte 0x02 ∷ byte 0x00 ∷ byte 0x06 ∷ zeros 28 ∷ text "baaaaa" ∷ zeros 26 ∷ text "baaaa" ∷ blanks 19
     ∷ text "h" ∷ byte 0x01 ∷ zeros 6 ∷ text "baaaaaa" ∷ blanks 17 ∷ byte 0xFB ∷ byte 0xE6 ∷ text "q:" ∷ byte 0xE8
@@ -899,16 +962,16 @@ file94 =
     ∷ text "baaaaba" ∷ blanks 17 ∷ text "[" ∷ byte 0x02 ∷ zeros 6 ∷ text "baabaa" ∷ blanks 18 ∷ zeros 8
     ∷ zeros 128 ∷ []
 
-abbrev pub file95 : Parts
-file95 =
+abbrev pub file108 : Parts
+file108 =
     text "TKF" ∷ byte 0x01 ∷ byte 0x00 ∷ byte 0x02 ∷ byte 0x02 ∷ zeros 9
     ∷ byte 0x01 ∷ byte 0x02 ∷ byte 0x00 ∷ byte 0x03 ∷ zeros 28 ∷ text "zyx" ∷ zeros 29 ∷ text "zy" ∷ blanks 22
     ∷ byte 0xD7 ∷ byte 0x03 ∷ zeros 6 ∷ text "zyxx" ∷ blanks 20 ∷ zeros 8
     ∷ byte 0x01 ∷ byte 0x01 ∷ byte 0x03 ∷ zeros 5 ∷ text "zyx" ∷ zeros 53 ∷ text "zyyyx" ∷ blanks 19 ∷ text "3_"
     ∷ byte 0x9B ∷ text "a" ∷ byte 0xE9 ∷ byte 0x91 ∷ byte 0x7F ∷ text "$" ∷ zeros 32 ∷ []
 
-abbrev pub file96 : Parts
-file96 =
+abbrev pub file109 : Parts
+file109 =
     text "TKF" ∷ byte 0x01 ∷ byte 0x00 ∷ byte 0x02 ∷ byte 0x02 ∷ zeros 9
     ∷ byte 0x01 ∷ byte 0x02 ∷ byte 0x00 ∷ byte 0x18 ∷ zeros 28 ∷ text "nnoinonooiniooinnnooonoi" ∷ zeros 8
     ∷ text "nnoinonooiniooinnnooonn" ∷ byte 0x20 ∷ text "i" ∷ byte 0x91 ∷ byte 0x01 ∷ byte 0xEB ∷ byte 0x09 ∷ text "2-"
@@ -917,8 +980,8 @@ file96 =
     ∷ text "nnoinonooiniooinnnooonon" ∷ byte 0xD9 ∷ text "y" ∷ byte 0x8D ∷ text "w" ∷ byte 0x89 ∷ byte 0xCA ∷ byte 0xEA
     ∷ text "&" ∷ zeros 32 ∷ []
 
-abbrev pub file97 : Parts
-file97 =
+abbrev pub file110 : Parts
+file110 =
     text "TKF" ∷ byte 0x01 ∷ byte 0x00 ∷ byte 0x02 ∷ byte 0x03 ∷ zeros 9
     ∷ byte 0x01 ∷ byte 0x02 ∷ byte 0x00 ∷ byte 0x05 ∷ zeros 28 ∷ text "zzxyx" ∷ zeros 27 ∷ text "zzxy" ∷ blanks 20
     ∷ byte 0xEA ∷ byte 0xC4 ∷ byte 0x20 ∷ byte 0x9A ∷ text "Y" ∷ byte 0xF4 ∷ text ")" ∷ byte 0xC8 ∷ text "zzxyxzx"
@@ -927,8 +990,8 @@ file97 =
     ∷ byte 0x02 ∷ zeros 38
     ∷ zeros 128 ∷ []
 
-abbrev pub file98 : Parts
-file98 =
+abbrev pub file111 : Parts
+file111 =
     text "TKF" ∷ byte 0x01 ∷ byte 0x00 ∷ byte 0x02 ∷ byte 0x03 ∷ zeros 9
     ∷ byte 0x01 ∷ byte 0x02 ∷ byte 0x00 ∷ byte 0x02 ∷ zeros 28 ∷ text "b" ∷ byte 0x20 ∷ zeros 30 ∷ text "a" ∷ blanks 23
     ∷ byte 0xA3 ∷ byte 0x03 ∷ zeros 6 ∷ text "b" ∷ blanks 23 ∷ byte 0xB3 ∷ byte 0x15 ∷ byte 0xBE ∷ text "?" ∷ byte 0x93
@@ -937,8 +1000,8 @@ file98 =
     ∷ zeros 39
     ∷ zeros 128 ∷ []
 
-abbrev pub file99 : Parts
-file99 =
+abbrev pub file112 : Parts
+file112 =
     text "TKF" ∷ byte 0x01 ∷ byte 0x00 ∷ byte 0x02 ∷ byte 0x03 ∷ zeros 9
     ∷ byte 0x01 ∷ byte 0x02 ∷ byte 0x00 ∷ byte 0x03 ∷ zeros 28 ∷ text "ba" ∷ byte 0x20 ∷ zeros 29 ∷ text "aaa"
     ∷ blanks 21 ∷ text "(" ∷ byte 0xD6 ∷ byte 0x0E ∷ byte 0x00 ∷ byte 0xBA ∷ text "A]" ∷ byte 0xCF ∷ text "ba"
@@ -947,8 +1010,8 @@ file99 =
     ∷ byte 0xDD ∷ byte 0xA1 ∷ byte 0xA1 ∷ text "a" ∷ byte 0xFA ∷ byte 0xD5 ∷ byte 0x12 ∷ byte 0xDE ∷ zeros 32
     ∷ zeros 128 ∷ []
 
-abbrev pub file100 : Parts
-file100 =
+abbrev pub file113 : Parts
+file113 =
     text "TKF" ∷ byte 0x01 ∷ byte 0x00 ∷ byte 0x02 ∷ byte 0x04 ∷ zeros 9
     ∷ byte 0x01 ∷ byte 0x02 ∷ byte 0x00 ∷ byte 0x02 ∷ zeros 28 ∷ text "yy" ∷ zeros 30 ∷ text "yxx" ∷ blanks 21
     ∷ byte 0x0E ∷ byte 0x14 ∷ byte 0xE4 ∷ text "<A]I" ∷ byte 0xD2 ∷ text "yy" ∷ blanks 22 ∷ byte 0x9B ∷ byte 0x01
@@ -960,8 +1023,8 @@ file100 =
     ∷ blanks 21 ∷ byte 0x8B ∷ zeros 39
     ∷ zeros 128 ∷ []
 
-abbrev pub file101 : Parts
-file101 =
+abbrev pub file114 : Parts
+file114 =
     text "TKF" ∷ byte 0x01 ∷ byte 0x00 ∷ byte 0x02 ∷ byte 0x04 ∷ zeros 9
     ∷ byte 0x01 ∷ byte 0x02 ∷ byte 0x00 ∷ byte 0x02 ∷ zeros 28 ∷ text "yy" ∷ zeros 30 ∷ text "yy" ∷ blanks 22
     ∷ byte 0xE9 ∷ zeros 7 ∷ text "yyzy" ∷ blanks 20 ∷ text "R" ∷ zeros 7
@@ -971,8 +1034,8 @@ file101 =
     ∷ byte 0x8C ∷ byte 0xF6 ∷ text "An" ∷ byte 0xA1 ∷ byte 0x85 ∷ byte 0xA2 ∷ zeros 32
     ∷ zeros 128 ∷ []
 
-abbrev pub file102 : Parts
-file102 =
+abbrev pub file115 : Parts
+file115 =
     text "TKF" ∷ byte 0x01 ∷ byte 0x00 ∷ byte 0x02 ∷ byte 0x02 ∷ zeros 9
     ∷ byte 0x01 ∷ byte 0x02 ∷ byte 0x00 ∷ byte 0x04 ∷ zeros 28 ∷ text "nnni" ∷ zeros 28 ∷ text "nnn" ∷ blanks 21
     ∷ byte 0xFF ∷ byte 0xFF ∷ byte 0xFF ∷ byte 0xFF ∷ byte 0xFF ∷ byte 0xFF ∷ byte 0xFF ∷ byte 0xFF ∷ text "nnnio"
@@ -980,8 +1043,8 @@ file102 =
     ∷ byte 0x01 ∷ byte 0x01 ∷ byte 0x04 ∷ zeros 5 ∷ text "nnni" ∷ zeros 52 ∷ text "nnnoi" ∷ blanks 19 ∷ byte 0x0A
     ∷ byte 0x02 ∷ zeros 38 ∷ []
 
-abbrev pub file103 : Parts
-file103 =
+abbrev pub file116 : Parts
+file116 =
     text "TKF" ∷ byte 0x01 ∷ byte 0x00 ∷ byte 0x03 ∷ byte 0x02 ∷ zeros 9
     ∷ byte 0x01 ∷ byte 0x02 ∷ byte 0x00 ∷ byte 0x06 ∷ zeros 28 ∷ text "!}a}!" ∷ byte 0x20 ∷ zeros 26 ∷ text "!}a}"
     ∷ blanks 20 ∷ byte 0xF8 ∷ byte 0x9B ∷ text "o;[" ∷ byte 0xD8 ∷ byte 0xA4 ∷ text "o!}a}!" ∷ blanks 19 ∷ text "["
@@ -990,8 +1053,8 @@ file103 =
     ∷ text "d" ∷ byte 0x03 ∷ zeros 6 ∷ text "!}a}!}}}}!a}a!" ∷ blanks 10 ∷ byte 0x09 ∷ byte 0xF5 ∷ text "-" ∷ byte 0x00
     ∷ byte 0xFF ∷ byte 0x9A ∷ byte 0xC1 ∷ byte 0x98 ∷ text "!}a}!}}}}!a}a!}a}aa}!a!}G" ∷ byte 0x01 ∷ zeros 6 ∷ []
 
-abbrev pub file104 : Parts
-file104 =
+abbrev pub file117 : Parts
+file117 =
     text "TKF" ∷ byte 0x01 ∷ byte 0x00 ∷ byte 0x03 ∷ byte 0x03 ∷ zeros 9
     ∷ byte 0x01 ∷ byte 0x02 ∷ byte 0x00 ∷ byte 0x04 ∷ zeros 28 ∷ text "bbba" ∷ zeros 28 ∷ text "bbba" ∷ blanks 20
     ∷ text "1" ∷ byte 0x0A ∷ text "SB" ∷ byte 0x8C ∷ byte 0x90 ∷ byte 0xBD ∷ text "2bbbaab" ∷ blanks 18 ∷ byte 0x12
@@ -1000,8 +1063,8 @@ file104 =
     ∷ byte 0x02 ∷ zeros 6 ∷ text "bbbba" ∷ blanks 19 ∷ byte 0xD3 ∷ zeros 39
     ∷ zeros 160 ∷ []
 
-abbrev pub file105 : Parts
-file105 =
+abbrev pub file118 : Parts
+file118 =
     text "TKF" ∷ byte 0x01 ∷ byte 0x00 ∷ byte 0x02 ∷ byte 0x03 ∷ zeros 9
     ∷ byte 0x01 ∷ byte 0x02 ∷ byte 0x00 ∷ byte 0x02 ∷ zeros 28 ∷ text "xx" ∷ zeros 30 ∷ text "xx" ∷ blanks 22
     ∷ byte 0xA9 ∷ byte 0x0C ∷ byte 0x8E ∷ byte 0x87 ∷ text "lK" ∷ byte 0x9F ∷ byte 0x8D ∷ text "xxxz" ∷ blanks 20
@@ -1011,8 +1074,8 @@ file105 =
     ∷ byte 0xFF
     ∷ zeros 128 ∷ []
 
-abbrev pub file106 : Parts
-file106 =
+abbrev pub file119 : Parts
+file119 =
     text "TKF" ∷ byte 0x01 ∷ byte 0x00 ∷ byte 0x02 ∷ byte 0x02 ∷ zeros 9
     ∷ byte 0x01 ∷ byte 0x02 ∷ byte 0x00 ∷ byte 0x05 ∷ zeros 28 ∷ text "oonnn" ∷ zeros 27 ∷ text "oonnnio" ∷ blanks 17
     ∷ byte 0xE6 ∷ zeros 7 ∷ text "oonnin" ∷ blanks 18 ∷ text "#" ∷ byte 0x01 ∷ zeros 6
@@ -1020,8 +1083,8 @@ file106 =
     ∷ byte 0x01 ∷ zeros 6 ∷ text "oonnooo" ∷ blanks 17 ∷ byte 0x8F ∷ text "d" ∷ byte 0x04 ∷ byte 0xFC ∷ byte 0xF2
     ∷ byte 0x22 ∷ byte 0xEA ∷ byte 0x0D ∷ []
 
-abbrev pub file107 : Parts
-file107 =
+abbrev pub file120 : Parts
+file120 =
     text "TKF" ∷ byte 0x01 ∷ byte 0x00 ∷ byte 0x02 ∷ byte 0x02 ∷ zeros 9
     ∷ byte 0x01 ∷ byte 0x02 ∷ byte 0xFF ∷ byte 0x04 ∷ zeros 28 ∷ text "oon" ∷ byte 0x20 ∷ zeros 28 ∷ text "ooio"
     ∷ blanks 20 ∷ byte 0x93 ∷ byte 0x01 ∷ zeros 6 ∷ text "oon" ∷ blanks 21 ∷ byte 0xA3 ∷ byte 0xB5 ∷ byte 0x82
@@ -1029,14 +1092,14 @@ file107 =
     ∷ byte 0x01 ∷ byte 0x01 ∷ byte 0x04 ∷ zeros 5 ∷ text "oon" ∷ byte 0x20 ∷ zeros 52 ∷ text "oonni" ∷ blanks 19
     ∷ byte 0xFF ∷ byte 0xFF ∷ byte 0xFF ∷ byte 0xFF ∷ byte 0xFF ∷ byte 0xFF ∷ byte 0xFF ∷ byte 0xFF ∷ zeros 32 ∷ []
 
-abbrev pub file108 : Parts
-file108 =
+abbrev pub file121 : Parts
+file121 =
     text "TKF" ∷ byte 0x01 ∷ byte 0x00 ∷ byte 0x02 ∷ byte 0x01 ∷ zeros 9
     ∷ byte 0x01 ∷ byte 0x02 ∷ byte 0x00 ∷ byte 0x04 ∷ text "'" ∷ zeros 27 ∷ text "bbba" ∷ zeros 28 ∷ text "bbba"
     ∷ blanks 20 ∷ text "{" ∷ byte 0x02 ∷ zeros 6 ∷ text "bbbaa" ∷ blanks 19 ∷ byte 0x16 ∷ zeros 7 ∷ []
 
-abbrev pub file109 : Parts
-file109 =
+abbrev pub file122 : Parts
+file122 =
     text "TKF" ∷ byte 0x01 ∷ byte 0x00 ∷ byte 0x02 ∷ byte 0x04 ∷ zeros 9
     ∷ byte 0x01 ∷ byte 0x02 ∷ byte 0x00 ∷ byte 0x05 ∷ zeros 28 ∷ text "rate2" ∷ zeros 27 ∷ text "rate1" ∷ blanks 19
     ∷ byte 0x01 ∷ zeros 7 ∷ text "rate2" ∷ blanks 19 ∷ byte 0x01 ∷ zeros 7
@@ -1045,23 +1108,23 @@ file109 =
     ∷ zeros 128
     ∷ zeros 128 ∷ []
 
-abbrev pub file110 : Parts
-file110 =
+abbrev pub file123 : Parts
+file123 =
     text "TKF" ∷ byte 0x01 ∷ byte 0x00 ∷ byte 0x02 ∷ byte 0x02 ∷ zeros 9
     ∷ byte 0x01 ∷ byte 0x02 ∷ byte 0x00 ∷ byte 0x01 ∷ zeros 28 ∷ text "y" ∷ zeros 31 ∷ text "xy" ∷ blanks 22 ∷ byte 0x92
     ∷ zeros 7 ∷ text "y" ∷ blanks 23 ∷ text "+" ∷ zeros 7
     ∷ byte 0x01 ∷ byte 0x01 ∷ byte 0x01 ∷ zeros 5 ∷ text "y" ∷ zeros 55 ∷ text "z" ∷ blanks 23 ∷ byte 0xDF ∷ zeros 39
     ∷ []
 
-abbrev pub file111 : Parts
-file111 =
+abbrev pub file124 : Parts
+file124 =
     text "TKF" ∷ byte 0x01 ∷ byte 0x00 ∷ byte 0x03 ∷ byte 0x02 ∷ zeros 9
     ∷ byte 0x01 ∷ byte 0x02 ∷ zeros 62 ∷ text "}}a}a!}!!!}aaaa}!!}a}!!a@" ∷ byte 0x01 ∷ zeros 6
     ∷ text "}}a}a!}!!!}aaaa}!!}a}aa" ∷ byte 0x20 ∷ text "*" ∷ byte 0x03 ∷ zeros 38
     ∷ zeros 160 ∷ []
 
-abbrev pub file112 : Parts
-file112 =
+abbrev pub file125 : Parts
+file125 =
     text "TKF" ∷ byte 0x01 ∷ byte 0x00 ∷ byte 0x02 ∷ byte 0x04 ∷ zeros 9
     ∷ byte 0x01 ∷ byte 0x02 ∷ byte 0x00 ∷ byte 0x04 ∷ zeros 28 ∷ text "a!!!" ∷ zeros 28 ∷ text "a!!" ∷ blanks 21
     ∷ text "m" ∷ byte 0x02 ∷ zeros 6 ∷ text "a!!!!" ∷ blanks 19 ∷ byte 0xD9 ∷ byte 0x01 ∷ zeros 6
@@ -1070,8 +1133,8 @@ file112 =
     ∷ zeros 128
     ∷ zeros 128 ∷ []
 
-abbrev pub file113 : Parts
-file113 =
+abbrev pub file126 : Parts
+file126 =
     text "TKF" ∷ byte 0x01 ∷ byte 0x00 ∷ byte 0x03 ∷ byte 0x02 ∷ zeros 6 ∷ byte 0x01 ∷ zeros 2
     ∷ byte 0x01 ∷ byte 0x02 ∷ byte 0x02 ∷ zeros 5 ∷ text "xx" ∷ zeros 54 ∷ text "xyy" ∷ blanks 21 ∷ text "u" ∷ byte 0x01
     ∷ zeros 6 ∷ text "xyz" ∷ blanks 21 ∷ byte 0xD0 ∷ byte 0xEF ∷ text "Z`" ∷ byte 0xA9 ∷ byte 0x92 ∷ byte 0xA2
@@ -1079,8 +1142,8 @@ file113 =
     ∷ text "xxyyy" ∷ blanks 19 ∷ byte 0xC5 ∷ byte 0xB9 ∷ text "F" ∷ byte 0x1B ∷ text "5" ∷ byte 0xF1 ∷ text "<"
     ∷ byte 0xA2 ∷ text "xxzzx" ∷ blanks 19 ∷ byte 0x0A ∷ zeros 39 ∷ []
 
-abbrev pub file114 : Parts
-file114 =
+abbrev pub file127 : Parts
+file127 =
     text "TKF" ∷ byte 0x01 ∷ byte 0x00 ∷ byte 0x02 ∷ byte 0x04 ∷ zeros 9
     ∷ byte 0x01 ∷ byte 0x02 ∷ byte 0x00 ∷ byte 0x02 ∷ zeros 28 ∷ text "aa" ∷ zeros 30 ∷ text "a" ∷ blanks 23 ∷ byte 0xDD
     ∷ byte 0x01 ∷ zeros 6 ∷ text "aa" ∷ blanks 22 ∷ byte 0xE8 ∷ zeros 7
@@ -1092,8 +1155,8 @@ file114 =
     ∷ byte 0x01 ∷ byte 0x01 ∷ byte 0x02 ∷ byte 0x03 ∷ zeros 4 ∷ text "aa" ∷ zeros 22 ∷ text "ab" ∷ byte 0x20 ∷ zeros 29
     ∷ text "ab" ∷ blanks 22 ∷ zeros 40 ∷ []
 
-abbrev pub file115 : Parts
-file115 =
+abbrev pub file128 : Parts
+file128 =
     text "TKF" ∷ byte 0x01 ∷ byte 0x00 ∷ byte 0x03 ∷ byte 0x04 ∷ zeros 9
     ∷ byte 0x01 ∷ byte 0x02 ∷ byte 0x00 ∷ byte 0x02 ∷ zeros 28 ∷ text "zx" ∷ zeros 30 ∷ text "z" ∷ blanks 23
     ∷ text "2Gr" ∷ byte 0xC4 ∷ byte 0xE1 ∷ text "I]" ∷ byte 0xA7 ∷ text "zxy" ∷ blanks 21 ∷ byte 0xFF ∷ byte 0xFF
@@ -1104,8 +1167,8 @@ file115 =
     ∷ zeros 160
     ∷ zeros 160 ∷ []
 
-abbrev pub file116 : Parts
-file116 =
+abbrev pub file129 : Parts
+file129 =
     text "TKF" ∷ byte 0x01 ∷ byte 0x00 ∷ byte 0x03 ∷ byte 0x03 ∷ zeros 9
     ∷ byte 0x01 ∷ byte 0x02 ∷ byte 0x00 ∷ byte 0x01 ∷ zeros 28 ∷ text "i" ∷ zeros 31 ∷ text "i" ∷ blanks 23 ∷ zeros 8
     ∷ text "io" ∷ blanks 22 ∷ byte 0xBC ∷ text "!" ∷ byte 0xBF ∷ text "j" ∷ byte 0xB2 ∷ byte 0x88 ∷ text "H" ∷ byte 0xA7
@@ -1115,8 +1178,8 @@ file116 =
     ∷ zeros 32
     ∷ zeros 160 ∷ []
 
-abbrev pub file117 : Parts
-file117 =
+abbrev pub file130 : Parts
+file130 =
     text "TKF" ∷ byte 0x01 ∷ byte 0x00 ∷ byte 0x03 ∷ byte 0x03 ∷ zeros 9
     ∷ byte 0x01 ∷ byte 0x02 ∷ byte 0x00 ∷ byte 0x01 ∷ zeros 28 ∷ text "i" ∷ zeros 31 ∷ text "i" ∷ blanks 23 ∷ zeros 8
     ∷ text "io" ∷ blanks 22 ∷ byte 0xBC ∷ text "!" ∷ byte 0xBF ∷ text "j" ∷ byte 0xB2 ∷ byte 0x88 ∷ text "H" ∷ byte 0xA7
@@ -1126,16 +1189,16 @@ file117 =
     ∷ zeros 32
     ∷ zeros 160 ∷ []
 
-abbrev pub file118 : Parts
-file118 =
+abbrev pub file131 : Parts
+file131 =
     text "TKF" ∷ byte 0x01 ∷ byte 0x00 ∷ byte 0x02 ∷ byte 0x03 ∷ zeros 9
     ∷ byte 0x01 ∷ byte 0x02 ∷ zeros 62 ∷ text "a" ∷ blanks 23 ∷ text "." ∷ byte 0x01 ∷ zeros 6 ∷ text "aba" ∷ blanks 21
     ∷ byte 0xA2 ∷ byte 0x02 ∷ zeros 6
     ∷ zeros 128
     ∷ zeros 128 ∷ []
 
-abbrev pub file119 : Parts
-file119 =
+abbrev pub file132 : Parts
+file132 =
     text "TKF" ∷ byte 0x01 ∷ byte 0x00 ∷ byte 0x02 ∷ byte 0x03 ∷ zeros 9
     ∷ byte 0x01 ∷ byte 0x02 ∷ zeros 62 ∷ text "yyyx" ∷ blanks 20 ∷ text "n" ∷ zeros 7 ∷ text "yyzx" ∷ blanks 20
     ∷ byte 0xDC ∷ byte 0x02 ∷ zeros 6
@@ -1143,8 +1206,8 @@ file119 =
     ∷ byte 0x02 ∷ zeros 38
     ∷ zeros 128 ∷ []
 
-abbrev pub file120 : Parts
-file120 =
+abbrev pub file133 : Parts
+file133 =
     text "TKF" ∷ byte 0x01 ∷ byte 0x00 ∷ byte 0x02 ∷ byte 0x02 ∷ zeros 9
     ∷ byte 0x01 ∷ byte 0x02 ∷ byte 0x00 ∷ byte 0x03 ∷ zeros 28 ∷ text "str" ∷ zeros 29 ∷ text "st" ∷ blanks 22
     ∷ byte 0x02 ∷ text "," ∷ byte 0xD9 ∷ text "*n" ∷ byte 0x0F ∷ byte 0x84 ∷ text "ustrtt" ∷ blanks 19 ∷ text "f"
@@ -1152,16 +1215,16 @@ file120 =
     ∷ byte 0x01 ∷ byte 0x02 ∷ byte 0x03 ∷ zeros 5 ∷ text "str" ∷ zeros 53 ∷ text "stss" ∷ blanks 20 ∷ byte 0xDD
     ∷ byte 0x03 ∷ zeros 6 ∷ text "sttt" ∷ blanks 20 ∷ byte 0xB5 ∷ byte 0x03 ∷ zeros 6 ∷ []
 
-abbrev pub file121 : Parts
-file121 =
+abbrev pub file134 : Parts
+file134 =
     text "TKF" ∷ byte 0x01 ∷ byte 0x00 ∷ byte 0x02 ∷ byte 0x02 ∷ zeros 9
     ∷ byte 0x01 ∷ byte 0x02 ∷ byte 0x00 ∷ byte 0x03 ∷ zeros 28 ∷ text "str" ∷ zeros 29 ∷ text "st" ∷ blanks 22
     ∷ byte 0xAE ∷ byte 0x03 ∷ zeros 6 ∷ text "strtt" ∷ blanks 19 ∷ text "f" ∷ zeros 7
     ∷ byte 0x01 ∷ byte 0x02 ∷ byte 0x03 ∷ zeros 5 ∷ text "str" ∷ zeros 53 ∷ text "stss" ∷ blanks 20 ∷ byte 0xDD
     ∷ byte 0x03 ∷ zeros 6 ∷ text "sttt" ∷ blanks 20 ∷ byte 0xB5 ∷ byte 0x03 ∷ zeros 6 ∷ []
 
-abbrev pub file122 : Parts
-file122 =
+abbrev pub file135 : Parts
+file135 =
     text "TKF" ∷ byte 0x01 ∷ byte 0x00 ∷ byte 0x02 ∷ byte 0x04 ∷ zeros 9
     ∷ byte 0x01 ∷ byte 0x02 ∷ byte 0x00 ∷ byte 0x04 ∷ zeros 28 ∷ text "!}}!" ∷ zeros 28 ∷ text "!}}" ∷ blanks 21
     ∷ byte 0x85 ∷ text "6" ∷ byte 0xCA ∷ text "0'{" ∷ byte 0xBF ∷ byte 0x83 ∷ text "!}}!" ∷ blanks 20 ∷ byte 0xC5
@@ -1171,8 +1234,8 @@ file122 =
     ∷ zeros 128
     ∷ zeros 128 ∷ []
 
-abbrev pub file123 : Parts
-file123 =
+abbrev pub file136 : Parts
+file136 =
     text "TKF" ∷ byte 0x01 ∷ byte 0x00 ∷ byte 0x03 ∷ byte 0x04 ∷ zeros 9
     ∷ byte 0x01 ∷ byte 0x02 ∷ zeros 62 ∷ text "onooinioooin" ∷ blanks 12 ∷ byte 0xE1 ∷ zeros 7
     ∷ text "onooinioooiniioiinniini" ∷ byte 0x20 ∷ text "n" ∷ byte 0x02 ∷ zeros 38
@@ -1180,8 +1243,8 @@ file123 =
     ∷ zeros 160
     ∷ zeros 160 ∷ []
 
-abbrev pub file124 : Parts
-file124 =
+abbrev pub file137 : Parts
+file137 =
     text "TKF" ∷ byte 0x01 ∷ byte 0x00 ∷ byte 0x03 ∷ byte 0x04 ∷ zeros 9
     ∷ byte 0x01 ∷ byte 0x03 ∷ zeros 62 ∷ text "onooinioooin" ∷ blanks 12 ∷ byte 0xE1 ∷ zeros 7
     ∷ text "onooinioooiniioiinniini" ∷ byte 0x20 ∷ text "n" ∷ byte 0x02 ∷ zeros 6 ∷ text "onooinioooiniioiinnni"
@@ -1190,8 +1253,8 @@ file124 =
     ∷ zeros 160
     ∷ zeros 160 ∷ []
 
-abbrev pub file125 : Parts
-file125 =
+abbrev pub file138 : Parts
+file138 =
     text "TKF" ∷ byte 0x01 ∷ byte 0x00 ∷ byte 0x02 ∷ byte 0x03 ∷ zeros 9
     ∷ byte 0x01 ∷ byte 0x02 ∷ byte 0x00 ∷ byte 0x03 ∷ zeros 28 ∷ text "on" ∷ byte 0x20 ∷ zeros 29 ∷ text "oio"
     ∷ blanks 21 ∷ text "+" ∷ byte 0x02 ∷ zeros 6 ∷ text "on" ∷ blanks 22 ∷ byte 0xA6 ∷ zeros 7
@@ -1201,8 +1264,8 @@ file125 =
     ∷ text "onin" ∷ blanks 20 ∷ byte 0x0A ∷ byte 0x22 ∷ byte 0xD9 ∷ text "I" ∷ byte 0xC0 ∷ text "_;" ∷ byte 0xF3
     ∷ text "onon" ∷ blanks 20 ∷ byte 0xA1 ∷ byte 0x03 ∷ zeros 6 ∷ []
 
-abbrev pub file126 : Parts
-file126 =
+abbrev pub file139 : Parts
+file139 =
     text "TKF" ∷ byte 0x01 ∷ byte 0x00 ∷ byte 0x02 ∷ byte 0x04 ∷ zeros 9
     ∷ byte 0x01 ∷ byte 0x02 ∷ byte 0x00 ∷ byte 0x05 ∷ zeros 28 ∷ text "srttr" ∷ zeros 27 ∷ text "srtt" ∷ blanks 20
     ∷ text "<1HT" ∷ byte 0xC3 ∷ text "Oo4srttr" ∷ blanks 19 ∷ text "J" ∷ byte 0x01 ∷ zeros 6
@@ -1211,8 +1274,8 @@ file126 =
     ∷ zeros 128
     ∷ zeros 128 ∷ []
 
-abbrev pub file127 : Parts
-file127 =
+abbrev pub file140 : Parts
+file140 =
     text "TKF" ∷ byte 0x01 ∷ byte 0x00 ∷ byte 0x02 ∷ byte 0x04 ∷ zeros 9
     ∷ byte 0x01 ∷ byte 0x02 ∷ byte 0x00 ∷ byte 0x06 ∷ zeros 28 ∷ text "srttr" ∷ byte 0x20 ∷ zeros 26 ∷ text "srtt"
     ∷ blanks 20 ∷ text "<1HT" ∷ byte 0xC3 ∷ text "Oo4srttr" ∷ blanks 19 ∷ text "J" ∷ byte 0x01 ∷ zeros 6
@@ -1222,8 +1285,8 @@ file127 =
     ∷ zeros 27 ∷ text "srttrr" ∷ blanks 18 ∷ text "r" ∷ byte 0x02 ∷ zeros 38
     ∷ zeros 128 ∷ []
 
-abbrev pub file128 : Parts
-file128 =
+abbrev pub file141 : Parts
+file141 =
     text "TKF" ∷ byte 0x01 ∷ byte 0x00 ∷ byte 0x02 ∷ byte 0x04 ∷ zeros 9
     ∷ byte 0x01 ∷ byte 0x02 ∷ byte 0x00 ∷ byte 0x03 ∷ zeros 28 ∷ text "!}" ∷ byte 0x20 ∷ zeros 29 ∷ text "!" ∷ blanks 23
     ∷ text "4" ∷ byte 0x01 ∷ zeros 6 ∷ text "!}" ∷ blanks 22 ∷ byte 0xC8 ∷ byte 0x01 ∷ zeros 6
@@ -1232,8 +1295,8 @@ file128 =
     ∷ zeros 128
     ∷ zeros 128 ∷ []
 
-abbrev pub file129 : Parts
-file129 =
+abbrev pub file142 : Parts
+file142 =
     text "TKF" ∷ byte 0x01 ∷ byte 0x00 ∷ byte 0x02 ∷ byte 0x04 ∷ zeros 9
     ∷ byte 0x01 ∷ byte 0x02 ∷ byte 0x00 ∷ byte 0x03 ∷ zeros 28 ∷ text "!}" ∷ byte 0x20 ∷ zeros 29 ∷ text "!" ∷ blanks 23
     ∷ text "4" ∷ byte 0x01 ∷ zeros 6 ∷ text "!}" ∷ blanks 22 ∷ byte 0xC8 ∷ byte 0x01 ∷ zeros 6
@@ -1242,16 +1305,16 @@ file129 =
     ∷ zeros 128
     ∷ zeros 128 ∷ []
 
-abbrev pub file130 : Parts
-file130 =
+abbrev pub file143 : Parts
+file143 =
     text "TKF" ∷ byte 0x01 ∷ byte 0x00 ∷ byte 0x03 ∷ byte 0x02 ∷ zeros 9
     ∷ byte 0x01 ∷ byte 0x03 ∷ zeros 62 ∷ text "abbaaaababaaaaaaabab" ∷ blanks 4 ∷ text "N" ∷ byte 0x01 ∷ zeros 6
     ∷ text "abbaaaababaaaaaaababa" ∷ blanks 3 ∷ byte 0x81 ∷ byte 0x03 ∷ zeros 6 ∷ text "abbaaaababaaaaaaababaaa"
     ∷ byte 0x20 ∷ byte 0xCC ∷ byte 0x02 ∷ zeros 6
     ∷ zeros 160 ∷ []
 
-abbrev pub file131 : Parts
-file131 =
+abbrev pub file144 : Parts
+file144 =
     text "TKF" ∷ byte 0x01 ∷ byte 0x00 ∷ byte 0x03 ∷ byte 0x02 ∷ zeros 9
     ∷ byte 0x01 ∷ byte 0x02 ∷ byte 0x00 ∷ byte 0x16 ∷ zeros 28 ∷ text "abbaaaababaaaaaaababa" ∷ byte 0x20 ∷ zeros 10
     ∷ text "abbaaaababaaaaaaabab" ∷ blanks 4 ∷ text "N" ∷ byte 0x01 ∷ zeros 6 ∷ text "abbaaaababaaaaaaababa" ∷ blanks 3
@@ -1260,8 +1323,8 @@ file131 =
     ∷ text "abbaaaababaaaaaaababaa" ∷ blanks 2 ∷ byte 0x99 ∷ byte 0x02 ∷ zeros 6 ∷ text "abbaaaababaaaaaaababaaa"
     ∷ byte 0x20 ∷ byte 0xCC ∷ byte 0x02 ∷ zeros 38 ∷ []
 
-abbrev pub file132 : Parts
-file132 =
+abbrev pub file145 : Parts
+file145 =
     text "TKF" ∷ byte 0x01 ∷ byte 0x00 ∷ byte 0x03 ∷ byte 0x03 ∷ zeros 9
     ∷ byte 0x01 ∷ byte 0x02 ∷ byte 0x00 ∷ byte 0x02 ∷ zeros 28 ∷ text "a" ∷ byte 0x20 ∷ zeros 30 ∷ text "!" ∷ blanks 24
     ∷ byte 0x8F ∷ byte 0xCE ∷ byte 0xAD ∷ byte 0xE8 ∷ text "l" ∷ byte 0xF2 ∷ byte 0x14 ∷ text "a" ∷ blanks 23
@@ -1271,8 +1334,8 @@ file132 =
     ∷ text "aa" ∷ blanks 22 ∷ text "D" ∷ byte 0x03 ∷ zeros 6 ∷ text "a}!" ∷ blanks 21 ∷ text "P" ∷ byte 0x03 ∷ zeros 38
     ∷ []
 
-abbrev pub file133 : Parts
-file133 =
+abbrev pub file146 : Parts
+file146 =
     text "TKF" ∷ byte 0x01 ∷ byte 0x00 ∷ byte 0x03 ∷ byte 0x03 ∷ zeros 9
     ∷ byte 0x01 ∷ byte 0x02 ∷ byte 0x00 ∷ byte 0x02 ∷ zeros 28 ∷ text "a" ∷ byte 0x20 ∷ zeros 30 ∷ text "!" ∷ blanks 24
     ∷ byte 0x8F ∷ byte 0xCE ∷ byte 0xAD ∷ byte 0xE8 ∷ text "l" ∷ byte 0xF2 ∷ byte 0x14 ∷ text "a" ∷ blanks 23
@@ -1283,8 +1346,8 @@ file133 =
     ∷ text "aa" ∷ blanks 22 ∷ text "D" ∷ byte 0x03 ∷ zeros 6 ∷ text "a}!" ∷ blanks 21 ∷ text "P" ∷ byte 0x03 ∷ zeros 38
     ∷ []
 
-abbrev pub file134 : Parts
-file134 =
+abbrev pub file147 : Parts
+file147 =
     text "TKF" ∷ byte 0x01 ∷ byte 0x00 ∷ byte 0x02 ∷ byte 0x03 ∷ zeros 9
     ∷ byte 0x01 ∷ byte 0x02 ∷ byte 0x00 ∷ byte 0x04 ∷ zeros 28 ∷ text "srr" ∷ byte 0x20 ∷ zeros 28 ∷ text "s"
     ∷ blanks 23 ∷ byte 0xF8 ∷ byte 0x02 ∷ zeros 6 ∷ text "srr" ∷ blanks 21 ∷ byte 0x07 ∷ byte 0x02 ∷ zeros 6
@@ -1293,8 +1356,8 @@ file134 =
     ∷ byte 0x01 ∷ byte 0x02 ∷ byte 0x04 ∷ byte 0x02 ∷ zeros 4 ∷ text "srr" ∷ byte 0x20 ∷ zeros 20 ∷ text "sr" ∷ zeros 30
     ∷ text "srrs" ∷ blanks 20 ∷ byte 0xA6 ∷ byte 0x03 ∷ zeros 6 ∷ text "srtss" ∷ blanks 19 ∷ byte 0xEB ∷ zeros 7 ∷ []
 
-abbrev pub file135 : Parts
-file135 =
+abbrev pub file148 : Parts
+file148 =
     text "TKF" ∷ byte 0x01 ∷ byte 0x00 ∷ byte 0x02 ∷ byte 0x04 ∷ zeros 9
     ∷ byte 0x01 ∷ byte 0x02 ∷ byte 0x00 ∷ byte 0x03 ∷ zeros 28 ∷ text "bba" ∷ zeros 29 ∷ text "bb" ∷ blanks 22
     ∷ byte 0x89 ∷ zeros 7 ∷ text "bbaa" ∷ blanks 20 ∷ text "S" ∷ zeros 7
@@ -1305,8 +1368,8 @@ file135 =
     ∷ byte 0xEA ∷ text "o" ∷ zeros 32
     ∷ zeros 128 ∷ []
 
-abbrev pub file136 : Parts
-file136 =
+abbrev pub file149 : Parts
+file149 =
     text "TKF" ∷ byte 0x01 ∷ byte 0x00 ∷ byte 0x02 ∷ byte 0x04 ∷ zeros 9
     ∷ byte 0x01 ∷ byte 0x02 ∷ byte 0x00 ∷ byte 0x05 ∷ zeros 28 ∷ text "bbaa" ∷ byte 0x20 ∷ zeros 27 ∷ text "bb"
     ∷ blanks 22 ∷ byte 0x89 ∷ zeros 7 ∷ text "bbaa" ∷ blanks 20 ∷ text "S" ∷ zeros 7
@@ -1318,8 +1381,8 @@ file136 =
     ∷ byte 0x01 ∷ byte 0x01 ∷ byte 0x05 ∷ byte 0x03 ∷ zeros 4 ∷ text "bbaa" ∷ byte 0x20 ∷ zeros 19 ∷ text "bba"
     ∷ zeros 29 ∷ text "bbaab" ∷ blanks 19 ∷ text "2" ∷ byte 0x02 ∷ zeros 38 ∷ []
 
-abbrev pub file137 : Parts
-file137 =
+abbrev pub file150 : Parts
+file150 =
     text "TKF" ∷ byte 0x01 ∷ byte 0x00 ∷ byte 0x03 ∷ byte 0x03 ∷ zeros 9
     ∷ byte 0x01 ∷ byte 0x03 ∷ zeros 62 ∷ text "ba" ∷ blanks 22 ∷ byte 0xA7 ∷ byte 0x91 ∷ byte 0x01 ∷ text "c"
     ∷ byte 0xFA ∷ byte 0xB7 ∷ text "10baa" ∷ blanks 21 ∷ text "*" ∷ byte 0x02 ∷ zeros 6 ∷ text "baab" ∷ blanks 20
@@ -1327,8 +1390,8 @@ file137 =
     ∷ zeros 160
     ∷ zeros 160 ∷ []
 
-abbrev pub file138 : Parts
-file138 =
+abbrev pub file151 : Parts
+file151 =
     text "TKF" ∷ byte 0x01 ∷ byte 0x00 ∷ byte 0x03 ∷ byte 0x03 ∷ zeros 9
     ∷ byte 0x01 ∷ byte 0x03 ∷ zeros 62 ∷ text "ba" ∷ blanks 22 ∷ byte 0xA7 ∷ byte 0x91 ∷ byte 0x01 ∷ text "c"
     ∷ byte 0xFA ∷ byte 0xB7 ∷ text "10baa" ∷ blanks 21 ∷ text "*" ∷ byte 0x02 ∷ zeros 6 ∷ text "baab" ∷ blanks 20
@@ -1337,8 +1400,8 @@ file138 =
     ∷ text "=" ∷ zeros 7 ∷ text "baabb" ∷ blanks 19 ∷ byte 0xB1 ∷ zeros 39
     ∷ zeros 160 ∷ []
 
-abbrev pub file139 : Parts
-file139 =
+abbrev pub file152 : Parts
+file152 =
     text "TKF" ∷ byte 0x01 ∷ byte 0x00 ∷ byte 0x02 ∷ byte 0x04 ∷ zeros 9
     ∷ byte 0x01 ∷ byte 0x02 ∷ byte 0x00 ∷ byte 0x02 ∷ zeros 28 ∷ text "!!" ∷ zeros 30 ∷ text "!" ∷ blanks 23 ∷ byte 0x8D
     ∷ byte 0x03 ∷ zeros 6 ∷ text "!!" ∷ blanks 22 ∷ text ">" ∷ byte 0x01 ∷ zeros 6
@@ -1348,8 +1411,8 @@ file139 =
     ∷ zeros 38
     ∷ zeros 128 ∷ []
 
-abbrev pub file140 : Parts
-file140 =
+abbrev pub file153 : Parts
+file153 =
     text "TKF" ∷ byte 0x01 ∷ byte 0x00 ∷ byte 0x02 ∷ byte 0x04 ∷ zeros 9
     ∷ byte 0x01 ∷ byte 0x02 ∷ byte 0x00 ∷ byte 0x02 ∷ zeros 28 ∷ text "!!" ∷ zeros 30 ∷ text "!" ∷ blanks 23 ∷ byte 0x8D
     ∷ byte 0x03 ∷ zeros 6 ∷ text "!!" ∷ blanks 22 ∷ text ">" ∷ byte 0x01 ∷ zeros 6
@@ -1360,8 +1423,8 @@ file140 =
     ∷ byte 0x01 ∷ byte 0x01 ∷ byte 0x04 ∷ byte 0x01 ∷ zeros 4 ∷ text "!}}!" ∷ zeros 20 ∷ text "!" ∷ zeros 31
     ∷ text "!}}}!}" ∷ blanks 18 ∷ text "4" ∷ byte 0x01 ∷ zeros 38 ∷ []
 
-abbrev pub file141 : Parts
-file141 =
+abbrev pub file154 : Parts
+file154 =
     text "TKF" ∷ byte 0x01 ∷ byte 0x00 ∷ byte 0x02 ∷ byte 0x03 ∷ zeros 9
     ∷ byte 0x01 ∷ byte 0x02 ∷ byte 0x00 ∷ byte 0x02 ∷ zeros 28 ∷ text "zx" ∷ zeros 30 ∷ text "x" ∷ blanks 23 ∷ text "b"
     ∷ zeros 7 ∷ text "zxx" ∷ blanks 21 ∷ text "h" ∷ byte 0x01 ∷ zeros 6
@@ -1369,8 +1432,8 @@ file141 =
     ∷ zeros 38
     ∷ zeros 128 ∷ []
 
-abbrev pub file142 : Parts
-file142 =
+abbrev pub file155 : Parts
+file155 =
     text "TKF" ∷ byte 0x01 ∷ byte 0x00 ∷ byte 0x02 ∷ byte 0x03 ∷ zeros 9
     ∷ byte 0x01 ∷ byte 0x02 ∷ byte 0x00 ∷ byte 0x02 ∷ zeros 28 ∷ text "zx" ∷ zeros 30 ∷ text "x" ∷ blanks 23 ∷ text "b"
     ∷ zeros 7 ∷ text "zxx" ∷ blanks 21 ∷ text "h" ∷ byte 0x01 ∷ zeros 6
@@ -1379,8 +1442,8 @@ file142 =
     ∷ byte 0x01 ∷ byte 0x01 ∷ byte 0x02 ∷ byte 0x02 ∷ zeros 4 ∷ text "z" ∷ byte 0x20 ∷ zeros 22 ∷ text "zx" ∷ zeros 30
     ∷ text "zxx" ∷ blanks 21 ∷ text "h" ∷ byte 0x01 ∷ zeros 38 ∷ []
 
-abbrev pub file143 : Parts
-file143 =
+abbrev pub file156 : Parts
+file156 =
     text "TKF" ∷ byte 0x01 ∷ byte 0x00 ∷ byte 0x02 ∷ byte 0x04 ∷ zeros 9
     ∷ byte 0x01 ∷ byte 0x02 ∷ byte 0x00 ∷ byte 0x02 ∷ zeros 28 ∷ text "b" ∷ byte 0x20 ∷ zeros 30 ∷ text "abb"
     ∷ blanks 21 ∷ text "z" ∷ byte 0x03 ∷ zeros 6 ∷ text "b" ∷ blanks 23 ∷ byte 0xA9 ∷ byte 0x01 ∷ zeros 6
@@ -1390,8 +1453,8 @@ file143 =
     ∷ zeros 128
     ∷ zeros 128 ∷ []
 
-abbrev pub file144 : Parts
-file144 =
+abbrev pub file157 : Parts
+file157 =
     text "TKF" ∷ byte 0x01 ∷ byte 0x00 ∷ byte 0x02 ∷ byte 0x04 ∷ zeros 9
     ∷ byte 0x01 ∷ byte 0x02 ∷ byte 0x00 ∷ byte 0x01 ∷ zeros 28 ∷ text "a" ∷ zeros 31 ∷ text "aaa" ∷ blanks 21
     ∷ byte 0xC8 ∷ byte 0x03 ∷ zeros 6 ∷ text "abb" ∷ blanks 21 ∷ text "z" ∷ byte 0x03 ∷ zeros 6
@@ -1402,8 +1465,8 @@ file144 =
     ∷ text "b" ∷ blanks 23 ∷ byte 0xA9 ∷ byte 0x01 ∷ zeros 38
     ∷ zeros 128 ∷ []
 
-abbrev pub file145 : Parts
-file145 =
+abbrev pub file158 : Parts
+file158 =
     text "TKF" ∷ byte 0x01 ∷ byte 0x00 ∷ byte 0x02 ∷ byte 0x04 ∷ zeros 9
     ∷ byte 0x01 ∷ byte 0x02 ∷ byte 0x00 ∷ byte 0x02 ∷ zeros 28 ∷ text "n" ∷ byte 0x20 ∷ zeros 30 ∷ text "iin"
     ∷ blanks 21 ∷ byte 0xC9 ∷ byte 0x02 ∷ zeros 6 ∷ text "n" ∷ blanks 23 ∷ text "A" ∷ zeros 7
@@ -1413,8 +1476,8 @@ file145 =
     ∷ text "v'" ∷ byte 0xD4 ∷ byte 0x89 ∷ byte 0x15 ∷ byte 0xE6 ∷ byte 0xBD ∷ byte 0x10 ∷ zeros 32
     ∷ zeros 128 ∷ []
 
-abbrev pub file146 : Parts
-file146 =
+abbrev pub file159 : Parts
+file159 =
     text "TKF" ∷ byte 0x01 ∷ byte 0x00 ∷ byte 0x02 ∷ byte 0x04 ∷ zeros 9
     ∷ byte 0x01 ∷ byte 0x02 ∷ byte 0x00 ∷ byte 0x02 ∷ zeros 28 ∷ text "n" ∷ byte 0x20 ∷ zeros 30 ∷ text "iin"
     ∷ blanks 21 ∷ byte 0xC9 ∷ byte 0x02 ∷ zeros 6 ∷ text "n" ∷ blanks 23 ∷ text "A" ∷ zeros 7
@@ -1426,8 +1489,8 @@ file146 =
     ∷ byte 0x01 ∷ byte 0x01 ∷ byte 0x01 ∷ byte 0x03 ∷ zeros 4 ∷ text "n" ∷ zeros 23 ∷ text "oo" ∷ byte 0x20 ∷ zeros 29
     ∷ text "oo" ∷ blanks 22 ∷ byte 0xAD ∷ zeros 39 ∷ []
 
-abbrev pub file147 : Parts
-file147 =
+abbrev pub file160 : Parts
+file160 =
     text "TKF" ∷ byte 0x01 ∷ byte 0x00 ∷ byte 0x02 ∷ byte 0x03 ∷ zeros 9
     ∷ byte 0x01 ∷ byte 0x02 ∷ byte 0x00 ∷ byte 0x02 ∷ zeros 28 ∷ text "a" ∷ byte 0x20 ∷ zeros 30 ∷ text "!}" ∷ blanks 22
     ∷ byte 0x9F ∷ byte 0x01 ∷ zeros 6 ∷ text "a" ∷ blanks 23 ∷ byte 0xF6 ∷ byte 0x01 ∷ zeros 6
@@ -1436,8 +1499,8 @@ file147 =
     ∷ byte 0x5C ∷ zeros 7
     ∷ zeros 128 ∷ []
 
-abbrev pub file148 : Parts
-file148 =
+abbrev pub file161 : Parts
+file161 =
     text "TKF" ∷ byte 0x01 ∷ byte 0x00 ∷ byte 0x02 ∷ byte 0x03 ∷ zeros 9
     ∷ byte 0x01 ∷ byte 0x02 ∷ byte 0x00 ∷ byte 0x02 ∷ zeros 28 ∷ text "a" ∷ byte 0x20 ∷ zeros 30 ∷ text "!}" ∷ blanks 22
     ∷ byte 0x9F ∷ byte 0x01 ∷ zeros 6 ∷ text "a" ∷ blanks 23 ∷ byte 0xF6 ∷ byte 0x01 ∷ zeros 6
@@ -1447,8 +1510,8 @@ file148 =
     ∷ byte 0x01 ∷ byte 0x01 ∷ byte 0x03 ∷ zeros 5 ∷ text "}}" ∷ byte 0x20 ∷ zeros 53 ∷ text "}}}" ∷ blanks 21
     ∷ byte 0xD9 ∷ byte 0x01 ∷ zeros 38 ∷ []
 
-abbrev pub file149 : Parts
-file149 =
+abbrev pub file162 : Parts
+file162 =
     text "TKF" ∷ byte 0x01 ∷ byte 0x00 ∷ byte 0x02 ∷ byte 0x03 ∷ zeros 9
     ∷ byte 0x01 ∷ byte 0x02 ∷ byte 0x00 ∷ byte 0x04 ∷ zeros 28 ∷ text "str" ∷ byte 0x20 ∷ zeros 28 ∷ text "st"
     ∷ blanks 22 ∷ byte 0x9F ∷ byte 0x01 ∷ zeros 6 ∷ text "str" ∷ blanks 21 ∷ text "I" ∷ byte 0xD0 ∷ byte 0x8B
@@ -1458,8 +1521,8 @@ file149 =
     ∷ byte 0xC1 ∷ text ")" ∷ byte 0xD5 ∷ text "w"
     ∷ zeros 128 ∷ []
 
-abbrev pub file150 : Parts
-file150 =
+abbrev pub file163 : Parts
+file163 =
     text "TKF" ∷ byte 0x01 ∷ byte 0x00 ∷ byte 0x02 ∷ byte 0x03 ∷ zeros 9
     ∷ byte 0x01 ∷ byte 0x02 ∷ byte 0x00 ∷ byte 0x04 ∷ zeros 28 ∷ text "str" ∷ byte 0x20 ∷ zeros 28 ∷ text "st"
     ∷ blanks 22 ∷ byte 0x9F ∷ byte 0x01 ∷ zeros 6 ∷ text "str" ∷ blanks 21 ∷ text "I" ∷ byte 0xD0 ∷ byte 0x8B
@@ -1470,8 +1533,8 @@ file150 =
     ∷ byte 0x01 ∷ byte 0x01 ∷ byte 0x03 ∷ zeros 5 ∷ text "str" ∷ zeros 53 ∷ text "sttr" ∷ blanks 20 ∷ text "("
     ∷ byte 0x01 ∷ zeros 38 ∷ []
 
-abbrev pub file151 : Parts
-file151 =
+abbrev pub file164 : Parts
+file164 =
     text "TKF" ∷ byte 0x01 ∷ byte 0x00 ∷ byte 0x02 ∷ byte 0x04 ∷ zeros 9
     ∷ byte 0x01 ∷ byte 0x02 ∷ byte 0x00 ∷ byte 0x03 ∷ zeros 28 ∷ text "a!a" ∷ zeros 29 ∷ text "a!!!" ∷ blanks 20
     ∷ byte 0x07 ∷ byte 0x02 ∷ zeros 6 ∷ text "a!a!" ∷ blanks 20 ∷ zeros 8
@@ -1480,8 +1543,8 @@ file151 =
     ∷ zeros 128
     ∷ zeros 128 ∷ []
 
-abbrev pub file152 : Parts
-file152 =
+abbrev pub file165 : Parts
+file165 =
     text "TKF" ∷ byte 0x01 ∷ byte 0x00 ∷ byte 0x02 ∷ byte 0x04 ∷ zeros 9
     ∷ byte 0x01 ∷ byte 0x02 ∷ byte 0x00 ∷ byte 0x03 ∷ zeros 28 ∷ text "a!a" ∷ zeros 29 ∷ text "a!!!" ∷ blanks 20
     ∷ byte 0x07 ∷ byte 0x02 ∷ zeros 6 ∷ text "a!a!" ∷ blanks 20 ∷ zeros 8
@@ -1491,8 +1554,8 @@ file152 =
     ∷ byte 0xDF ∷ byte 0xEC ∷ byte 0x14 ∷ text ":" ∷ byte 0xE4 ∷ byte 0xB0 ∷ byte 0x9A ∷ byte 0x5C ∷ zeros 32
     ∷ zeros 128 ∷ []
 
-abbrev pub file153 : Parts
-file153 =
+abbrev pub file166 : Parts
+file166 =
     text "TKF" ∷ byte 0x01 ∷ byte 0x00 ∷ byte 0x03 ∷ byte 0x04 ∷ zeros 9
     ∷ byte 0x01 ∷ byte 0x02 ∷ byte 0x00 ∷ byte 0x06 ∷ zeros 28 ∷ text "aaaba" ∷ byte 0x20 ∷ zeros 26 ∷ text "aaab"
     ∷ blanks 20 ∷ byte 0xE9 ∷ byte 0xCE ∷ text "t=" ∷ byte 0xE9 ∷ text "HN" ∷ byte 0xF9 ∷ text "aaaba" ∷ blanks 19
@@ -1503,8 +1566,8 @@ file153 =
     ∷ zeros 160
     ∷ zeros 160 ∷ []
 
-abbrev pub file154 : Parts
-file154 =
+abbrev pub file167 : Parts
+file167 =
     text "TKF" ∷ byte 0x01 ∷ byte 0x00 ∷ byte 0x03 ∷ byte 0x04 ∷ zeros 9
     ∷ byte 0x01 ∷ byte 0x02 ∷ byte 0x00 ∷ byte 0x06 ∷ zeros 28 ∷ text "aaaba" ∷ byte 0x20 ∷ zeros 26 ∷ text "aaab"
     ∷ blanks 20 ∷ byte 0xE9 ∷ byte 0xCE ∷ text "t=" ∷ byte 0xE9 ∷ text "HN" ∷ byte 0xF9 ∷ text "aaaba" ∷ blanks 19
@@ -1516,8 +1579,8 @@ file154 =
     ∷ byte 0x02 ∷ zeros 6 ∷ text "aaabbba" ∷ blanks 17 ∷ text "H" ∷ zeros 39
     ∷ zeros 160 ∷ []
 
-abbrev pub file155 : Parts
-file155 =
+abbrev pub file168 : Parts
+file168 =
     text "TKF" ∷ byte 0x01 ∷ byte 0x00 ∷ byte 0x02 ∷ byte 0x03 ∷ zeros 9
     ∷ byte 0x01 ∷ byte 0x02 ∷ byte 0x00 ∷ byte 0x04 ∷ zeros 28 ∷ text "}}!" ∷ byte 0x20 ∷ zeros 28 ∷ text "}}"
     ∷ blanks 22 ∷ text "q" ∷ byte 0x03 ∷ zeros 6 ∷ text "}}!" ∷ blanks 21 ∷ byte 0x99 ∷ zeros 7
@@ -1525,8 +1588,8 @@ file155 =
     ∷ byte 0x01 ∷ byte 0x01 ∷ byte 0x04 ∷ byte 0x03 ∷ zeros 4 ∷ text "}}!" ∷ byte 0x20 ∷ zeros 20 ∷ text "}}!"
     ∷ zeros 29 ∷ text "}}!!!" ∷ blanks 19 ∷ byte 0xEE ∷ byte 0x02 ∷ zeros 38 ∷ []
 
-abbrev pub file156 : Parts
-file156 =
+abbrev pub file169 : Parts
+file169 =
     text "TKF" ∷ byte 0x01 ∷ byte 0x00 ∷ byte 0x02 ∷ byte 0x04 ∷ zeros 9
     ∷ byte 0x01 ∷ byte 0x02 ∷ byte 0x00 ∷ byte 0x17 ∷ zeros 28 ∷ text "ttttsstsrssrststtstrss" ∷ byte 0x20 ∷ zeros 9
     ∷ text "ttttsstsrssrrrr" ∷ blanks 9 ∷ byte 0x05 ∷ byte 0x03 ∷ zeros 6 ∷ text "ttttsstsrssrststtstrss" ∷ blanks 2
@@ -1537,8 +1600,8 @@ file156 =
     ∷ zeros 128
     ∷ zeros 128 ∷ []
 
-abbrev pub file157 : Parts
-file157 =
+abbrev pub file170 : Parts
+file170 =
     text "TKF" ∷ byte 0x01 ∷ byte 0x00 ∷ byte 0x02 ∷ byte 0x04 ∷ zeros 9
     ∷ byte 0x01 ∷ byte 0x02 ∷ byte 0x00 ∷ byte 0x17 ∷ zeros 28 ∷ text "ttttsstsrssrststtstrss" ∷ byte 0x20 ∷ zeros 9
     ∷ text "ttttsstsrssrrrr" ∷ blanks 9 ∷ byte 0x05 ∷ byte 0x03 ∷ zeros 6 ∷ text "ttttsstsrssrststtstrss" ∷ blanks 2
@@ -1548,16 +1611,16 @@ file157 =
     ∷ zeros 128
     ∷ zeros 128 ∷ []
 
-abbrev pub file158 : Parts
-file158 =
+abbrev pub file171 : Parts
+file171 =
     text "TKF" ∷ byte 0x01 ∷ byte 0x00 ∷ byte 0x02 ∷ byte 0x02 ∷ zeros 9
     ∷ byte 0x01 ∷ byte 0x01 ∷ byte 0x00 ∷ byte 0x02 ∷ zeros 28 ∷ text "tr" ∷ zeros 30 ∷ text "trr" ∷ blanks 21
     ∷ byte 0x11 ∷ byte 0x01 ∷ zeros 38
     ∷ byte 0x01 ∷ byte 0x01 ∷ byte 0x02 ∷ zeros 5 ∷ text "tr" ∷ zeros 54 ∷ text "tst" ∷ blanks 21 ∷ text "m" ∷ byte 0x03
     ∷ zeros 38 ∷ []
 
-abbrev pub file159 : Parts
-file159 =
+abbrev pub file172 : Parts
+file172 =
     text "TKF" ∷ byte 0x01 ∷ byte 0x00 ∷ byte 0x03 ∷ byte 0x04 ∷ zeros 9
     ∷ byte 0x01 ∷ byte 0x03 ∷ zeros 62 ∷ text "xzx" ∷ blanks 21 ∷ zeros 8 ∷ text "xzxyz" ∷ blanks 19 ∷ byte 0xB6
     ∷ byte 0xB3 ∷ byte 0xC8 ∷ text "p" ∷ byte 0x95 ∷ byte 0xB9 ∷ byte 0xDA ∷ text "yxzxzyy" ∷ blanks 18 ∷ byte 0x1A
@@ -1567,8 +1630,8 @@ file159 =
     ∷ zeros 160
     ∷ zeros 160 ∷ []
 
-abbrev pub file160 : Parts
-file160 =
+abbrev pub file173 : Parts
+file173 =
     text "TKF" ∷ byte 0x01 ∷ byte 0x00 ∷ byte 0x03 ∷ byte 0x04 ∷ zeros 9
     ∷ byte 0x01 ∷ byte 0x01 ∷ byte 0x00 ∷ byte 0x02 ∷ zeros 28 ∷ text "zx" ∷ zeros 30 ∷ text "zxy" ∷ blanks 21
     ∷ text "`" ∷ byte 0x01 ∷ zeros 70
@@ -1578,8 +1641,8 @@ file160 =
     ∷ zeros 160
     ∷ zeros 160 ∷ []
 
-abbrev pub file161 : Parts
-file161 =
+abbrev pub file174 : Parts
+file174 =
     text "TKF" ∷ byte 0x01 ∷ byte 0x00 ∷ byte 0x02 ∷ byte 0x02 ∷ zeros 9
     ∷ byte 0x01 ∷ byte 0x02 ∷ byte 0x00 ∷ byte 0x04 ∷ zeros 28 ∷ text "}!}!" ∷ zeros 28 ∷ text "}!}" ∷ blanks 21
     ∷ byte 0xD7 ∷ zeros 7 ∷ text "}!}!" ∷ blanks 20 ∷ text "Y" ∷ zeros 7
@@ -1587,24 +1650,24 @@ file161 =
     ∷ byte 0x05 ∷ byte 0xB8 ∷ byte 0x13 ∷ byte 0xD6 ∷ byte 0x1C ∷ text "r" ∷ byte 0xCF ∷ text "}!}}}" ∷ blanks 19
     ∷ byte 0x91 ∷ zeros 7 ∷ []
 
-abbrev pub file162 : Parts
-file162 =
+abbrev pub file175 : Parts
+file175 =
     text "TKF" ∷ byte 0x01 ∷ byte 0x00 ∷ byte 0x02 ∷ byte 0x02 ∷ zeros 9
     ∷ byte 0x01 ∷ byte 0x02 ∷ byte 0x00 ∷ byte 0x05 ∷ zeros 28 ∷ text "nooo" ∷ byte 0x20 ∷ zeros 27 ∷ text "noo"
     ∷ blanks 21 ∷ byte 0x87 ∷ zeros 7 ∷ text "nooo" ∷ blanks 20 ∷ byte 0xA4 ∷ byte 0x03 ∷ zeros 6
     ∷ byte 0x01 ∷ byte 0x01 ∷ byte 0x05 ∷ zeros 5 ∷ text "nooo" ∷ byte 0x20 ∷ zeros 51 ∷ text "noooio" ∷ blanks 18
     ∷ byte 0xE7 ∷ byte 0x02 ∷ zeros 38 ∷ []
 
-abbrev pub file163 : Parts
-file163 =
+abbrev pub file176 : Parts
+file176 =
     text "TKF" ∷ byte 0x01 ∷ byte 0x00 ∷ byte 0x02 ∷ byte 0x02 ∷ zeros 9
     ∷ byte 0x01 ∷ byte 0x01 ∷ byte 0x00 ∷ byte 0x05 ∷ zeros 28 ∷ text "nooo" ∷ byte 0x20 ∷ zeros 27 ∷ text "nooo"
     ∷ blanks 20 ∷ byte 0xA4 ∷ byte 0x03 ∷ zeros 38
     ∷ byte 0x01 ∷ byte 0x01 ∷ byte 0x05 ∷ zeros 5 ∷ text "nooo" ∷ byte 0x20 ∷ zeros 51 ∷ text "noooio" ∷ blanks 18
     ∷ byte 0xE7 ∷ byte 0x02 ∷ zeros 38 ∷ []
 
-abbrev pub file164 : Parts
-file164 =
+abbrev pub file177 : Parts
+file177 =
     text "TKF" ∷ byte 0x01 ∷ byte 0x00 ∷ byte 0x03 ∷ byte 0x04 ∷ zeros 9
     ∷ byte 0x01 ∷ byte 0x02 ∷ byte 0x00 ∷ byte 0x05 ∷ zeros 28 ∷ text "yxyyx" ∷ zeros 27 ∷ text "yxyyx" ∷ blanks 19
     ∷ text "]" ∷ zeros 7 ∷ text "yxyyxz" ∷ blanks 18 ∷ byte 0x06 ∷ byte 0x01 ∷ zeros 38
@@ -1615,8 +1678,8 @@ file164 =
     ∷ byte 0xB2 ∷ byte 0x88 ∷ text "W" ∷ byte 0x8E ∷ zeros 32
     ∷ zeros 160 ∷ []
 
-abbrev pub file165 : Parts
-file165 =
+abbrev pub file178 : Parts
+file178 =
     text "TKF" ∷ byte 0x01 ∷ byte 0x00 ∷ byte 0x02 ∷ byte 0x04 ∷ zeros 9
     ∷ byte 0x01 ∷ byte 0x02 ∷ byte 0x00 ∷ byte 0x02 ∷ zeros 28 ∷ text "zy" ∷ zeros 30 ∷ text "xyy" ∷ blanks 21
     ∷ text "U" ∷ byte 0x02 ∷ zeros 6 ∷ text "zyy" ∷ blanks 21 ∷ byte 0xF7 ∷ byte 0x01 ∷ zeros 6
@@ -1626,8 +1689,8 @@ file165 =
     ∷ zeros 128
     ∷ zeros 128 ∷ []
 
-abbrev pub file166 : Parts
-file166 =
+abbrev pub file179 : Parts
+file179 =
     text "TKF" ∷ byte 0x01 ∷ byte 0x00 ∷ byte 0x02 ∷ byte 0x04 ∷ zeros 9
     ∷ byte 0x01 ∷ byte 0x01 ∷ byte 0x00 ∷ byte 0x02 ∷ zeros 28 ∷ text "zy" ∷ zeros 30 ∷ text "xyy" ∷ blanks 21
     ∷ text "U" ∷ byte 0x02 ∷ zeros 38
@@ -1637,8 +1700,8 @@ file166 =
     ∷ zeros 128
     ∷ zeros 128 ∷ []
 
-abbrev pub file167 : Parts
-file167 =
+abbrev pub file180 : Parts
+file180 =
     text "TKF" ∷ byte 0x01 ∷ byte 0x00 ∷ byte 0x02 ∷ byte 0x04 ∷ zeros 9
     ∷ byte 0x01 ∷ byte 0x02 ∷ byte 0x00 ∷ byte 0x05 ∷ zeros 28 ∷ text "xzzxx" ∷ zeros 27 ∷ text "xzzx" ∷ blanks 20
     ∷ text "L" ∷ byte 0xCD ∷ byte 0x96 ∷ text "L" ∷ byte 0x0A ∷ text ">" ∷ byte 0xED ∷ byte 0xA6 ∷ text "xzzxx"
@@ -1648,8 +1711,8 @@ file167 =
     ∷ zeros 2 ∷ byte 0xFF ∷ zeros 125
     ∷ zeros 128 ∷ []
 
-abbrev pub file168 : Parts
-file168 =
+abbrev pub file181 : Parts
+file181 =
     text "TKF" ∷ byte 0x01 ∷ byte 0x00 ∷ byte 0x02 ∷ byte 0x03 ∷ zeros 9
     ∷ byte 0x01 ∷ byte 0x02 ∷ byte 0x00 ∷ byte 0x04 ∷ zeros 28 ∷ text "!!}!" ∷ zeros 28 ∷ text "!!!" ∷ blanks 21
     ∷ byte 0x1F ∷ byte 0x02 ∷ zeros 6 ∷ text "!!}!!" ∷ blanks 19 ∷ text "m" ∷ byte 0x01 ∷ zeros 6
@@ -1658,8 +1721,8 @@ file168 =
     ∷ byte 0xF9 ∷ text "h"
     ∷ zeros 128 ∷ []
 
-abbrev pub file169 : Parts
-file169 =
+abbrev pub file182 : Parts
+file182 =
     text "TKF" ∷ byte 0x01 ∷ byte 0x00 ∷ byte 0x02 ∷ byte 0x02 ∷ zeros 9
     ∷ byte 0x01 ∷ byte 0x02 ∷ byte 0x00 ∷ byte 0x04 ∷ zeros 28 ∷ text "!}!!" ∷ zeros 28 ∷ text "!}!" ∷ blanks 21
     ∷ text "n" ∷ byte 0x03 ∷ zeros 6 ∷ text "!}!!a" ∷ blanks 19 ∷ text "m" ∷ byte 0x10 ∷ byte 0xA1 ∷ text "C"
@@ -1667,8 +1730,8 @@ file169 =
     ∷ byte 0x01 ∷ byte 0x02 ∷ byte 0x03 ∷ zeros 5 ∷ text "!}!!" ∷ zeros 52 ∷ text "!}!}" ∷ blanks 20 ∷ byte 0xF7
     ∷ byte 0x01 ∷ zeros 6 ∷ text "!}a}}" ∷ blanks 19 ∷ byte 0xA0 ∷ byte 0x01 ∷ zeros 6 ∷ []
 
-abbrev pub file170 : Parts
-file170 =
+abbrev pub file183 : Parts
+file183 =
     text "TKF" ∷ byte 0x01 ∷ byte 0x00 ∷ byte 0x03 ∷ byte 0x03 ∷ zeros 9
     ∷ byte 0x01 ∷ byte 0x02 ∷ byte 0x00 ∷ byte 0x05 ∷ zeros 28 ∷ text "zzxxx" ∷ zeros 27 ∷ text "zzxx" ∷ blanks 20
     ∷ byte 0x1D ∷ byte 0x03 ∷ zeros 6 ∷ text "zzxxx" ∷ blanks 19 ∷ byte 0xCD ∷ text "(" ∷ byte 0xCA ∷ byte 0xD5
@@ -1679,8 +1742,8 @@ file170 =
     ∷ byte 0xFF ∷ byte 0xFF ∷ byte 0xFF ∷ byte 0xFF ∷ byte 0xFF ∷ byte 0xFF
     ∷ zeros 160 ∷ []
 
-abbrev pub file171 : Parts
-file171 =
+abbrev pub file184 : Parts
+file184 =
     text "TKF" ∷ byte 0x01 ∷ byte 0x00 ∷ byte 0x02 ∷ byte 0x04 ∷ zeros 9
     ∷ byte 0x01 ∷ byte 0x02 ∷ byte 0x00 ∷ byte 0x01 ∷ zeros 28 ∷ text "!" ∷ zeros 31 ∷ text "!!}!}" ∷ blanks 19
     ∷ byte 0xEC ∷ byte 0x02 ∷ zeros 6 ∷ text "!}" ∷ blanks 22 ∷ byte 0x8B ∷ byte 0xC6 ∷ byte 0x03 ∷ byte 0xBA
@@ -1691,8 +1754,8 @@ file171 =
     ∷ blanks 22 ∷ byte 0x8B ∷ byte 0xC6 ∷ byte 0x03 ∷ byte 0xBA ∷ byte 0x02 ∷ text "W@Z" ∷ zeros 32
     ∷ zeros 128 ∷ []
 
-abbrev pub file172 : Parts
-file172 =
+abbrev pub file185 : Parts
+file185 =
     text "TKF" ∷ byte 0x01 ∷ byte 0x00 ∷ byte 0x03 ∷ byte 0x04 ∷ zeros 9
     ∷ byte 0x01 ∷ byte 0x02 ∷ byte 0x00 ∷ byte 0x04 ∷ zeros 28 ∷ text "onoi" ∷ zeros 28 ∷ text "o" ∷ blanks 23
     ∷ byte 0x1F ∷ byte 0x01 ∷ zeros 6 ∷ text "onoinn" ∷ blanks 18 ∷ byte 0xD5 ∷ byte 0x01 ∷ zeros 38
@@ -1702,8 +1765,8 @@ file172 =
     ∷ zeros 160
     ∷ zeros 160 ∷ []
 
-abbrev pub file173 : Parts
-file173 =
+abbrev pub file186 : Parts
+file186 =
     text "TKF" ∷ byte 0x01 ∷ byte 0x00 ∷ byte 0x03 ∷ byte 0x04 ∷ zeros 9
     ∷ byte 0x01 ∷ byte 0x03 ∷ byte 0x00 ∷ byte 0x04 ∷ zeros 28 ∷ text "}!!!" ∷ zeros 28 ∷ text "}!!" ∷ blanks 21
     ∷ byte 0xD6 ∷ byte 0xF9 ∷ text "/" ∷ byte 0xDA ∷ text "x#" ∷ byte 0xB0 ∷ text "J}!!!" ∷ blanks 20 ∷ byte 0xC6
@@ -1713,8 +1776,8 @@ file173 =
     ∷ zeros 160
     ∷ zeros 160 ∷ []
 
-abbrev pub file174 : Parts
-file174 =
+abbrev pub file187 : Parts
+file187 =
     text "TKF" ∷ byte 0x01 ∷ byte 0x00 ∷ byte 0x03 ∷ byte 0x04 ∷ zeros 9
     ∷ byte 0x01 ∷ byte 0x03 ∷ byte 0x00 ∷ byte 0x03 ∷ zeros 28 ∷ text "!}!" ∷ zeros 29 ∷ text "!}!}!" ∷ blanks 19
     ∷ byte 0xAD ∷ text "CC" ∷ byte 0x0A ∷ byte 0x19 ∷ text "g" ∷ byte 0xD5 ∷ byte 0xE1 ∷ text "!}!}!!}!}}}" ∷ blanks 13
@@ -1724,8 +1787,8 @@ file174 =
     ∷ zeros 160
     ∷ zeros 160 ∷ []
 
-abbrev pub file175 : Parts
-file175 =
+abbrev pub file188 : Parts
+file188 =
     text "TKF" ∷ byte 0x01 ∷ byte 0x00 ∷ byte 0x02 ∷ byte 0x03 ∷ zeros 9
     ∷ byte 0x01 ∷ byte 0x02 ∷ byte 0x00 ∷ byte 0x02 ∷ zeros 28 ∷ text "aa" ∷ zeros 30 ∷ text "aaa" ∷ blanks 21
     ∷ byte 0xFF ∷ byte 0xFF ∷ byte 0xFF ∷ byte 0xFF ∷ byte 0xFF ∷ byte 0xFF ∷ byte 0xFF ∷ byte 0xFF ∷ text "aab"
@@ -1735,8 +1798,8 @@ file175 =
     ∷ byte 0x01 ∷ byte 0x01 ∷ byte 0x02 ∷ byte 0x01 ∷ zeros 4 ∷ text "aa" ∷ zeros 22 ∷ text "a" ∷ zeros 31 ∷ text "abb"
     ∷ blanks 21 ∷ text "w" ∷ byte 0x03 ∷ zeros 38 ∷ []
 
-abbrev pub file176 : Parts
-file176 =
+abbrev pub file189 : Parts
+file189 =
     text "TKF" ∷ byte 0x01 ∷ byte 0x00 ∷ byte 0x02 ∷ byte 0x04 ∷ zeros 9
     ∷ byte 0x01 ∷ byte 0x02 ∷ byte 0x00 ∷ byte 0x03 ∷ zeros 28 ∷ text "sss" ∷ zeros 29 ∷ text "ssss" ∷ blanks 20
     ∷ byte 0xC9 ∷ byte 0x02 ∷ zeros 6 ∷ text "ssst" ∷ blanks 20 ∷ byte 0xCB ∷ byte 0xBA ∷ byte 0xE1 ∷ byte 0xC6
@@ -1746,19 +1809,8 @@ file176 =
     ∷ zeros 128
     ∷ zeros 128 ∷ []
 
-abbrev pub file177 : Parts
-file177 =
-    text "TKF" ∷ byte 0x01 ∷ byte 0x00 ∷ byte 0x02 ∷ byte 0x03 ∷ zeros 9
-    ∷ byte 0x01 ∷ byte 0x02 ∷ byte 0x00 ∷ byte 0x04 ∷ zeros 28 ∷ text "abb" ∷ byte 0x20 ∷ zeros 28 ∷ text "ab"
-    ∷ blanks 22 ∷ zeros 8 ∷ text "abb" ∷ blanks 21 ∷ byte 0x97 ∷ byte 0x8C ∷ text "p" ∷ byte 0x81 ∷ text "v>"
-    ∷ byte 0x19 ∷ text "4"
-    ∷ byte 0x01 ∷ byte 0x01 ∷ byte 0x04 ∷ zeros 5 ∷ text "abba" ∷ zeros 52 ∷ text "abbb" ∷ blanks 20 ∷ byte 0x14
-    ∷ byte 0x02 ∷ zeros 38
-    ∷ byte 0x01 ∷ byte 0x01 ∷ byte 0x04 ∷ byte 0x04 ∷ zeros 4 ∷ text "abb" ∷ byte 0x20 ∷ zeros 20 ∷ text "abba"
-    ∷ zeros 28 ∷ text "abba" ∷ blanks 20 ∷ text "E" ∷ byte 0x01 ∷ zeros 38 ∷ []
-
-abbrev pub file178 : Parts
-file178 =
+abbrev pub file190 : Parts
+file190 =
     text "TKF" ∷ byte 0x01 ∷ byte 0x00 ∷ byte 0x02 ∷ byte 0x03 ∷ zeros 9
     ∷ byte 0x01 ∷ byte 0x02 ∷ byte 0x00 ∷ byte 0x01 ∷ zeros 28 ∷ text "i" ∷ zeros 31 ∷ text "ii" ∷ blanks 22 ∷ byte 0xC5
     ∷ text "(" ∷ byte 0x01 ∷ byte 0xE7 ∷ text "&p3Zio" ∷ blanks 22 ∷ byte 0x1B ∷ text "4" ∷ byte 0xE5 ∷ byte 0xB5
@@ -1769,8 +1821,8 @@ file178 =
     ∷ byte 0x01 ∷ byte 0x01 ∷ byte 0x01 ∷ byte 0x02 ∷ zeros 4 ∷ text "i" ∷ zeros 23 ∷ text "o" ∷ byte 0x20 ∷ zeros 30
     ∷ text "o" ∷ blanks 23 ∷ text "V" ∷ byte 0x01 ∷ zeros 38 ∷ []
 
-abbrev pub file179 : Parts
-file179 =
+abbrev pub file191 : Parts
+file191 =
     text "TKF" ∷ byte 0x01 ∷ byte 0x00 ∷ byte 0x02 ∷ byte 0x03 ∷ zeros 9
     ∷ byte 0x01 ∷ byte 0x02 ∷ byte 0x00 ∷ byte 0x04 ∷ zeros 28 ∷ text "}}!!" ∷ zeros 28 ∷ text "}}!" ∷ blanks 21
     ∷ text "&" ∷ byte 0x02 ∷ zeros 6 ∷ text "}}!!" ∷ blanks 20 ∷ byte 0xD8 ∷ text "E" ∷ byte 0xA2 ∷ byte 0xA2
@@ -1781,24 +1833,45 @@ file179 =
     ∷ byte 0x01 ∷ byte 0x01 ∷ byte 0x04 ∷ byte 0x05 ∷ zeros 4 ∷ text "}}!!" ∷ zeros 20 ∷ text "}}!}" ∷ byte 0x20
     ∷ zeros 27 ∷ text "}}!}" ∷ blanks 20 ∷ text "$" ∷ byte 0x01 ∷ zeros 38 ∷ []
 
-abbrev pub file180 : Parts
-file180 =
+abbrev pub file192 : Parts
+file192 =
+    text "TKF" ∷ byte 0x01 ∷ byte 0x00 ∷ byte 0x02 ∷ byte 0x02 ∷ zeros 9
+    ∷ byte 0x01 ∷ byte 0x01 ∷ byte 0x00 ∷ byte 0x17 ∷ zeros 28 ∷ text "ionioionooiniinoiiniooi" ∷ zeros 9
+    ∷ text "ionioionooiniinoiiniooi" ∷ byte 0x20 ∷ text "D" ∷ byte 0x02 ∷ zeros 38
+    ∷ byte 0x01 ∷ byte 0x02 ∷ byte 0x17 ∷ zeros 5 ∷ text "ionioionooiniinoiiniooi" ∷ zeros 33
+    ∷ text "ionioionooiniinoiiniooo" ∷ byte 0x20 ∷ text "U" ∷ byte 0x02 ∷ zeros 6 ∷ text "ionioionooiniinoiiniooon"
+    ∷ byte 0xD3 ∷ text "w" ∷ byte 0xB0 ∷ byte 0x1A ∷ text "H`" ∷ byte 0xA8 ∷ text ">" ∷ []
+
+abbrev pub file193 : Parts
+file193 =
+    text "TKF" ∷ byte 0x01 ∷ byte 0x00 ∷ byte 0x02 ∷ byte 0x04 ∷ zeros 9
+    ∷ byte 0x01 ∷ byte 0x02 ∷ byte 0x00 ∷ byte 0x05 ∷ zeros 28 ∷ text "!!}!" ∷ byte 0x20 ∷ zeros 27 ∷ text "!!!!"
+    ∷ blanks 20 ∷ zeros 8 ∷ text "!!}!" ∷ blanks 20 ∷ text "X" ∷ byte 0xB3 ∷ byte 0xCE ∷ byte 0xB7 ∷ byte 0xA6
+    ∷ byte 0x92 ∷ byte 0x11 ∷ byte 0xC4
+    ∷ byte 0x01 ∷ byte 0x02 ∷ byte 0x05 ∷ zeros 5 ∷ text "!!}!" ∷ byte 0x20 ∷ zeros 51 ∷ text "!!}!!!}" ∷ blanks 17
+    ∷ text "," ∷ byte 0x02 ∷ zeros 6 ∷ text "!!}!}" ∷ blanks 19 ∷ text "9xS" ∷ byte 0xC5 ∷ byte 0x12 ∷ byte 0xA7
+    ∷ byte 0x03 ∷ byte 0x12
+    ∷ zeros 128
+    ∷ zeros 128 ∷ []
+
+abbrev pub file194 : Parts
+file194 =
     text "TKF" ∷ byte 0x01 ∷ byte 0x00 ∷ byte 0x02 ∷ byte 0x04 ∷ zeros 9
     ∷ byte 0x01 ∷ zeros 127
     ∷ zeros 128
     ∷ zeros 128
     ∷ zeros 128 ∷ []
 
-abbrev pub file181 : Parts
-file181 =
+abbrev pub file195 : Parts
+file195 =
     text "TKF" ∷ byte 0x01 ∷ byte 0x00 ∷ byte 0x02 ∷ byte 0x04 ∷ zeros 9
     ∷ byte 0x01 ∷ byte 0x01 ∷ zeros 62 ∷ text "rate1" ∷ blanks 19 ∷ byte 0x01 ∷ zeros 39
     ∷ zeros 128
     ∷ zeros 128
     ∷ zeros 128 ∷ []
 
-abbrev pub file182 : Parts
-file182 =
+abbrev pub file196 : Parts
+file196 =
     text "TKF" ∷ byte 0x01 ∷ byte 0x00 ∷ byte 0x02 ∷ byte 0x04 ∷ zeros 9
     ∷ byte 0x01 ∷ byte 0x02 ∷ zeros 62 ∷ text "rate1" ∷ blanks 19 ∷ byte 0x01 ∷ zeros 7 ∷ text "rate2" ∷ blanks 19
     ∷ byte 0x02 ∷ zeros 7
@@ -1806,8 +1879,8 @@ file182 =
     ∷ zeros 128
     ∷ zeros 128 ∷ []
 
-abbrev pub file183 : Parts
-file183 =
+abbrev pub file197 : Parts
+file197 =
     text "TKF" ∷ byte 0x01 ∷ byte 0x00 ∷ byte 0x02 ∷ byte 0x04 ∷ zeros 9
     ∷ byte 0x01 ∷ byte 0x02 ∷ byte 0x00 ∷ byte 0x05 ∷ zeros 28 ∷ text "rate2" ∷ zeros 27 ∷ text "rate1" ∷ blanks 19
     ∷ byte 0x01 ∷ zeros 7 ∷ text "rate2" ∷ blanks 19 ∷ byte 0x02 ∷ zeros 7
@@ -1816,8 +1889,8 @@ file183 =
     ∷ zeros 128
     ∷ zeros 128 ∷ []
 
-abbrev pub file184 : Parts
-file184 =
+abbrev pub file198 : Parts
+file198 =
     text "TKF" ∷ byte 0x01 ∷ byte 0x00 ∷ byte 0x02 ∷ byte 0x04 ∷ zeros 9
     ∷ byte 0x01 ∷ byte 0x02 ∷ byte 0x00 ∷ byte 0x05 ∷ zeros 28 ∷ text "rate2" ∷ zeros 27 ∷ text "rate1" ∷ blanks 19
     ∷ byte 0x01 ∷ zeros 7 ∷ text "rate2" ∷ blanks 19 ∷ byte 0x02 ∷ zeros 7
@@ -1826,8 +1899,8 @@ file184 =
     ∷ zeros 128
     ∷ zeros 128 ∷ []
 
-abbrev pub file185 : Parts
-file185 =
+abbrev pub file199 : Parts
+file199 =
     text "TKF" ∷ byte 0x01 ∷ byte 0x00 ∷ byte 0x02 ∷ byte 0x04 ∷ zeros 9
     ∷ byte 0x01 ∷ byte 0x02 ∷ byte 0x00 ∷ byte 0x05 ∷ zeros 28 ∷ text "rate2" ∷ zeros 27 ∷ text "rate1" ∷ blanks 19
     ∷ byte 0x01 ∷ zeros 7 ∷ text "rate2" ∷ blanks 19 ∷ byte 0x02 ∷ zeros 7
@@ -1836,8 +1909,8 @@ file185 =
     ∷ byte 0x01 ∷ byte 0x01 ∷ byte 0x02 ∷ zeros 5 ∷ text "ra" ∷ zeros 54 ∷ text "rz" ∷ blanks 22 ∷ byte 0x05 ∷ zeros 39
     ∷ zeros 128 ∷ []
 
-abbrev pub file186 : Parts
-file186 =
+abbrev pub file200 : Parts
+file200 =
     text "TKF" ∷ byte 0x01 ∷ byte 0x00 ∷ byte 0x02 ∷ byte 0x04 ∷ zeros 9
     ∷ byte 0x01 ∷ byte 0x02 ∷ byte 0x00 ∷ byte 0x05 ∷ zeros 28 ∷ text "rate2" ∷ zeros 27 ∷ text "rate1" ∷ blanks 19
     ∷ byte 0x01 ∷ zeros 7 ∷ text "rate2" ∷ blanks 19 ∷ byte 0x02 ∷ zeros 7
@@ -1846,13 +1919,13 @@ file186 =
     ∷ byte 0x01 ∷ byte 0x01 ∷ byte 0x02 ∷ zeros 5 ∷ text "ra" ∷ zeros 54 ∷ text "rz" ∷ blanks 22 ∷ byte 0x05 ∷ zeros 39
     ∷ zeros 128 ∷ []
 
-abbrev pub file187 : Parts
-file187 =
+abbrev pub file201 : Parts
+file201 =
     zeros 16
     ∷ zeros 1536 ∷ []
 
-abbrev pub file188 : Parts
-file188 =
+abbrev pub file202 : Parts
+file202 =
     text "TKF" ∷ byte 0x01 ∷ byte 0x00 ∷ byte 0x04 ∷ byte 0x08 ∷ zeros 9
     ∷ byte 0x01 ∷ byte 0x03 ∷ byte 0x00 ∷ byte 0x02 ∷ zeros 28 ∷ text "i" ∷ byte 0x20 ∷ zeros 30 ∷ text "a" ∷ blanks 23
     ∷ byte 0x05 ∷ zeros 7 ∷ text "and" ∷ blanks 21 ∷ byte 0x03 ∷ zeros 7 ∷ text "i" ∷ blanks 23 ∷ byte 0x09 ∷ zeros 39
@@ -1867,13 +1940,13 @@ file188 =
     ∷ zeros 192
     ∷ zeros 192 ∷ []
 
-abbrev pub file189 : Parts
-file189 =
+abbrev pub file203 : Parts
+file203 =
     zeros 16
     ∷ zeros 3072 ∷ []
 
-abbrev pub file190 : Parts
-file190 =
+abbrev pub file204 : Parts
+file204 =
     text "TKF" ∷ byte 0x01 ∷ byte 0x00 ∷ byte 0x04 ∷ byte 0x10 ∷ zeros 9
     ∷ byte 0x01 ∷ byte 0x03 ∷ byte 0x00 ∷ byte 0x02 ∷ zeros 28 ∷ text "ar" ∷ zeros 30 ∷ text "a" ∷ blanks 23 ∷ byte 0x05
     ∷ zeros 7 ∷ text "and" ∷ blanks 21 ∷ byte 0x03 ∷ zeros 7 ∷ text "are" ∷ blanks 21 ∷ byte 0x18 ∷ zeros 39
@@ -1909,8 +1982,8 @@ file190 =
     ∷ zeros 192
     ∷ zeros 192 ∷ []
 
-abbrev pub file191 : Parts
-file191 =
+abbrev pub file205 : Parts
+file205 =
     text "TKF" ∷ byte 0x01 ∷ byte 0x00 ∷ byte 0x02 ∷ byte 0x0D ∷ zeros 9
     ∷ byte 0x01 ∷ byte 0x00 ∷ byte 0x17 ∷ zeros 5 ∷ text "p}}!}!!}" ∷ byte 0x20 ∷ text "!!" ∷ byte 0x20 ∷ text "a!}!aa}"
     ∷ byte 0x20 ∷ text "!aa" ∷ zeros 97
@@ -1958,8 +2031,8 @@ file191 =
     ∷ byte 0x20 ∷ text "a" ∷ byte 0x20 ∷ text "aaa" ∷ byte 0x20 ∷ text "aa}" ∷ byte 0x20 ∷ zeros 74
     ∷ zeros 128 ∷ []
 
-abbrev pub file192 : Parts
-file192 =
+abbrev pub file206 : Parts
+file206 =
     text "TKF" ∷ byte 0x01 ∷ byte 0x00 ∷ byte 0x02 ∷ byte 0x0C ∷ zeros 9
     ∷ byte 0x01 ∷ byte 0x02 ∷ byte 0x18 ∷ byte 0x18 ∷ zeros 4 ∷ text ".a" ∷ byte 0x20 ∷ text "}a!}}a}" ∷ byte 0x20
     ∷ text "!aaa!}!}a" ∷ byte 0x20 ∷ text "}!a0aa}a!a" ∷ byte 0x20 ∷ text "}!!}!a!a" ∷ byte 0x20 ∷ text "a" ∷ byte 0x20
@@ -2184,61 +2257,66 @@ trie35 =
 
 abbrev pub trie36 : Trie
 trie36 =
-    trie 5 0 (cell 0x72 0 (further 1) (slot 1) ∷ cell 0x61 1 (further 2) (slot 1) ∷ cell 0x74 2 (further 3) (slot 1)
-    ∷ cell 0x65 3 (further 4) (slot 1) ∷ cell 0x32 4 (slot 4) (slot 1) ∷ [])
+    trie 5 0 (cell 0x72 0 (further 1) (slot 4) ∷ cell 0x61 1 (further 2) (slot 1) ∷ cell 0x74 2 (further 3) (slot 1)
+    ∷ cell 0x65 3 (further 4) (slot 1) ∷ cell 0x32 4 (slot 0) (slot 1) ∷ [])
 
 abbrev pub trie37 : Trie
 trie37 =
     trie 5 0 (cell 0x72 0 (further 1) (slot 1) ∷ cell 0x61 1 (further 2) (slot 1) ∷ cell 0x74 2 (further 3) (slot 1)
-    ∷ cell 0x65 3 (further 4) (slot 1) ∷ cell 0x32 4 (slot 2) (slot 1) ∷ [])
+    ∷ cell 0x65 3 (further 4) (slot 1) ∷ cell 0x32 4 (slot 4) (slot 1) ∷ [])
 
 abbrev pub trie38 : Trie
 trie38 =
     trie 5 0 (cell 0x72 0 (further 1) (slot 1) ∷ cell 0x61 1 (further 2) (slot 1) ∷ cell 0x74 2 (further 3) (slot 1)
-    ∷ cell 0x65 3 (further 4) (slot 1) ∷ cell 0x32 4 (slot 1) (slot 1) ∷ [])
+    ∷ cell 0x65 3 (further 4) (slot 1) ∷ cell 0x32 4 (slot 2) (slot 1) ∷ [])
 
 abbrev pub trie39 : Trie
 trie39 =
     trie 5 0 (cell 0x72 0 (further 1) (slot 1) ∷ cell 0x61 1 (further 2) (slot 1) ∷ cell 0x74 2 (further 3) (slot 1)
-    ∷ cell 0x65 3 (further 4) (slot 0) ∷ cell 0x32 4 (slot 0) (slot 1) ∷ [])
+    ∷ cell 0x65 3 (further 4) (slot 1) ∷ cell 0x32 4 (slot 1) (slot 1) ∷ [])
 
 abbrev pub trie40 : Trie
 trie40 =
     trie 5 0 (cell 0x72 0 (further 1) (slot 1) ∷ cell 0x61 1 (further 2) (slot 1) ∷ cell 0x74 2 (further 3) (slot 1)
-    ∷ cell 0x65 3 (further 4) (slot 1) ∷ cell 0x32 4 (further 5) (slot 1) ∷ [])
+    ∷ cell 0x65 3 (further 4) (slot 0) ∷ cell 0x32 4 (slot 0) (slot 1) ∷ [])
 
 abbrev pub trie41 : Trie
 trie41 =
     trie 5 0 (cell 0x72 0 (further 1) (slot 1) ∷ cell 0x61 1 (further 2) (slot 1) ∷ cell 0x74 2 (further 3) (slot 1)
-    ∷ cell 0x65 3 (further 4) (slot 1) ∷ cell 0x32 4 (further 0) (slot 1) ∷ [])
+    ∷ cell 0x65 3 (further 4) (slot 1) ∷ cell 0x32 4 (further 5) (slot 1) ∷ [])
 
 abbrev pub trie42 : Trie
 trie42 =
-    trie 5 0 (cell 0x72 0 (further 1) (further 4) ∷ cell 0x61 1 (further 2) (slot 1) ∷ cell 0x74 2 (further 3) (slot 1)
-    ∷ cell 0x65 3 (further 4) (slot 1) ∷ cell 0x32 4 (slot 0) (slot 1) ∷ [])
+    trie 5 0 (cell 0x72 0 (further 1) (slot 1) ∷ cell 0x61 1 (further 2) (slot 1) ∷ cell 0x74 2 (further 3) (slot 1)
+    ∷ cell 0x65 3 (further 4) (slot 1) ∷ cell 0x32 4 (further 0) (slot 1) ∷ [])
 
 abbrev pub trie43 : Trie
 trie43 =
-    trie 5 0 (cell 0x72 0 (further 1) (slot 1) ∷ cell 0x61 1 (further 2) (slot 1) ∷ cell 0x74 3 (further 3) (slot 1)
+    trie 5 0 (cell 0x72 0 (further 1) (further 4) ∷ cell 0x61 1 (further 2) (slot 1) ∷ cell 0x74 2 (further 3) (slot 1)
     ∷ cell 0x65 3 (further 4) (slot 1) ∷ cell 0x32 4 (slot 0) (slot 1) ∷ [])
 
 abbrev pub trie44 : Trie
 trie44 =
-    trie 5 0 (cell 0x72 0 (further 1) (slot 1) ∷ cell 0x61 1 (further 2) (slot 1) ∷ cell 0x74 1 (further 3) (slot 1)
+    trie 5 0 (cell 0x72 0 (further 1) (slot 1) ∷ cell 0x61 1 (further 2) (slot 1) ∷ cell 0x74 3 (further 3) (slot 1)
     ∷ cell 0x65 3 (further 4) (slot 1) ∷ cell 0x32 4 (slot 0) (slot 1) ∷ [])
 
 abbrev pub trie45 : Trie
 trie45 =
-    trie 5 0 (cell 0x72 0 (further 1) (slot 1) ∷ cell 0x61 1 (further 2) (slot 1) ∷ cell 0x74 2 (further 3) (slot 1)
-    ∷ cell 0x65 3 (further 4) (slot 1) ∷ cell 0x30 4 (slot 0) (slot 1) ∷ [])
+    trie 5 0 (cell 0x72 0 (further 1) (slot 1) ∷ cell 0x61 1 (further 2) (slot 1) ∷ cell 0x74 1 (further 3) (slot 1)
+    ∷ cell 0x65 3 (further 4) (slot 1) ∷ cell 0x32 4 (slot 0) (slot 1) ∷ [])
 
 abbrev pub trie46 : Trie
 trie46 =
     trie 5 0 (cell 0x72 0 (further 1) (slot 1) ∷ cell 0x61 1 (further 2) (slot 1) ∷ cell 0x74 2 (further 3) (slot 1)
-    ∷ cell 0x65 3 (further 4) (slot 1) ∷ cell 0x32 4 (slot 0) (slot 1) ∷ cell 0x01 0 (slot 0) (slot 0) ∷ [])
+    ∷ cell 0x65 3 (further 4) (slot 1) ∷ cell 0x30 4 (slot 0) (slot 1) ∷ [])
 
 abbrev pub trie47 : Trie
 trie47 =
+    trie 5 0 (cell 0x72 0 (further 1) (slot 1) ∷ cell 0x61 1 (further 2) (slot 1) ∷ cell 0x74 2 (further 3) (slot 1)
+    ∷ cell 0x65 3 (further 4) (slot 1) ∷ cell 0x32 4 (slot 0) (slot 1) ∷ cell 0x01 0 (slot 0) (slot 0) ∷ [])
+
+abbrev pub trie48 : Trie
+trie48 =
     trie 5 0 (cell 0x72 0 (further 1) (slot 1) ∷ cell 0x61 1 (further 2) (slot 1) ∷ cell 0x74 2 (further 3) (slot 1)
     ∷ cell 0x65 3 (further 4) (slot 1) ∷ cell 0x32 4 (slot 0) (slot 1) ∷ cell 0x00 0 (slot 0) (slot 0) ∷ cell 0x00 0
     (slot 0) (slot 0) ∷ cell 0x00 0 (slot 0) (slot 0) ∷ cell 0x00 0 (slot 0) (slot 0) ∷ cell 0x00 0 (slot 0) (slot 0)
@@ -2314,43 +2392,43 @@ trie47 =
     (slot 0) (slot 0) ∷ cell 0x00 0 (slot 0) (slot 0) ∷ cell 0x00 0 (slot 0) (slot 0) ∷ cell 0x00 0 (slot 0) (slot 0)
     ∷ cell 0x00 1 (slot 0) (slot 0) ∷ [])
 
-abbrev pub trie48 : Trie
-trie48 =
+abbrev pub trie49 : Trie
+trie49 =
     trie 5 0 (cell 0x72 0 (further 1) (slot 1) ∷ cell 0x61 1 (further 2) (slot 1) ∷ cell 0x74 2 (further 3) (slot 1)
     ∷ cell 0x65 3 (further 4) (slot 1) ∷ cell 0x32 4 (slot 0) (slot 1) ∷ cell 0x00 0 (slot 0) (slot 1) ∷ [])
 
-abbrev pub trie49 : Trie
-trie49 =
-    trie 5 1 (cell 0x72 0 (further 1) (slot 1) ∷ cell 0x61 1 (further 2) (slot 1) ∷ cell 0x74 2 (further 3) (slot 1)
-    ∷ cell 0x65 3 (further 4) (slot 1) ∷ cell 0x32 4 (slot 0) (slot 1) ∷ [])
-
 abbrev pub trie50 : Trie
 trie50 =
-    trie 4 0 (cell 0x72 0 (further 1) (slot 1) ∷ cell 0x61 1 (further 2) (slot 1) ∷ cell 0x74 2 (further 3) (slot 1)
+    trie 5 1 (cell 0x72 0 (further 1) (slot 1) ∷ cell 0x61 1 (further 2) (slot 1) ∷ cell 0x74 2 (further 3) (slot 1)
     ∷ cell 0x65 3 (further 4) (slot 1) ∷ cell 0x32 4 (slot 0) (slot 1) ∷ [])
 
 abbrev pub trie51 : Trie
 trie51 =
-    trie 6 0 (cell 0x72 0 (further 1) (slot 1) ∷ cell 0x61 1 (further 2) (slot 1) ∷ cell 0x74 2 (further 3) (slot 1)
+    trie 4 0 (cell 0x72 0 (further 1) (slot 1) ∷ cell 0x61 1 (further 2) (slot 1) ∷ cell 0x74 2 (further 3) (slot 1)
     ∷ cell 0x65 3 (further 4) (slot 1) ∷ cell 0x32 4 (slot 0) (slot 1) ∷ [])
 
 abbrev pub trie52 : Trie
 trie52 =
-    trie 257 0 (cell 0x72 0 (further 1) (slot 1) ∷ cell 0x61 1 (further 2) (slot 1) ∷ cell 0x74 2 (further 3) (slot 1)
+    trie 6 0 (cell 0x72 0 (further 1) (slot 1) ∷ cell 0x61 1 (further 2) (slot 1) ∷ cell 0x74 2 (further 3) (slot 1)
     ∷ cell 0x65 3 (further 4) (slot 1) ∷ cell 0x32 4 (slot 0) (slot 1) ∷ [])
 
 abbrev pub trie53 : Trie
 trie53 =
-    trie 3 0 (cell 0x72 0 (further 1) (slot 1) ∷ cell 0x21 1 (slot 0) (further 2) ∷ cell 0x7A 0 (further 1) (slot 1)
-    ∷ [])
+    trie 257 0 (cell 0x72 0 (further 1) (slot 1) ∷ cell 0x61 1 (further 2) (slot 1) ∷ cell 0x74 2 (further 3) (slot 1)
+    ∷ cell 0x65 3 (further 4) (slot 1) ∷ cell 0x32 4 (slot 0) (slot 1) ∷ [])
 
 abbrev pub trie54 : Trie
 trie54 =
-    trie 4 0 (cell 0x72 0 (further 1) (slot 1) ∷ cell 0x21 1 (slot 0) (further 2) ∷ cell 0x7A 0 (further 1) (slot 1)
+    trie 3 0 (cell 0x72 0 (further 1) (slot 1) ∷ cell 0x21 1 (slot 0) (further 2) ∷ cell 0x7A 0 (further 1) (slot 1)
     ∷ [])
 
 abbrev pub trie55 : Trie
 trie55 =
+    trie 4 0 (cell 0x72 0 (further 1) (slot 1) ∷ cell 0x21 1 (slot 0) (further 2) ∷ cell 0x7A 0 (further 1) (slot 1)
+    ∷ [])
+
+abbrev pub trie56 : Trie
+trie56 =
     trie 24 0 (cell 0x72 0 (further 1) (slot 1) ∷ cell 0x72 1 (further 2) (slot 1) ∷ cell 0x72 2 (further 3) (slot 1)
     ∷ cell 0x72 3 (further 4) (slot 1) ∷ cell 0x72 4 (further 5) (slot 1) ∷ cell 0x72 5 (further 6) (slot 1)
     ∷ cell 0x72 6 (further 7) (slot 1) ∷ cell 0x72 7 (further 8) (slot 1) ∷ cell 0x72 8 (further 9) (slot 1)
@@ -2360,8 +2438,8 @@ trie55 =
     ∷ cell 0x72 18 (further 19) (slot 1) ∷ cell 0x72 19 (further 20) (slot 1) ∷ cell 0x72 20 (further 21) (slot 1)
     ∷ cell 0x72 21 (further 22) (slot 1) ∷ cell 0x72 22 (further 23) (slot 1) ∷ cell 0x72 23 (slot 0) (slot 1) ∷ [])
 
-abbrev pub trie56 : Trie
-trie56 =
+abbrev pub trie57 : Trie
+trie57 =
     trie 25 0 (cell 0x72 0 (further 1) (slot 1) ∷ cell 0x72 1 (further 2) (slot 1) ∷ cell 0x72 2 (further 3) (slot 1)
     ∷ cell 0x72 3 (further 4) (slot 1) ∷ cell 0x72 4 (further 5) (slot 1) ∷ cell 0x72 5 (further 6) (slot 1)
     ∷ cell 0x72 6 (further 7) (slot 1) ∷ cell 0x72 7 (further 8) (slot 1) ∷ cell 0x72 8 (further 9) (slot 1)
@@ -2372,69 +2450,69 @@ trie56 =
     ∷ cell 0x72 21 (further 22) (slot 1) ∷ cell 0x72 22 (further 23) (slot 1) ∷ cell 0x72 23 (further 24) (slot 1)
     ∷ cell 0x72 24 (slot 0) (slot 1) ∷ [])
 
-abbrev pub trie57 : Trie
-trie57 =
-    trie 257 0 (cell 0x79 0 (slot 0) (slot 1) ∷ [])
-
 abbrev pub trie58 : Trie
 trie58 =
-    trie 188 8192 ([])
+    trie 257 0 (cell 0x79 0 (slot 0) (slot 1) ∷ [])
 
 abbrev pub trie59 : Trie
 trie59 =
-    trie 4 0 (cell 0x61 0 (further 1) (slot 1) ∷ cell 0x21 1 (further 2) (slot 1) ∷ cell 0x21 2 (further 3) (slot 1)
-    ∷ cell 0x21 3 (slot 0) (slot 1) ∷ [])
+    trie 188 8192 ([])
 
 abbrev pub trie60 : Trie
 trie60 =
-    trie 2 0 (cell 0x78 0 (further 1) (slot 1) ∷ cell 0x78 1 (slot 0) (further 1) ∷ [])
+    trie 4 0 (cell 0x61 0 (further 1) (slot 1) ∷ cell 0x21 1 (further 2) (slot 1) ∷ cell 0x21 2 (further 3) (slot 1)
+    ∷ cell 0x21 3 (slot 0) (slot 1) ∷ [])
 
 abbrev pub trie61 : Trie
 trie61 =
-    trie 4 0 (cell 0x61 0 (further 1) (slot 1) ∷ cell 0x62 1 (further 2) (slot 2) ∷ cell 0x20 2 (further 3)
-    (further 257) ∷ cell 0x61 1 (slot 0) (slot 3) ∷ [])
+    trie 2 0 (cell 0x78 0 (further 1) (slot 1) ∷ cell 0x78 1 (slot 0) (further 1) ∷ [])
 
 abbrev pub trie62 : Trie
 trie62 =
-    trie 2 0 (cell 0x78 1 (slot 0) (slot 1) ∷ cell 0x7A 0 (further 1) (slot 1) ∷ [])
+    trie 4 0 (cell 0x61 0 (further 1) (slot 1) ∷ cell 0x62 1 (further 2) (slot 2) ∷ cell 0x20 2 (further 3)
+    (further 257) ∷ cell 0x61 1 (slot 0) (slot 3) ∷ [])
 
 abbrev pub trie63 : Trie
 trie63 =
-    trie 1 0 (cell 0x69 0 (slot 0) (slot 1) ∷ [])
+    trie 2 0 (cell 0x78 1 (slot 0) (slot 1) ∷ cell 0x7A 0 (further 1) (slot 1) ∷ [])
 
 abbrev pub trie64 : Trie
 trie64 =
-    trie 2 0 (cell 0x79 0 (further 1) (slot 1) ∷ cell 0x79 1 (slot 0) (slot 1) ∷ [])
+    trie 1 0 (cell 0x69 0 (slot 0) (slot 1) ∷ [])
 
 abbrev pub trie65 : Trie
 trie65 =
-    trie 3 0 (cell 0x73 0 (further 1) (slot 1) ∷ cell 0x74 1 (further 2) (slot 1) ∷ cell 0x72 2 (slot 0) (slot 1) ∷ [])
+    trie 2 0 (cell 0x79 0 (further 1) (slot 1) ∷ cell 0x79 1 (slot 0) (slot 1) ∷ [])
 
 abbrev pub trie66 : Trie
 trie66 =
-    trie 4 0 (cell 0x21 0 (further 3) (slot 1) ∷ cell 0x21 3 (slot 0) (slot 1) ∷ cell 0x7D 2 (further 1) (slot 1)
-    ∷ cell 0x7D 1 (further 2) (slot 1) ∷ [])
+    trie 3 0 (cell 0x73 0 (further 1) (slot 1) ∷ cell 0x74 1 (further 2) (slot 1) ∷ cell 0x72 2 (slot 0) (slot 1) ∷ [])
 
 abbrev pub trie67 : Trie
 trie67 =
-    trie 3 0 (cell 0x6F 0 (further 1) (slot 1) ∷ cell 0x6E 1 (further 2) (slot 1) ∷ cell 0x20 2 (slot 0) (slot 2) ∷ [])
+    trie 4 0 (cell 0x21 0 (further 3) (slot 1) ∷ cell 0x21 3 (slot 0) (slot 1) ∷ cell 0x7D 2 (further 1) (slot 1)
+    ∷ cell 0x7D 1 (further 2) (slot 1) ∷ [])
 
 abbrev pub trie68 : Trie
 trie68 =
-    trie 5 0 (cell 0x73 0 (further 1) (slot 1) ∷ cell 0x72 1 (further 2) (slot 1) ∷ cell 0x74 2 (further 3) (slot 1)
-    ∷ cell 0x74 3 (further 4) (slot 1) ∷ cell 0x72 4 (slot 0) (slot 1) ∷ [])
+    trie 3 0 (cell 0x6F 0 (further 1) (slot 1) ∷ cell 0x6E 1 (further 2) (slot 1) ∷ cell 0x20 2 (slot 0) (slot 2) ∷ [])
 
 abbrev pub trie69 : Trie
 trie69 =
-    trie 6 0 (cell 0x73 0 (further 1) (slot 1) ∷ cell 0x72 1 (further 2) (slot 1) ∷ cell 0x74 2 (further 3) (slot 1)
-    ∷ cell 0x74 3 (further 4) (slot 1) ∷ cell 0x72 4 (further 5) (slot 1) ∷ cell 0x20 5 (slot 0) (slot 2) ∷ [])
+    trie 5 0 (cell 0x73 0 (further 1) (slot 1) ∷ cell 0x72 1 (further 2) (slot 1) ∷ cell 0x74 2 (further 3) (slot 1)
+    ∷ cell 0x74 3 (further 4) (slot 1) ∷ cell 0x72 4 (slot 0) (slot 1) ∷ [])
 
 abbrev pub trie70 : Trie
 trie70 =
-    trie 3 0 (cell 0x21 0 (further 1) (slot 1) ∷ cell 0x7D 1 (further 2) (slot 1) ∷ cell 0x20 2 (slot 0) (slot 1) ∷ [])
+    trie 6 0 (cell 0x73 0 (further 1) (slot 1) ∷ cell 0x72 1 (further 2) (slot 1) ∷ cell 0x74 2 (further 3) (slot 1)
+    ∷ cell 0x74 3 (further 4) (slot 1) ∷ cell 0x72 4 (further 5) (slot 1) ∷ cell 0x20 5 (slot 0) (slot 2) ∷ [])
 
 abbrev pub trie71 : Trie
 trie71 =
+    trie 3 0 (cell 0x21 0 (further 1) (slot 1) ∷ cell 0x7D 1 (further 2) (slot 1) ∷ cell 0x20 2 (slot 0) (slot 1) ∷ [])
+
+abbrev pub trie72 : Trie
+trie72 =
     trie 22 0 (cell 0x61 0 (further 1) (slot 1) ∷ cell 0x62 1 (further 2) (slot 1) ∷ cell 0x62 2 (further 3) (slot 1)
     ∷ cell 0x61 3 (further 4) (slot 1) ∷ cell 0x61 4 (further 5) (slot 1) ∷ cell 0x61 5 (further 6) (slot 1)
     ∷ cell 0x61 6 (further 7) (slot 1) ∷ cell 0x62 7 (further 8) (slot 1) ∷ cell 0x61 8 (further 9) (slot 1)
@@ -2444,94 +2522,94 @@ trie71 =
     ∷ cell 0x61 18 (further 19) (slot 1) ∷ cell 0x62 19 (further 20) (slot 1) ∷ cell 0x61 20 (further 21) (slot 1)
     ∷ cell 0x20 21 (slot 0) (slot 1) ∷ [])
 
-abbrev pub trie72 : Trie
-trie72 =
-    trie 2 0 (cell 0x61 0 (further 1) (slot 1) ∷ cell 0x20 1 (slot 0) (slot 2) ∷ [])
-
 abbrev pub trie73 : Trie
 trie73 =
-    trie 4 0 (cell 0x73 0 (further 1) (slot 1) ∷ cell 0x72 1 (further 2) (slot 1) ∷ cell 0x72 2 (further 3) (slot 2)
-    ∷ cell 0x20 3 (slot 0) (slot 2) ∷ [])
+    trie 2 0 (cell 0x61 0 (further 1) (slot 1) ∷ cell 0x20 1 (slot 0) (slot 2) ∷ [])
 
 abbrev pub trie74 : Trie
 trie74 =
-    trie 5 0 (cell 0x62 0 (further 3) (slot 1) ∷ cell 0x61 2 (slot 0) (further 4) ∷ cell 0x62 2 (further 1) (slot 1)
-    ∷ cell 0x62 1 (further 2) (slot 1) ∷ cell 0x20 3 (slot 2) (slot 1) ∷ [])
+    trie 4 0 (cell 0x73 0 (further 1) (slot 1) ∷ cell 0x72 1 (further 2) (slot 1) ∷ cell 0x72 2 (further 3) (slot 2)
+    ∷ cell 0x20 3 (slot 0) (slot 2) ∷ [])
 
 abbrev pub trie75 : Trie
 trie75 =
+    trie 5 0 (cell 0x62 0 (further 3) (slot 1) ∷ cell 0x61 2 (slot 0) (further 4) ∷ cell 0x62 2 (further 1) (slot 1)
+    ∷ cell 0x62 1 (further 2) (slot 1) ∷ cell 0x20 3 (slot 2) (slot 1) ∷ [])
+
+abbrev pub trie76 : Trie
+trie76 =
     trie 7 0 (cell 0x62 0 (further 3) (slot 1) ∷ cell 0x61 2 (further 5) (further 4) ∷ cell 0x62 2 (further 1) (slot 1)
     ∷ cell 0x62 1 (further 2) (slot 1) ∷ cell 0x20 3 (slot 2) (slot 1) ∷ cell 0x61 3 (further 6) (slot 3) ∷ cell 0x20 4
     (slot 0) (slot 3) ∷ [])
 
-abbrev pub trie76 : Trie
-trie76 =
-    trie 2 0 (cell 0x21 0 (further 1) (slot 2) ∷ cell 0x21 1 (slot 0) (slot 1) ∷ [])
-
 abbrev pub trie77 : Trie
 trie77 =
-    trie 5 0 (cell 0x21 0 (further 1) (slot 2) ∷ cell 0x21 1 (slot 0) (further 2) ∷ cell 0x7D 1 (further 3) (slot 3)
-    ∷ cell 0x7D 2 (further 4) (slot 3) ∷ cell 0x21 3 (slot 1) (slot 3) ∷ [])
+    trie 2 0 (cell 0x21 0 (further 1) (slot 2) ∷ cell 0x21 1 (slot 0) (slot 1) ∷ [])
 
 abbrev pub trie78 : Trie
 trie78 =
-    trie 2 0 (cell 0x7A 0 (further 1) (slot 1) ∷ cell 0x78 1 (slot 0) (slot 1) ∷ [])
+    trie 5 0 (cell 0x21 0 (further 1) (slot 2) ∷ cell 0x21 1 (slot 0) (further 2) ∷ cell 0x7D 1 (further 3) (slot 3)
+    ∷ cell 0x7D 2 (further 4) (slot 3) ∷ cell 0x21 3 (slot 1) (slot 3) ∷ [])
 
 abbrev pub trie79 : Trie
 trie79 =
-    trie 2 0 (cell 0x62 0 (further 1) (slot 1) ∷ cell 0x20 1 (slot 0) (slot 1) ∷ [])
+    trie 2 0 (cell 0x7A 0 (further 1) (slot 1) ∷ cell 0x78 1 (slot 0) (slot 1) ∷ [])
 
 abbrev pub trie80 : Trie
 trie80 =
-    trie 5 0 (cell 0x6E 0 (further 1) (further 2) ∷ cell 0x20 1 (slot 0) (slot 1) ∷ cell 0x6F 0 (further 3) (slot 2)
-    ∷ cell 0x6F 1 (further 4) (slot 2) ∷ cell 0x20 2 (slot 1) (slot 2) ∷ [])
+    trie 2 0 (cell 0x62 0 (further 1) (slot 1) ∷ cell 0x20 1 (slot 0) (slot 1) ∷ [])
 
 abbrev pub trie81 : Trie
 trie81 =
     trie 5 0 (cell 0x6E 0 (further 1) (further 2) ∷ cell 0x20 1 (slot 0) (slot 1) ∷ cell 0x6F 0 (further 3) (slot 2)
-    ∷ cell 0x6F 1 (further 4) (slot 2) ∷ cell 0x20 2 (slot 3) (slot 2) ∷ [])
+    ∷ cell 0x6F 1 (further 4) (slot 2) ∷ cell 0x20 2 (slot 1) (slot 2) ∷ [])
 
 abbrev pub trie82 : Trie
 trie82 =
-    trie 5 0 (cell 0x61 0 (further 1) (further 2) ∷ cell 0x20 1 (slot 0) (slot 1) ∷ cell 0x7D 0 (further 3) (slot 2)
-    ∷ cell 0x7D 1 (further 4) (slot 2) ∷ cell 0x20 2 (slot 1) (slot 2) ∷ [])
+    trie 5 0 (cell 0x6E 0 (further 1) (further 2) ∷ cell 0x20 1 (slot 0) (slot 1) ∷ cell 0x6F 0 (further 3) (slot 2)
+    ∷ cell 0x6F 1 (further 4) (slot 2) ∷ cell 0x20 2 (slot 3) (slot 2) ∷ [])
 
 abbrev pub trie83 : Trie
 trie83 =
-    trie 4 0 (cell 0x73 0 (further 1) (slot 1) ∷ cell 0x74 1 (further 2) (slot 1) ∷ cell 0x72 2 (further 3) (slot 1)
-    ∷ cell 0x20 3 (slot 0) (slot 1) ∷ [])
+    trie 5 0 (cell 0x61 0 (further 1) (further 2) ∷ cell 0x20 1 (slot 0) (slot 1) ∷ cell 0x7D 0 (further 3) (slot 2)
+    ∷ cell 0x7D 1 (further 4) (slot 2) ∷ cell 0x20 2 (slot 1) (slot 2) ∷ [])
 
 abbrev pub trie84 : Trie
 trie84 =
-    trie 4 0 (cell 0x73 0 (further 1) (slot 2) ∷ cell 0x74 1 (further 2) (slot 2) ∷ cell 0x72 2 (further 3) (slot 2)
+    trie 4 0 (cell 0x73 0 (further 1) (slot 1) ∷ cell 0x74 1 (further 2) (slot 1) ∷ cell 0x72 2 (further 3) (slot 1)
     ∷ cell 0x20 3 (slot 0) (slot 1) ∷ [])
 
 abbrev pub trie85 : Trie
 trie85 =
-    trie 3 0 (cell 0x61 0 (further 1) (slot 1) ∷ cell 0x21 1 (further 2) (slot 1) ∷ cell 0x61 2 (slot 0) (slot 1) ∷ [])
+    trie 4 0 (cell 0x73 0 (further 1) (slot 2) ∷ cell 0x74 1 (further 2) (slot 2) ∷ cell 0x72 2 (further 3) (slot 2)
+    ∷ cell 0x20 3 (slot 0) (slot 1) ∷ [])
 
 abbrev pub trie86 : Trie
 trie86 =
-    trie 5 0 (cell 0x61 0 (further 1) (slot 2) ∷ cell 0x21 1 (further 2) (further 3) ∷ cell 0x61 2 (slot 0) (slot 1)
-    ∷ cell 0x61 1 (further 4) (slot 2) ∷ cell 0x20 2 (slot 1) (slot 2) ∷ [])
+    trie 3 0 (cell 0x61 0 (further 1) (slot 1) ∷ cell 0x21 1 (further 2) (slot 1) ∷ cell 0x61 2 (slot 0) (slot 1) ∷ [])
 
 abbrev pub trie87 : Trie
 trie87 =
-    trie 6 0 (cell 0x61 0 (further 1) (slot 1) ∷ cell 0x61 1 (further 2) (slot 1) ∷ cell 0x61 2 (further 3) (slot 1)
-    ∷ cell 0x62 3 (further 4) (slot 1) ∷ cell 0x61 4 (further 5) (slot 1) ∷ cell 0x20 5 (slot 0) (slot 1) ∷ [])
+    trie 5 0 (cell 0x61 0 (further 1) (slot 2) ∷ cell 0x21 1 (further 2) (further 3) ∷ cell 0x61 2 (slot 0) (slot 1)
+    ∷ cell 0x61 1 (further 4) (slot 2) ∷ cell 0x20 2 (slot 1) (slot 2) ∷ [])
 
 abbrev pub trie88 : Trie
 trie88 =
-    trie 6 0 (cell 0x61 0 (further 1) (slot 2) ∷ cell 0x61 1 (further 2) (slot 2) ∷ cell 0x61 2 (further 3) (slot 2)
-    ∷ cell 0x62 3 (further 4) (slot 2) ∷ cell 0x61 4 (further 5) (slot 2) ∷ cell 0x20 5 (slot 0) (slot 1) ∷ [])
+    trie 6 0 (cell 0x61 0 (further 1) (slot 1) ∷ cell 0x61 1 (further 2) (slot 1) ∷ cell 0x61 2 (further 3) (slot 1)
+    ∷ cell 0x62 3 (further 4) (slot 1) ∷ cell 0x61 4 (further 5) (slot 1) ∷ cell 0x20 5 (slot 0) (slot 1) ∷ [])
 
 abbrev pub trie89 : Trie
 trie89 =
-    trie 4 0 (cell 0x7D 0 (further 2) (slot 1) ∷ cell 0x21 2 (further 3) (slot 1) ∷ cell 0x7D 1 (further 1) (slot 1)
-    ∷ cell 0x20 3 (slot 0) (slot 2) ∷ [])
+    trie 6 0 (cell 0x61 0 (further 1) (slot 2) ∷ cell 0x61 1 (further 2) (slot 2) ∷ cell 0x61 2 (further 3) (slot 2)
+    ∷ cell 0x62 3 (further 4) (slot 2) ∷ cell 0x61 4 (further 5) (slot 2) ∷ cell 0x20 5 (slot 0) (slot 1) ∷ [])
 
 abbrev pub trie90 : Trie
 trie90 =
+    trie 4 0 (cell 0x7D 0 (further 2) (slot 1) ∷ cell 0x21 2 (further 3) (slot 1) ∷ cell 0x7D 1 (further 1) (slot 1)
+    ∷ cell 0x20 3 (slot 0) (slot 2) ∷ [])
+
+abbrev pub trie91 : Trie
+trie91 =
     trie 23 0 (cell 0x74 0 (further 17) (slot 1) ∷ cell 0x73 20 (further 16) (slot 1) ∷ cell 0x73 10 (further 18)
     (slot 1) ∷ cell 0x73 17 (further 21) (slot 1) ∷ cell 0x20 22 (slot 0) (slot 1) ∷ cell 0x73 9 (further 2) (slot 1)
     ∷ cell 0x74 16 (further 3) (slot 1) ∷ cell 0x73 12 (further 9) (slot 1) ∷ cell 0x74 2 (further 13) (slot 1)
@@ -2541,79 +2619,74 @@ trie90 =
     ∷ cell 0x72 11 (further 7) (slot 1) ∷ cell 0x74 15 (further 6) (slot 1) ∷ cell 0x73 4 (further 10) (slot 1)
     ∷ cell 0x74 18 (further 12) (slot 1) ∷ cell 0x73 7 (further 15) (slot 1) ∷ [])
 
-abbrev pub trie91 : Trie
-trie91 =
-    trie 2 0 (cell 0x74 21 (further 1) (slot 1) ∷ cell 0x72 1 (slot 0) (slot 1) ∷ [])
-
 abbrev pub trie92 : Trie
 trie92 =
-    trie 4 0 (cell 0x78 0 (further 1) (slot 1) ∷ cell 0x7A 1 (further 2) (slot 1) ∷ cell 0x78 2 (further 3) (slot 1)
-    ∷ cell 0x79 3 (slot 0) (slot 1) ∷ [])
+    trie 2 0 (cell 0x74 21 (further 1) (slot 1) ∷ cell 0x72 1 (slot 0) (slot 1) ∷ [])
 
 abbrev pub trie93 : Trie
 trie93 =
-    trie 4 32768 (cell 0x7D 0 (further 1) (slot 1) ∷ cell 0x21 1 (further 2) (slot 1) ∷ cell 0x7D 2 (further 3) (slot 1)
-    ∷ cell 0x21 3 (slot 0) (slot 1) ∷ [])
+    trie 4 0 (cell 0x78 0 (further 1) (slot 1) ∷ cell 0x7A 1 (further 2) (slot 1) ∷ cell 0x78 2 (further 3) (slot 1)
+    ∷ cell 0x79 3 (slot 0) (slot 1) ∷ [])
 
 abbrev pub trie94 : Trie
 trie94 =
-    trie 5 0 (cell 0x6E 0 (further 1) (slot 1) ∷ cell 0x6F 1 (further 2) (slot 1) ∷ cell 0x6F 2 (further 3) (slot 1)
-    ∷ cell 0x6F 3 (further 4) (slot 1) ∷ cell 0x20 4 (slot 0) (slot 1) ∷ [])
+    trie 4 32768 (cell 0x7D 0 (further 1) (slot 1) ∷ cell 0x21 1 (further 2) (slot 1) ∷ cell 0x7D 2 (further 3) (slot 1)
+    ∷ cell 0x21 3 (slot 0) (slot 1) ∷ [])
 
 abbrev pub trie95 : Trie
 trie95 =
-    trie 5 0 (cell 0x79 0 (further 1) (slot 1) ∷ cell 0x78 1 (further 2) (slot 1) ∷ cell 0x79 2 (further 3) (slot 1)
-    ∷ cell 0x79 3 (further 4) (slot 1) ∷ cell 0x78 4 (slot 0) (slot 2) ∷ [])
+    trie 5 0 (cell 0x6E 0 (further 1) (slot 1) ∷ cell 0x6F 1 (further 2) (slot 1) ∷ cell 0x6F 2 (further 3) (slot 1)
+    ∷ cell 0x6F 3 (further 4) (slot 1) ∷ cell 0x20 4 (slot 0) (slot 1) ∷ [])
 
 abbrev pub trie96 : Trie
 trie96 =
-    trie 2 0 (cell 0x7A 0 (further 1) (slot 1) ∷ cell 0x79 1 (slot 0) (slot 1) ∷ [])
+    trie 5 0 (cell 0x79 0 (further 1) (slot 1) ∷ cell 0x78 1 (further 2) (slot 1) ∷ cell 0x79 2 (further 3) (slot 1)
+    ∷ cell 0x79 3 (further 4) (slot 1) ∷ cell 0x78 4 (slot 0) (slot 2) ∷ [])
 
 abbrev pub trie97 : Trie
 trie97 =
-    trie 5 0 (cell 0x78 0 (further 1) (slot 1) ∷ cell 0x7A 1 (further 2) (slot 1) ∷ cell 0x7A 2 (further 3) (slot 1)
-    ∷ cell 0x78 3 (further 4) (slot 1) ∷ cell 0x78 4 (slot 0) (slot 1) ∷ [])
+    trie 2 0 (cell 0x7A 0 (further 1) (slot 1) ∷ cell 0x79 1 (slot 0) (slot 1) ∷ [])
 
 abbrev pub trie98 : Trie
 trie98 =
-    trie 4 0 (cell 0x21 0 (further 1) (slot 1) ∷ cell 0x21 1 (further 2) (slot 1) ∷ cell 0x7D 2 (further 3) (slot 0)
-    ∷ cell 0x21 3 (slot 0) (slot 1) ∷ [])
+    trie 5 0 (cell 0x78 0 (further 1) (slot 1) ∷ cell 0x7A 1 (further 2) (slot 1) ∷ cell 0x7A 2 (further 3) (slot 1)
+    ∷ cell 0x78 3 (further 4) (slot 1) ∷ cell 0x78 4 (slot 0) (slot 1) ∷ [])
 
 abbrev pub trie99 : Trie
 trie99 =
-    trie 5 0 (cell 0x7A 0 (further 4) (slot 1) ∷ cell 0x78 4 (slot 0) (slot 1) ∷ cell 0x78 2 (further 3) (slot 1)
-    ∷ cell 0x78 3 (further 1) (slot 1) ∷ cell 0x7A 1 (further 2) (slot 1) ∷ [])
+    trie 4 0 (cell 0x21 0 (further 1) (slot 1) ∷ cell 0x21 1 (further 2) (slot 1) ∷ cell 0x7D 2 (further 3) (slot 0)
+    ∷ cell 0x21 3 (slot 0) (slot 1) ∷ [])
 
 abbrev pub trie100 : Trie
 trie100 =
-    trie 2 0 (cell 0x21 0 (further 1) (slot 1) ∷ cell 0x21 1 (slot 0) (slot 2) ∷ [])
+    trie 5 0 (cell 0x7A 0 (further 4) (slot 1) ∷ cell 0x78 4 (slot 0) (slot 1) ∷ cell 0x78 2 (further 3) (slot 1)
+    ∷ cell 0x78 3 (further 1) (slot 1) ∷ cell 0x7A 1 (further 2) (slot 1) ∷ [])
 
 abbrev pub trie101 : Trie
 trie101 =
-    trie 4 0 (cell 0x6F 0 (further 1) (slot 1) ∷ cell 0x6E 1 (further 2) (slot 1) ∷ cell 0x6F 2 (further 3) (slot 1)
-    ∷ cell 0x69 3 (slot 0) (slot 1) ∷ [])
+    trie 2 0 (cell 0x21 0 (further 1) (slot 1) ∷ cell 0x21 1 (slot 0) (slot 2) ∷ [])
 
 abbrev pub trie102 : Trie
 trie102 =
-    trie 4 0 (cell 0x7D 0 (further 1) (slot 1) ∷ cell 0x21 1 (further 5) (slot 1) ∷ cell 0x21 2 (further 3) (slot 1)
-    ∷ cell 0x21 3 (slot 0) (slot 1) ∷ [])
+    trie 4 0 (cell 0x6F 0 (further 1) (slot 1) ∷ cell 0x6E 1 (further 2) (slot 1) ∷ cell 0x6F 2 (further 3) (slot 1)
+    ∷ cell 0x69 3 (slot 0) (slot 1) ∷ [])
 
 abbrev pub trie103 : Trie
 trie103 =
-    trie 3 0 (cell 0x21 0 (further 1) (slot 1) ∷ cell 0x7D 1 (further 2) (slot 1) ∷ cell 0x21 2 (slot 0) (slot 1) ∷ [])
+    trie 4 0 (cell 0x7D 0 (further 1) (slot 1) ∷ cell 0x21 1 (further 5) (slot 1) ∷ cell 0x21 2 (further 3) (slot 1)
+    ∷ cell 0x21 3 (slot 0) (slot 1) ∷ [])
 
 abbrev pub trie104 : Trie
 trie104 =
-    trie 2 0 (cell 0x61 0 (further 1) (slot 1) ∷ cell 0x61 1 (slot 0) (slot 2) ∷ [])
+    trie 3 0 (cell 0x21 0 (further 1) (slot 1) ∷ cell 0x7D 1 (further 2) (slot 1) ∷ cell 0x21 2 (slot 0) (slot 1) ∷ [])
 
 abbrev pub trie105 : Trie
 trie105 =
-    trie 3 0 (cell 0x73 0 (further 1) (slot 1) ∷ cell 0x73 1 (further 2) (slot 1) ∷ cell 0x73 2 (slot 0) (slot 1) ∷ [])
+    trie 2 0 (cell 0x61 0 (further 1) (slot 1) ∷ cell 0x61 1 (slot 0) (slot 2) ∷ [])
 
 abbrev pub trie106 : Trie
 trie106 =
-    trie 5 0 (cell 0x61 0 (further 1) (slot 1) ∷ cell 0x62 1 (further 2) (slot 1) ∷ cell 0x62 2 (further 3) (slot 1)
-    ∷ cell 0x61 3 (further 4) (slot 1) ∷ cell 0x20 3 (slot 0) (slot 2) ∷ [])
+    trie 3 0 (cell 0x73 0 (further 1) (slot 1) ∷ cell 0x73 1 (further 2) (slot 1) ∷ cell 0x73 2 (slot 0) (slot 1) ∷ [])
 
 abbrev pub trie107 : Trie
 trie107 =
@@ -2626,38 +2699,54 @@ trie108 =
 
 abbrev pub trie109 : Trie
 trie109 =
-    trie 5 0 (cell 0x72 0 (further 1) (slot 1) ∷ cell 0x61 1 (further 2) (slot 1) ∷ cell 0x74 2 (further 3) (slot 1)
-    ∷ cell 0x65 3 (further 4) (slot 1) ∷ cell 0x32 4 (slot 0) (slot 1) ∷ [])
+    trie 23 0 (cell 0x69 0 (further 1) (slot 1) ∷ cell 0x6F 1 (further 2) (slot 1) ∷ cell 0x6E 2 (further 3) (slot 1)
+    ∷ cell 0x69 3 (further 4) (slot 1) ∷ cell 0x6F 4 (further 5) (slot 1) ∷ cell 0x69 5 (further 6) (slot 1)
+    ∷ cell 0x6F 6 (further 7) (slot 1) ∷ cell 0x6E 7 (further 8) (slot 1) ∷ cell 0x6F 8 (further 9) (slot 1)
+    ∷ cell 0x6F 9 (further 10) (slot 1) ∷ cell 0x69 10 (further 11) (slot 1) ∷ cell 0x6E 11 (further 12) (slot 1)
+    ∷ cell 0x69 12 (further 13) (slot 1) ∷ cell 0x69 13 (further 14) (slot 1) ∷ cell 0x6E 14 (further 15) (slot 1)
+    ∷ cell 0x6F 15 (further 16) (slot 1) ∷ cell 0x69 16 (further 17) (slot 1) ∷ cell 0x69 17 (further 18) (slot 1)
+    ∷ cell 0x6E 18 (further 19) (slot 1) ∷ cell 0x69 19 (further 20) (slot 1) ∷ cell 0x6F 20 (further 21) (slot 1)
+    ∷ cell 0x6F 21 (further 22) (slot 1) ∷ cell 0x69 22 (slot 0) (slot 1) ∷ [])
 
 abbrev pub trie110 : Trie
 trie110 =
-    trie 5 0 (cell 0x72 0 (further 1) (slot 2) ∷ cell 0x61 1 (further 2) (slot 2) ∷ cell 0x74 2 (further 3) (slot 1)
-    ∷ cell 0x65 3 (further 4) (slot 1) ∷ cell 0x32 4 (slot 0) (slot 1) ∷ [])
+    trie 5 0 (cell 0x21 0 (further 1) (slot 1) ∷ cell 0x21 1 (further 2) (slot 1) ∷ cell 0x7D 2 (further 3) (slot 1)
+    ∷ cell 0x21 3 (further 4) (slot 1) ∷ cell 0x20 4 (slot 0) (slot 1) ∷ [])
 
 abbrev pub trie111 : Trie
 trie111 =
-    trie 3 0 (cell 0x6F 0 (further 1) (slot 1) ∷ cell 0x69 0 (further 2) (slot 2) ∷ cell 0x20 1 (slot 0) (slot 3) ∷ [])
+    trie 5 0 (cell 0x72 0 (further 1) (slot 1) ∷ cell 0x61 1 (further 2) (slot 1) ∷ cell 0x74 2 (further 3) (slot 1)
+    ∷ cell 0x65 3 (further 4) (slot 1) ∷ cell 0x32 4 (slot 0) (slot 1) ∷ [])
 
 abbrev pub trie112 : Trie
 trie112 =
-    trie 3 0 (cell 0x69 0 (further 1) (further 2) ∷ cell 0x20 1 (slot 0) (slot 3) ∷ cell 0x6F 0 (slot 2) (slot 1) ∷ [])
+    trie 5 0 (cell 0x72 0 (further 1) (slot 2) ∷ cell 0x61 1 (further 2) (slot 2) ∷ cell 0x74 2 (further 3) (slot 1)
+    ∷ cell 0x65 3 (further 4) (slot 1) ∷ cell 0x32 4 (slot 0) (slot 1) ∷ [])
 
 abbrev pub trie113 : Trie
 trie113 =
+    trie 3 0 (cell 0x6F 0 (further 1) (slot 1) ∷ cell 0x69 0 (further 2) (slot 2) ∷ cell 0x20 1 (slot 0) (slot 3) ∷ [])
+
+abbrev pub trie114 : Trie
+trie114 =
+    trie 3 0 (cell 0x69 0 (further 1) (further 2) ∷ cell 0x20 1 (slot 0) (slot 3) ∷ cell 0x6F 0 (slot 2) (slot 1) ∷ [])
+
+abbrev pub trie115 : Trie
+trie115 =
     trie 10 0 (cell 0x6F 0 (further 1) (further 4) ∷ cell 0x69 0 (further 2) (slot 2) ∷ cell 0x20 1 (further 3) (slot 3)
     ∷ cell 0x61 0 (further 8) (further 5) ∷ cell 0x74 0 (slot 1) (slot 5) ∷ cell 0x68 0 (further 6) (slot 6)
     ∷ cell 0x66 0 (further 9) (further 7) ∷ cell 0x65 1 (slot 7) (slot 8) ∷ cell 0x72 1 (slot 0) (slot 9) ∷ cell 0x62 0
     (slot 4) (slot 10) ∷ [])
 
-abbrev pub trie114 : Trie
-trie114 =
+abbrev pub trie116 : Trie
+trie116 =
     trie 10 0 (cell 0x68 0 (further 1) (further 6) ∷ cell 0x62 0 (further 2) (further 4) ∷ cell 0x61 0 (further 3)
     (slot 4) ∷ cell 0x72 1 (slot 0) (slot 9) ∷ cell 0x66 0 (slot 10) (further 5) ∷ cell 0x65 1 (slot 7) (slot 8)
     ∷ cell 0x6F 0 (further 7) (further 9) ∷ cell 0x69 0 (further 8) (slot 2) ∷ cell 0x20 1 (slot 6) (slot 3)
     ∷ cell 0x74 0 (slot 1) (slot 5) ∷ [])
 
-abbrev pub trie115 : Trie
-trie115 =
+abbrev pub trie117 : Trie
+trie117 =
     trie 256 0 (cell 0x5B 0 (further 1) (further 139) ∷ cell 0x38 0 (further 2) (further 70) ∷ cell 0x28 0 (further 3)
     (further 25) ∷ cell 0x21 1 (further 4) (slot 4) ∷ cell 0x7D 2 (further 5) (slot 4) ∷ cell 0x20 3 (further 6)
     (slot 4) ∷ cell 0x20 4 (further 7) (slot 4) ∷ cell 0x21 5 (further 8) (slot 4) ∷ cell 0x61 6 (further 9) (slot 4)
@@ -2905,236 +2994,275 @@ checkings =
     ∷ checks file56 (141, [])
     ∷ checks file57 (142, [])
     ∷ checks file58 (142, [])
-    ∷ checks file59 (142, []) ∷ []
+    ∷ checks file59 (142, [])
+    ∷ checks file60 (142, [])
+    ∷ checks file61 (142, [])
+    ∷ checks file62 (142, [])
+    ∷ checks file63 (142, [])
+    ∷ checks file64 (142, [])
+    ∷ checks file65 (142, [])
+    ∷ checks file66 (142, [])
+    ∷ checks file67 (142, [])
+    ∷ checks file68 (142, [])
+    ∷ checks file69 (142, [])
+    ∷ checks file70 (142, [])
+    ∷ checks file71 (142, [])
+    ∷ checks file72 (142, []) ∷ []
 
 abbrev pub creatings : List Case
 creatings =
-    creates file60 1 2 2 (150, []) file61 trie12
-    ∷ creates file62 1 3 3 (150, []) file63 trie12
-    ∷ creates file64 1 3 3 (8, []) file64 trie12
-    ∷ creates file60 2 2 2 (8, []) file60 trie12
-    ∷ creates file65 1 1 1 (8, []) file65 trie12
-    ∷ creates file66 1 2 0 (8, []) file66 trie12 ∷ []
+    creates file73 1 2 2 (150, []) file74 trie12
+    ∷ creates file75 1 3 3 (150, []) file76 trie12
+    ∷ creates file77 1 3 3 (8, []) file77 trie12
+    ∷ creates file73 2 2 2 (8, []) file73 trie12
+    ∷ creates file78 1 1 1 (8, []) file78 trie12
+    ∷ creates file79 1 2 0 (8, []) file79 trie12 ∷ []
 
 abbrev pub recoverings : List Case
 recoverings =
-    recovers file67 0 (112, 0 ∷ []) file67
-    ∷ recovers file68 3 (8, []) file68
-    ∷ recovers file69 2 (131, []) file69
-    ∷ recovers file70 2 (131, []) file70
-    ∷ recovers file71 1 (130, 1 ∷ []) file72
-    ∷ recovers file73 2 (130, 1 ∷ []) file74
-    ∷ recovers file75 1 (130, 1 ∷ []) file76
-    ∷ recovers file77 0 (2, []) file77
-    ∷ recovers file78 2 (2, []) file78 ∷ []
+    recovers file80 0 (112, 0 ∷ []) file80
+    ∷ recovers file81 3 (8, []) file81
+    ∷ recovers file82 2 (131, []) file82
+    ∷ recovers file83 2 (131, []) file83
+    ∷ recovers file84 1 (130, 1 ∷ []) file85
+    ∷ recovers file86 2 (130, 1 ∷ []) file87
+    ∷ recovers file88 1 (130, 1 ∷ []) file89
+    ∷ recovers file90 0 (2, []) file90
+    ∷ recovers file91 2 (2, []) file91 ∷ []
 
 abbrev pub rebuildings : List Case
 rebuildings =
-    rebuilds file79 (3, []) trie12
-    ∷ rebuilds file80 (151, []) trie14
-    ∷ rebuilds file81 (151, []) trie15
-    ∷ rebuilds file82 (2, []) trie12
-    ∷ rebuilds file83 (151, []) trie16
-    ∷ rebuilds file84 (151, []) trie17
-    ∷ rebuilds file85 (151, []) trie18
-    ∷ rebuilds file86 (151, []) trie19
-    ∷ rebuilds file87 (151, []) trie20 ∷ []
+    rebuilds file92 (3, []) trie12
+    ∷ rebuilds file93 (151, []) trie14
+    ∷ rebuilds file94 (151, []) trie15
+    ∷ rebuilds file95 (2, []) trie12
+    ∷ rebuilds file96 (151, []) trie16
+    ∷ rebuilds file97 (151, []) trie17
+    ∷ rebuilds file98 (151, []) trie18
+    ∷ rebuilds file99 (151, []) trie19
+    ∷ rebuilds file100 (151, []) trie20 ∷ []
 
 abbrev pub lookings : List Case
 lookings =
-    looks-up file88 trie21 (text "z" ∷ []) (100, 18446744073709551615 ∷ 0 ∷ [])
-    ∷ looks-up file89 trie22 (text "!.r%v" ∷ byte 0x80 ∷ text "'jgmqd3=9m*" ∷ []) (1, [])
-    ∷ looks-up file90 trie23 (text "!" ∷ []) (100, 172 ∷ 0 ∷ [])
-    ∷ looks-up file91 trie24 (text "bbb" ∷ []) (100, 12850606331452738838 ∷ 0 ∷ [])
-    ∷ looks-up file92 trie25 (text "!a!" ∷ []) (101, [])
-    ∷ looks-up file93 trie26 (text "baa" ∷ []) (4, [])
-    ∷ looks-up file94 trie27 (text "baabaa" ∷ []) (100, 0 ∷ 0 ∷ [])
-    ∷ looks-up file95 trie28 (text "zyyz" ∷ []) (101, [])
-    ∷ looks-up file96 trie12 (text "nnoinonooiniooinnnooonon" ∷ []) (4, [])
-    ∷ looks-up file97 trie29 (text "zzxzx" ∷ []) (101, [])
-    ∷ looks-up file98 trie12 (text "ba" ∷ []) (4, [])
-    ∷ looks-up file99 trie30 (text "a" ∷ []) (4, [])
-    ∷ looks-up file100 trie31 (text "yy" ∷ []) (4, [])
-    ∷ looks-up file101 trie32 (text "yzz" ∷ []) (100, 11710943900971994272 ∷ 0 ∷ [])
-    ∷ looks-up file102 trie12 (text "nnnio" ∷ []) (100, 496 ∷ 0 ∷ [])
-    ∷ looks-up file103 trie33 (text "!}a}!}}}}!a}a!" ∷ []) (100, 11007249384280552713 ∷ 0 ∷ [])
-    ∷ looks-up file104 trie12 (text "bbbba" ∷ []) (4, [])
-    ∷ looks-up file105 trie12 (text "xyx" ∷ []) (4, [])
-    ∷ looks-up file106 trie34 (text "oonnni" ∷ []) (2, [])
-    ∷ looks-up file107 trie12 (text "ooooi" ∷ []) (2, [])
-    ∷ looks-up file108 trie35 (text "bbb" ∷ []) (2, []) ∷ []
+    looks-up file101 trie21 (text "z" ∷ []) (100, 18446744073709551615 ∷ 0 ∷ [])
+    ∷ looks-up file102 trie22 (text "!.r%v" ∷ byte 0x80 ∷ text "'jgmqd3=9m*" ∷ []) (1, [])
+    ∷ looks-up file103 trie23 (text "!" ∷ []) (100, 172 ∷ 0 ∷ [])
+    ∷ looks-up file104 trie24 (text "bbb" ∷ []) (100, 12850606331452738838 ∷ 0 ∷ [])
+    ∷ looks-up file105 trie25 (text "!a!" ∷ []) (101, [])
+    ∷ looks-up file106 trie26 (text "baa" ∷ []) (4, [])
+    ∷ looks-up file107 trie27 (text "baabaa" ∷ []) (100, 0 ∷ 0 ∷ [])
+    ∷ looks-up file108 trie28 (text "zyyz" ∷ []) (101, [])
+    ∷ looks-up file109 trie12 (text "nnoinonooiniooinnnooonon" ∷ []) (4, [])
+    ∷ looks-up file110 trie29 (text "zzxzx" ∷ []) (101, [])
+    ∷ looks-up file111 trie12 (text "ba" ∷ []) (4, [])
+    ∷ looks-up file112 trie30 (text "a" ∷ []) (4, [])
+    ∷ looks-up file113 trie31 (text "yy" ∷ []) (4, [])
+    ∷ looks-up file114 trie32 (text "yzz" ∷ []) (100, 11710943900971994272 ∷ 0 ∷ [])
+    ∷ looks-up file115 trie12 (text "nnnio" ∷ []) (100, 496 ∷ 0 ∷ [])
+    ∷ looks-up file116 trie33 (text "!}a}!}}}}!a}a!" ∷ []) (100, 11007249384280552713 ∷ 0 ∷ [])
+    ∷ looks-up file117 trie12 (text "bbbba" ∷ []) (4, [])
+    ∷ looks-up file118 trie12 (text "xyx" ∷ []) (4, [])
+    ∷ looks-up file119 trie34 (text "oonnni" ∷ []) (2, [])
+    ∷ looks-up file120 trie12 (text "ooooi" ∷ []) (2, [])
+    ∷ looks-up file121 trie35 (text "bbb" ∷ []) (2, []) ∷ []
 
 abbrev pub wrongs : List Case
 wrongs =
-    looks-up file109 trie36 (text "rate1" ∷ []) (4, [])
-    ∷ looks-up file109 trie36 (text "rate3" ∷ []) (100, 1 ∷ 0 ∷ [])
-    ∷ agrees file109 trie36 false
-    ∷ looks-up file109 trie37 (text "rate1" ∷ []) (4, [])
-    ∷ looks-up file109 trie37 (text "rate3" ∷ []) (100, 1 ∷ 0 ∷ [])
-    ∷ agrees file109 trie37 false
-    ∷ looks-up file109 trie38 (text "rate1" ∷ []) (4, [])
-    ∷ looks-up file109 trie38 (text "rate3" ∷ []) (100, 1 ∷ 0 ∷ [])
-    ∷ agrees file109 trie38 false
-    ∷ looks-up file109 trie39 (text "rate1" ∷ []) (100, 1 ∷ 0 ∷ [])
-    ∷ looks-up file109 trie39 (text "rate3" ∷ []) (100, 1 ∷ 0 ∷ [])
-    ∷ agrees file109 trie39 false
-    ∷ looks-up file109 trie40 (text "rate1" ∷ []) (4, [])
-    ∷ looks-up file109 trie40 (text "rate3" ∷ []) (100, 1 ∷ 0 ∷ [])
-    ∷ agrees file109 trie40 false
-    ∷ looks-up file109 trie41 (text "rate1" ∷ []) (4, [])
-    ∷ looks-up file109 trie41 (text "rate3" ∷ []) (100, 1 ∷ 0 ∷ [])
-    ∷ agrees file109 trie41 false
-    ∷ looks-up file109 trie42 (text "rate1" ∷ []) (100, 1 ∷ 0 ∷ [])
-    ∷ looks-up file109 trie42 (text "rate3" ∷ []) (100, 1 ∷ 0 ∷ [])
-    ∷ agrees file109 trie42 false
-    ∷ looks-up file109 trie43 (text "rate1" ∷ []) (4, [])
-    ∷ looks-up file109 trie43 (text "rate3" ∷ []) (4, [])
-    ∷ agrees file109 trie43 false
-    ∷ looks-up file109 trie44 (text "rate1" ∷ []) (4, [])
-    ∷ looks-up file109 trie44 (text "rate3" ∷ []) (4, [])
-    ∷ agrees file109 trie44 false
-    ∷ looks-up file109 trie45 (text "rate1" ∷ []) (4, [])
-    ∷ looks-up file109 trie45 (text "rate3" ∷ []) (100, 1 ∷ 0 ∷ [])
-    ∷ agrees file109 trie45 false
-    ∷ looks-up file109 trie46 (text "rate1" ∷ []) (100, 1 ∷ 0 ∷ [])
-    ∷ looks-up file109 trie46 (text "rate3" ∷ []) (100, 1 ∷ 0 ∷ [])
-    ∷ agrees file109 trie46 false
-    ∷ looks-up file109 trie47 (text "rate1" ∷ []) (100, 1 ∷ 0 ∷ [])
-    ∷ looks-up file109 trie47 (text "rate3" ∷ []) (100, 1 ∷ 0 ∷ [])
-    ∷ agrees file109 trie47 false
-    ∷ looks-up file109 trie48 (text "rate1" ∷ []) (100, 1 ∷ 0 ∷ [])
-    ∷ looks-up file109 trie48 (text "rate3" ∷ []) (100, 1 ∷ 0 ∷ [])
-    ∷ agrees file109 trie48 false
-    ∷ looks-up file109 trie49 (text "rate1" ∷ []) (100, 1 ∷ 0 ∷ [])
-    ∷ looks-up file109 trie49 (text "rate3" ∷ []) (100, 1 ∷ 0 ∷ [])
-    ∷ agrees file109 trie49 false
-    ∷ looks-up file109 trie50 (text "rate1" ∷ []) (4, [])
-    ∷ looks-up file109 trie50 (text "rate3" ∷ []) (4, [])
-    ∷ agrees file109 trie50 false
-    ∷ looks-up file109 trie51 (text "rate1" ∷ []) (100, 1 ∷ 0 ∷ [])
-    ∷ looks-up file109 trie51 (text "rate3" ∷ []) (100, 1 ∷ 0 ∷ [])
-    ∷ agrees file109 trie51 false
-    ∷ looks-up file109 trie52 (text "rate1" ∷ []) (4, [])
-    ∷ looks-up file109 trie52 (text "rate3" ∷ []) (4, [])
-    ∷ agrees file109 trie52 false
-    ∷ looks-up file109 trie53 (text "rate1" ∷ []) (4, [])
-    ∷ looks-up file109 trie53 (text "rate3" ∷ []) (4, [])
-    ∷ agrees file109 trie53 false
-    ∷ looks-up file109 trie54 (text "rate1" ∷ []) (100, 1 ∷ 0 ∷ [])
-    ∷ looks-up file109 trie54 (text "rate3" ∷ []) (4, [])
-    ∷ agrees file109 trie54 false
-    ∷ looks-up file109 trie55 (text "rate1" ∷ []) (100, 1 ∷ 0 ∷ [])
-    ∷ looks-up file109 trie55 (text "rate3" ∷ []) (4, [])
-    ∷ agrees file109 trie55 false
-    ∷ looks-up file109 trie56 (text "rate1" ∷ []) (4, [])
-    ∷ looks-up file109 trie56 (text "rate3" ∷ []) (4, [])
-    ∷ agrees file109 trie56 false ∷ []
+    looks-up file122 trie36 (text "rate1" ∷ []) (100, 1 ∷ 0 ∷ [])
+    ∷ looks-up file122 trie36 (text "rate3" ∷ []) (100, 1 ∷ 0 ∷ [])
+    ∷ looks-up file122 trie36 (text "s" ∷ []) (4, [])
+    ∷ agrees file122 trie36 false
+    ∷ looks-up file122 trie37 (text "rate1" ∷ []) (4, [])
+    ∷ looks-up file122 trie37 (text "rate3" ∷ []) (100, 1 ∷ 0 ∷ [])
+    ∷ looks-up file122 trie37 (text "s" ∷ []) (101, [])
+    ∷ agrees file122 trie37 false
+    ∷ looks-up file122 trie38 (text "rate1" ∷ []) (4, [])
+    ∷ looks-up file122 trie38 (text "rate3" ∷ []) (100, 1 ∷ 0 ∷ [])
+    ∷ looks-up file122 trie38 (text "s" ∷ []) (101, [])
+    ∷ agrees file122 trie38 false
+    ∷ looks-up file122 trie39 (text "rate1" ∷ []) (4, [])
+    ∷ looks-up file122 trie39 (text "rate3" ∷ []) (100, 1 ∷ 0 ∷ [])
+    ∷ looks-up file122 trie39 (text "s" ∷ []) (101, [])
+    ∷ agrees file122 trie39 false
+    ∷ looks-up file122 trie40 (text "rate1" ∷ []) (100, 1 ∷ 0 ∷ [])
+    ∷ looks-up file122 trie40 (text "rate3" ∷ []) (100, 1 ∷ 0 ∷ [])
+    ∷ looks-up file122 trie40 (text "s" ∷ []) (101, [])
+    ∷ agrees file122 trie40 false
+    ∷ looks-up file122 trie41 (text "rate1" ∷ []) (4, [])
+    ∷ looks-up file122 trie41 (text "rate3" ∷ []) (100, 1 ∷ 0 ∷ [])
+    ∷ looks-up file122 trie41 (text "s" ∷ []) (101, [])
+    ∷ agrees file122 trie41 false
+    ∷ looks-up file122 trie42 (text "rate1" ∷ []) (4, [])
+    ∷ looks-up file122 trie42 (text "rate3" ∷ []) (100, 1 ∷ 0 ∷ [])
+    ∷ looks-up file122 trie42 (text "s" ∷ []) (101, [])
+    ∷ agrees file122 trie42 false
+    ∷ looks-up file122 trie43 (text "rate1" ∷ []) (100, 1 ∷ 0 ∷ [])
+    ∷ looks-up file122 trie43 (text "rate3" ∷ []) (100, 1 ∷ 0 ∷ [])
+    ∷ looks-up file122 trie43 (text "s" ∷ []) (4, [])
+    ∷ agrees file122 trie43 false
+    ∷ looks-up file122 trie44 (text "rate1" ∷ []) (4, [])
+    ∷ looks-up file122 trie44 (text "rate3" ∷ []) (4, [])
+    ∷ looks-up file122 trie44 (text "s" ∷ []) (101, [])
+    ∷ agrees file122 trie44 false
+    ∷ looks-up file122 trie45 (text "rate1" ∷ []) (4, [])
+    ∷ looks-up file122 trie45 (text "rate3" ∷ []) (4, [])
+    ∷ looks-up file122 trie45 (text "s" ∷ []) (101, [])
+    ∷ agrees file122 trie45 false
+    ∷ looks-up file122 trie46 (text "rate1" ∷ []) (4, [])
+    ∷ looks-up file122 trie46 (text "rate3" ∷ []) (100, 1 ∷ 0 ∷ [])
+    ∷ looks-up file122 trie46 (text "s" ∷ []) (101, [])
+    ∷ agrees file122 trie46 false
+    ∷ looks-up file122 trie47 (text "rate1" ∷ []) (100, 1 ∷ 0 ∷ [])
+    ∷ looks-up file122 trie47 (text "rate3" ∷ []) (100, 1 ∷ 0 ∷ [])
+    ∷ looks-up file122 trie47 (text "s" ∷ []) (101, [])
+    ∷ agrees file122 trie47 false
+    ∷ looks-up file122 trie48 (text "rate1" ∷ []) (100, 1 ∷ 0 ∷ [])
+    ∷ looks-up file122 trie48 (text "rate3" ∷ []) (100, 1 ∷ 0 ∷ [])
+    ∷ looks-up file122 trie48 (text "s" ∷ []) (101, [])
+    ∷ agrees file122 trie48 false
+    ∷ looks-up file122 trie49 (text "rate1" ∷ []) (100, 1 ∷ 0 ∷ [])
+    ∷ looks-up file122 trie49 (text "rate3" ∷ []) (100, 1 ∷ 0 ∷ [])
+    ∷ looks-up file122 trie49 (text "s" ∷ []) (101, [])
+    ∷ agrees file122 trie49 false
+    ∷ looks-up file122 trie50 (text "rate1" ∷ []) (100, 1 ∷ 0 ∷ [])
+    ∷ looks-up file122 trie50 (text "rate3" ∷ []) (100, 1 ∷ 0 ∷ [])
+    ∷ looks-up file122 trie50 (text "s" ∷ []) (101, [])
+    ∷ agrees file122 trie50 false
+    ∷ looks-up file122 trie51 (text "rate1" ∷ []) (4, [])
+    ∷ looks-up file122 trie51 (text "rate3" ∷ []) (4, [])
+    ∷ looks-up file122 trie51 (text "s" ∷ []) (101, [])
+    ∷ agrees file122 trie51 false
+    ∷ looks-up file122 trie52 (text "rate1" ∷ []) (100, 1 ∷ 0 ∷ [])
+    ∷ looks-up file122 trie52 (text "rate3" ∷ []) (100, 1 ∷ 0 ∷ [])
+    ∷ looks-up file122 trie52 (text "s" ∷ []) (101, [])
+    ∷ agrees file122 trie52 false
+    ∷ looks-up file122 trie53 (text "rate1" ∷ []) (4, [])
+    ∷ looks-up file122 trie53 (text "rate3" ∷ []) (4, [])
+    ∷ looks-up file122 trie53 (text "s" ∷ []) (4, [])
+    ∷ agrees file122 trie53 false
+    ∷ looks-up file122 trie54 (text "rate1" ∷ []) (4, [])
+    ∷ looks-up file122 trie54 (text "rate3" ∷ []) (4, [])
+    ∷ looks-up file122 trie54 (text "s" ∷ []) (101, [])
+    ∷ agrees file122 trie54 false
+    ∷ looks-up file122 trie55 (text "rate1" ∷ []) (100, 1 ∷ 0 ∷ [])
+    ∷ looks-up file122 trie55 (text "rate3" ∷ []) (4, [])
+    ∷ looks-up file122 trie55 (text "s" ∷ []) (101, [])
+    ∷ agrees file122 trie55 false
+    ∷ looks-up file122 trie56 (text "rate1" ∷ []) (100, 1 ∷ 0 ∷ [])
+    ∷ looks-up file122 trie56 (text "rate3" ∷ []) (4, [])
+    ∷ looks-up file122 trie56 (text "s" ∷ []) (101, [])
+    ∷ agrees file122 trie56 false
+    ∷ looks-up file122 trie57 (text "rate1" ∷ []) (4, [])
+    ∷ looks-up file122 trie57 (text "rate3" ∷ []) (4, [])
+    ∷ looks-up file122 trie57 (text "s" ∷ []) (101, [])
+    ∷ agrees file122 trie57 false ∷ []
 
 abbrev pub puttings : List Case
 puttings =
-    puts file110 trie57 (text "zzy" ∷ []) 720 2 (4, []) file110 trie57
-    ∷ puts file111 trie58 (text "}}a}a!}!!!}aaaa}!!}a}!!a" ∷ []) 14857651898243523872 2 (4, []) file111 trie58
-    ∷ puts file112 trie59 (text "a!!" ∷ []) 875 0 (112, 0 ∷ []) file112 trie59
-    ∷ puts file113 trie60 (text "xxyyy" ∷ []) 673 2 (2, []) file113 trie60
-    ∷ puts file114 trie61 (text "bba" ∷ []) 20 3 (8, []) file114 trie61
-    ∷ puts file115 trie62 (text "zxy" ∷ []) 299 0 (4, []) file115 trie62
-    ∷ puts file116 trie63 (text "o" ∷ []) 8758465151403428026 2 (111, 11788320792815648892 ∷ 0 ∷ []) file117 trie63
-    ∷ puts file118 trie12 [] 379 2 (1, []) file118 trie12
-    ∷ puts file119 trie64 (text "yyyx" ∷ []) 202 2 (3, []) file119 trie64
-    ∷ puts file120 trie65 (text "st" ∷ []) 942 1 (111, 8467910165203069954 ∷ 0 ∷ []) file121 trie65
-    ∷ puts file122 trie66 (text "!}}" ∷ []) 186 0 (112, 0 ∷ []) file122 trie66
-    ∷ puts file123 trie12 (text "onooinioooiniioiinnni" ∷ []) 255 2 (110, []) file124 trie12
-    ∷ puts file125 trie67 (text "oiii" ∷ []) 196 2 (5, []) file125 trie67
-    ∷ puts file126 trie68 (text "srttrr" ∷ []) 626 2 (110, []) file127 trie69
-    ∷ puts file128 trie70 (text "}}" ∷ []) 692 1 (110, []) file129 trie70
-    ∷ puts file130 trie12 (text "abbaaaababaaaaaaababaa" ∷ []) 665 2 (110, []) file131 trie71
-    ∷ puts file132 trie72 (text "}}" ∷ []) 845 2 (110, []) file133 trie72
-    ∷ puts file134 trie73 (text "sr" ∷ []) 643 2 (5, []) file134 trie73
-    ∷ puts file135 trie74 (text "bbaab" ∷ []) 562 2 (110, []) file136 trie75
-    ∷ puts file137 trie12 (text "baabb" ∷ []) 177 1 (112, 1 ∷ []) file138 trie12
-    ∷ puts file139 trie76 (text "!}" ∷ []) 612 2 (110, []) file140 trie77
-    ∷ puts file141 trie78 (text "z" ∷ []) 13775280876643653427 1 (112, 1 ∷ []) file142 trie78
-    ∷ puts file143 trie79 (text "aaa" ∷ []) 968 2 (110, []) file144 trie24
-    ∷ puts file145 trie80 (text "non" ∷ []) 18446744073709551615 2 (110, []) file146 trie81
-    ∷ puts file147 trie23 (text "}}}" ∷ []) 473 2 (110, []) file148 trie82
-    ∷ puts file149 trie83 (text "sttr" ∷ []) 296 2 (110, []) file150 trie84
-    ∷ puts file151 trie85 (text "aaa" ∷ []) 6672840292176293087 2 (110, []) file152 trie86
-    ∷ puts file153 trie87 (text "aaabb" ∷ []) 571 2 (110, []) file154 trie88 ∷ []
+    puts file123 trie58 (text "zzy" ∷ []) 720 2 (4, []) file123 trie58
+    ∷ puts file124 trie59 (text "}}a}a!}!!!}aaaa}!!}a}!!a" ∷ []) 14857651898243523872 2 (4, []) file124 trie59
+    ∷ puts file125 trie60 (text "a!!" ∷ []) 875 0 (112, 0 ∷ []) file125 trie60
+    ∷ puts file126 trie61 (text "xxyyy" ∷ []) 673 2 (2, []) file126 trie61
+    ∷ puts file127 trie62 (text "bba" ∷ []) 20 3 (8, []) file127 trie62
+    ∷ puts file128 trie63 (text "zxy" ∷ []) 299 0 (4, []) file128 trie63
+    ∷ puts file129 trie64 (text "o" ∷ []) 8758465151403428026 2 (111, 11788320792815648892 ∷ 0 ∷ []) file130 trie64
+    ∷ puts file131 trie12 [] 379 2 (1, []) file131 trie12
+    ∷ puts file132 trie65 (text "yyyx" ∷ []) 202 2 (3, []) file132 trie65
+    ∷ puts file133 trie66 (text "st" ∷ []) 942 1 (111, 8467910165203069954 ∷ 0 ∷ []) file134 trie66
+    ∷ puts file135 trie67 (text "!}}" ∷ []) 186 0 (112, 0 ∷ []) file135 trie67
+    ∷ puts file136 trie12 (text "onooinioooiniioiinnni" ∷ []) 255 2 (110, []) file137 trie12
+    ∷ puts file138 trie68 (text "oiii" ∷ []) 196 2 (5, []) file138 trie68
+    ∷ puts file139 trie69 (text "srttrr" ∷ []) 626 2 (110, []) file140 trie70
+    ∷ puts file141 trie71 (text "}}" ∷ []) 692 1 (110, []) file142 trie71
+    ∷ puts file143 trie12 (text "abbaaaababaaaaaaababaa" ∷ []) 665 2 (110, []) file144 trie72
+    ∷ puts file145 trie73 (text "}}" ∷ []) 845 2 (110, []) file146 trie73
+    ∷ puts file147 trie74 (text "sr" ∷ []) 643 2 (5, []) file147 trie74
+    ∷ puts file148 trie75 (text "bbaab" ∷ []) 562 2 (110, []) file149 trie76
+    ∷ puts file150 trie12 (text "baabb" ∷ []) 177 1 (112, 1 ∷ []) file151 trie12
+    ∷ puts file152 trie77 (text "!}" ∷ []) 612 2 (110, []) file153 trie78
+    ∷ puts file154 trie79 (text "z" ∷ []) 13775280876643653427 1 (112, 1 ∷ []) file155 trie79
+    ∷ puts file156 trie80 (text "aaa" ∷ []) 968 2 (110, []) file157 trie24
+    ∷ puts file158 trie81 (text "non" ∷ []) 18446744073709551615 2 (110, []) file159 trie82
+    ∷ puts file160 trie23 (text "}}}" ∷ []) 473 2 (110, []) file161 trie83
+    ∷ puts file162 trie84 (text "sttr" ∷ []) 296 2 (110, []) file163 trie85
+    ∷ puts file164 trie86 (text "aaa" ∷ []) 6672840292176293087 2 (110, []) file165 trie87
+    ∷ puts file166 trie88 (text "aaabb" ∷ []) 571 2 (110, []) file167 trie89 ∷ []
 
 abbrev pub removings : List Case
 removings =
-    removes file155 trie89 (text "aaaaaaaaaaaaaaaaaaaaaaaaa" ∷ []) 3 (8, []) file155
-    ∷ removes file156 trie90 (text "ttttsstsrssrststtstrssr" ∷ []) 2 (120, []) file157
-    ∷ removes file158 trie91 (text "tst" ∷ []) 1 (4, []) file158
-    ∷ removes file159 trie92 (text "xzxyz" ∷ []) 2 (3, []) file159
-    ∷ removes file160 trie78 (text "y" ∷ []) 2 (101, []) file160
-    ∷ removes file161 trie93 (text "aaaaaaaaaaaaaaaaaaaaaaaaa" ∷ []) 2 (1, []) file161
-    ∷ removes file162 trie94 (text "noo" ∷ []) 2 (120, []) file163
-    ∷ removes file151 trie85 (text "aaa" ∷ []) 0 (101, []) file151
-    ∷ removes file164 trie95 (text "yxyz" ∷ []) 0 (112, 0 ∷ []) file164
-    ∷ removes file165 trie96 (text "zyy" ∷ []) 2 (120, []) file166
-    ∷ removes file167 trie97 (text "xzzx" ∷ []) 0 (2, []) file167 ∷ []
+    removes file168 trie90 (text "aaaaaaaaaaaaaaaaaaaaaaaaa" ∷ []) 3 (8, []) file168
+    ∷ removes file169 trie91 (text "ttttsstsrssrststtstrssr" ∷ []) 2 (120, []) file170
+    ∷ removes file171 trie92 (text "tst" ∷ []) 1 (4, []) file171
+    ∷ removes file172 trie93 (text "xzxyz" ∷ []) 2 (3, []) file172
+    ∷ removes file173 trie79 (text "y" ∷ []) 2 (101, []) file173
+    ∷ removes file174 trie94 (text "aaaaaaaaaaaaaaaaaaaaaaaaa" ∷ []) 2 (1, []) file174
+    ∷ removes file175 trie95 (text "noo" ∷ []) 2 (120, []) file176
+    ∷ removes file164 trie86 (text "aaa" ∷ []) 0 (101, []) file164
+    ∷ removes file177 trie96 (text "yxyz" ∷ []) 0 (112, 0 ∷ []) file177
+    ∷ removes file178 trie97 (text "zyy" ∷ []) 2 (120, []) file179
+    ∷ removes file180 trie98 (text "xzzx" ∷ []) 0 (2, []) file180 ∷ []
 
 abbrev pub listings : List Case
 listings =
-    lists file168 trie98 (text "!!}" ∷ []) (text "}}" ∷ []) (blanks 33 ∷ []) (4, []) (blanks 33 ∷ [])
-    ∷ lists file169 trie12 (text "!}a!" ∷ []) (text "!}a!" ∷ []) (blanks 96 ∷ []) (2, []) (blanks 96 ∷ [])
-    ∷ lists file170 trie99 (text "zzxxyzy" ∷ []) (text "zzxxx" ∷ []) (blanks 34 ∷ []) (152, 0 ∷ []) (blanks 34 ∷ [])
-    ∷ lists file171 trie100 (text "!!}!}" ∷ []) (text "!!}!" ∷ []) (blanks 192 ∷ []) (3, []) (blanks 192 ∷ [])
-    ∷ lists file172 trie101 (text "onoon" ∷ []) (text "onoooni" ∷ []) (blanks 162 ∷ []) (152, 2 ∷ []) (text "onoon"
+    lists file181 trie99 (text "!!}" ∷ []) (text "}}" ∷ []) (blanks 33 ∷ []) (4, []) (blanks 33 ∷ [])
+    ∷ lists file182 trie12 (text "!}a!" ∷ []) (text "!}a!" ∷ []) (blanks 96 ∷ []) (2, []) (blanks 96 ∷ [])
+    ∷ lists file183 trie100 (text "zzxxyzy" ∷ []) (text "zzxxx" ∷ []) (blanks 34 ∷ []) (152, 0 ∷ []) (blanks 34 ∷ [])
+    ∷ lists file184 trie101 (text "!!}!}" ∷ []) (text "!!}!" ∷ []) (blanks 192 ∷ []) (3, []) (blanks 192 ∷ [])
+    ∷ lists file185 trie102 (text "onoon" ∷ []) (text "onoooni" ∷ []) (blanks 162 ∷ []) (152, 2 ∷ []) (text "onoon"
     ∷ blanks 19 ∷ byte 0xD1 ∷ byte 0x93 ∷ text "U" ∷ byte 0x07 ∷ text "B" ∷ byte 0x19 ∷ text "z" ∷ byte 0xDA
     ∷ text "onoooni" ∷ blanks 17 ∷ text "j" ∷ byte 0x01 ∷ zeros 6 ∷ blanks 98 ∷ [])
-    ∷ lists file173 trie102 (text "}!!}!}" ∷ []) (text "aaaaaaaaaaaaaaaaaaaaaaaaa" ∷ []) (blanks 128 ∷ []) (1, [])
+    ∷ lists file186 trie103 (text "}!!}!}" ∷ []) (text "aaaaaaaaaaaaaaaaaaaaaaaaa" ∷ []) (blanks 128 ∷ []) (1, [])
     (blanks 128 ∷ [])
-    ∷ lists file174 trie103 (text "!}!}!" ∷ []) (text "!}!}!!}!}}}" ∷ []) (blanks 192 ∷ []) (152, 2 ∷ []) (text "!}!}!"
+    ∷ lists file187 trie104 (text "!}!}!" ∷ []) (text "!}!}!!}!}}}" ∷ []) (blanks 192 ∷ []) (152, 2 ∷ []) (text "!}!}!"
     ∷ blanks 19 ∷ byte 0xAD ∷ text "CC" ∷ byte 0x0A ∷ byte 0x19 ∷ text "g" ∷ byte 0xD5 ∷ byte 0xE1 ∷ text "!}!}!!}!}}}"
     ∷ blanks 13 ∷ byte 0x93 ∷ byte 0x02 ∷ zeros 6 ∷ blanks 128 ∷ [])
-    ∷ lists file175 trie104 (text "aaa" ∷ []) (text "bab" ∷ []) (blanks 98 ∷ []) (7, []) (blanks 98 ∷ [])
-    ∷ lists file176 trie105 (text "ss" ∷ []) (text "ssst" ∷ []) (blanks 194 ∷ []) (152, 2 ∷ []) (text "ssss" ∷ blanks 20
+    ∷ lists file188 trie105 (text "aaa" ∷ []) (text "bab" ∷ []) (blanks 98 ∷ []) (7, []) (blanks 98 ∷ [])
+    ∷ lists file189 trie106 (text "ss" ∷ []) (text "ssst" ∷ []) (blanks 194 ∷ []) (152, 2 ∷ []) (text "ssss" ∷ blanks 20
     ∷ byte 0xC9 ∷ byte 0x02 ∷ zeros 6 ∷ text "ssst" ∷ blanks 20 ∷ byte 0xCB ∷ byte 0xBA ∷ byte 0xE1 ∷ byte 0xC6
     ∷ text "1" ∷ byte 0xB7 ∷ byte 0xAA ∷ byte 0x04 ∷ blanks 130 ∷ [])
-    ∷ lists file177 trie106 (text "ab" ∷ []) (text "abbb" ∷ []) (blanks 161 ∷ []) (152, 4 ∷ []) (text "ab" ∷ blanks 22
-    ∷ zeros 8 ∷ text "abb" ∷ blanks 21 ∷ byte 0x97 ∷ byte 0x8C ∷ text "p" ∷ byte 0x81 ∷ text "v>" ∷ byte 0x19
-    ∷ text "4abba" ∷ blanks 20 ∷ text "E" ∷ byte 0x01 ∷ zeros 6 ∷ text "abbb" ∷ blanks 20 ∷ byte 0x14 ∷ byte 0x02
-    ∷ zeros 6 ∷ blanks 33 ∷ [])
-    ∷ lists file178 trie107 (text "o" ∷ []) (text "o" ∷ []) (blanks 34 ∷ []) (152, 1 ∷ []) (text "o" ∷ blanks 23
+    ∷ lists file190 trie107 (text "o" ∷ []) (text "o" ∷ []) (blanks 34 ∷ []) (152, 1 ∷ []) (text "o" ∷ blanks 23
     ∷ text "V" ∷ byte 0x01 ∷ zeros 6 ∷ blanks 2 ∷ [])
-    ∷ lists file179 trie108 (text "}}!" ∷ []) (text "}}!}" ∷ []) (blanks 64 ∷ []) (7, []) (blanks 64 ∷ []) ∷ []
+    ∷ lists file191 trie108 (text "}}!" ∷ []) (text "}}!}" ∷ []) (blanks 64 ∷ []) (7, []) (blanks 64 ∷ [])
+    ∷ lists file192 trie109 (text "ionioionooiniinoiinioo" ∷ []) (text "ionioionooiniinoiiniooi" ∷ []) (blanks 32 ∷ [])
+    (152, 1 ∷ []) (text "ionioionooiniinoiiniooi" ∷ byte 0x20 ∷ text "D" ∷ byte 0x02 ∷ zeros 6 ∷ [])
+    ∷ lists file193 trie110 (text "!!!!" ∷ []) (text "!!}!" ∷ []) (blanks 64 ∷ []) (152, 2 ∷ []) (text "!!!!"
+    ∷ blanks 20 ∷ zeros 8 ∷ text "!!}!" ∷ blanks 20 ∷ text "X" ∷ byte 0xB3 ∷ byte 0xCE ∷ byte 0xB7 ∷ byte 0xA6
+    ∷ byte 0x92 ∷ byte 0x11 ∷ byte 0xC4 ∷ []) ∷ []
 
 abbrev pub worked : List Case
 worked =
-    puts file180 trie12 (text "rate1" ∷ []) 1 2 (110, []) file181 trie12
-    ∷ puts file181 trie12 (text "rate2" ∷ []) 2 2 (110, []) file182 trie12
-    ∷ puts file182 trie12 (text "rate3" ∷ []) 3 2 (110, []) file183 trie109
-    ∷ puts file183 trie109 (text "razz" ∷ []) 4 2 (110, []) file184 trie109
-    ∷ looks-up file184 trie109 (text "rb" ∷ []) (101, [])
-    ∷ puts file184 trie109 (text "rz" ∷ []) 5 2 (110, []) file185 trie110
-    ∷ puts file184 trie109 (text "rz" ∷ []) 5 1 (112, 1 ∷ []) file186 trie109
-    ∷ recovers file186 1 (130, 2 ∷ []) file184
-    ∷ rebuilds file184 (151, []) trie109
-    ∷ looks-up file184 trie109 (text "rz" ∷ []) (101, []) ∷ []
+    puts file194 trie12 (text "rate1" ∷ []) 1 2 (110, []) file195 trie12
+    ∷ puts file195 trie12 (text "rate2" ∷ []) 2 2 (110, []) file196 trie12
+    ∷ puts file196 trie12 (text "rate3" ∷ []) 3 2 (110, []) file197 trie111
+    ∷ puts file197 trie111 (text "razz" ∷ []) 4 2 (110, []) file198 trie111
+    ∷ looks-up file198 trie111 (text "rb" ∷ []) (101, [])
+    ∷ puts file198 trie111 (text "rz" ∷ []) 5 2 (110, []) file199 trie112
+    ∷ puts file198 trie111 (text "rz" ∷ []) 5 1 (112, 1 ∷ []) file200 trie111
+    ∷ recovers file200 1 (130, 2 ∷ []) file198
+    ∷ rebuilds file198 (151, []) trie111
+    ∷ looks-up file198 trie111 (text "rz" ∷ []) (101, []) ∷ []
 
 abbrev pub words : List Case
 words =
-    grows file187 4 8 ((text "the" ∷ []) ∷ (text "of" ∷ []) ∷ (text "and" ∷ []) ∷ (text "to" ∷ []) ∷ (text "a" ∷ []) ∷
-    (text "in" ∷ []) ∷ (text "that" ∷ []) ∷ (text "is" ∷ []) ∷ (text "i" ∷ []) ∷ []) file188 trie111
-    ∷ agrees file188 trie111 true
-    ∷ arranged file188 (0 ∷ 3 ∷ 2 ∷ 1 ∷ []) ((text "i" ∷ byte 0x20 ∷ []) ∷ (text "i" ∷ []) ∷ (text "o" ∷ []) ∷ [])
-    ∷ rebuilds file188 (151, []) trie112
-    ∷ grows file189 4 16 ((text "the" ∷ []) ∷ (text "of" ∷ []) ∷ (text "and" ∷ []) ∷ (text "to" ∷ []) ∷ (text "a" ∷ [])
+    grows file201 4 8 ((text "the" ∷ []) ∷ (text "of" ∷ []) ∷ (text "and" ∷ []) ∷ (text "to" ∷ []) ∷ (text "a" ∷ []) ∷
+    (text "in" ∷ []) ∷ (text "that" ∷ []) ∷ (text "is" ∷ []) ∷ (text "i" ∷ []) ∷ []) file202 trie113
+    ∷ agrees file202 trie113 true
+    ∷ arranged file202 (0 ∷ 3 ∷ 2 ∷ 1 ∷ []) ((text "i" ∷ byte 0x20 ∷ []) ∷ (text "i" ∷ []) ∷ (text "o" ∷ []) ∷ [])
+    ∷ rebuilds file202 (151, []) trie114
+    ∷ grows file203 4 16 ((text "the" ∷ []) ∷ (text "of" ∷ []) ∷ (text "and" ∷ []) ∷ (text "to" ∷ []) ∷ (text "a" ∷ [])
     ∷ (text "in" ∷ []) ∷ (text "that" ∷ []) ∷ (text "is" ∷ []) ∷ (text "i" ∷ []) ∷ (text "it" ∷ []) ∷ (text "for" ∷ [])
     ∷ (text "as" ∷ []) ∷ (text "with" ∷ []) ∷ (text "was" ∷ []) ∷ (text "his" ∷ []) ∷ (text "he" ∷ []) ∷ (text "be"
     ∷ []) ∷ (text "not" ∷ []) ∷ (text "by" ∷ []) ∷ (text "but" ∷ []) ∷ (text "have" ∷ []) ∷ (text "you" ∷ []) ∷
     (text "which" ∷ []) ∷ (text "are" ∷ []) ∷ (text "on" ∷ []) ∷ (text "or" ∷ []) ∷ (text "her" ∷ []) ∷ (text "had"
-    ∷ []) ∷ (text "at" ∷ []) ∷ (text "from" ∷ []) ∷ (text "this" ∷ []) ∷ []) file190 trie113
-    ∷ agrees file190 trie113 true
-    ∷ arranged file190 (0 ∷ 9 ∷ 4 ∷ 10 ∷ 7 ∷ 8 ∷ 6 ∷ 3 ∷ 2 ∷ 1 ∷ 5 ∷ []) ((text "ar" ∷ []) ∷ (text "a" ∷ []) ∷ (text "b"
+    ∷ []) ∷ (text "at" ∷ []) ∷ (text "from" ∷ []) ∷ (text "this" ∷ []) ∷ []) file204 trie115
+    ∷ agrees file204 trie115 true
+    ∷ arranged file204 (0 ∷ 9 ∷ 4 ∷ 10 ∷ 7 ∷ 8 ∷ 6 ∷ 3 ∷ 2 ∷ 1 ∷ 5 ∷ []) ((text "ar" ∷ []) ∷ (text "a" ∷ []) ∷ (text "b"
     ∷ []) ∷ (text "f" ∷ []) ∷ (text "he" ∷ []) ∷ (text "h" ∷ []) ∷ (text "i" ∷ byte 0x20 ∷ []) ∷ (text "i" ∷ []) ∷
     (text "o" ∷ []) ∷ (text "t" ∷ []) ∷ [])
-    ∷ rebuilds file190 (151, []) trie114 ∷ []
+    ∷ rebuilds file204 (151, []) trie116 ∷ []
 
 abbrev pub fullest : List Case
 fullest =
-    rebuilds file191 (151, []) trie115
-    ∷ rebuilds file192 (6, []) trie12
-    ∷ puts file191 trie115 (text "!" ∷ []) 1 2 (6, []) file191 trie115 ∷ []
+    rebuilds file205 (151, []) trie117
+    ∷ rebuilds file206 (6, []) trie12
+    ∷ puts file205 trie117 (text "!" ∷ []) 1 2 (6, []) file205 trie117 ∷ []
