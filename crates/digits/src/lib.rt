@@ -2,9 +2,16 @@
 //
 // A string of at most 24 digits is compared as three words, the first digit highest. A filled name has 24 digits; a bound
 // is continued by 0xFF, a digit above all others. So "name within bound" and "bound below bound" are one comparison.
+ghost use mathlib.Core.Bool.{_&&_, _||_, true};
+ghost use mathlib.Core.Logic.{_⊎_};
 ghost use mathlib.Core.Path.{_≡_};
-ghost use Prim.Native.Nat.{_≤_, _<_, _+_};
-ghost use lib.ListN.{length};
+ghost use mathlib.Core.List.{[]};
+ghost use Prim.Native.Nat.{_≤_, _<_, _+_, _-_, _^_, min};
+ghost use lib.Dec.{eqb, leb, ltb};
+ghost use lib.ListN.{drop, length, take};
+ghost use Rattle.model.specs.Names as names;
+ghost use Rattle.model.specs.Order.{diff};
+ghost use Rattle.digits.specs.Keys.{blankEnds, continued, isZero, keyValue, naming, value};
 
 // A string of digits as it is compared.
 pub struct Key {
@@ -47,6 +54,7 @@ pub fn wide(x: u8) -> u64
 // The eight bytes from `at` on as one number, the first byte highest.
 pub fn word(s: &[u8], at: usize) -> u64
     requires { ⌜ at + 8 ≤ length (now s) ⌝ }
+    ensures { λ r. ⌜ r ≡ value (take 8 (drop at (now (s .entry)))) ⌝ }
 {
     wide(s[at + 7])
         + 256
@@ -65,6 +73,7 @@ pub fn word(s: &[u8], at: usize) -> u64
 // The 24 digits from `at` on, as they are compared.
 pub fn key_at(s: &[u8], at: usize) -> Key
     requires { ⌜ at + 24 ≤ length (now s) ⌝ }
+    ensures { λ r. ⌜ keyValue r ≡ value (take 24 (drop at (now (s .entry)))) ⌝ }
 {
     Key {
         a: word(s, at),
@@ -76,7 +85,7 @@ pub fn key_at(s: &[u8], at: usize) -> Key
 // How many bytes of a word stay behind a string's end: the word ends at the digit number `end`.
 fn behind(end: usize, len: usize) -> usize
     requires { ⌜ (8 ≤ end) × (end ≤ 24) ⌝ }
-    ensures { λ r. ⌜ r ≤ 8 ⌝ }
+    ensures { λ r. ⌜ (r ≤ 8) × (r ≡ min 8 (end - len)) ⌝ }
 {
     if end <= len {
         return 0;
@@ -91,6 +100,9 @@ fn behind(end: usize, len: usize) -> usize
 // formed, so nothing wraps.
 fn continued(s: &[u8], at: usize, end: usize, len: usize) -> u64
     requires { ⌜ (at + 8 ≤ length (now s)) × (8 ≤ end) × (end ≤ 24) ⌝ }
+    ensures { λ r.
+        ⌜ (isZero (drop (len - (end - 8)) (take 8 (drop at (now (s .entry))))) ≡ true
+        → r + 1 ≡ value (take 8 (drop at (now (s .entry)))) + 256 ^ (8 - (len - (end - 8)))) ⌝ }
 {
     let f = behind(end, len);
     std::num::wrapping_add_u64(word(s, at), FILL[f])
@@ -99,6 +111,9 @@ fn continued(s: &[u8], at: usize, end: usize, len: usize) -> u64
 // The bound of `len` digits at `at`, as it is compared.
 pub fn bound_key_at(s: &[u8], at: usize, len: usize) -> Key
     requires { ⌜ at + 24 ≤ length (now s) ⌝ }
+    ensures { λ r.
+        ⌜ (len ≤ 24 → isZero (take (24 - len) (drop (at + len) (now (s .entry)))) ≡ true
+        → keyValue r ≡ value (continued (take len (drop at (now (s .entry)))))) ⌝ }
 {
     Key {
         a: continued(s, at, 8, len),
@@ -108,12 +123,16 @@ pub fn bound_key_at(s: &[u8], at: usize, len: usize) -> Key
 }
 
 // What is below every name: the key of no lower limit.
-pub fn no_limit() -> Key {
+pub fn no_limit() -> Key
+    ensures { λ r. ⌜ keyValue r ≡ 0 ⌝ }
+{
     Key { a: 0, b: 0, c: 0 }
 }
 
 // What the empty upper bound is compared as: above every name and every other bound.
-pub fn no_end() -> Key {
+pub fn no_end() -> Key
+    ensures { λ r. ⌜ keyValue r ≡ value (continued []) ⌝ }
+{
     Key {
         a: 0xFFFF_FFFF_FFFF_FFFF,
         b: 0xFFFF_FFFF_FFFF_FFFF,
@@ -121,7 +140,9 @@ pub fn no_end() -> Key {
     }
 }
 
-pub fn is_below(x: Key, y: Key) -> bool {
+pub fn is_below(x: Key, y: Key) -> bool
+    ensures { λ r. ⌜ r ≡ ltb (keyValue x) (keyValue y) ⌝ }
+{
     if x.a < y.a {
         return true;
     }
@@ -137,7 +158,9 @@ pub fn is_below(x: Key, y: Key) -> bool {
     x.c < y.c
 }
 
-pub fn is_same(x: Key, y: Key) -> bool {
+pub fn is_same(x: Key, y: Key) -> bool
+    ensures { λ r. ⌜ r ≡ eqb (keyValue x) (keyValue y) ⌝ }
+{
     if x.a != y.a {
         return false;
     }
@@ -149,7 +172,7 @@ pub fn is_same(x: Key, y: Key) -> bool {
 
 // The larger of two numbers. A check that gathers, and does not stop at the first fault, is fast.
 pub fn larger(x: u8, y: u8) -> u8
-    ensures { λ r. ⌜ (x ≤ r) × (y ≤ r) ⌝ }
+    ensures { λ r. ⌜ (x ≤ r) × (y ≤ r) × ((r ≡ x) ⊎ (r ≡ y)) ⌝ }
 {
     if x < y {
         return y;
@@ -158,7 +181,9 @@ pub fn larger(x: u8, y: u8) -> u8
 }
 
 // Whether all bytes are zero.
-pub fn is_zero(s: &[u8]) -> bool {
+pub fn is_zero(s: &[u8]) -> bool
+    ensures { λ r. ⌜ r ≡ isZero (now (s .entry)) ⌝ }
+{
     let mut most = 0u8;
     let mut i = 0;
     while i < s.len() {
@@ -169,7 +194,9 @@ pub fn is_zero(s: &[u8]) -> bool {
 }
 
 // 1 where x is no digit from `least` to 0x7D, else 0.
-fn fault(x: u8, least: u8) -> u8 {
+fn fault(x: u8, least: u8) -> u8
+    ensures { λ r. ⌜ eqb r 0 ≡ (leb least x && leb x 0x7D) ⌝ }
+{
     if x < least {
         return 1;
     }
@@ -180,7 +207,9 @@ fn fault(x: u8, least: u8) -> u8 {
 }
 
 // Whether each byte is a digit, `least` or above.
-fn are_digits(s: &[u8], least: u8) -> bool {
+fn are_digits(s: &[u8], least: u8) -> bool
+    ensures { λ r. ⌜ r ≡ names.areDigits least (now (s .entry)) ⌝ }
+{
     let mut most = 0u8;
     let mut i = 0;
     while i < s.len() {
@@ -191,7 +220,9 @@ fn are_digits(s: &[u8], least: u8) -> bool {
 }
 
 // A name has 1 to 24 bytes, each 0x21 to 0x7D.
-pub fn named(name: &[u8]) -> Naming {
+pub fn named(name: &[u8]) -> Naming
+    ensures { λ r. ⌜ r ≡ naming (names.legalName (now (name .entry))) ⌝ }
+{
     if name.len() == 0 {
         return Naming::Illegal;
     }
@@ -205,7 +236,9 @@ pub fn named(name: &[u8]) -> Naming {
 }
 
 // The name filled to 24 digits with 0x20.
-pub fn filled(name: &[u8]) -> [u8; 24] {
+pub fn filled(name: &[u8]) -> [u8; 24]
+    ensures { λ r. ⌜ r ≡ names.filled (now (name .entry)) ⌝ }
+{
     let mut digits = [0x20u8; 24];
     let mut i = 0;
     while i < name.len() {
@@ -219,7 +252,9 @@ pub fn filled(name: &[u8]) -> [u8; 24] {
 }
 
 // 1 where a blank is followed by more than a blank, else 0.
-fn fault_after(y: u8, x: u8) -> u8 {
+fn fault_after(y: u8, x: u8) -> u8
+    ensures { λ r. ⌜ eqb r 0 ≡ (ltb 0x20 y || ltb x 0x21) ⌝ }
+{
     if 0x20 < y {
         return 0;
     }
@@ -232,6 +267,7 @@ fn fault_after(y: u8, x: u8) -> u8 {
 // Whether no blank is followed by more than a blank.
 fn is_filled(s: &[u8]) -> bool
     requires { ⌜ length (now s) ≡ 24 ⌝ }
+    ensures { λ r. ⌜ r ≡ blankEnds (now (s .entry)) ⌝ }
 {
     let mut most = 0u8;
     let mut i = 1;
@@ -245,6 +281,7 @@ fn is_filled(s: &[u8]) -> bool
 // Whether these 24 bytes are a legal name, filled.
 pub fn is_filled_name(s: &[u8]) -> bool
     requires { ⌜ length (now s) ≡ 24 ⌝ }
+    ensures { λ r. ⌜ r ≡ names.legalFilled (now (s .entry)) ⌝ }
 {
     if s[0] == 0x20 {
         return false;
@@ -258,6 +295,8 @@ pub fn is_filled_name(s: &[u8]) -> bool
 // Whether these 24 bytes are a bound of `len` digits: each 0x20 to 0x7D, and zero behind them.
 pub fn is_bound(s: &[u8], len: usize) -> bool
     requires { ⌜ length (now s) ≡ 24 ⌝ }
+    ensures { λ r.
+        ⌜ r ≡ (leb len 24 && names.legalBound (take len (now (s .entry))) && isZero (drop len (now (s .entry)))) ⌝ }
 {
     if 24 < len {
         return false;
@@ -269,7 +308,9 @@ pub fn is_bound(s: &[u8], len: usize) -> bool
 }
 
 // Whether the name's first digits, as many as p has, are not greater than p.
-pub fn within(name: &[u8], p: &[u8]) -> bool {
+pub fn within(name: &[u8], p: &[u8]) -> bool
+    ensures { λ r. ⌜ r ≡ names.within (now (name .entry)) (now (p .entry)) ⌝ }
+{
     let mut i = 0;
     while i < p.len() {
         if name.len() <= i {
@@ -290,7 +331,8 @@ pub fn within(name: &[u8], p: &[u8]) -> bool {
 
 // How many digits the two strings share before the first difference.
 pub fn shared(x: &[u8], y: &[u8]) -> usize
-    ensures { λ r. ⌜ (r ≤ length (now (x .entry))) × (r ≤ length (now (y .entry))) ⌝ }
+    ensures { λ r. ⌜ (r ≤ length (now (x .entry))) × (r ≤ length (now (y .entry)))
+        × (r ≡ diff (now (x .entry)) (now (y .entry))) ⌝ }
 {
     let mut i = 0;
     while i < x.len() {

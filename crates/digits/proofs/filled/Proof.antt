@@ -1,3 +1,5 @@
+use Rattle.digits.proofs.Laws.{filled-all, filled-full, filled-next}
+use Rattle.digits.proofs.Laws.{filledTo}
 use Prim.Native.Nat.{ℕ, _≤_, _-_, _<_, _+_, _*_}
 use native.Mathlib.Omega.{arith}
 use mathlib.Core.Path.{_≡_, refl, sym, _∙_}
@@ -9,16 +11,19 @@ use Rattle.digits.proofs.filled.Reads as reads
 use Rattle.digits.proofs.filled.Lts as lts
 
 abbrev Inv-loop : tie.InvT-loop
-Inv-loop name digits₀ i₀ digits i = (i ≤ 24) × (i ≤ length name)
+Inv-loop name digits₀ i₀ digits i = (i ≤ 24) × (i ≤ length name) × (digits ≡ filledTo name i)
 
 abbrev μ-loop : tie.MeasureT-loop
 μ-loop name digits₀ i₀ digits i = length name - i
 
 loop-holds : tie.Need-loop-holds Inv-loop μ-loop
-loop-holds c = search needs
+unfolding filledTo
+loop-holds c = (search needs, search needs, refl)
 
 returns : tie.Need-returns Inv-loop μ-loop
-returns c = search needs
+returns c =
+    let l = c .before .before in
+    l .loop .inv .2 ∙ filled-full (l .before .args .name .now) (l .loop .i) (omega arith) (omega arith)
 
 shared-slice-read-digits : tie.Need-shared-slice-read-digits Inv-loop μ-loop
 shared-slice-read-digits c = search needs
@@ -33,10 +38,14 @@ loop-less : tie.Need-loop-less Inv-loop μ-loop
 loop-less c = search needs
 
 loop-again : tie.Need-loop-again Inv-loop μ-loop
-loop-again c = search needs
+loop-again c =
+    let l = c .before .before .before in
+    (search needs, search needs, rw (l .loop .inv .2) (filled-next (l .before .args .name .now) (l .loop .i) (omega arith) (omega arith)))
 
 returns-2 : tie.Need-returns-2 Inv-loop μ-loop
-returns-2 c = search needs
+returns-2 c =
+    let l = c .before in
+    l .loop .inv .2 ∙ filled-all (l .before .args .name .now) (l .loop .i) (omega arith) (omega arith)
 
 pub filled-spec : {M : Type 1} → statement M
 filled-spec =

@@ -1,3 +1,7 @@
+use mathlib.Core.Bool.{_&&_}
+use lib.Dec.{eqb}
+use Rattle.digits.specs.Keys.{isZero}
+use Rattle.digits.proofs.Laws.{gathered, gathers, larger-zero, zero-end, zero-next}
 use Prim.Native.Nat.{ℕ, _≤_, _-_, _<_, _+_, _*_}
 use native.Mathlib.Omega.{arith}
 use mathlib.Core.Path.{_≡_, refl, sym, _∙_}
@@ -10,7 +14,7 @@ use Rattle.digits.proofs.is_zero.Lts as lts
 use Rattle.digits.proofs.larger.Reads as larger-reads
 
 abbrev Inv-loop : tie.InvT-loop
-Inv-loop s most₀ i₀ most i = i ≤ length s
+Inv-loop s most₀ i₀ most i = (i ≤ length s) × (isZero s ≡ (eqb most 0 && isZero (drop i s)))
 
 abbrev μ-loop : tie.MeasureT-loop
 μ-loop s most₀ i₀ most i = length s - i
@@ -31,10 +35,17 @@ loop-less : tie.Need-loop-less Inv-loop μ-loop
 loop-less c = search needs
 
 loop-again : tie.Need-loop-again Inv-loop μ-loop
-loop-again c = search needs
+loop-again c =
+    let l = c .before .before .before in
+    let s = l .before .before .args .s .now in
+    let g = c .larger .ensures in
+    (search needs, gathers (isZero s) (eqb (l .loop .most) 0) (isZero (drop (l .loop .i) s)) (eqb (getD s (l .loop .i) 0) 0) (isZero (drop (l .loop .i + 1) s)) (eqb (c .larger .result) 0) (l .loop .inv .1) (zero-next s (l .loop .i) (omega arith)) (larger-zero (l .loop .most) (getD s (l .loop .i) 0) (c .larger .result) (g .0) (g .1) (g .2)))
 
 returns : tie.Need-returns Inv-loop μ-loop
-returns c = search needs
+returns c =
+    let l = c .before in
+    let s = l .before .before .args .s .now in
+    gathered (isZero s) (eqb (l .loop .most) 0) (isZero (drop (l .loop .i) s)) (l .loop .inv .1) (zero-end s (l .loop .i) (omega arith))
 
 pub is-zero-spec : {M : Type 1} → statement M
 is-zero-spec =

@@ -1,3 +1,5 @@
+use Rattle.model.specs.Order.{diff}
+use Rattle.digits.proofs.Laws.{diff-differ, diff-end, diff-same, diff-short}
 use Prim.Native.Nat.{ℕ, _≤_, _-_, _<_, _+_, _*_}
 use native.Mathlib.Omega.{arith}
 use mathlib.Core.Path.{_≡_, refl, sym, _∙_}
@@ -9,7 +11,7 @@ use Rattle.digits.proofs.shared.Reads as reads
 use Rattle.digits.proofs.shared.Lts as lts
 
 abbrev Inv-loop : tie.InvT-loop
-Inv-loop x y i₀ i = (i ≤ length x) × (i ≤ length y)
+Inv-loop x y i₀ i = (i ≤ length x) × (i ≤ length y) × (diff x y ≡ i + diff (drop i x) (drop i y))
 
 abbrev μ-loop : tie.MeasureT-loop
 μ-loop x y i₀ i = length x - i
@@ -18,7 +20,11 @@ loop-holds : tie.Need-loop-holds Inv-loop μ-loop
 loop-holds c = search needs
 
 returns : tie.Need-returns Inv-loop μ-loop
-returns c = search needs
+returns c =
+    let l = c .before .before in
+    let x = l .before .args .x .now in
+    let y = l .before .args .y .now in
+    (search needs, search needs, omega (arith, diff-short x y (l .loop .i) (omega arith)))
 
 shared-slice-read-if2 : tie.Need-shared-slice-read-if2 Inv-loop μ-loop
 shared-slice-read-if2 c = search needs
@@ -27,7 +33,11 @@ shared-slice-read-if2-2 : tie.Need-shared-slice-read-if2-2 Inv-loop μ-loop
 shared-slice-read-if2-2 c = search needs
 
 returns-2 : tie.Need-returns-2 Inv-loop μ-loop
-returns-2 c = search needs
+returns-2 c =
+    let l = c .before .before .before .before .before in
+    let x = l .before .args .x .now in
+    let y = l .before .args .y .now in
+    (search needs, search needs, omega (arith, diff-differ x y (l .loop .i) (omega arith) (omega arith) (c .if2 .taken)))
 
 add-i : tie.Need-add-i Inv-loop μ-loop
 add-i c = search needs
@@ -36,10 +46,18 @@ loop-less : tie.Need-loop-less Inv-loop μ-loop
 loop-less c = search needs
 
 loop-again : tie.Need-loop-again Inv-loop μ-loop
-loop-again c = search needs
+loop-again c =
+    let l = c .before .before .before .before .before in
+    let x = l .before .args .x .now in
+    let y = l .before .args .y .now in
+    (search needs, search needs, omega (arith, diff-same x y (l .loop .i) (omega arith) (omega arith) (c .if2 .left)))
 
 returns-3 : tie.Need-returns-3 Inv-loop μ-loop
-returns-3 c = search needs
+returns-3 c =
+    let l = c .before in
+    let x = l .before .args .x .now in
+    let y = l .before .args .y .now in
+    (search needs, search needs, omega (arith, diff-end x y (l .loop .i) (omega arith)))
 
 pub shared-spec : {M : Type 1} → statement M
 shared-spec =

@@ -1,3 +1,5 @@
+use Rattle.model.specs.Names.{within}
+use Rattle.digits.proofs.Laws.{within-end, within-equal, within-less, within-more, within-short}
 use Prim.Native.Nat.{ℕ, _≤_, _-_, _<_, _+_, _*_}
 use native.Mathlib.Omega.{arith}
 use mathlib.Core.Path.{_≡_, refl, sym, _∙_}
@@ -9,7 +11,7 @@ use Rattle.digits.proofs.within.Reads as reads
 use Rattle.digits.proofs.within.Lts as lts
 
 abbrev Inv-loop : tie.InvT-loop
-Inv-loop name p i₀ i = i ≤ length p
+Inv-loop name p i₀ i = (i ≤ length p) × (within name p ≡ within (drop i name) (drop i p))
 
 abbrev μ-loop : tie.MeasureT-loop
 μ-loop name p i₀ i = length p - i
@@ -18,7 +20,11 @@ loop-holds : tie.Need-loop-holds Inv-loop μ-loop
 loop-holds c = search needs
 
 returns : tie.Need-returns Inv-loop μ-loop
-returns c = search needs
+returns c =
+    let l = c .before .before in
+    let x = l .before .args .name .now in
+    let y = l .before .args .p .now in
+    sym (l .loop .inv .1 ∙ within-short x y (l .loop .i) (omega arith))
 
 shared-slice-read-d : tie.Need-shared-slice-read-d Inv-loop μ-loop
 shared-slice-read-d c = search needs
@@ -27,10 +33,18 @@ shared-slice-read-e : tie.Need-shared-slice-read-e Inv-loop μ-loop
 shared-slice-read-e c = search needs
 
 returns-2 : tie.Need-returns-2 Inv-loop μ-loop
-returns-2 c = search needs
+returns-2 c =
+    let l = c .before .before .before .before .before in
+    let x = l .before .args .name .now in
+    let y = l .before .args .p .now in
+    sym (l .loop .inv .1 ∙ within-less x y (l .loop .i) (omega arith) (omega arith) (c .if2 .taken))
 
 returns-3 : tie.Need-returns-3 Inv-loop μ-loop
-returns-3 c = search needs
+returns-3 c =
+    let l = c .before .before .before .before .before .before in
+    let x = l .before .args .name .now in
+    let y = l .before .args .p .now in
+    sym (l .loop .inv .1 ∙ within-more x y (l .loop .i) (omega arith) (omega arith) (c .if3 .taken))
 
 add-i : tie.Need-add-i Inv-loop μ-loop
 add-i c = search needs
@@ -39,10 +53,18 @@ loop-less : tie.Need-loop-less Inv-loop μ-loop
 loop-less c = search needs
 
 loop-again : tie.Need-loop-again Inv-loop μ-loop
-loop-again c = search needs
+loop-again c =
+    let l = c .before .before .before .before .before .before in
+    let x = l .before .args .name .now in
+    let y = l .before .args .p .now in
+    (search needs, l .loop .inv .1 ∙ within-equal x y (l .loop .i) (omega arith) (omega arith) (omega arith))
 
 returns-4 : tie.Need-returns-4 Inv-loop μ-loop
-returns-4 c = search needs
+returns-4 c =
+    let l = c .before in
+    let x = l .before .args .name .now in
+    let y = l .before .args .p .now in
+    sym (l .loop .inv .1 ∙ within-end x y (l .loop .i) (omega arith))
 
 pub within-spec : {M : Type 1} → statement M
 within-spec =

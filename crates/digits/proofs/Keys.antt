@@ -1,0 +1,243 @@
+-- Strings as numbers: a number's parts, and the one order.
+use mathlib.Core.Path.{_∙_, _≡_, ap, refl, sym}
+use mathlib.Core.Bool.{Bool, _&&_, false, true}
+use mathlib.Core.List.{List, [], _++_, _∷_, append-nil}
+use Prim.Native.Nat.{_*_, _+_, _-_, _%_, _<_, _^_, _≤_, suc, zero, ℕ}
+use native.Mathlib.Nat.{add-mul, add-zero, mul-assoc, mul-le-mul-right, pow-suc, sub-zero, suc-mul}
+use native.Mathlib.Numerals.{add-one, unary-clauses}
+use lib.Pow.{pow-add}
+use native.Mathlib.Omega.{arith}
+use lib.Dec.{eqb}
+use lib.ListN.{drop, getD, length, length-append, length-drop, length-take, replicate, take}
+use lib.Seq.{drop-cons, drop-drop, take-add, take-nil, take-take}
+use borrow.Author.Tests.{eqb-true}
+use Rattle.model.proofs.Names.{both-true}
+use Rattle.digits.specs.Keys.{continued, isZero, value}
+
+-- Each is a byte.
+abbrev pub Bytes : List ℕ → Type 0
+Bytes [] = Unit {0}
+Bytes (d ∷ x) = (d < 256) × Bytes x
+
+pub value-lt : (x : List ℕ) → Bytes x → value x < 256 ^ length x
+unfolding value
+value-lt [] h = omega arith
+value-lt (d ∷ x) h =
+    let r = value-lt x (h .1) in
+    let p : suc d * 256 ^ length x ≤ 256 * 256 ^ length x = mul-le-mul-right (256 ^ length x) (h .0) in
+    omega (arith, suc-mul d (256 ^ length x), pow-suc 256 (length x))
+
+pub value-append : (x y : List ℕ) → value (x ++ y) ≡ value x * 256 ^ length y + value y
+unfolding value
+value-append [] y = omega arith
+value-append (d ∷ x) y =
+    rw (value-append x y, length-append x y, pow-add 256 (length x) (length y))
+    (omega (arith, add-mul (d * 256 ^ length x) (value x) (256 ^ length y), mul-assoc d (256 ^ length x) (256 ^ length y)))
+
+-- A part of a string, taken apart.
+module _ (s : List ℕ) (at : ℕ) where
+  pub length-part : (n : ℕ) → at + n ≤ length s → length (take n (drop at s)) ≡ n
+  length-part n h = omega (arith, length-take n (drop at s), length-drop at s)
+
+  pub value-split : (k n : ℕ) → at + k + n ≤ length s
+      → value (take (k + n) (drop at s)) ≡ value (take k (drop at s)) * 256 ^ n + value (take n (drop (at + k) s))
+  value-split k n h =
+      rw (take-add k n (drop at s), drop-drop k at s, value-append)
+      (ap (λ (m : ℕ). value (take k (drop at s)) * 256 ^ m + value (take n (drop (at + k) s))) (omega (arith, length-take n (drop (at + k) s), length-drop (at + k) s)))
+
+  -- Three words.
+  pub value-words : at + 24 ≤ length s
+      → value (take 24 (drop at s)) ≡ (value (take 8 (drop at s)) * 2 ^ 64 + value (take 8 (drop (at + 8) s))) * 2 ^ 64 + value (take 8 (drop (at + 16) s))
+  value-words h = value-split 16 8 (omega arith) ∙ ap (λ (v : ℕ). v * 2 ^ 64 + value (take 8 (drop (at + 16) s))) (value-split 8 8 (omega arith))
+
+value-first : (s : List ℕ) (at k : ℕ) → at < length s → at + suc k ≤ length s
+    → value (take (suc k) (drop at s)) ≡ getD s at 0 * 256 ^ k + value (take k (drop (suc at) s))
+unfolding value
+value-first s at k g h = rw (drop-cons s at 0 g) (ap (λ (m : ℕ). getD s at 0 * 256 ^ m + value (take k (drop (suc at) s))) (omega (arith, length-take k (drop (suc at) s), length-drop (suc at) s)))
+
+value-next : (s : List ℕ) (at j k : ℕ) → at + j + suc k ≤ length s
+    → value (take (suc k) (drop (at + j) s)) ≡ getD s (at + j) 0 * 256 ^ k + value (take k (drop (at + suc j) s))
+value-next s at j k h = simp unary-clauses (value-first s (at + j) k (omega arith) (omega arith))
+
+-- A word by its bytes.
+pub value-word : (s : List ℕ) (at : ℕ) → at + 8 ≤ length s
+    → value (take 8 (drop at s))
+    ≡ getD s (at + 7) 0 + 256 * (getD s (at + 6) 0 + 256 * (getD s (at + 5) 0 + 256 * (getD s (at + 4) 0 + 256 * (getD s (at + 3) 0 + 256 * (getD s (at + 2) 0 + 256 * (getD s (at + 1) 0 + 256 * getD s at 0))))))
+unfolding value
+value-word s at h =
+    let a : value (take 8 (drop at s)) ≡ getD s at 0 * 256 ^ 7 + value (take 7 (drop (at + 1) s)) = rw add-one (value-first s at 7 (omega arith) (omega arith)) in
+    omega (
+      arith,
+      a,
+      value-next s at 1 6 (omega arith),
+      value-next s at 2 5 (omega arith),
+      value-next s at 3 4 (omega arith),
+      value-next s at 4 3 (omega arith),
+      value-next s at 5 2 (omega arith),
+      value-next s at 6 1 (omega arith),
+      value-next s at 7 0 (omega arith),
+    )
+
+-- The bytes from k on, as 0xFF.
+unfoldable pub cover : ℕ → List ℕ → List ℕ
+cover zero [] = []
+cover zero (d ∷ x) = 0xFF ∷ cover zero x
+cover (suc k) [] = []
+cover (suc k) (d ∷ x) = d ∷ cover k x
+
+length-cover : (k : ℕ) (x : List ℕ) → length (cover k x) ≡ length x
+unfolding cover
+length-cover zero [] = refl
+length-cover zero (d ∷ x) = ap suc (length-cover zero x)
+length-cover (suc k) [] = refl
+length-cover (suc k) (d ∷ x) = ap suc (length-cover k x)
+
+cover-append : (k : ℕ) (x y : List ℕ) → cover k (x ++ y) ≡ cover k x ++ cover (k - length x) y
+unfolding cover
+cover-append zero [] y = refl
+cover-append zero (d ∷ x) y = let e : 0 - suc (length x) ≡ 0 - length x = omega arith in rw e (ap (λ (r : List ℕ). 0xFF ∷ r) (cover-append zero x y))
+cover-append (suc k) [] y = simp unary-clauses
+cover-append (suc k) (d ∷ x) y = simp unary-clauses (ap (λ (r : List ℕ). d ∷ r) (cover-append k x y))
+
+bytes-cover : (k : ℕ) (x : List ℕ) → Bytes x → Bytes (cover k x)
+unfolding cover
+bytes-cover zero [] h = tt
+bytes-cover zero (d ∷ x) h = (omega arith, bytes-cover zero x (h .1))
+bytes-cover (suc k) [] h = tt
+bytes-cover (suc k) (d ∷ x) h = (h .0, bytes-cover k x (h .1))
+
+-- Where the bytes from k on are zero, one sum makes them 0xFF.
+pub value-cover : (k : ℕ) (x : List ℕ) → isZero (drop k x) ≡ true → value (cover k x) + 1 ≡ value x + 256 ^ (length x - k)
+unfolding value cover isZero
+value-cover zero [] h = refl
+value-cover zero (d ∷ x) h =
+    let p = both-true (eqb d 0) (isZero x) h in
+    let e : d ≡ 0 = eqb-true d 0 (p .0) in
+    let r = value-cover zero x (p .1) in
+    rw (e, length-cover zero x, sub-zero) (omega (arith, simp sub-zero at r, pow-suc 256 (length x)))
+value-cover (suc k) [] h = let e : 0 - suc k ≡ 0 = omega arith in rw e
+value-cover (suc k) (d ∷ x) h =
+    let r = value-cover k x h in
+    let e : suc (length x) - suc k ≡ length x - k = omega arith in
+    rw (length-cover k x, e) (omega arith)
+
+cover-is : (k : ℕ) (x : List ℕ) (m : ℕ) → length x ≤ m → cover k x ≡ take (length x) (take k x ++ replicate m 0xFF)
+unfolding cover
+cover-is zero [] m h = refl
+cover-is zero (d ∷ x) zero h = absurd (omega arith)
+cover-is zero (d ∷ x) (suc m) h = ap (λ (r : List ℕ). 0xFF ∷ r) (cover-is zero x m (omega arith))
+cover-is (suc k) [] m h = refl
+cover-is (suc k) (d ∷ x) m h = ap (λ (r : List ℕ). d ∷ r) (cover-is k x m (omega arith))
+
+-- A string in 24 bytes, continued.
+pub cover-continued : (k : ℕ) (x : List ℕ) → length x ≡ 24 → cover k x ≡ continued (take k x)
+unfolding continued
+cover-continued k x h = cover-is k x 24 (omega arith) ∙ ap (λ (n : ℕ). take n (take k x ++ replicate 24 0xFF)) h
+
+zero-append : (x y : List ℕ) → isZero (x ++ y) ≡ (isZero x && isZero y)
+unfolding isZero
+zero-append [] y = refl
+zero-append (d ∷ x) y = rw (zero-append x y) (sym (and-assoc (eqb d 0) (isZero x) (isZero y)))
+  where
+    and-assoc : (a b c : Bool) → (a && b && c) ≡ (a && (b && c))
+    and-assoc true b c = refl
+    and-assoc false b c = refl
+
+drop-append : (k : ℕ) (x y : List ℕ) → drop k (x ++ y) ≡ drop k x ++ drop (k - length x) y
+drop-append zero [] y = refl
+drop-append zero (d ∷ x) y = let e : 0 - suc (length x) ≡ 0 = omega arith in rw e
+drop-append (suc k) [] y = simp unary-clauses
+drop-append (suc k) (d ∷ x) y = simp unary-clauses (drop-append k x y)
+
+drop-take : (k n : ℕ) (x : List ℕ) → drop k (take n x) ≡ take (n - k) (drop k x)
+drop-take zero n x = simp sub-zero
+drop-take (suc k) zero x = let e : 0 - suc k ≡ 0 = omega arith in rw e
+drop-take (suc k) (suc n) [] = sym (take-nil (suc n - suc k))
+drop-take (suc k) (suc n) (d ∷ x) = simp unary-clauses (drop-take k n x)
+
+zero-split : (k n : ℕ) (x y : List ℕ) → length x ≡ n → isZero (drop k (x ++ y)) ≡ true → (isZero (drop k x) ≡ true) × (isZero (drop (k - n) y) ≡ true)
+zero-split k n x y e h = both-true (isZero (drop k x)) (isZero (drop (k - n) y)) (rw (drop-append k x y, zero-append, e) at h)
+
+cover-split : (k n : ℕ) (x y : List ℕ) → length x ≡ n → length y ≡ 8 → value (cover k (x ++ y)) ≡ value (cover k x) * 2 ^ 64 + value (cover (k - n) y)
+cover-split k n x y e f = rw (cover-append k x y, value-append, e, length-cover (k - n) y, f)
+
+bytes-of : (x : List ℕ) → ((i : ℕ) → getD x i 0 < 256) → Bytes x
+bytes-of [] h = tt
+bytes-of (d ∷ x) h = (h 0, bytes-of x (λ i. h (suc i)))
+
+pub bytes-part : (s : List ℕ) (n at : ℕ) → ((i : ℕ) → getD s i 0 < 256) → Bytes (take n (drop at s))
+bytes-part s n at h = taken n (drop at s) (dropped at s (bytes-of s h))
+  where
+    taken : (n : ℕ) (x : List ℕ) → Bytes x → Bytes (take n x)
+    taken zero x h = tt
+    taken (suc n) [] h = tt
+    taken (suc n) (d ∷ x) h = (h .0, taken n x (h .1))
+
+    dropped : (n : ℕ) (x : List ℕ) → Bytes x → Bytes (drop n x)
+    dropped zero x h = h
+    dropped (suc n) [] h = tt
+    dropped (suc n) (d ∷ x) h = dropped n x (h .1)
+
+-- A table of fills: each is a power of 256, less one.
+unfoldable pub areFills : ℕ → List ℕ → Bool
+areFills n [] = true
+areFills n (g ∷ x) = eqb (g + 1) (256 ^ n) && areFills (suc n) x
+
+pub fill-at : (n : ℕ) (x : List ℕ) (f : ℕ) → areFills n x ≡ true → f < length x → getD x f 0 + 1 ≡ 256 ^ (n + f)
+unfolding areFills
+fill-at n [] f e h = absurd (omega arith)
+fill-at n (g ∷ x) zero e h = rw add-zero (eqb-true (g + 1) (256 ^ n) (both-true (eqb (g + 1) (256 ^ n)) (areFills (suc n) x) e .0))
+fill-at n (g ∷ x) (suc f) e h =
+    let m : n + suc f ≡ suc n + f = omega arith in
+    rw m (fill-at (suc n) x f (both-true (eqb (g + 1) (256 ^ n)) (areFills (suc n) x) e .1) (omega arith))
+
+-- A word and the fill of what lies behind the string's end: nothing wraps.
+pub word-filled : (x : List ℕ) (k w g r : ℕ) → Bytes x → length x ≡ 8 → isZero (drop k x) ≡ true → w ≡ value x → g + 1 ≡ 256 ^ (8 - k) → r ≡ (w + g) % 2 ^ 64
+    → r + 1 ≡ value x + 256 ^ (8 - k)
+word-filled x k w g r b e z f h q =
+    let c : value (cover k x) + 1 ≡ value x + 256 ^ (8 - k) = rw e at (value-cover k x z) in
+    let l : value (cover k x) < 256 ^ 8 = rw (length-cover k x, e) at (value-lt (cover k x) (bytes-cover k x b)) in
+    omega arith
+
+word-covered : (x : List ℕ) (k r : ℕ) → length x ≡ 8 → isZero (drop k x) ≡ true → r + 1 ≡ value x + 256 ^ (8 - k) → r ≡ value (cover k x)
+word-covered x k r e z h = let c : value (cover k x) + 1 ≡ value x + 256 ^ (8 - k) = rw e at (value-cover k x z) in omega arith
+
+-- Three such words are the bound's key.
+module _ (s : List ℕ) (at len a b c : ℕ) (room : at + 24 ≤ length s) (fits : len ≤ 24) (behind : isZero (take (24 - len) (drop (at + len) s)) ≡ true) where
+  abbrev x : List ℕ
+  x = take 8 (drop at s)
+
+  abbrev y : List ℕ
+  y = take 8 (drop (at + 8) s)
+
+  abbrev z : List ℕ
+  z = take 8 (drop (at + 16) s)
+
+  whole : take 24 (drop at s) ≡ (x ++ y) ++ z
+  whole = take-add 16 8 (drop at s) ∙ rw (take-add 8 8 (drop at s), drop-drop 8 at s, drop-drop 16 at s)
+
+  length-both : length (x ++ y) ≡ 16
+  length-both = omega (arith, length-append x y, length-part s at 8 (omega arith), length-part s (at + 8) 8 (omega arith))
+
+  zeros : isZero (drop len ((x ++ y) ++ z)) ≡ true
+  zeros = rw (← whole, drop-take len 24 (drop at s), drop-drop len at s) behind
+
+  pub bound-key : (isZero (drop (len - 0) x) ≡ true → a + 1 ≡ value x + 256 ^ (8 - (len - 0)))
+      → (isZero (drop (len - 8) y) ≡ true → b + 1 ≡ value y + 256 ^ (8 - (len - 8)))
+      → (isZero (drop (len - 16) z) ≡ true → c + 1 ≡ value z + 256 ^ (8 - (len - 16)))
+      → (a * 2 ^ 64 + b) * 2 ^ 64 + c ≡ value (continued (take len (drop at s)))
+  bound-key f g h =
+      let p = zero-split len 16 (x ++ y) z length-both zeros in
+      let q = zero-split len 8 x y (length-part s at 8 (omega arith)) (p .0) in
+      let f′ : isZero (drop len x) ≡ true → a + 1 ≡ value x + 256 ^ (8 - len) = simp sub-zero at f in
+      let ea : a ≡ value (cover len x) = word-covered x len a (length-part s at 8 (omega arith)) (q .0) (f′ (q .0)) in
+      let eb : b ≡ value (cover (len - 8) y) = word-covered y (len - 8) b (length-part s (at + 8) 8 (omega arith)) (q .1) (g (q .1)) in
+      let ec : c ≡ value (cover (len - 16) z) = word-covered z (len - 16) c (length-part s (at + 16) 8 (omega arith)) (p .1) (h (p .1)) in
+      let e : take len (drop at s) ≡ take len (take 24 (drop at s)) = sym (take-take len 24 (drop at s) fits) in
+      sym (
+      ap (λ (r : List ℕ). value (continued r)) e ∙ ap value (sym (cover-continued len (take 24 (drop at s)) (length-part s at 24 (omega arith))))
+      ∙ ap (λ (r : List ℕ). value (cover len r)) whole
+      ∙ cover-split len 16 (x ++ y) z length-both (length-part s (at + 16) 8 (omega arith))
+      ∙ ap (λ (v : ℕ). v * 2 ^ 64 + value (cover (len - 16) z)) (cover-split len 8 x y (length-part s at 8 (omega arith)) (length-part s (at + 8) 8 (omega arith)))
+      ∙ rw (ea, eb, ec)
+      )

@@ -1,0 +1,251 @@
+-- What one turn of each loop does to the definition that its function meets.
+use mathlib.Core.Path.{_∙_, _≡_, ap, refl, sym}
+use mathlib.Core.Bool.{Bool, _&&_, _||_, cond, false, true}
+use mathlib.Core.List.{List, [], _++_, _∷_, append-nil}
+use mathlib.Core.Logic.{_⊎_, inl, inr, ⊎-elim}
+use Prim.Native.Nat.{_*_, _+_, _-_, _<_, _^_, _≤_, suc, zero, ℕ}
+use native.Mathlib.Decide.{decLt, ℕ-discrete}
+use native.Mathlib.Nat.{mul-le-mul-right, sub-zero, suc-mul, zero-add}
+use native.Mathlib.Numerals.{add-one, unary-clauses}
+use native.Mathlib.Omega.{arith}
+use lib.Dec.{eqb, leb, ltb}
+use lib.ListN.{drop, drop-of-length-le, getD, length, length-take, replicate, set, take}
+use lib.Seq.{drop-cons, paste-suc, take-all, take-append-le, take-nil}
+use borrow.Author.Tests.{eq-eqb, le-leb, le-ltb, lt-leb, lt-ltb, ne-eqb}
+use Rattle.model.specs.Names.{areDigits, blankEnded, blanks, filled, legalBound, legalFilled, notGreater, within}
+use Rattle.model.specs.Order.{diff, diff-at}
+use Rattle.model.proofs.Names.{filled-short}
+use Rattle.digits.specs.declared.Key.{Key}
+use Rattle.digits.specs.Keys.{blankEnds, isZero, keyValue}
+
+pub and-false : (a : Bool) → (a && false) ≡ false
+and-false true = refl
+and-false false = refl
+
+-- A check that gathers: w of the whole is a so far and b of what is left.
+pub gathers : (w a b c d r : Bool) → w ≡ (a && b) → b ≡ (c && d) → r ≡ (a && c) → w ≡ (r && d)
+gathers w true b c d r p q s = p ∙ q ∙ rw s
+gathers w false b c d r p q s = p ∙ rw s
+
+pub gathered : (w a b : Bool) → w ≡ (a && b) → b ≡ true → a ≡ w
+gathered w true b p q = sym (p ∙ q)
+gathered w false b p q = sym p
+
+pub larger-zero : (x y r : ℕ) → x ≤ r → y ≤ r → (r ≡ x) ⊎ (r ≡ y) → eqb r 0 ≡ (eqb x 0 && eqb y 0)
+larger-zero x y r hx hy h = elim (ℕ-discrete r 0) [
+  | yes e ↦ rw (eq-eqb r 0 e, eq-eqb x 0 (omega arith), eq-eqb y 0 (omega arith))
+  | no n ↦ rw (ne-eqb r 0 n) (sym (⊎-elim (λ e. rw (ne-eqb x 0 (λ z. n (omega arith)))) (λ e. rw (ne-eqb y 0 (λ z. n (omega arith))) (and-false (eqb x 0))) h))
+]
+
+module _ (s : List ℕ) (i : ℕ) where
+  pub zero-next : i < length s → isZero (drop i s) ≡ (eqb (getD s i 0) 0 && isZero (drop (i + 1) s))
+  unfolding isZero
+  zero-next h = rw (add-one, drop-cons s i 0)
+
+  pub zero-end : length s ≤ i → isZero (drop i s) ≡ true
+  unfolding isZero
+  zero-end h = rw (drop-of-length-le s h)
+
+  pub digits-next : (lo : ℕ) → i < length s → areDigits lo (drop i s) ≡ (leb lo (getD s i 0) && leb (getD s i 0) 0x7D && areDigits lo (drop (i + 1) s))
+  unfolding areDigits
+  digits-next lo h = rw (add-one, drop-cons s i 0)
+
+  pub digits-end : (lo : ℕ) → length s ≤ i → areDigits lo (drop i s) ≡ true
+  unfolding areDigits
+  digits-end lo h = rw (drop-of-length-le s h)
+
+-- A name within a bound, decided by the digits at i.
+module _ (n p : List ℕ) (i : ℕ) where
+  pub within-less : i < length n → i < length p → getD n i 0 < getD p i 0 → within (drop i n) (drop i p) ≡ true
+  unfolding within notGreater
+  within-less hn hp h = rw (drop-cons n i 0 hn, drop-cons p i 0 hp, lt-ltb (getD n i 0) (getD p i 0) h)
+
+  pub within-more : i < length n → i < length p → getD p i 0 < getD n i 0 → within (drop i n) (drop i p) ≡ false
+  unfolding within notGreater
+  within-more hn hp h = rw (drop-cons n i 0 hn, drop-cons p i 0 hp, le-ltb (getD n i 0) (getD p i 0) (omega arith), ne-eqb (getD n i 0) (getD p i 0) (λ e. omega arith))
+
+  pub within-equal : i < length n → i < length p → getD n i 0 ≡ getD p i 0 → within (drop i n) (drop i p) ≡ within (drop (i + 1) n) (drop (i + 1) p)
+  unfolding within notGreater
+  within-equal hn hp h = rw (add-one, drop-cons n i 0 hn, drop-cons p i 0 hp, le-ltb (getD n i 0) (getD p i 0) (omega arith), eq-eqb (getD n i 0) (getD p i 0) h)
+
+  pub within-short : length n ≤ i → within (drop i n) (drop i p) ≡ true
+  unfolding within notGreater
+  within-short h = rw (drop-of-length-le n h, take-nil)
+
+  pub within-end : length p ≤ i → within (drop i n) (drop i p) ≡ true
+  unfolding within notGreater
+  within-end h = rw (drop-of-length-le p h)
+
+-- What two strings share, from i on.
+module _ (x y : List ℕ) (i : ℕ) where
+  pub diff-differ : i < length x → i < length y → (getD x i 0 ≡ getD y i 0 → ⊥) → diff (drop i x) (drop i y) ≡ 0
+  diff-differ hx hy n = rw (drop-cons x i 0 hx, drop-cons y i 0 hy) (go (ℕ-discrete (getD x i 0) (getD y i 0)))
+    where
+      go : (d : Dec (getD x i 0 ≡ getD y i 0)) → diff-at d (diff (drop (suc i) x) (drop (suc i) y)) ≡ 0
+      go (yes e) = absurd (n e)
+      go (no m) = refl
+
+  pub diff-same : i < length x → i < length y → getD x i 0 ≡ getD y i 0 → i + diff (drop i x) (drop i y) ≡ i + 1 + diff (drop (i + 1) x) (drop (i + 1) y)
+  diff-same hx hy e = rw (add-one, drop-cons x i 0 hx, drop-cons y i 0 hy) (go (ℕ-discrete (getD x i 0) (getD y i 0)))
+    where
+      go : (d : Dec (getD x i 0 ≡ getD y i 0)) → i + diff-at d (diff (drop (suc i) x) (drop (suc i) y)) ≡ suc i + diff (drop (suc i) x) (drop (suc i) y)
+      go (yes f) = omega arith
+      go (no m) = absurd (m e)
+
+  pub diff-short : length y ≤ i → diff (drop i x) (drop i y) ≡ 0
+  diff-short h = rw (drop-of-length-le y h) (go (drop i x))
+    where
+      go : (z : List ℕ) → diff z [] ≡ 0
+      go [] = refl
+      go (a ∷ z) = refl
+
+  pub diff-end : length x ≤ i → diff (drop i x) (drop i y) ≡ 0
+  diff-end h = rw (drop-of-length-le x h)
+
+-- The first i digits of a name, filled.
+unfoldable pub filledTo : List ℕ → ℕ → List ℕ
+filledTo n i = take i n ++ drop i (replicate 24 0x20)
+
+pub filled-next : (n : List ℕ) (i : ℕ) → i < 24 → i < length n → set (filledTo n i) i (getD n i 0) ≡ filledTo n (i + 1)
+unfolding filledTo
+filled-next n i h k = rw add-one (simp zero-add at (paste-suc (replicate 24 0x20) 0 n i 0 (omega arith) k))
+
+pub filled-full : (n : List ℕ) (i : ℕ) → i ≡ 24 → 24 ≤ length n → filledTo n i ≡ filled n
+unfolding filledTo filled
+filled-full n i e h = rw (e, append-nil, take-append-le 24 n (replicate 24 0x20) h)
+
+drop-replicate : (i m a : ℕ) → drop i (replicate m a) ≡ replicate (m - i) a
+drop-replicate zero m a = rw (sub-zero m)
+drop-replicate (suc i) zero a = let e : 0 - suc i ≡ 0 = omega arith in rw e
+drop-replicate (suc i) (suc m) a = simp unary-clauses (drop-replicate i m a)
+
+pub filled-all : (n : List ℕ) (i : ℕ) → i ≡ length n → i ≤ 24 → filledTo n i ≡ filled n
+unfolding filledTo
+filled-all n i e h = rw (e, take-all (length n) n (omega arith), drop-replicate) (sym (filled-short n (omega arith)))
+
+-- Two numbers as one, in a base m.
+pair-lt : (m a b a′ b′ : ℕ) → a < a′ → b < m → a * m + b < a′ * m + b′
+pair-lt m a b a′ b′ h k = let p : suc a * m ≤ a′ * m = mul-le-mul-right m h in omega (arith, suc-mul a m)
+
+pair-last : (m a b a′ b′ : ℕ) → a ≡ a′ → b < b′ → a * m + b < a′ * m + b′
+pair-last m a b a′ b′ e h = rw e (omega arith)
+
+-- Keys stand by their first word that differs.
+module _ (x y : Key) where
+  pub lt-first : x .a < y .a → x .b < 2 ^ 64 → x .c < 2 ^ 64 → keyValue x < keyValue y
+  unfolding keyValue
+  lt-first h b c = pair-lt (2 ^ 64) (x .a * 2 ^ 64 + x .b) (x .c) (y .a * 2 ^ 64 + y .b) (y .c) (pair-lt (2 ^ 64) (x .a) (x .b) (y .a) (y .b) h b) c
+
+  pub lt-second : x .a ≡ y .a → x .b < y .b → x .c < 2 ^ 64 → keyValue x < keyValue y
+  unfolding keyValue
+  lt-second e h c = pair-lt (2 ^ 64) (x .a * 2 ^ 64 + x .b) (x .c) (y .a * 2 ^ 64 + y .b) (y .c) (pair-last (2 ^ 64) (x .a) (x .b) (y .a) (y .b) e h) c
+
+  pub lt-third : x .a ≡ y .a → x .b ≡ y .b → x .c < y .c → keyValue x < keyValue y
+  unfolding keyValue
+  lt-third e f h = pair-last (2 ^ 64) (x .a * 2 ^ 64 + x .b) (x .c) (y .a * 2 ^ 64 + y .b) (y .c) (rw (e, f)) h
+
+  pub same-key : x .a ≡ y .a → x .b ≡ y .b → x .c ≡ y .c → keyValue x ≡ keyValue y
+  unfolding keyValue
+  same-key e f g = rw (e, f, g)
+
+module _ (x y : Key) (a : x .a ≡ y .a) (b : x .b ≡ y .b) where
+  pub below-last : ltb (x .c) (y .c) ≡ ltb (keyValue x) (keyValue y)
+  below-last = elim (decLt (x .c) (y .c)) [
+    | yes h ↦ lt-ltb (x .c) (y .c) h ∙ sym (lt-ltb (keyValue x) (keyValue y) (lt-third x y a b h))
+    | no h ↦ le-ltb (x .c) (y .c) (omega arith) ∙ sym (le-ltb (keyValue x) (keyValue y) (le (ℕ-discrete (x .c) (y .c)) h))
+  ]
+    where
+      le : Dec (x .c ≡ y .c) → (x .c < y .c → ⊥) → keyValue y ≤ keyValue x
+      le (yes e) h = omega (arith, same-key x y a b e)
+      le (no n) h = omega (arith, lt-third y x (sym a) (sym b) (omega arith))
+
+  pub same-last : eqb (x .c) (y .c) ≡ eqb (keyValue x) (keyValue y)
+  same-last = elim (ℕ-discrete (x .c) (y .c)) [
+    | yes e ↦ eq-eqb (x .c) (y .c) e ∙ sym (eq-eqb (keyValue x) (keyValue y) (same-key x y a b e))
+    | no n ↦ ne-eqb (x .c) (y .c) n ∙ sym (ne-eqb (keyValue x) (keyValue y) (λ e. differ (decLt (x .c) (y .c)) n e))
+  ]
+    where
+      differ : Dec (x .c < y .c) → (x .c ≡ y .c → ⊥) → keyValue x ≡ keyValue y → ⊥
+      differ (yes h) n e = omega (arith, lt-third x y a b h)
+      differ (no h) n e = omega (arith, lt-third y x (sym a) (sym b) (omega arith))
+
+module _ (x y : Key) (xc : x .c < 2 ^ 64) (yc : y .c < 2 ^ 64) (e : keyValue x ≡ keyValue y) where
+  pub same-first : x .b < 2 ^ 64 → y .b < 2 ^ 64 → x .a ≡ y .a
+  same-first xb yb = elim (decLt (x .a) (y .a)) [
+    | yes h ↦ absurd (omega (arith, lt-first x y h xb xc))
+    | no h ↦ elim (decLt (y .a) (x .a)) [ yes k ↦ absurd (omega (arith, lt-first y x k yb yc)) | no k ↦ omega arith ]
+  ]
+
+  pub same-second : x .a ≡ y .a → x .b ≡ y .b
+  same-second a = elim (decLt (x .b) (y .b)) [
+    | yes h ↦ absurd (omega (arith, lt-second x y a h xc))
+    | no h ↦ elim (decLt (y .b) (x .b)) [ yes k ↦ absurd (omega (arith, lt-second y x (sym a) k yc)) | no k ↦ omega arith ]
+  ]
+
+-- No blank is followed by more than a blank, from i on.
+pub blank-next : (s : List ℕ) (i : ℕ) → 1 ≤ i → i < length s
+    → blankEnds (drop (i - 1) s) ≡ ((ltb 0x20 (getD s (i - 1) 0) || ltb (getD s i 0) 0x21) && blankEnds (drop (i + 1 - 1) s))
+unfolding blankEnds
+blank-next s zero h k = absurd (omega arith)
+blank-next s (suc j) h k =
+    let e : suc j - 1 ≡ j = omega arith in
+    let f : suc j + 1 - 1 ≡ suc j = omega arith in
+    rw (e, f, drop-cons s j 0 (omega arith), drop-cons s (suc j) 0 k)
+
+pub blank-last : (s : List ℕ) (i : ℕ) → i ≡ 24 → length s ≡ 24 → blankEnds (drop (i - 1) s) ≡ true
+unfolding blankEnds
+blank-last s i e h =
+    let k : length s ≤ 24 = omega arith in
+    let f : drop 24 s ≡ [] = drop-of-length-le s k in
+    rw (e, drop-cons s 23 0 (omega arith), f)
+
+and-assoc : (a b c : Bool) → (a && b && c) ≡ (a && (b && c))
+and-assoc true b c = refl
+and-assoc false b c = refl
+
+-- A blank is followed by blanks alone; any other digit, by an end of blanks.
+blanks-is : (n : List ℕ) → blanks n ≡ (areDigits 0x20 n && blankEnds (0x20 ∷ n))
+unfolding areDigits blankEnds blanks
+blanks-is [] = refl
+blanks-is (e ∷ n) = go (ℕ-discrete e 0x20) (decLt e 0x20) (blanks-is n)
+  where
+    go : Dec (e ≡ 0x20) → Dec (e < 0x20) → blanks n ≡ (areDigits 0x20 n && blankEnds (0x20 ∷ n))
+        → (eqb e 0x20 && blanks n) ≡ (leb 0x20 e && leb e 0x7D && areDigits 0x20 n && (ltb e 0x21 && blankEnds (e ∷ n)))
+    go (yes q) d r = rw (eq-eqb e 0x20 q, le-leb 0x20 e (omega arith), le-leb e 0x7D (omega arith), lt-ltb e 0x21 (omega arith), q) r
+    go (no q) (yes h) r = rw (ne-eqb e 0x20 q, lt-leb 0x20 e h)
+    go (no q) (no h) r = rw (ne-eqb e 0x20 q, le-ltb e 0x21 (omega arith)) (sym (and-false (leb 0x20 e && leb e 0x7D && areDigits 0x20 n)))
+
+ended-is : (d : ℕ) (n : List ℕ) → 0x20 < d → blankEnded n ≡ (areDigits 0x20 n && blankEnds (d ∷ n))
+unfolding areDigits blankEnded blankEnds
+ended-is d [] k = refl
+ended-is d (e ∷ n) k = rw (lt-ltb 0x20 d k) (go (ℕ-discrete e 0x20) (decLt e 0x20) (ended-is e n))
+  where
+    go : Dec (e ≡ 0x20) → Dec (e < 0x20) → (0x20 < e → blankEnded n ≡ (areDigits 0x20 n && blankEnds (e ∷ n)))
+        → cond (eqb e 0x20) (blanks n) (leb 0x21 e && leb e 0x7D && blankEnded n) ≡ (leb 0x20 e && leb e 0x7D && areDigits 0x20 n && blankEnds (e ∷ n))
+    go (yes q) d r = rw (eq-eqb e 0x20 q, le-leb 0x20 e (omega arith), le-leb e 0x7D (omega arith), q) (blanks-is n)
+    go (no q) (yes h) r = rw (ne-eqb e 0x20 q, lt-leb 0x20 e h, lt-leb 0x21 e (omega arith))
+    go (no q) (no h) r =
+        rw (ne-eqb e 0x20 q, le-leb 0x20 e (omega arith), le-leb 0x21 e (omega arith), r (omega arith))
+        (sym (and-assoc (leb e 0x7D) (areDigits 0x20 n) (blankEnds (e ∷ n))))
+
+pub not-blank : (s : List ℕ) → getD s 0 0 ≡ 0x20 → length s ≡ 24 → legalFilled s ≡ false
+unfolding legalFilled
+not-blank [] e h = refl
+not-blank (d ∷ n) e h = rw (eq-eqb (length n) 23 (omega arith), lt-leb 0x21 d (omega arith))
+
+pub filled-name : (s : List ℕ) → (getD s 0 0 ≡ 0x20 → ⊥) → length s ≡ 24 → legalFilled s ≡ (areDigits 0x20 s && blankEnds s)
+unfolding areDigits legalFilled
+filled-name [] e h = absurd (omega arith)
+filled-name (d ∷ n) e h = elim (decLt d 0x20) [
+  | yes k ↦ rw (eq-eqb (length n) 23 (omega arith), lt-leb 0x20 d k, lt-leb 0x21 d (omega arith))
+  | no k ↦ let g : 0x21 ≤ d = above e k in
+      rw (eq-eqb (length n) 23 (omega arith), le-leb 0x20 d (omega arith), le-leb 0x21 d g, ended-is d n g) (sym (and-assoc (leb d 0x7D) (areDigits 0x20 n) (blankEnds (d ∷ n))))
+]
+  where
+    above : (d ≡ 0x20 → ⊥) → (d < 0x20 → ⊥) → 0x21 ≤ d
+    above e k = elim (ℕ-discrete d 0x20) [ yes q ↦ absurd (e q) | no q ↦ omega arith ]
+
+-- A bound's beginning fits.
+pub legal-part : (len : ℕ) (s : List ℕ) → len ≤ 24 → legalBound (take len s) ≡ areDigits 0x20 (take len s)
+unfolding legalBound
+legal-part len s h = rw (le-leb (length (take len s)) 24 (omega (arith, length-take len s)))

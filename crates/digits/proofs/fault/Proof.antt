@@ -1,0 +1,25 @@
+use borrow.Author.Tests.{le-leb, lt-leb}
+use mathlib.Core.Bool.{_&&_, false}
+use Rattle.digits.proofs.Laws.{and-false}
+use lib.Dec.{leb}
+use Prim.Native.Nat.{ℕ, _≤_, _-_, _<_, _+_, _*_}
+use native.Mathlib.Omega.{arith}
+use mathlib.Core.Path.{_≡_, refl, sym, _∙_}
+use lib.ListN.{length, take, drop, getD}
+use borrow.Author.Needs.{needs}
+use Rattle.digits.proofs.fault.Statement.{statement}
+use Rattle.digits.proofs.fault.Tie as tie
+use Rattle.digits.proofs.fault.Reads as reads
+use Rattle.digits.proofs.fault.Lts as lts
+
+returns : tie.Need-returns
+returns c = rw (lt-leb (c .before .args .least) (c .before .args .x) (c .if1 .taken))
+
+returns-2 : tie.Need-returns-2
+returns-2 c = rw (lt-leb (c .before .before .args .x) 0x7D (c .if2 .taken)) (sym (and-false (leb (c .before .before .args .least) (c .before .before .args .x))))
+
+returns-3 : tie.Need-returns-3
+returns-3 c = rw (le-leb (c .before .before .args .least) (c .before .before .args .x) (c .before .if1 .left), le-leb (c .before .before .args .x) 0x7D (c .if2 .left))
+
+pub fault-spec : {M : Type 1} → statement M
+fault-spec = tie.close (tie.spec returns returns-2 returns-3)

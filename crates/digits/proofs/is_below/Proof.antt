@@ -1,0 +1,47 @@
+use Rattle.digits.proofs.Laws.{below-last, lt-first, lt-second}
+use borrow.Author.Tests.{le-ltb, lt-ltb}
+use Rattle.digits.specs.Keys.{keyValue}
+use Prim.Native.Nat.{ℕ, _≤_, _-_, _<_, _+_, _*_}
+use native.Mathlib.Omega.{arith}
+use mathlib.Core.Path.{_≡_, refl, sym, _∙_}
+use lib.ListN.{length, take, drop, getD}
+use borrow.Author.Needs.{needs}
+use Rattle.digits.proofs.is_below.Statement.{statement}
+use Rattle.digits.proofs.is_below.Tie as tie
+use Rattle.digits.proofs.is_below.Reads as reads
+use Rattle.digits.proofs.is_below.Lts as lts
+
+returns : tie.Need-returns
+returns c =
+    let x = c .before .before .before .args .x in
+    let y = c .before .before .before .args .y in
+    sym (lt-ltb (keyValue x) (keyValue y) (lt-first x y (omega arith) (omega arith) (omega arith)))
+
+returns-2 : tie.Need-returns-2
+returns-2 c =
+    let x = c .before .before .before .before .before .before .args .x in
+    let y = c .before .before .before .before .before .before .args .y in
+    let h = lt-first y x (omega arith) (omega arith) (omega arith) in
+    sym (le-ltb (keyValue x) (keyValue y) (omega arith))
+
+returns-3 : tie.Need-returns-3
+returns-3 c =
+    let x = c .before .before .before .before .before .before .before .before .before .args .x in
+    let y = c .before .before .before .before .before .before .before .before .before .args .y in
+    sym (lt-ltb (keyValue x) (keyValue y) (lt-second x y (omega arith) (omega arith) (omega arith)))
+
+returns-4 : tie.Need-returns-4
+returns-4 c =
+    let x = c .before .before .before .before .before .before .before .before .before .before .before .before .args .x in
+    let y = c .before .before .before .before .before .before .before .before .before .before .before .before .args .y in
+    let h = lt-second y x (omega arith) (omega arith) (omega arith) in
+    sym (le-ltb (keyValue x) (keyValue y) (omega arith))
+
+returns-5 : tie.Need-returns-5
+returns-5 c =
+    let x = c .before .before .before .before .before .before .before .before .before .before .before .before .before .before .args .x in
+    let y = c .before .before .before .before .before .before .before .before .before .before .before .before .before .before .args .y in
+    below-last x y (omega arith) (omega arith)
+
+pub is-below-spec : {M : Type 1} → statement M
+is-below-spec = tie.close (tie.spec returns returns-2 returns-3 returns-4 returns-5)

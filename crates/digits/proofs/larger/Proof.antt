@@ -1,0 +1,19 @@
+use mathlib.Core.Logic.{inl, inr}
+use Prim.Native.Nat.{ℕ, _≤_, _-_, _<_, _+_, _*_}
+use native.Mathlib.Omega.{arith}
+use mathlib.Core.Path.{_≡_, refl, sym, _∙_}
+use lib.ListN.{length, take, drop, getD}
+use borrow.Author.Needs.{needs}
+use Rattle.digits.proofs.larger.Statement.{statement}
+use Rattle.digits.proofs.larger.Tie as tie
+use Rattle.digits.proofs.larger.Reads as reads
+use Rattle.digits.proofs.larger.Lts as lts
+
+returns : tie.Need-returns
+returns c = (search needs, search needs, inr refl)
+
+returns-2 : tie.Need-returns-2
+returns-2 c = (search needs, search needs, inl refl)
+
+pub larger-spec : {M : Type 1} → statement M
+larger-spec = tie.close (tie.spec returns returns-2)

@@ -1,0 +1,35 @@
+use borrow.Author.Tests.{not-false, not-true}
+use borrow.Author.Tests.{le-leb, lt-leb}
+use Rattle.model.specs.Names.{legalName}
+use Prim.Native.Nat.{ℕ, _≤_, _-_, _<_, _+_, _*_}
+use native.Mathlib.Omega.{arith}
+use mathlib.Core.Path.{_≡_, refl, sym, _∙_}
+use lib.ListN.{length, take, drop, getD}
+use borrow.Author.Needs.{needs}
+use Rattle.digits.proofs.named.Statement.{statement}
+use Rattle.digits.proofs.named.Tie as tie
+use Rattle.digits.proofs.named.Reads as reads
+use Rattle.digits.proofs.named.Lts as lts
+use Rattle.digits.proofs.are_digits.Reads as are-digits-reads
+
+returns : tie.Need-returns
+unfolding legalName
+returns c = rw (lt-leb 1 (length (c .before .before .args .name .now)) (omega arith))
+
+returns-2 : tie.Need-returns-2
+unfolding legalName
+returns-2 c = rw (le-leb 1 (length (c .before .before .before .args .name .now)) (omega arith), lt-leb (length (c .before .before .before .args .name .now)) 24 (c .if2 .taken))
+
+are-digits-requires : tie.Need-are-digits-requires
+are-digits-requires c κs = search needs
+
+returns-3 : tie.Need-returns-3
+unfolding legalName
+returns-3 c = rw (le-leb 1 (length (c .before .before .before .before .before .args .name .now)) (omega arith), le-leb (length (c .before .before .before .before .before .args .name .now)) 24 (omega arith), ← c .before .are-digits .ensures, not-true (c .before .are-digits .result) (c .if3 .taken))
+
+returns-4 : tie.Need-returns-4
+unfolding legalName
+returns-4 c = rw (le-leb 1 (length (c .before .before .before .before .before .args .name .now)) (omega arith), le-leb (length (c .before .before .before .before .before .args .name .now)) 24 (omega arith), ← c .before .are-digits .ensures, not-false (c .before .are-digits .result) (c .if3 .left))
+
+pub named-spec : {M : Type 1} → statement M
+named-spec = tie.close (tie.spec returns returns-2 are-digits-requires returns-3 returns-4)

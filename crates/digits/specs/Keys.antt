@@ -1,0 +1,36 @@
+-- Strings of digits as numbers, as the code compares them.
+use mathlib.Core.Bool.{Bool, _&&_, _||_, false, true}
+use mathlib.Core.List.{List, [], _++_, _∷_}
+use Prim.Native.Nat.{_*_, _+_, _^_, ℕ}
+use lib.Dec.{eqb, ltb}
+use lib.ListN.{length, replicate, take}
+use Rattle.digits.specs.declared.Key.{Key}
+use Rattle.digits.specs.declared.Naming.{Naming}
+use Rattle.digits.specs.declared.Naming.the-variants.{Illegal, Legal}
+
+-- The number of a list of bytes, the first byte highest.
+unfoldable pub value : List ℕ → ℕ
+value [] = 0
+value (d ∷ x) = d * 256 ^ length x + value x
+
+-- The three words of a key as one number.
+unfoldable pub keyValue : Key → ℕ
+keyValue k = (k .a * 2 ^ 64 + k .b) * 2 ^ 64 + k .c
+
+-- A bound, continued by a digit above all others.
+unfoldable pub continued : List ℕ → List ℕ
+continued p = take 24 (p ++ replicate 24 0xFF)
+
+unfoldable pub isZero : List ℕ → Bool
+isZero [] = true
+isZero (d ∷ x) = eqb d 0 && isZero x
+
+-- No blank is followed by more than a blank.
+unfoldable pub blankEnds : List ℕ → Bool
+blankEnds [] = true
+blankEnds (d ∷ []) = true
+blankEnds (d ∷ e ∷ x) = (ltb 0x20 d || ltb e 0x21) && blankEnds (e ∷ x)
+
+abbrev pub naming : Bool → Naming
+naming true = Legal
+naming false = Illegal
