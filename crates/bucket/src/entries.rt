@@ -1,8 +1,10 @@
 // Entries one after another, 32 bytes each: their places, and the entries with one more, one less or one changed.
 ghost use mathlib.Core.Path.{_≡_};
 ghost use Prim.Native.Nat.{_≤_, _<_, _+_, _*_};
-ghost use lib.ListN.{length};
+ghost use lib.ListN.{drop, length, take};
 ghost use lib.Seq.{paste};
+ghost use Rattle.model.specs.Format.{padded, valueBytes, valueOf};
+ghost use Rattle.bucket.specs.Entries.{changedValue, withEntry, withoutEntry};
 use digits::Key;
 use digits::wide;
 
@@ -39,6 +41,7 @@ pub fn upto(entries: &[u8], count: usize, string: Key) -> usize
 // The value of entry i.
 pub fn value_at(entries: &[u8], i: usize) -> u64
     requires { ⌜ (32 * i + 32 ≤ length (now entries)) × (i < 17) ⌝ }
+    ensures { λ r. ⌜ r ≡ valueOf (take 8 (drop (32 * i + 24) (now (entries .entry)))) ⌝ }
 {
     let at = 32 * i + 24;
     wide(entries[at])
@@ -70,7 +73,9 @@ pub fn copy(d: &mut [u8], at: usize, s: &[u8])
 }
 
 // The eight bytes of a value, the lowest first.
-fn value_bytes(v: u64) -> [u8; 8] {
+fn value_bytes(v: u64) -> [u8; 8]
+    ensures { λ r. ⌜ r ≡ valueBytes v ⌝ }
+{
     [
         (v % 256) as u8,
         (v / 256 % 256) as u8,
@@ -86,6 +91,7 @@ fn value_bytes(v: u64) -> [u8; 8] {
 // The entries with one more at place i.
 pub fn with_entry(entries: &[u8], count: usize, i: usize, name: &[u8; 24], value: u64) -> [u8; 544]
     requires { ⌜ (32 * count ≤ length (now entries)) × (count ≤ 16) × (i ≤ count) ⌝ }
+    ensures { λ r. ⌜ r ≡ padded 544 (withEntry (now (entries .entry)) count i (now (name .entry)) value) ⌝ }
 {
     let mut more = [0u8; 544];
     let at = 32 * i;
@@ -100,6 +106,7 @@ pub fn with_entry(entries: &[u8], count: usize, i: usize, name: &[u8; 24], value
 // The entries without that at place i.
 pub fn without_entry(entries: &[u8], count: usize, i: usize) -> [u8; 544]
     requires { ⌜ (32 * count ≤ length (now entries)) × (count ≤ 16) × (i < count) ⌝ }
+    ensures { λ r. ⌜ r ≡ padded 544 (withoutEntry (now (entries .entry)) count i) ⌝ }
 {
     let mut less = [0u8; 544];
     let at = 32 * i;
@@ -113,6 +120,7 @@ pub fn without_entry(entries: &[u8], count: usize, i: usize) -> [u8; 544]
 // The entries with another value at place i.
 pub fn changed_value(entries: &[u8], count: usize, i: usize, value: u64) -> [u8; 544]
     requires { ⌜ (32 * count ≤ length (now entries)) × (count ≤ 16) × (i < count) ⌝ }
+    ensures { λ r. ⌜ r ≡ padded 544 (changedValue (now (entries .entry)) count i value) ⌝ }
 {
     let mut other = [0u8; 544];
     let end = 32 * count;

@@ -5,6 +5,7 @@
 ghost use mathlib.Core.Path.{_≡_};
 ghost use Prim.Native.Nat.{_≤_, _<_, _+_, _*_};
 ghost use lib.ListN.{length};
+ghost use Rattle.bucket.specs.Slots.{countAt, lowerAt, upperAt, writtenBytes};
 use digits::Key;
 use digits::index;
 use digits::wide;
@@ -85,7 +86,7 @@ pub fn high_of(slot: &[u8]) -> Key
 // The lower bound of a slot.
 pub fn lower_of(slot: &[u8]) -> &[u8]
     requires { ⌜ 64 ≤ length (now slot) ⌝ }
-    ensures { λ r. ⌜ length (now r) ≤ 24 ⌝ }
+    ensures { λ r. ⌜ (now r ≡ lowerAt (now (slot .entry))) × (length (now r) ≤ 24) ⌝ }
 {
     let len = index(slot[2]);
     if 24 < len {
@@ -98,7 +99,7 @@ pub fn lower_of(slot: &[u8]) -> &[u8]
 // The upper bound of a slot.
 pub fn upper_of(slot: &[u8]) -> &[u8]
     requires { ⌜ 64 ≤ length (now slot) ⌝ }
-    ensures { λ r. ⌜ length (now r) ≤ 24 ⌝ }
+    ensures { λ r. ⌜ (now r ≡ upperAt (now (slot .entry))) × (length (now r) ≤ 24) ⌝ }
 {
     let len = index(slot[3]);
     if 24 < len {
@@ -111,7 +112,7 @@ pub fn upper_of(slot: &[u8]) -> &[u8]
 // How many entries a slot has; never more than fit into it.
 pub fn count_of(slot: &[u8], b: usize) -> usize
     requires { ⌜ 64 ≤ length (now slot) ⌝ }
-    ensures { λ r. ⌜ r ≤ b ⌝ }
+    ensures { λ r. ⌜ (r ≡ countAt b (now (slot .entry))) × (r ≤ b) ⌝ }
 {
     let count = index(slot[1]);
     if b < count {
@@ -248,6 +249,7 @@ fn byte(x: usize) -> u8
 // The slot with the same bounds and other entries.
 pub fn rewritten(slot: &[u8], entries: &[u8]) -> [u8; 576]
     requires { ⌜ (64 ≤ length (now slot)) × (length (now entries) ≤ 512) ⌝ }
+    ensures { λ r. ⌜ r ≡ writtenBytes (lowerAt (now (slot .entry))) (upperAt (now (slot .entry))) (now (entries .entry)) ⌝ }
 {
     written(lower_of(slot), upper_of(slot), entries)
 }
@@ -255,6 +257,7 @@ pub fn rewritten(slot: &[u8], entries: &[u8]) -> [u8; 576]
 // A used slot written whole: its bounds and its entries, and zero elsewhere.
 pub fn written(lower: &[u8], upper: &[u8], entries: &[u8]) -> [u8; 576]
     requires { ⌜ (length (now lower) ≤ 24) × (length (now upper) ≤ 24) × (length (now entries) ≤ 512) ⌝ }
+    ensures { λ r. ⌜ r ≡ writtenBytes (now (lower .entry)) (now (upper .entry)) (now (entries .entry)) ⌝ }
 {
     let mut slot = [0u8; 576];
     slot[0] = 1;
