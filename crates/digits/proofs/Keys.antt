@@ -1,17 +1,21 @@
 -- Strings as numbers: a number's parts, and the one order.
 use mathlib.Core.Path.{_∙_, _≡_, ap, refl, sym}
-use mathlib.Core.Bool.{Bool, _&&_, false, true}
-use mathlib.Core.List.{List, [], _++_, _∷_, append-nil}
+use mathlib.Core.Bool.{Bool, _&&_, cond, false, not, true}
+use mathlib.Core.List.{List, [], _++_, _∷_}
 use Prim.Native.Nat.{_*_, _+_, _-_, _%_, _<_, _^_, _≤_, suc, zero, ℕ}
-use native.Mathlib.Nat.{add-mul, add-zero, mul-assoc, mul-le-mul-right, pow-suc, sub-zero, suc-mul}
+use native.Mathlib.Nat.{add-mul, add-zero, mul-assoc, mul-le-mul-right, one-le-pow, pow-suc, sub-zero, suc-mul}
 use native.Mathlib.Numerals.{add-one, unary-clauses}
+use native.Mathlib.Decide.{decLe, decLt, ℕ-discrete}
 use lib.Pow.{pow-add}
 use native.Mathlib.Omega.{arith}
-use lib.Dec.{eqb}
-use lib.ListN.{drop, getD, length, length-append, length-drop, length-take, replicate, take}
-use lib.Seq.{drop-cons, drop-drop, take-add, take-nil, take-take}
-use borrow.Author.Tests.{eqb-true}
-use Rattle.model.proofs.Names.{both-true}
+use lib.Dec.{eqb, leb, ltb}
+use lib.ListN.{drop, getD, length, length-append, length-drop, length-replicate, length-take, replicate, take}
+use lib.Seq.{drop-cons, drop-drop, take-add, take-at, take-nil, take-take}
+use borrow.Author.Tests.{eq-eqb, eqb-true, le-leb, le-ltb, lt-leb, lt-ltb, ne-eqb}
+use Rattle.model.proofs.Names.{atMost-le, both-true, le-atMost}
+use Rattle.model.proofs.Order.{le-antisym, le-refl}
+use Rattle.model.specs.Names.{Digits, atMost}
+use Rattle.digits.proofs.Laws.{pair-lt}
 use Rattle.digits.specs.Keys.{continued, isZero, value}
 
 -- Each is a byte.
@@ -165,18 +169,18 @@ bytes-of : (x : List ℕ) → ((i : ℕ) → getD x i 0 < 256) → Bytes x
 bytes-of [] h = tt
 bytes-of (d ∷ x) h = (h 0, bytes-of x (λ i. h (suc i)))
 
-pub bytes-part : (s : List ℕ) (n at : ℕ) → ((i : ℕ) → getD s i 0 < 256) → Bytes (take n (drop at s))
-bytes-part s n at h = taken n (drop at s) (dropped at s (bytes-of s h))
-  where
-    taken : (n : ℕ) (x : List ℕ) → Bytes x → Bytes (take n x)
-    taken zero x h = tt
-    taken (suc n) [] h = tt
-    taken (suc n) (d ∷ x) h = (h .0, taken n x (h .1))
+bytes-take : (n : ℕ) (x : List ℕ) → Bytes x → Bytes (take n x)
+bytes-take zero x h = tt
+bytes-take (suc n) [] h = tt
+bytes-take (suc n) (d ∷ x) h = (h .0, bytes-take n x (h .1))
 
-    dropped : (n : ℕ) (x : List ℕ) → Bytes x → Bytes (drop n x)
-    dropped zero x h = h
-    dropped (suc n) [] h = tt
-    dropped (suc n) (d ∷ x) h = dropped n x (h .1)
+bytes-drop : (n : ℕ) (x : List ℕ) → Bytes x → Bytes (drop n x)
+bytes-drop zero x h = h
+bytes-drop (suc n) [] h = tt
+bytes-drop (suc n) (d ∷ x) h = bytes-drop n x (h .1)
+
+pub bytes-part : (s : List ℕ) (n at : ℕ) → ((i : ℕ) → getD s i 0 < 256) → Bytes (take n (drop at s))
+bytes-part s n at h = bytes-take n (drop at s) (bytes-drop at s (bytes-of s h))
 
 -- A table of fills: each is a power of 256, less one.
 unfoldable pub areFills : ℕ → List ℕ → Bool
@@ -241,3 +245,127 @@ module _ (s : List ℕ) (at len a b c : ℕ) (room : at + 24 ≤ length s) (fits
       ∙ ap (λ (v : ℕ). v * 2 ^ 64 + value (cover (len - 16) z)) (cover-split len 8 x y (length-part s at 8 (omega arith)) (length-part s (at + 8) 8 (omega arith)))
       ∙ rw (ea, eb, ec)
       )
+
+-- Numbers order as strings do.
+leb-add : (k a b : ℕ) → leb (k + a) (k + b) ≡ leb a b
+leb-add k a b = elim (decLe a b) [
+  | yes h ↦ le-leb (k + a) (k + b) (omega arith) ∙ sym (le-leb a b h)
+  | no h ↦ lt-leb (k + a) (k + b) (omega arith) ∙ sym (lt-leb a b (omega arith))
+]
+
+ltb-leb : (a b : ℕ) → ltb a b ≡ not (leb b a)
+ltb-leb a b = elim (decLe b a) [
+  | yes h ↦ rw (le-ltb a b h, le-leb b a h)
+  | no h ↦ rw (lt-ltb a b (omega arith), lt-leb b a (omega arith))
+]
+
+-- Two strings with as many bytes.
+pub value-atMost : (x y : List ℕ) → Bytes x → Bytes y → length x ≡ length y → leb (value x) (value y) ≡ atMost x y
+unfolding atMost value
+value-atMost [] [] f g e = refl
+value-atMost [] (b ∷ y) f g e = absurd (omega arith)
+value-atMost (a ∷ x) [] f g e = absurd (omega arith)
+value-atMost (a ∷ x) (b ∷ y) f g e =
+    let l : length x ≡ length y = omega arith in
+    rw l (go (decLt a b) (ℕ-discrete a b) l (value-atMost x y (f .1) (g .1) l))
+  where
+    go : Dec (a < b) → Dec (a ≡ b) → length x ≡ length y → leb (value x) (value y) ≡ atMost x y
+        → leb (a * 256 ^ length y + value x) (b * 256 ^ length y + value y) ≡ cond (ltb a b) true (cond (eqb a b) (atMost x y) false)
+    go (yes h) d l r =
+        let v : value x < 256 ^ length y = rw l at (value-lt x (f .1)) in
+        let p = pair-lt (256 ^ length y) a (value x) b (value y) h v in
+        rw (le-leb (a * 256 ^ length y + value x) (b * 256 ^ length y + value y) (omega arith), lt-ltb a b h)
+    go (no h) (yes q) l r = rw (le-ltb a b (omega arith), eq-eqb a b q, q, leb-add) r
+    go (no h) (no q) l r =
+        let k : b < a = omega arith in
+        let p = pair-lt (256 ^ length y) b (value y) a (value x) k (value-lt y (g .1)) in
+        rw (lt-leb (a * 256 ^ length y + value x) (b * 256 ^ length y + value y) p, le-ltb a b (omega arith), ne-eqb a b q)
+
+pub value-below : (x y : List ℕ) → Bytes x → Bytes y → length x ≡ length y → ltb (value x) (value y) ≡ not (atMost y x)
+value-below x y f g e = ltb-leb (value x) (value y) ∙ ap not (value-atMost y x g f (sym e))
+
+pub value-same : (x y : List ℕ) → Bytes x → Bytes y → length x ≡ length y → value x ≡ value y → x ≡ y
+value-same x y f g e v =
+    le-antisym
+    (atMost-le x y (sym (value-atMost x y f g e) ∙ le-leb (value x) (value y) (omega arith)))
+    (atMost-le y x (sym (value-atMost y x g f (sym e)) ∙ le-leb (value y) (value x) (omega arith)))
+
+-- Each digit is below the one that continues a bound.
+abbrev pub Under : List ℕ → Type 0
+Under [] = Unit {0}
+Under (d ∷ x) = (d < 0xFF) × Under x
+
+pub digits-under : (lo : ℕ) (x : List ℕ) → Digits lo x → Under x
+digits-under lo [] h = tt
+digits-under lo (d ∷ x) h = (omega (arith, h .1), digits-under lo x (h .2))
+
+pub under-bytes : (x : List ℕ) → Under x → Bytes x
+under-bytes [] h = tt
+under-bytes (d ∷ x) h = (omega (arith, h .0), under-bytes x (h .1))
+
+pub length-continued : (p : List ℕ) → length (continued p) ≡ 24
+unfolding continued
+length-continued p = omega (arith, length-take 24 (p ++ replicate 24 0xFF), length-append p (replicate 24 0xFF), length-replicate {A = ℕ} 24 0xFF)
+
+pub bytes-continued : (p : List ℕ) → Bytes p → Bytes (continued p)
+unfolding continued
+bytes-continued p h = bytes-take 24 (p ++ replicate 24 0xFF) (joined p h)
+  where
+    fills : (m : ℕ) → Bytes (replicate m 0xFF)
+    fills zero = tt
+    fills (suc m) = (omega arith, fills m)
+
+    joined : (p : List ℕ) → Bytes p → Bytes (p ++ replicate 24 0xFF)
+    joined [] h = fills 24
+    joined (d ∷ p) h = (h .0, joined p (h .1))
+
+pub continued-whole : (n : List ℕ) → length n ≡ 24 → continued n ≡ n
+unfolding continued
+continued-whole n e = take-at n (replicate 24 0xFF) 24 e
+
+continued-atMost : (p q : List ℕ) → Under p → Under q → length p ≤ 24 → length q ≤ 24 → atMost (continued p) (continued q) ≡ atMost p q
+unfolding atMost continued
+continued-atMost p q f g = go 24 24 p q f g (omega arith)
+  where
+    go : (k m : ℕ) (p q : List ℕ) → Under p → Under q → k ≤ m → length p ≤ k → length q ≤ k
+        → atMost (take k (p ++ replicate m 0xFF)) (take k (q ++ replicate m 0xFF)) ≡ atMost p q
+    go k m [] [] f g h u v = le-atMost (take k (replicate m 0xFF)) (take k (replicate m 0xFF)) (le-refl (take k (replicate m 0xFF)))
+    go zero m [] (b ∷ q) f g h u v = absurd (omega arith)
+    go (suc k) zero [] (b ∷ q) f g h u v = absurd (omega arith)
+    go (suc k) (suc m) [] (b ∷ q) f g h u v = rw (le-ltb 0xFF b (omega (arith, g .0)), ne-eqb 0xFF b (λ e. omega (arith, g .0)))
+    go zero m (a ∷ p) q f g h u v = absurd (omega arith)
+    go (suc k) zero (a ∷ p) [] f g h u v = absurd (omega arith)
+    go (suc k) (suc m) (a ∷ p) [] f g h u v = rw (lt-ltb a 0xFF (f .0))
+    go (suc k) m (a ∷ p) (b ∷ q) f g h u v = rw (go k m p q (f .1) (g .1) (omega arith) (omega arith) (omega arith))
+
+-- Two bounds, continued.
+module _ (p q : List ℕ) (f : Under p) (g : Under q) (u : length p ≤ 24) (v : length q ≤ 24) where
+  pub bound-atMost : leb (value (continued p)) (value (continued q)) ≡ atMost p q
+  bound-atMost =
+      value-atMost (continued p) (continued q) (bytes-continued p (under-bytes p f)) (bytes-continued q (under-bytes q g)) (length-continued p ∙ sym (length-continued q))
+      ∙ continued-atMost p q f g u v
+
+pub bound-below : (p q : List ℕ) → Under p → Under q → length p ≤ 24 → length q ≤ 24 → ltb (value (continued p)) (value (continued q)) ≡ not (atMost q p)
+bound-below p q f g u v = ltb-leb (value (continued p)) (value (continued q)) ∙ ap not (bound-atMost q p g f v u)
+
+pub bound-same : (p q : List ℕ) → Under p → Under q → length p ≤ 24 → length q ≤ 24 → value (continued p) ≡ value (continued q) → p ≡ q
+bound-same p q f g u v e =
+    le-antisym
+    (atMost-le p q (sym (bound-atMost p q f g u v) ∙ le-leb (value (continued p)) (value (continued q)) (omega arith)))
+    (atMost-le q p (sym (bound-atMost q p g f v u) ∙ le-leb (value (continued q)) (value (continued p)) (omega arith)))
+
+-- A filled name and a bound.
+module _ (n p : List ℕ) (f : Under n) (g : Under p) (e : length n ≡ 24) (v : length p ≤ 24) where
+  pub name-atMost : leb (value n) (value (continued p)) ≡ atMost n p
+  name-atMost = ap (λ (x : List ℕ). leb (value x) (value (continued p))) (sym (continued-whole n e)) ∙ bound-atMost n p f g (omega arith) v
+
+  pub name-above : ltb (value (continued p)) (value n) ≡ not (atMost n p)
+  name-above = ltb-leb (value (continued p)) (value n) ∙ ap not name-atMost
+
+-- No limit is below every string that begins with more than a zero.
+pub value-some : (x : List ℕ) → 0 < getD x 0 0 → 0 < value x
+unfolding value
+value-some [] h = absurd (omega arith)
+value-some (d ∷ x) h =
+    let p : 1 * 256 ^ length x ≤ d * 256 ^ length x = mul-le-mul-right (256 ^ length x) h in
+    omega (arith, one-le-pow (length x) 256 (omega arith))

@@ -124,7 +124,7 @@ unfolding filledTo
 filled-all n i e h = rw (e, take-all (length n) n (omega arith), drop-replicate) (sym (filled-short n (omega arith)))
 
 -- Two numbers as one, in a base m.
-pair-lt : (m a b a′ b′ : ℕ) → a < a′ → b < m → a * m + b < a′ * m + b′
+pub pair-lt : (m a b a′ b′ : ℕ) → a < a′ → b < m → a * m + b < a′ * m + b′
 pair-lt m a b a′ b′ h k = let p : suc a * m ≤ a′ * m = mul-le-mul-right m h in omega (arith, suc-mul a m)
 
 pair-last : (m a b a′ b′ : ℕ) → a ≡ a′ → b < b′ → a * m + b < a′ * m + b′

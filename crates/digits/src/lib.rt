@@ -334,15 +334,15 @@ pub fn shared(x: &[u8], y: &[u8]) -> usize
     ensures { λ r. ⌜ (r ≤ length (now (x .entry))) × (r ≤ length (now (y .entry)))
         × (r ≡ diff (now (x .entry)) (now (y .entry))) ⌝ }
 {
-    let mut i = 0;
-    while i < x.len() {
-        if y.len() <= i {
-            return i;
+    let mut count = 0;
+    while count < x.len() {
+        if y.len() <= count {
+            return count;
         }
-        if x[i] != y[i] {
-            return i;
+        if x[count] != y[count] {
+            return count;
         }
-        i += 1;
+        count += 1;
     }
-    i
+    count
 }

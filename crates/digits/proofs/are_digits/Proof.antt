@@ -1,3 +1,4 @@
+-- `digits::are_digits` meets its contract.
 use mathlib.Core.Bool.{_&&_}
 use lib.Dec.{eqb, leb}
 use Rattle.model.specs.Names.{areDigits}

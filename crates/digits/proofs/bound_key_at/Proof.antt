@@ -1,3 +1,4 @@
+-- `digits::bound_key_at` meets its contract.
 use Rattle.digits.specs.Keys.{keyValue}
 use Rattle.digits.proofs.Keys.{bound-key}
 use Prim.Native.Nat.{ℕ, _≤_, _-_, _<_, _+_, _*_}

@@ -1,3 +1,4 @@
+-- `digits::continued` meets its contract.
 use mathlib.Core.List.{List, [], _∷_}
 use mathlib.Core.Path.{ap}
 use Prim.Native.Nat.{_^_}

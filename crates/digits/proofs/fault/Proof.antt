@@ -1,3 +1,4 @@
+-- `digits::fault` meets its contract.
 use borrow.Author.Tests.{le-leb, lt-leb}
 use mathlib.Core.Bool.{_&&_, false}
 use Rattle.digits.proofs.Laws.{and-false}
@@ -13,13 +14,13 @@ use Rattle.digits.proofs.fault.Reads as reads
 use Rattle.digits.proofs.fault.Lts as lts
 
 returns : tie.Need-returns
-returns c = rw (lt-leb (c .before .args .least) (c .before .args .x) (c .if1 .taken))
+returns c = rw (lt-leb (c .before .args .least) (c .before .args .x) (omega arith))
 
 returns-2 : tie.Need-returns-2
-returns-2 c = rw (lt-leb (c .before .before .args .x) 0x7D (c .if2 .taken)) (sym (and-false (leb (c .before .before .args .least) (c .before .before .args .x))))
+returns-2 c = rw (lt-leb (c .before .before .args .x) 0x7D (omega arith)) (sym (and-false (leb (c .before .before .args .least) (c .before .before .args .x))))
 
 returns-3 : tie.Need-returns-3
-returns-3 c = rw (le-leb (c .before .before .args .least) (c .before .before .args .x) (c .before .if1 .left), le-leb (c .before .before .args .x) 0x7D (c .if2 .left))
+returns-3 c = rw (le-leb (c .before .before .args .least) (c .before .before .args .x) (omega arith), le-leb (c .before .before .args .x) 0x7D (omega arith))
 
 pub fault-spec : {M : Type 1} → statement M
 fault-spec = tie.close (tie.spec returns returns-2 returns-3)

@@ -1,3 +1,4 @@
+-- `digits::fault_after` meets its contract.
 use borrow.Author.Tests.{le-ltb, lt-ltb}
 use Prim.Native.Nat.{ℕ, _≤_, _-_, _<_, _+_, _*_}
 use native.Mathlib.Omega.{arith}

@@ -1,3 +1,4 @@
+-- `digits::filled` meets its contract.
 use Rattle.digits.proofs.Laws.{filled-all, filled-full, filled-next}
 use Rattle.digits.proofs.Laws.{filledTo}
 use Prim.Native.Nat.{ℕ, _≤_, _-_, _<_, _+_, _*_}

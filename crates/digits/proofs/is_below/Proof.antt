@@ -1,3 +1,4 @@
+-- `digits::is_below` meets its contract.
 use Rattle.digits.proofs.Laws.{below-last, lt-first, lt-second}
 use borrow.Author.Tests.{le-ltb, lt-ltb}
 use Rattle.digits.specs.Keys.{keyValue}

@@ -1,3 +1,4 @@
+-- `digits::is_bound` meets its contract.
 use mathlib.Core.Path.{ap}
 use lib.ListN.{length-drop}
 use lib.Seq.{take-all}

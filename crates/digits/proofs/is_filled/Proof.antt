@@ -1,3 +1,4 @@
+-- `digits::is_filled` meets its contract.
 use mathlib.Core.Bool.{_&&_, _||_}
 use lib.Dec.{eqb, ltb}
 use Rattle.digits.specs.Keys.{blankEnds}

@@ -1,3 +1,4 @@
+-- `digits::is_filled_name` meets its contract.
 use borrow.Author.Tests.{not-false, not-true}
 use Rattle.digits.proofs.Laws.{filled-name, not-blank}
 use Prim.Native.Nat.{ℕ, _≤_, _-_, _<_, _+_, _*_}

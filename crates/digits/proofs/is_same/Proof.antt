@@ -1,3 +1,4 @@
+-- `digits::is_same` meets its contract.
 use Rattle.digits.proofs.Laws.{same-first, same-second}
 use Rattle.digits.proofs.Laws.{same-last}
 use borrow.Author.Tests.{ne-eqb}

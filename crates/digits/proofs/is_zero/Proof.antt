@@ -1,3 +1,4 @@
+-- `digits::is_zero` meets its contract.
 use mathlib.Core.Bool.{_&&_}
 use lib.Dec.{eqb}
 use Rattle.digits.specs.Keys.{isZero}

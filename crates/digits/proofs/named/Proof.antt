@@ -1,3 +1,4 @@
+-- `digits::named` meets its contract.
 use borrow.Author.Tests.{not-false, not-true}
 use borrow.Author.Tests.{le-leb, lt-leb}
 use Rattle.model.specs.Names.{legalName}

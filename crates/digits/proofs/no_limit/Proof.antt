@@ -1,3 +1,4 @@
+-- `digits::no_limit` meets its contract.
 use Rattle.digits.specs.Keys.{keyValue}
 use Prim.Native.Nat.{ℕ, _≤_, _-_, _<_, _+_, _*_}
 use native.Mathlib.Omega.{arith}

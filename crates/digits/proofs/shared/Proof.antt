@@ -1,3 +1,4 @@
+-- `digits::shared` meets its contract.
 use Rattle.model.specs.Order.{diff}
 use Rattle.digits.proofs.Laws.{diff-differ, diff-end, diff-same, diff-short}
 use Prim.Native.Nat.{ℕ, _≤_, _-_, _<_, _+_, _*_}
@@ -11,10 +12,10 @@ use Rattle.digits.proofs.shared.Reads as reads
 use Rattle.digits.proofs.shared.Lts as lts
 
 abbrev Inv-loop : tie.InvT-loop
-Inv-loop x y i₀ i = (i ≤ length x) × (i ≤ length y) × (diff x y ≡ i + diff (drop i x) (drop i y))
+Inv-loop x y count₀ count = (count ≤ length x) × (count ≤ length y) × (diff x y ≡ count + diff (drop count x) (drop count y))
 
 abbrev μ-loop : tie.MeasureT-loop
-μ-loop x y i₀ i = length x - i
+μ-loop x y count₀ count = length x - count
 
 loop-holds : tie.Need-loop-holds Inv-loop μ-loop
 loop-holds c = search needs
@@ -24,7 +25,7 @@ returns c =
     let l = c .before .before in
     let x = l .before .args .x .now in
     let y = l .before .args .y .now in
-    (search needs, search needs, omega (arith, diff-short x y (l .loop .i) (omega arith)))
+    (search needs, search needs, omega (arith, diff-short x y (l .loop .count) (omega arith)))
 
 shared-slice-read-if2 : tie.Need-shared-slice-read-if2 Inv-loop μ-loop
 shared-slice-read-if2 c = search needs
@@ -37,10 +38,10 @@ returns-2 c =
     let l = c .before .before .before .before .before in
     let x = l .before .args .x .now in
     let y = l .before .args .y .now in
-    (search needs, search needs, omega (arith, diff-differ x y (l .loop .i) (omega arith) (omega arith) (c .if2 .taken)))
+    (search needs, search needs, omega (arith, diff-differ x y (l .loop .count) (omega arith) (omega arith) (c .if2 .taken)))
 
-add-i : tie.Need-add-i Inv-loop μ-loop
-add-i c = search needs
+add-count : tie.Need-add-count Inv-loop μ-loop
+add-count c = search needs
 
 loop-less : tie.Need-loop-less Inv-loop μ-loop
 loop-less c = search needs
@@ -50,14 +51,14 @@ loop-again c =
     let l = c .before .before .before .before .before in
     let x = l .before .args .x .now in
     let y = l .before .args .y .now in
-    (search needs, search needs, omega (arith, diff-same x y (l .loop .i) (omega arith) (omega arith) (c .if2 .left)))
+    (search needs, search needs, omega (arith, diff-same x y (l .loop .count) (omega arith) (omega arith) (c .if2 .left)))
 
 returns-3 : tie.Need-returns-3 Inv-loop μ-loop
 returns-3 c =
     let l = c .before in
     let x = l .before .args .x .now in
     let y = l .before .args .y .now in
-    (search needs, search needs, omega (arith, diff-end x y (l .loop .i) (omega arith)))
+    (search needs, search needs, omega (arith, diff-end x y (l .loop .count) (omega arith)))
 
 pub shared-spec : {M : Type 1} → statement M
 shared-spec =
@@ -70,7 +71,7 @@ shared-spec =
     shared-slice-read-if2
     shared-slice-read-if2-2
     returns-2
-    add-i
+    add-count
     loop-less
     loop-again
     returns-3)

@@ -1,3 +1,4 @@
+-- `digits::within` meets its contract.
 use Rattle.model.specs.Names.{within}
 use Rattle.digits.proofs.Laws.{within-end, within-equal, within-less, within-more, within-short}
 use Prim.Native.Nat.{ℕ, _≤_, _-_, _<_, _+_, _*_}
@@ -37,14 +38,14 @@ returns-2 c =
     let l = c .before .before .before .before .before in
     let x = l .before .args .name .now in
     let y = l .before .args .p .now in
-    sym (l .loop .inv .1 ∙ within-less x y (l .loop .i) (omega arith) (omega arith) (c .if2 .taken))
+    sym (l .loop .inv .1 ∙ within-less x y (l .loop .i) (omega arith) (omega arith) (omega arith))
 
 returns-3 : tie.Need-returns-3 Inv-loop μ-loop
 returns-3 c =
     let l = c .before .before .before .before .before .before in
     let x = l .before .args .name .now in
     let y = l .before .args .p .now in
-    sym (l .loop .inv .1 ∙ within-more x y (l .loop .i) (omega arith) (omega arith) (c .if3 .taken))
+    sym (l .loop .inv .1 ∙ within-more x y (l .loop .i) (omega arith) (omega arith) (omega arith))
 
 add-i : tie.Need-add-i Inv-loop μ-loop
 add-i c = search needs

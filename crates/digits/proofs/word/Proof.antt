@@ -1,3 +1,4 @@
+-- `digits::word` meets its contract.
 use Rattle.digits.proofs.Keys.{value-word}
 use Prim.Native.Nat.{ℕ, _≤_, _-_, _<_, _+_, _*_}
 use native.Mathlib.Omega.{arith}
