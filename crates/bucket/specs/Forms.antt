@@ -4,14 +4,14 @@ use mathlib.Core.Bool.{Bool, _&&_, cond, false, not, true}
 use mathlib.Core.Option.{some}
 use mathlib.Core.List.{List, [], _∷_}
 use Prim.Native.Nat.{_*_, _+_, _-_, suc, zero, ℕ}
-use lib.Dec.{eqb, leb, ltb}
-use lib.ListN.{drop, getD, length, take}
+use lib.Dec.{eqb, ltb}
+use lib.ListN.{drop, length, take}
 use Rattle.model.specs.Order.{Low, Str, at, none}
-use Rattle.model.specs.Names.{legalBound, legalFilled}
+use Rattle.model.specs.Names.{legalFilled}
 use Rattle.model.specs.Entries.{Entry}
 use Rattle.model.specs.Files.{Slot, used}
 use Rattle.model.specs.Checks.{isWell, sameStr}
-use Rattle.model.specs.Format.{lowDigits, lowOf, readUsed, valueOf}
+use Rattle.model.specs.Format.{lowDigits, readUsed, valueOf}
 use Rattle.digits.specs.Keys.{continued, isZero, keyValue, value}
 use Rattle.bucket.specs.declared.Bucket.{Bucket}
 use Rattle.bucket.specs.declared.Form.{Form}

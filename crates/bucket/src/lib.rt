@@ -194,6 +194,7 @@ fn is_clear(slot: &[u8], count: usize) -> bool
 // A used slot as it is read, or that it is not well formed.
 pub fn form_of(slot: &[u8], b: usize) -> Form
     requires { ⌜ (length (now slot) ≡ 64 + 32 * b) × (b ≤ 16) ⌝ }
+    ensures { λ r. ⌜ Formed b (now (slot .entry)) r ⌝ }
 {
     if slot[0] != 1 {
         return Form::Ill;

@@ -1,12 +1,11 @@
 -- `bucket::held_under` meets its contract.
 use mathlib.Core.Bool.{false, true}
 use mathlib.Core.Path.{_∙_, _≡_, ap, sym}
-use Prim.Native.Nat.{_*_, _+_, ℕ}
+use Prim.Native.Nat.{_*_, ℕ}
 use native.Mathlib.Omega.{arith}
 use lib.Dec.{eqb}
 use lib.ListN.{drop, take}
 use borrow.Author.Tests.{not-false, not-true}
-use Rattle.model.specs.Format.{valueOf}
 use Rattle.digits.specs.Keys.{keyValue, value}
 use Rattle.bucket.specs.Forms.{below, values}
 use Rattle.bucket.proofs.Forms.{held-behind, held-here, held-other}

@@ -1,8 +1,7 @@
 -- `bucket::entries::is_copied` meets its contract.
-use mathlib.Core.Bool.{_&&_}
 use mathlib.Core.Path.{_∙_, _≡_, ap₂}
 use mathlib.Core.List.{List}
-use Prim.Native.Nat.{_*_, _+_, _-_, _≤_, ℕ}
+use Prim.Native.Nat.{_*_, _-_, _≤_, ℕ}
 use native.Mathlib.Omega.{arith}
 use lib.ListN.{drop}
 use borrow.Author.Tests.{eq-eqb, ne-eqb}
