@@ -1,17 +1,22 @@
 // Entries one after another, 32 bytes each: their places, and the entries with one more, one less or one changed.
+ghost use mathlib.Core.Bool.{_&&_, cond};
 ghost use mathlib.Core.Path.{_≡_};
 ghost use Prim.Native.Nat.{_≤_, _<_, _+_, _*_};
+ghost use lib.Dec.{leb, ltb};
 ghost use lib.ListN.{drop, length, take};
 ghost use lib.Seq.{paste};
+ghost use Rattle.model.specs.Checks.{sameStr};
 ghost use Rattle.model.specs.Format.{padded, valueBytes, valueOf};
+ghost use Rattle.digits.specs.Keys.{keyValue};
 ghost use Rattle.bucket.specs.Entries.{changedValue, withEntry, withoutEntry};
+ghost use Rattle.bucket.specs.Forms.{areAmong, below, notAbove, pieces, values};
 use digits::Key;
 use digits::wide;
 
 // How many of the first entries are below the name.
 pub fn rank(entries: &[u8], count: usize, name: Key) -> usize
     requires { ⌜ (32 * count ≤ length (now entries)) × (count ≤ 17) ⌝ }
-    ensures { λ r. ⌜ r ≤ count ⌝ }
+    ensures { λ r. ⌜ (r ≤ count) × (r ≡ below (keyValue name) (values count (now (entries .entry)))) ⌝ }
 {
     let mut i = 0;
     while i < count {
@@ -26,7 +31,7 @@ pub fn rank(entries: &[u8], count: usize, name: Key) -> usize
 // How many of the first entries are not above the string.
 pub fn upto(entries: &[u8], count: usize, string: Key) -> usize
     requires { ⌜ (32 * count ≤ length (now entries)) × (count ≤ 17) ⌝ }
-    ensures { λ r. ⌜ r ≤ count ⌝ }
+    ensures { λ r. ⌜ (r ≤ count) × (r ≡ notAbove (keyValue string) (values count (now (entries .entry)))) ⌝ }
 {
     let mut i = 0;
     while i < count {
@@ -132,6 +137,7 @@ pub fn changed_value(entries: &[u8], count: usize, i: usize, value: u64) -> [u8;
 // Whether the 32 bytes from `at` on in x are those from `to` on in y.
 fn is_same_entry(x: &[u8], at: usize, y: &[u8], to: usize) -> bool
     requires { ⌜ (at + 32 ≤ length (now x)) × (to + 32 ≤ length (now y)) ⌝ }
+    ensures { λ r. ⌜ r ≡ sameStr (take 32 (drop at (now (x .entry)))) (take 32 (drop to (now (y .entry)))) ⌝ }
 {
     if !digits::is_same(digits::key_at(x, at), digits::key_at(y, to)) {
         return false;
@@ -142,6 +148,8 @@ fn is_same_entry(x: &[u8], at: usize, y: &[u8], to: usize) -> bool
 // Whether the second entries are exactly the first, or those and one more.
 pub fn is_copied(first: &[u8], m: usize, second: &[u8], n: usize) -> bool
     requires { ⌜ (32 * m ≤ length (now first)) × (32 * n ≤ length (now second)) × (m ≤ 16) × (n ≤ 16) ⌝ }
+    ensures { λ r.
+        ⌜ r ≡ (areAmong (pieces n (now (second .entry))) (pieces m (now (first .entry))) && leb n (m + 1)) ⌝ }
 {
     let mut i = 0usize;
     let mut j = 0usize;
@@ -155,7 +163,8 @@ pub fn is_copied(first: &[u8], m: usize, second: &[u8], n: usize) -> bool
 // 1 where the entry i of the first, of which there are m, is the entry j of the second, else 0.
 fn step(first: &[u8], i: usize, m: usize, second: &[u8], j: usize) -> usize
     requires { ⌜ (32 * m ≤ length (now first)) × (32 * j + 32 ≤ length (now second)) × (m ≤ 16) × (j < 16) ⌝ }
-    ensures { λ r. ⌜ (r ≤ 1) × (i + r ≤ i + m) ⌝ }
+    ensures { λ r. ⌜ (r ≤ 1) × (i + r ≤ i + m)
+        × (r ≡ cond (ltb i m && sameStr (take 32 (drop (32 * i) (now (first .entry)))) (take 32 (drop (32 * j) (now (second .entry))))) 1 0) ⌝ }
 {
     if m <= i {
         return 0;

@@ -2,9 +2,14 @@
 //
 // Slot: byte 0 is 1 when used; 1 the entry count; 2 lower length; 3 upper length; 4 to 7 zero; 8 to 31 lower; 32 to 55
 // upper; 56 to 63 zero; then b entries of 32 bytes, a filled name (24) and a value (8, little-endian).
+ghost use mathlib.Core.Bool.{_&&_, not, true};
 ghost use mathlib.Core.Path.{_≡_};
-ghost use Prim.Native.Nat.{_≤_, _<_, _+_, _*_};
-ghost use lib.ListN.{length};
+ghost use Prim.Native.Nat.{_≤_, _<_, _+_, _-_, _*_};
+ghost use lib.Dec.{ltb};
+ghost use lib.ListN.{drop, getD, length, take};
+ghost use Rattle.model.specs.Format.{lowOf};
+ghost use Rattle.digits.specs.Keys.{continued, isZero, keyValue, value};
+ghost use Rattle.bucket.specs.Forms.{Formed, areEntries, heldUnder, holding, isClear, lowValue, partBetween, vacant};
 ghost use Rattle.bucket.specs.Slots.{countAt, lowerAt, upperAt, writtenBytes};
 use digits::Key;
 use digits::index;
@@ -53,7 +58,9 @@ pub enum Held {
 }
 
 // A free slot is all zero.
-pub fn vacancy_of(slot: &[u8]) -> Vacancy {
+pub fn vacancy_of(slot: &[u8]) -> Vacancy
+    ensures { λ r. ⌜ r ≡ vacant (isZero (now (slot .entry))) ⌝ }
+{
     if 0 < slot.len() {
         if slot[0] == 1 {
             return Vacancy::Taken;
@@ -68,6 +75,10 @@ pub fn vacancy_of(slot: &[u8]) -> Vacancy {
 // The lower end of a slot's range. An empty lower bound means no lower limit.
 pub fn low_of(slot: &[u8]) -> Key
     requires { ⌜ 64 ≤ length (now slot) ⌝ }
+    ensures { λ r.
+        ⌜ (getD (now (slot .entry)) 2 0 ≤ 24
+        → isZero (take (24 - getD (now (slot .entry)) 2 0) (drop (8 + getD (now (slot .entry)) 2 0) (now (slot .entry)))) ≡ true
+        → keyValue r ≡ lowValue (lowOf (take (getD (now (slot .entry)) 2 0) (drop 8 (now (slot .entry)))))) ⌝ }
 {
     let lower = index(slot[2]);
     if lower == 0 {
@@ -79,6 +90,10 @@ pub fn low_of(slot: &[u8]) -> Key
 // The upper end of a slot's range. An empty upper bound is above all.
 pub fn high_of(slot: &[u8]) -> Key
     requires { ⌜ 64 ≤ length (now slot) ⌝ }
+    ensures { λ r.
+        ⌜ (getD (now (slot .entry)) 3 0 ≤ 24
+        → isZero (take (24 - getD (now (slot .entry)) 3 0) (drop (32 + getD (now (slot .entry)) 3 0) (now (slot .entry)))) ≡ true
+        → keyValue r ≡ value (continued (take (getD (now (slot .entry)) 3 0) (drop 32 (now (slot .entry)))))) ⌝ }
 {
     digits::bound_key_at(slot, 32, index(slot[3]))
 }
@@ -124,7 +139,8 @@ pub fn count_of(slot: &[u8], b: usize) -> usize
 // The bytes of the entries whose names lie from the first to the second, both included.
 pub fn part_between(slot: &[u8], b: usize, first: Key, second: Key) -> &[u8]
     requires { ⌜ (length (now slot) ≡ 64 + 32 * b) × (b ≤ 16) ⌝ }
-    ensures { λ r. ⌜ length (now r) ≤ 512 ⌝ }
+    ensures { λ r. ⌜ (length (now r) ≤ 512)
+        × (now r ≡ partBetween (now (slot .entry)) (countAt b (now (slot .entry))) (keyValue first) (keyValue second)) ⌝ }
 {
     let count = count_of(slot, b);
     let from = rank(&slot[64..], count, first);
@@ -140,6 +156,7 @@ pub fn part_between(slot: &[u8], b: usize, first: Key, second: Key) -> &[u8]
 // Names are legal, strictly ascending and in the range: each is above the one before it, the first above the lower limit.
 fn are_entries(entries: &[u8], count: usize, low: Key, high: Key) -> bool
     requires { ⌜ (32 * count ≤ length (now entries)) × (count ≤ 16) ⌝ }
+    ensures { λ r. ⌜ r ≡ areEntries count (now (entries .entry)) (keyValue low) (keyValue high) ⌝ }
 {
     let mut last = low;
     let mut i = 0;
@@ -162,6 +179,7 @@ fn are_entries(entries: &[u8], count: usize, low: Key, high: Key) -> bool
 // Whether the bytes that a used slot leaves zero are zero.
 fn is_clear(slot: &[u8], count: usize) -> bool
     requires { ⌜ 64 + 32 * count ≤ length (now slot) ⌝ }
+    ensures { λ r. ⌜ r ≡ isClear (now (slot .entry)) count ⌝ }
 {
     if !digits::is_zero(&slot[4..8]) {
         return false;
@@ -176,6 +194,7 @@ fn is_clear(slot: &[u8], count: usize) -> bool
 // A used slot as it is read, or that it is not well formed.
 pub fn form_of(slot: &[u8], b: usize) -> Form
     requires { ⌜ (length (now slot) ≡ 64 + 32 * b) × (b ≤ 16) ⌝ }
+    ensures { λ r. ⌜ Formed b (now (slot .entry)) r ⌝ }
 {
     if slot[0] != 1 {
         return Form::Ill;
@@ -213,7 +232,10 @@ pub fn form_of(slot: &[u8], b: usize) -> Form
 }
 
 // A bucket's range is the names within its upper bound and not within its lower.
-pub fn range_of(bucket: Bucket, name: Key) -> Range {
+pub fn range_of(bucket: Bucket, name: Key) -> Range
+    ensures { λ r.
+        ⌜ r ≡ holding (ltb (keyValue (bucket .low)) (keyValue name) && not (ltb (keyValue (bucket .high)) (keyValue name))) ⌝ }
+{
     let low = bucket.low;
     if !digits::is_below(low, name) {
         return Range::Lacks;
@@ -228,6 +250,7 @@ pub fn range_of(bucket: Bucket, name: Key) -> Range {
 // The value under a name.
 pub fn held_under(entries: &[u8], count: usize, name: Key) -> Held
     requires { ⌜ (32 * count ≤ length (now entries)) × (count ≤ 16) ⌝ }
+    ensures { λ r. ⌜ r ≡ heldUnder (now (entries .entry)) count (keyValue name) ⌝ }
 {
     let i = rank(entries, count, name);
     if count <= i {

@@ -1,23 +1,28 @@
-use Prim.Native.Nat.{ℕ, _≤_, _-_, _<_, _+_, _*_}
+-- `bucket::entries::rank` meets its contract.
+use mathlib.Core.Bool.{false, true}
+use mathlib.Core.Path.{_∙_, _≡_, ap, sym}
+use Prim.Native.Nat.{_*_, _+_, _-_, _≤_, ℕ}
 use native.Mathlib.Omega.{arith}
-use mathlib.Core.Path.{_≡_, refl, sym, _∙_}
-use lib.ListN.{length, take, drop, getD}
+use lib.Dec.{ltb}
+use lib.ListN.{drop, take}
+use borrow.Author.Tests.{not-false, not-true}
+use Rattle.digits.specs.Keys.{keyValue, value}
+use Rattle.bucket.specs.Forms.{below, values}
+use Rattle.bucket.proofs.Forms.{below-end, below-last, below-next, below-start}
 use borrow.Author.Needs.{needs}
 use Rattle.bucket.proofs.entries.rank.Statement.{statement}
 use Rattle.bucket.proofs.entries.rank.Tie as tie
-use Rattle.bucket.proofs.entries.rank.Reads as reads
-use Rattle.bucket.proofs.entries.rank.Lts as lts
-use Rattle.digits.proofs.is_below.Reads as is-below-reads
-use Rattle.digits.proofs.key_at.Reads as key-at-reads
 
 abbrev Inv-loop : tie.InvT-loop
-Inv-loop entries count name i₀ i = i ≤ count
+Inv-loop entries count name i₀ i = (i ≤ count) × (below (keyValue name) (values count entries) ≡ i + below (keyValue name) (values (count - i) (drop (32 * i) entries)))
 
 abbrev μ-loop : tie.MeasureT-loop
 μ-loop entries count name i₀ i = count - i
 
 loop-holds : tie.Need-loop-holds Inv-loop μ-loop
-loop-holds c = search needs
+loop-holds c =
+    let a = c .before .args in
+    (omega arith, below-start (a .entries .now) (a .count) (keyValue (a .name)))
 
 mul-key-at : tie.Need-mul-key-at Inv-loop μ-loop
 mul-key-at c = search needs
@@ -29,7 +34,13 @@ is-below-requires : tie.Need-is-below-requires Inv-loop μ-loop
 is-below-requires c κs = search needs
 
 returns : tie.Need-returns Inv-loop μ-loop
-returns c = search needs
+returns c =
+    let l = c .before .before .before .before in
+    let a = l .before .before .args in
+    let xs = a .entries .now in
+    let v = keyValue (a .name) in
+    let t : ltb (value (take 24 (drop (32 * l .loop .i) xs))) v ≡ false = ap (λ (w : ℕ). ltb w v) (sym (c .before .before .key-at .ensures)) ∙ sym (c .before .is-below .ensures) ∙ not-true (c .before .is-below .result) (c .if1 .taken) in
+    (omega arith, sym (l .loop .inv .1 ∙ below-last xs (a .count) (l .loop .i) (omega arith) v t))
 
 add-i : tie.Need-add-i Inv-loop μ-loop
 add-i c = search needs
@@ -38,10 +49,19 @@ loop-less : tie.Need-loop-less Inv-loop μ-loop
 loop-less c = search needs
 
 loop-again : tie.Need-loop-again Inv-loop μ-loop
-loop-again c = search needs
+loop-again c =
+    let l = c .before .before .before .before in
+    let a = l .before .before .args in
+    let xs = a .entries .now in
+    let v = keyValue (a .name) in
+    let t : ltb (value (take 24 (drop (32 * l .loop .i) xs))) v ≡ true = ap (λ (w : ℕ). ltb w v) (sym (c .before .before .key-at .ensures)) ∙ sym (c .before .is-below .ensures) ∙ not-false (c .before .is-below .result) (c .if1 .left) in
+    (omega arith, l .loop .inv .1 ∙ below-next xs (a .count) (l .loop .i) (omega arith) v t)
 
 returns-2 : tie.Need-returns-2 Inv-loop μ-loop
-returns-2 c = search needs
+returns-2 c =
+    let l = c .before in
+    let a = l .before .before .args in
+    (omega arith, sym (l .loop .inv .1 ∙ below-end (drop (32 * l .loop .i) (a .entries .now)) (a .count) (l .loop .i) (omega arith) (keyValue (a .name)) (omega arith)))
 
 pub rank-spec : {M : Type 1} → statement M
 rank-spec =
