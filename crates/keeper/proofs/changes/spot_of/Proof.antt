@@ -40,7 +40,7 @@ returns c =
     record {
       slot-inside = omega (arith, s .pre .surveyed .slots-inside (c .before .before .before .before .before .holder .result));
       count-most = c .before .before .count-of .ensures .1;
-      place-most = c .rank .ensures;
+      place-most = c .rank .ensures .0;
     }
 
 pub spot-of-spec : {M : Type 1} → statement M
