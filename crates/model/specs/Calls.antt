@@ -33,7 +33,7 @@ use Rattle.model.specs.Growth.{grown-trie}
 use Rattle.model.specs.Changes.{Result, Store, call, holds?, put, refuse, remove, split-of, stores}
 use Rattle.model.specs.Checks.{Kind, is-bad, is-cut, is-sound, isAbove, isWell}
 use Rattle.model.specs.Agreeing.{isAgreeing}
-use Rattle.model.specs.Format.{checkFile, entriesBytes, fileBytes, fileSize, headerOf, legalSizes, readFile, readSlot, slotAt, storeBytes}
+use Rattle.model.specs.Format.{checkFile, entriesBytes, entrySize, fileBytes, fileSize, headerOf, legalSizes, readFile, readSlot, slotAt, storeBytes, version}
 
 -- "one with count 0 and first leaf 0"
 abbrev pub new-trie : Trie
@@ -53,8 +53,8 @@ pub record Rebuilt : Type 0 where
 -- "Create writes the whole buffer: slot 0 used, no limits, no entries; it gives the trie with count 0 and first leaf 0."
 -- Refused 8: "create with b, slots or length not as above".
 unfoldable pub createOf : List ℕ → ℕ → ℕ → ℕ → Created
-createOf xs version b slots =
-    cond (eqb version 1 && legalSizes b slots && eqb (length xs) (fileSize b slots))
+createOf xs v b slots =
+    cond (eqb v version && legalSizes b slots && eqb (length xs) (fileSize b slots))
     (record { answer = Given; file = fileBytes b (created slots); trie = new-trie })
     (record { answer = TrieRefused WrongSize; file = xs; trie = new-trie })
 
@@ -251,8 +251,8 @@ between low high (e ∷ es) =
 -- than 32 bytes times the entries to be listed".
 unfoldable pub listEntries : List Entry → List ℕ → ListDone
 listEntries es out =
-    cond (ltb (length out) (32 * length es)) (record { answer = ListRefused ShortOutput; output = out })
-    (record { answer = Listed (length es); output = entriesBytes es ++ drop (32 * length es) out })
+    cond (ltb (length out) (entrySize * length es)) (record { answer = ListRefused ShortOutput; output = out })
+    (record { answer = Listed (length es); output = entriesBytes es ++ drop (entrySize * length es) out })
 
 unfoldable pub listLooked : Str → Str → List ℕ → Looked → ListDone
 listLooked low high out (refusing c) = record { answer = ListRefused c; output = out }

@@ -12,9 +12,19 @@ use Rattle.model.specs.Entries.{Entry}
 use Rattle.model.specs.Files.{Cut, Slot, Sound, free, used}
 use Rattle.model.specs.Checks.{Kind, check, is-bad, sameStr}
 
+-- What a later version may change: the version's number, and how many bytes an entry and its value have.
+abbrev pub version : ℕ
+version = 1
+
+abbrev pub entrySize : ℕ
+entrySize = 32
+
+abbrev pub valueSize : ℕ
+valueSize = 8
+
 -- "File length is exactly 16 + slots × (64 + 32 × b)."
 unfoldable pub slotSize : ℕ → ℕ
-slotSize b = 64 + 32 * b
+slotSize b = 64 + entrySize * b
 
 unfoldable pub fileSize : ℕ → ℕ → ℕ
 fileSize b slots = 16 + slots * slotSize b
@@ -31,7 +41,7 @@ legalSizes b slots = leb 2 b && leb b 16 && leb 1 slots && leb slots 64
 
 -- "Header: 0 to 2 `TKF`; 3 and 4 version 1, little-endian; 5 b; 6 slots; 7 to 15 zero."
 unfoldable pub headerBytes : ℕ → ℕ → List ℕ
-headerBytes b slots = 0x54 ∷ 0x4B ∷ 0x46 ∷ 1 ∷ 0 ∷ b ∷ slots ∷ replicate 9 0
+headerBytes b slots = 0x54 ∷ 0x4B ∷ 0x46 ∷ version ∷ 0 ∷ b ∷ slots ∷ replicate 9 0
 
 -- "Unused bytes of bounds and unused entries are zero": k bytes, those behind the string zero.
 unfoldable pub padded : ℕ → List ℕ → List ℕ
@@ -43,7 +53,7 @@ littleEndian zero v = []
 littleEndian (suc n) v = v % 256 ∷ littleEndian n (v / 256)
 
 unfoldable pub valueBytes : ℕ → List ℕ
-valueBytes v = littleEndian 8 v
+valueBytes v = littleEndian valueSize v
 
 unfoldable pub valueOf : List ℕ → ℕ
 valueOf [] = 0
@@ -82,7 +92,7 @@ unfoldable pub slotBytes : ℕ → Slot → List ℕ
 slotBytes b free = replicate (slotSize b) 0
 slotBytes b (used l u es) =
     1 ∷ length es ∷ length (lowDigits l) ∷ length u ∷ (replicate 4 0
-    ++ (padded 24 (lowDigits l) ++ (padded 24 u ++ (replicate 8 0 ++ padded (32 * b) (entriesBytes es)))))
+    ++ (padded 24 (lowDigits l) ++ (padded 24 u ++ (replicate 8 0 ++ padded (entrySize * b) (entriesBytes es)))))
 
 unfoldable pub slotsBytes : ℕ → List Slot → List ℕ
 slotsBytes b [] = []
@@ -94,7 +104,7 @@ fileBytes b fs = headerBytes b (length fs) ++ slotsBytes b fs
 -- The parts of a slot, by the count and the lengths that stand there.
 unfoldable pub entriesOf : ℕ → List ℕ → List Entry
 entriesOf zero xs = []
-entriesOf (suc n) xs = (take 24 xs, valueOf (take 8 (drop 24 xs))) ∷ entriesOf n (drop 32 xs)
+entriesOf (suc n) xs = (take 24 xs, valueOf (take valueSize (drop 24 xs))) ∷ entriesOf n (drop entrySize xs)
 
 unfoldable pub usedOf : List ℕ → Slot
 usedOf xs =
