@@ -1,2 +1,4 @@
 pub mod Arrivals
 pub mod Walks
+pub mod Strung
+pub mod Places
