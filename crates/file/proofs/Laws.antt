@@ -64,11 +64,11 @@ some-slot len s z =
     (l .slots-least, omega arith)
 
 -- a survey made of its parts
-pub surveyed : (s : Survey) (count : ℕ) (order : List ℕ) (inner n : ℕ) → (s .count ≡ count) × (s .order ≡ order) × (s .inner ≡ inner)
-    → Below order n → count ≤ 64 → inner < n → Surveyed s n
-surveyed s count order inner n e h p q =
+pub surveyed : (s : Survey) (xs : List ℕ) (size : Size) (count : ℕ) (order : List ℕ) (inner : ℕ) → (s .count ≡ count) × (s .order ≡ order) × (s .inner ≡ inner)
+    → Below order (size .slots) → count ≤ 64 → inner < size .slots → Surveyed s xs size
+surveyed s xs size count order inner e h p q =
     record {
-      slots-inside = subst (λ (l : List ℕ). Below l n) (sym (e .1)) h;
+      slots-inside = subst (λ (l : List ℕ). Below l (size .slots)) (sym (e .1)) h;
       count-most = omega (arith, e .0);
       inner-inside = omega (arith, e .2);
     }

@@ -1,9 +1,26 @@
--- What every look at a whole file gives, whatever the file: slot numbers that are the file's.
-use Prim.Native.Nat.{ℕ, _≤_, _<_}
+-- What a look at a whole file finds: sound, cut or bad as check says, and of a sound file its range order and its map.
+use mathlib.Core.Path.{_≡_}
+use mathlib.Core.List.{List}
+use Prim.Native.Nat.{_<_, _≤_, ℕ}
+use Rattle.model.specs.Checks.{Kind, is-bad, is-cut, is-sound}
+use Rattle.model.specs.Format.{checkRead, readSlots, sized}
+use Rattle.file.specs.declared.Size.{Size}
+use Rattle.file.specs.declared.survey.Kind.{Kind as Found}
+use Rattle.file.specs.declared.survey.Kind.the-variants.{Bad, Cut, Sound}
 use Rattle.file.specs.declared.survey.Survey.{Survey}
 use Rattle.file.specs.Sizes.{Below}
 
-pub record Surveyed (s : Survey) (slots : ℕ) : Type 0 where
-  pub slots-inside : Below (s .order) slots
+-- The code's word for check's, with the slot to free.
+abbrev pub verdict : Found → ℕ → Kind
+verdict Sound N = is-sound
+verdict Cut N = is-cut N
+verdict Bad N = is-bad
+
+-- Check of a file whose header is right, with b and slots.
+unfoldable pub checkSlots : ℕ → ℕ → List ℕ → Kind
+checkSlots b slots xs = checkRead (sized b (readSlots b slots 0 xs))
+
+pub record Surveyed (s : Survey) (xs : List ℕ) (size : Size) : Type 0 where
+  pub slots-inside : Below (s .order) (size .slots)
   pub count-most : s .count ≤ 64
-  pub inner-inside : s .inner < slots
+  pub inner-inside : s .inner < size .slots

@@ -108,7 +108,7 @@ fn cut_of(
     used: u64,
 ) -> Survey
     requires { ⌜ (Sized (length (now file)) size) × (Below (now order) (size .slots)) × (count ≤ 64) × (place < count) × (1 ≤ place) ⌝ }
-    ensures { λ r. ⌜ Surveyed r (size .slots) ⌝ }
+    ensures { λ r. ⌜ Surveyed r (now (file .entry)) size ⌝ }
 {
     let inner = index(order[place]);
     let outer = index(order[place - 1]);
@@ -130,7 +130,7 @@ fn cut_of(
 // A file whose slots are each free or well formed, and in order.
 fn kind_of(file: &[u8], size: Size, order: &[u8; 64], count: usize, used: u64) -> Survey
     requires { ⌜ (Sized (length (now file)) size) × (Below (now order) (size .slots)) × (count ≤ 64) ⌝ }
-    ensures { λ r. ⌜ Surveyed r (size .slots) ⌝ }
+    ensures { λ r. ⌜ Surveyed r (now (file .entry)) size ⌝ }
 {
     let place = twin(file, size, order, count);
     if place < count {
@@ -152,7 +152,7 @@ fn byte(x: usize) -> u8
 // The whole file, from its last slot to its first.
 pub fn survey_of(file: &[u8], size: Size) -> Survey
     requires { ⌜ Sized (length (now file)) size ⌝ }
-    ensures { λ r. ⌜ Surveyed r (size .slots) ⌝ }
+    ensures { λ r. ⌜ Surveyed r (now (file .entry)) size ⌝ }
 {
     let mut order = [0u8; 64];
     let mut count = 0usize;

@@ -1,5 +1,6 @@
 -- What the answers of the crates below say, once it is known which answer was given.
 use mathlib.Core.Path.{_≡_, subst}
+use mathlib.Core.List.{List}
 use Prim.Native.Nat.{ℕ, _<_}
 use Rattle.file.specs.declared.Size.{Size}
 use Rattle.file.specs.declared.Header.{Header}
@@ -29,9 +30,9 @@ pub arrival-inside : {a : Arrival} {k n : ℕ} → a ≡ ArrivalAt k → Arrival
 arrival-inside {a} {k} {n} e t = subst (λ (x : Arrival). ArrivalInside x n) e t
 
 -- checks whose verdict is fine found a file that is ready
-pub fine-ready : (c : Checked) {n : ℕ} → c .verdict ≡ Fine → Passed c n → Ready c n
-fine-ready c {n} e t = subst (λ (x : Verdict). ReadyWhere x c n) e t
+pub fine-ready : (c : Checked) {xs : List ℕ} → c .verdict ≡ Fine → Passed c xs → Ready c xs
+fine-ready c {xs} e t = subst (λ (x : Verdict). ReadyWhere x c xs) e t
 
 -- a refusal says nothing of the file
-pub refused-passed : (c : Checked) {cause : Cause} (n : ℕ) → c .verdict ≡ Refused cause → Passed c n
-refused-passed c {cause} n e = rw e tt
+pub refused-passed : (c : Checked) {cause : Cause} (xs : List ℕ) → c .verdict ≡ Refused cause → Passed c xs
+refused-passed c {cause} xs e = rw e tt

@@ -49,7 +49,7 @@ pub struct Spot {
 
 // The place of a name in a file that passed the checks.
 fn spot_of(file: &[u8], checked: Checked, name: Key) -> Spot
-    requires { ⌜ Ready checked (length (now file)) ⌝ }
+    requires { ⌜ Ready checked (now file) ⌝ }
     ensures { λ r. ⌜ Spotted r (checked .size) ⌝ }
 {
     let size = checked.size;
@@ -206,7 +206,7 @@ fn divide(
     limit: u64,
     trie: Trie,
 ) -> PutGiven
-    requires { ⌜ (Ready checked (length (now file))) × (a < checked .size .slots) × (n < checked .size .slots) × (Parted split (checked .size .b))
+    requires { ⌜ (Ready checked (now file)) × (a < checked .size .slots) × (n < checked .size .slots) × (Parted split (checked .size .b))
         × (trie .count + split .len ≤ 256 + split .shared) ⌝ }
 {
     if limit < 1 {
@@ -233,7 +233,7 @@ fn split(
     limit: u64,
     trie: Trie,
 ) -> PutGiven
-    requires { ⌜ (Ready checked (length (now file))) × (a < checked .size .slots) ⌝ }
+    requires { ⌜ (Ready checked (now file)) × (a < checked .size .slots) ⌝ }
 {
     let size = checked.size;
     let survey = checked.survey;
@@ -259,7 +259,7 @@ fn put_checked(
     limit: u64,
     trie: Trie,
 ) -> PutGiven
-    requires { ⌜ Ready checked (length (now file)) ⌝ }
+    requires { ⌜ Ready checked (now file) ⌝ }
 {
     let size = checked.size;
     let key = digits::key_at(name, 0);
@@ -310,7 +310,7 @@ fn lessened(slot: &[u8], b: usize, spot: Spot) -> [u8; 576]
 
 // Remove from a file that passed the checks. An emptied bucket keeps its range.
 fn remove_checked(file: &mut [u8], checked: Checked, name: Key, limit: u64) -> RemoveAnswer
-    requires { ⌜ Ready checked (length (now file)) ⌝ }
+    requires { ⌜ Ready checked (now file) ⌝ }
 {
     let size = checked.size;
     let spot = spot_of(file, checked, name);

@@ -119,7 +119,7 @@ fn list_checked(
     second: Key,
     output: &mut [u8],
 ) -> ListAnswer
-    requires { ⌜ Ready checked (length (now file)) ⌝ }
+    requires { ⌜ Ready checked (now file) ⌝ }
 {
     let size = checked.size;
     let survey = checked.survey;

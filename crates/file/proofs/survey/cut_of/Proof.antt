@@ -40,7 +40,7 @@ found-requires c κs = search needs
 returns : tie.Need-returns
 returns c =
     let s = c .before .before .before .before .before .before .before .before .before .before in
-    surveyed (c .found .result) _ (s .args .order .now) _ _ (c .found .ensures) (s .pre .1) (s .pre .2) (omega (arith, s .pre .1 (s .args .place)))
+    surveyed (c .found .result) _ _ _ (s .args .order .now) _ (c .found .ensures) (s .pre .1) (s .pre .2) (omega (arith, s .pre .1 (s .args .place)))
 
 leave-out-requires : tie.Need-leave-out-requires
 leave-out-requires c κs = search needs
@@ -59,7 +59,7 @@ found-requires-2 c κs = search needs
 returns-2 : tie.Need-returns-2
 returns-2 c =
     let s = c .before .before .before .before .before .before .before .before .before .before .before .before .before .before .before .before in
-    surveyed (c .found2 .result) _ (s .args .order .now) _ _ (c .found2 .ensures) (s .pre .1) (s .pre .2) (omega (arith, s .pre .1 (s .args .place), c .before .before .before .before .before .before .before .before .before .before .before .before .before .index .ensures .0))
+    surveyed (c .found2 .result) _ _ _ (s .args .order .now) _ (c .found2 .ensures) (s .pre .1) (s .pre .2) (omega (arith, s .pre .1 (s .args .place), c .before .before .before .before .before .before .before .before .before .before .before .before .before .index .ensures .0))
 
 found-requires-3 : tie.Need-found-requires-3
 found-requires-3 c κs = search needs
@@ -67,7 +67,7 @@ found-requires-3 c κs = search needs
 returns-3 : tie.Need-returns-3
 returns-3 c =
     let s = c .before .before .before .before .before .before .before .before .before .before .before .before .before .before .before .before in
-    surveyed (c .found3 .result) _ (s .args .order .now) _ _ (c .found3 .ensures) (s .pre .1) (s .pre .2) (omega (arith, s .pre .1 (s .args .place), c .before .before .before .before .before .before .before .before .before .before .before .before .before .index .ensures .0))
+    surveyed (c .found3 .result) _ _ _ (s .args .order .now) _ (c .found3 .ensures) (s .pre .1) (s .pre .2) (omega (arith, s .pre .1 (s .args .place), c .before .before .before .before .before .before .before .before .before .before .before .before .before .index .ensures .0))
 
 pub cut-of-spec : {M : Type 1} → statement M
 cut-of-spec =

@@ -24,7 +24,7 @@ found-requires c κs = search needs
 returns-2 : tie.Need-returns-2
 returns-2 c =
     let s = c .before .before .before .before .before .before in
-    surveyed (c .found .result) _ (s .args .order .now) _ _ (c .found .ensures) (s .pre .1) (s .pre .2) (some-slot _ (s .args .size) (s .pre .0) .0)
+    surveyed (c .found .result) _ _ _ (s .args .order .now) _ (c .found .ensures) (s .pre .1) (s .pre .2) (some-slot _ (s .args .size) (s .pre .0) .0)
 
 found-requires-2 : tie.Need-found-requires-2
 found-requires-2 c κs = search needs
@@ -32,7 +32,7 @@ found-requires-2 c κs = search needs
 returns-3 : tie.Need-returns-3
 returns-3 c =
     let s = c .before .before .before .before .before .before in
-    surveyed (c .found2 .result) _ (s .args .order .now) _ _ (c .found2 .ensures) (s .pre .1) (s .pre .2) (some-slot _ (s .args .size) (s .pre .0) .0)
+    surveyed (c .found2 .result) _ _ _ (s .args .order .now) _ (c .found2 .ensures) (s .pre .1) (s .pre .2) (some-slot _ (s .args .size) (s .pre .0) .0)
 
 pub kind-of-spec : {M : Type 1} → statement M
 kind-of-spec =

@@ -58,7 +58,7 @@ returns : tie.Need-returns Inv-loop μ-loop
 returns c =
     let s = c .before .before .before .before .before .before .before .before .before .before .before .before in
     let h = some-slot _ (s .args .size) (s .pre) .0 in
-    surveyed (c .found .result) _ _ _ _ (c .found .ensures) (below-zeros 64 _ h) (omega arith) h
+    surveyed (c .found .result) _ _ _ _ _ (c .found .ensures) (below-zeros 64 _ h) (omega arith) h
 
 place-of-requires : tie.Need-place-of-requires Inv-loop μ-loop
 place-of-requires c κs = search needs
