@@ -4,9 +4,12 @@
 // 7 to 15 zero.
 ghost use mathlib.Core.Path.{_≡_};
 ghost use Prim.Native.Nat.{_≤_, _<_, _+_, _*_};
-ghost use lib.ListN.{length, take, drop};
+ghost use lib.ListN.{length, take, drop, getD, replicate};
 ghost use lib.Seq.{paste};
-ghost use Rattle.file.specs.Sizes.{Legal, Sized, Told, Below, Inside};
+ghost use Rattle.model.specs.Files.{created};
+ghost use Rattle.model.specs.Checks.{sameStr};
+ghost use Rattle.model.specs.Format.{fileBytes, headerBytes};
+ghost use Rattle.file.specs.Sizes.{Legal, Sized, Fitting, Told, Below, Inside};
 use digits::index;
 
 mod order;
@@ -44,7 +47,7 @@ pub fn slot_size(size: Size) -> usize
 
 // b is 2 to 16, slots is 1 to 64, and the length fits them.
 pub fn sizes(length: usize, b: usize, slots: usize) -> Header
-    ensures { λ r. ⌜ Told r length ⌝ }
+    ensures { λ r. ⌜ Fitting r length b slots ⌝ }
 {
     if b < 2 {
         return Header::Wrong;
@@ -67,6 +70,7 @@ pub fn sizes(length: usize, b: usize, slots: usize) -> Header
 // Whether the bytes that say what kind of file it is are right.
 fn is_marked(file: &[u8]) -> bool
     requires { ⌜ 16 ≤ length (now file) ⌝ }
+    ensures { λ r. ⌜ r ≡ sameStr (take 16 (now (file .entry))) (headerBytes (getD (now (file .entry)) 5 0) (getD (now (file .entry)) 6 0)) ⌝ }
 {
     if file[0] != b'T' {
         return false;
@@ -88,7 +92,7 @@ fn is_marked(file: &[u8]) -> bool
 
 // The sizes of a file whose length and header are right.
 pub fn header_of(file: &[u8]) -> Header
-    ensures { λ r. ⌜ Told r (length (now (file .entry))) ⌝ }
+    ensures { λ r. ⌜ Told r (now (file .entry)) ⌝ }
 {
     if file.len() < 16 {
         return Header::Wrong;
@@ -127,7 +131,9 @@ fn byte(x: usize) -> u8
     x as u8
 }
 
-fn clear(file: &mut [u8]) {
+fn clear(file: &mut [u8])
+    ensures { λ _. ⌜ now (file .exit) ≡ replicate (length (now (file .entry))) 0 ⌝ }
+{
     let mut i = 0;
     while i < file.len() {
         file[i] = 0;
@@ -138,6 +144,7 @@ fn clear(file: &mut [u8]) {
 // Writes the whole buffer: slot 0 used, no limits, no entries.
 pub fn create(file: &mut [u8], size: Size)
     requires { ⌜ Sized (length (now file)) size ⌝ }
+    ensures { λ _. ⌜ now (file .exit) ≡ fileBytes (size .b) (created (size .slots)) ⌝ }
 {
     clear(file);
     file[0] = b'T';

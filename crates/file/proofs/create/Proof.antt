@@ -1,7 +1,8 @@
--- `create` meets its contract: each byte that it writes lies within the file.
+-- `create` meets its contract: over zeros it writes the header, and that slot 0 is used.
 use native.Mathlib.Omega.{arith}
 use lib.ListN.{length-set}
 use Rattle.file.proofs.Laws.{some-slot}
+use Rattle.file.proofs.Headers.{created-bytes}
 use borrow.Author.Needs.{needs}
 use Rattle.file.proofs.create.Statement.{statement}
 use Rattle.file.proofs.create.Tie as tie
@@ -58,7 +59,10 @@ same-length : tie.Need-same-length
 same-length c = search needs
 
 returns : tie.Need-returns
-returns c = search needs
+returns c =
+    let s = c .before .before .before .before .before .before .before in
+    let z = s .pre in
+    rw (c .before .before .before .before .clear .ensures, c .before .byte .ensures, c .byte2 .ensures) (created-bytes _ _ _ (z .legal .slots-least) (z .whole))
 
 pub create-spec : {M : Type 1} → statement M
 create-spec =

@@ -2,21 +2,22 @@
 use Prim.Native.Nat.{_+_, _*_}
 use native.Mathlib.Omega.{arith}
 use Rattle.file.proofs.Laws.{slots-fit}
+use Rattle.file.proofs.Headers.{illegal}
 use borrow.Author.Needs.{needs}
 use Rattle.file.proofs.sizes.Statement.{statement}
 use Rattle.file.proofs.sizes.Tie as tie
 
 returns : tie.Need-returns
-returns c = search needs
+returns c = illegal _ _ _ (λ p q r s e. absurd (omega arith))
 
 returns-2 : tie.Need-returns-2
-returns-2 c = search needs
+returns-2 c = illegal _ _ _ (λ p q r s e. absurd (omega arith))
 
 returns-3 : tie.Need-returns-3
-returns-3 c = search needs
+returns-3 c = illegal _ _ _ (λ p q r s e. absurd (omega arith))
 
 returns-4 : tie.Need-returns-4
-returns-4 c = search needs
+returns-4 c = illegal _ _ _ (λ p q r s e. absurd (omega arith))
 
 mul-if5 : tie.Need-mul-if5
 mul-if5 c = search needs
@@ -37,7 +38,7 @@ add-if5-2 c =
     omega arith
 
 returns-5 : tie.Need-returns-5
-returns-5 c = search needs
+returns-5 c = illegal _ _ _ (λ p q r s e. absurd (omega arith))
 
 returns-6 : tie.Need-returns-6
 returns-6 c = search needs

@@ -1,0 +1,171 @@
+-- The header as it is tested, byte by byte, is the header that a writer writes; and what create writes is a new file.
+use mathlib.Core.Path.{_∙_, _≡_, ap, refl, sym}
+use mathlib.Core.Bool.{Bool, _&&_, cond, false, true}
+use mathlib.Core.Option.{Option, none as nothing, some}
+use mathlib.Core.List.{List, [], _++_, _∷_, append-assoc}
+use Prim.Native.Nat.{_*_, _+_, _-_, _<_, _≤_, suc, zero, ℕ}
+use native.Mathlib.Nat.{suc-mul, zero-mul}
+use native.Mathlib.Omega.{arith}
+use borrow.Author.Tests.{eq-eqb, eqb-true, ne-eqb}
+use lib.Dec.{eqb, leb}
+use lib.ListN.{drop, getD, length, length-replicate, replicate, replicate-append-replicate, set, take}
+use lib.Seq.{getD-take, length-take-le, take-all, take-suc-set, take-take}
+use Rattle.model.specs.Order.{none}
+use Rattle.model.specs.Files.{created, free, used}
+use Rattle.model.specs.Checks.{sameStr}
+use Rattle.model.specs.Format.{entriesBytes, entrySize, fileBytes, fileSize, headerBytes, headerOf, legalSizes, lowDigits, padded, rightHeader, slotBytes, slotSize, slotsBytes}
+use Rattle.model.proofs.Checks.{sameStr-equal, sameStr-self}
+use Rattle.model.proofs.Format.{Headed, headed-headerOf, headed-b, headerOf-headed, legalSizes-sizes, sizes-legalSizes}
+use Rattle.digits.specs.Keys.{isZero}
+use Rattle.file.specs.declared.Size.{Size}
+use Rattle.file.specs.declared.Header.{Header}
+use Rattle.file.specs.declared.Header.the-variants.{Right, Wrong}
+use Rattle.file.specs.Sizes.{Fitting, Said, Sized, Told}
+
+-- Strings that differ are not the same.
+pub not-same : (x y : List ℕ) → (x ≡ y → ⊥) → sameStr x y ≡ false
+not-same x y n = go (sameStr x y) refl
+  where
+    go : (t : Bool) → sameStr x y ≡ t → t ≡ false
+    go true e = absurd (n (sameStr-equal x y e))
+    go false e = refl
+
+-- A byte of the header that differs.
+pub not-marked : (xs : List ℕ) (i b slots : ℕ) {d : ℕ} → i < 16 → getD (headerBytes b slots) i 0 ≡ d → (getD xs i 0 ≡ d → ⊥)
+    → sameStr (take 16 xs) (headerBytes b slots) ≡ false
+not-marked xs i b slots h e n =
+    not-same (take 16 xs) (headerBytes b slots) (λ f. n (sym (getD-take 16 xs i 0 h) ∙ ap (λ (l : List ℕ). getD l i 0) f ∙ e))
+
+zero-same : (xs : List ℕ) (n : ℕ) → length xs ≡ n → isZero xs ≡ sameStr xs (replicate n 0)
+unfolding isZero sameStr
+zero-same [] zero e = refl
+zero-same [] (suc n) e = absurd (omega arith)
+zero-same (x ∷ xs) zero e = absurd (omega arith)
+zero-same (x ∷ xs) (suc n) e = rw (zero-same xs n (omega arith))
+
+-- The first seven bytes are right: the others decide.
+pub marked-last : (xs : List ℕ) → 16 ≤ length xs → getD xs 0 0 ≡ 0x54 → getD xs 1 0 ≡ 0x4B → getD xs 2 0 ≡ 0x46 → getD xs 3 0 ≡ 1 → getD xs 4 0 ≡ 0
+    → isZero (take 9 (drop 7 xs)) ≡ sameStr (take 16 xs) (headerBytes (getD xs 5 0) (getD xs 6 0))
+unfolding sameStr headerBytes
+marked-last [] h p q r s t = absurd (omega arith)
+marked-last (a ∷ []) h p q r s t = absurd (omega arith)
+marked-last (a ∷ b ∷ []) h p q r s t = absurd (omega arith)
+marked-last (a ∷ b ∷ c ∷ []) h p q r s t = absurd (omega arith)
+marked-last (a ∷ b ∷ c ∷ d ∷ []) h p q r s t = absurd (omega arith)
+marked-last (a ∷ b ∷ c ∷ d ∷ e ∷ []) h p q r s t = absurd (omega arith)
+marked-last (a ∷ b ∷ c ∷ d ∷ e ∷ f ∷ []) h p q r s t = absurd (omega arith)
+marked-last (a ∷ b ∷ c ∷ d ∷ e ∷ f ∷ g ∷ xs) h p q r s t =
+    rw (eq-eqb a 0x54 p, eq-eqb b 0x4B q, eq-eqb c 0x46 r, eq-eqb d 1 s, eq-eqb e 0 t, eq-eqb f f refl, eq-eqb g g refl) (zero-same (take 9 xs) 9 (length-take-le 9 xs (omega arith)))
+
+-- Bytes 5 and 6 are b and slots.
+headed-here : (xs : List ℕ) {b slots : ℕ} → Headed b slots xs → Headed (getD xs 5 0) (getD xs 6 0) xs
+unfolding headerBytes
+headed-here xs {b} {slots} h =
+    let i : getD xs 5 0 ≡ b = headed-b h in
+    let j : getD xs 6 0 ≡ slots = sym (getD-take 16 xs 6 0 (omega arith)) ∙ ap (λ (l : List ℕ). getD l 6 0) (h .header) in
+    rw (i, j) h
+
+pub no-header : (xs : List ℕ) → (Headed (getD xs 5 0) (getD xs 6 0) xs → ⊥) → headerOf xs ≡ nothing
+no-header xs n = go (headerOf xs) refl
+  where
+    go : (o : Option (ℕ × ℕ)) → headerOf xs ≡ o → o ≡ nothing
+    go nothing e = refl
+    go (some (b, slots)) e = absurd (n (headed-here xs (headerOf-headed xs e)))
+
+pub too-short : (xs : List ℕ) → length xs < 16 → headerOf xs ≡ nothing
+unfolding fileSize
+too-short xs h = no-header xs (λ g. omega (arith, g .whole))
+
+pub ill-marked : (xs : List ℕ) → sameStr (take 16 xs) (headerBytes (getD xs 5 0) (getD xs 6 0)) ≡ false → headerOf xs ≡ nothing
+ill-marked xs e = no-header xs (λ g.
+    let t : true ≡ false = sym (sameStr-self (headerBytes (getD xs 5 0) (getD xs 6 0))) ∙ ap (λ (l : List ℕ). sameStr l (headerBytes (getD xs 5 0) (getD xs 6 0))) (sym (g .header)) ∙ e in
+    let z : _≡_ {A = ℕ} 0 1 = cc in
+    absurd (omega arith))
+
+pub ill-sized : (xs : List ℕ) → (legalSizes (getD xs 5 0) (getD xs 6 0) && eqb (length xs) (fileSize (getD xs 5 0) (getD xs 6 0))) ≡ false → headerOf xs ≡ nothing
+ill-sized xs e = no-header xs (λ g.
+    let t : (legalSizes (getD xs 5 0) (getD xs 6 0) && eqb (length xs) (fileSize (getD xs 5 0) (getD xs 6 0))) ≡ true
+    = rw (sizes-legalSizes (g .sizes), eq-eqb (length xs) (fileSize (getD xs 5 0) (getD xs 6 0)) (g .whole)) in
+    let u : true ≡ false = sym t ∙ e in
+    let z : _≡_ {A = ℕ} 0 1 = cc in
+    absurd (omega arith))
+
+-- Legal sizes, and a length that fits them.
+pub said : (xs : List ℕ) (s : Size) → sameStr (take 16 xs) (headerBytes (getD xs 5 0) (getD xs 6 0)) ≡ true
+    → Sized (length xs) s → s .b ≡ getD xs 5 0 → s .slots ≡ getD xs 6 0 → Said s xs
+unfolding fileSize slotSize
+said xs s e z p q =
+    record {
+      sized = z;
+      header = headed-headerOf (record {
+        sizes = record { b-least = z .legal .b-least; b-most = z .legal .b-most; slots-least = z .legal .slots-least; slots-most = z .legal .slots-most };
+        whole = z .whole;
+        header = rw (p, q) (sameStr-equal (take 16 xs) (headerBytes (getD xs 5 0) (getD xs 6 0)) e);
+      });
+    }
+
+pub told : (xs : List ℕ) (h : Header) (b slots : ℕ) → sameStr (take 16 xs) (headerBytes (getD xs 5 0) (getD xs 6 0)) ≡ true
+    → b ≡ getD xs 5 0 → slots ≡ getD xs 6 0 → Fitting h (length xs) b slots → Told h xs
+told xs (Right s) b slots e p q f = said xs s e (f .0) (f .1 ∙ p) (f .2 ∙ q)
+told xs Wrong b slots e p q f = ill-sized xs (rw (← p, ← q) f)
+
+-- What does not fit: a size that is not legal, or another length.
+pub illegal : (n b slots : ℕ) → ((2 ≤ b) → (b ≤ 16) → (1 ≤ slots) → (slots ≤ 64) → n ≡ 16 + slots * (64 + 32 * b) → ⊥)
+    → (legalSizes b slots && eqb n (fileSize b slots)) ≡ false
+unfolding fileSize slotSize
+illegal n b slots h = go (legalSizes b slots) (eqb n (16 + slots * (64 + 32 * b))) refl refl
+  where
+    go : (t u : Bool) → legalSizes b slots ≡ t → eqb n (16 + slots * (64 + 32 * b)) ≡ u → (t && u) ≡ false
+    go false u e f = refl
+    go true false e f = refl
+    go true true e f =
+        let g = legalSizes-sizes b slots e in
+        absurd (h (g .b-least) (g .b-most) (g .slots-least) (g .slots-most) (eqb-true n (16 + slots * (64 + 32 * b)) f))
+
+-- Zeros, one more, and up to the end.
+pub zeros-next : (xs : List ℕ) (i : ℕ) → i < length xs → take i xs ≡ replicate i 0 → take (i + 1) (set xs i 0) ≡ replicate (i + 1) 0
+zeros-next xs i h e =
+    let f : i + 1 ≡ suc i = omega arith in
+    ap (λ (k : ℕ). take k (set xs i 0)) f ∙ take-suc-set xs i 0 h ∙ ap (λ (l : List ℕ). l ++ (0 ∷ [])) e ∙ replicate-append-replicate {A = ℕ} i 1 0
+
+pub zeros-all : (xs : List ℕ) (i n : ℕ) → length xs ≡ n → n ≡ i → take i xs ≡ replicate i 0 → xs ≡ replicate n 0
+zeros-all xs i n e h z = sym (take-all i xs (omega arith)) ∙ z ∙ ap (λ (k : ℕ). replicate {A = ℕ} k 0) (sym h)
+
+-- Free slots are zeros.
+frees : (b k : ℕ) → slotsBytes b (replicate k free) ≡ replicate (k * slotSize b) 0
+unfolding slotsBytes slotBytes
+frees b zero = rw zero-mul
+frees b (suc k) =
+    let e : slotSize b + k * slotSize b ≡ suc k * slotSize b = omega (arith, suc-mul k (slotSize b)) in
+    rw (frees b k, replicate-append-replicate, e)
+
+-- A bucket without limits and entries is a 1 and zeros.
+empty : (b : ℕ) → slotBytes b (used none [] []) ≡ 1 ∷ (replicate 63 0 ++ replicate (32 * b) 0)
+unfolding slotBytes padded lowDigits entriesBytes
+empty b = rw (take-zeros (32 * b)) refl
+  where
+    take-zeros : (k : ℕ) → take k (replicate {A = ℕ} k 0) ≡ replicate k 0
+    take-zeros k = take-all k (replicate k 0) (omega (arith, length-replicate {A = ℕ} k 0))
+
+-- The bytes that create writes over zeros.
+abbrev pub marks : ℕ → ℕ → List ℕ → List ℕ
+marks b slots zs = set (set (set (set (set (set (set zs 0 0x54) 1 0x4B) 2 0x46) 3 1) 5 b) 6 slots) 16 1
+
+pub created-bytes : (n b slots : ℕ) → 1 ≤ slots → n ≡ 16 + slots * (64 + 32 * b) → marks b slots (replicate n 0) ≡ fileBytes b (created slots)
+unfolding fileBytes headerBytes slotsBytes slotSize
+created-bytes n b slots h e =
+    let w = 64 + 32 * b in
+    let k = slots - 1 in
+    let f : n ≡ 17 + (63 + (32 * b + k * w)) = omega (arith, e, split slots w h) in
+    let z : replicate {A = ℕ} n 0 ≡ replicate 17 0 ++ (replicate 63 0 ++ (replicate (32 * b) 0 ++ replicate (k * w) 0))
+    = ap (λ (m : ℕ). replicate {A = ℕ} m 0) f ∙ sym (replicate-append-replicate 17 (63 + (32 * b + k * w)) 0)
+    ∙ ap (λ (r : List ℕ). replicate 17 0 ++ r) (sym (replicate-append-replicate 63 (32 * b + k * w) 0)
+    ∙ ap (λ (r : List ℕ). replicate 63 0 ++ r) (sym (replicate-append-replicate (32 * b) (k * w) 0))) in
+    let l : length (created slots) ≡ slots = ap suc (length-replicate k free) ∙ (omega arith) in
+    rw (z, l, empty b, frees b k)
+  where
+    split : (k w : ℕ) → 1 ≤ k → k * w ≡ w + (k - 1) * w
+    split zero w h = absurd (omega arith)
+    split (suc k) w h =
+        let e : suc k - 1 ≡ k = omega arith in
+        rw e (omega (arith, suc-mul k w))
