@@ -1,13 +1,18 @@
 -- What the answers of the crates below say, once it is known which answer was given.
 use mathlib.Core.Path.{_≡_, subst}
+use mathlib.Core.Bool.{_&&_, false}
+use mathlib.Core.Option.{none as nothing}
 use mathlib.Core.List.{List}
+use lib.Dec.{eqb}
+use lib.ListN.{length}
 use Prim.Native.Nat.{ℕ, _<_}
 use Rattle.file.specs.declared.Size.{Size}
 use Rattle.file.specs.declared.Header.{Header}
-use Rattle.file.specs.declared.Header.the-variants.{Right}
+use Rattle.file.specs.declared.Header.the-variants.{Right, Wrong}
 use Rattle.file.specs.declared.Room.{Room}
 use Rattle.file.specs.declared.Room.the-variants.{At as RoomAt}
-use Rattle.file.specs.Sizes.{Sized, Told, Inside as RoomInside}
+use Rattle.file.specs.Sizes.{Fitting, Said, Sized, Told, Inside as RoomInside}
+use Rattle.model.specs.Format.{fileSize, headerOf, legalSizes}
 use Rattle.trie.specs.declared.Arrival.{Arrival}
 use Rattle.trie.specs.declared.Arrival.the-variants.{At as ArrivalAt}
 use Rattle.trie.specs.Arrivals.{Inside as ArrivalInside}
@@ -18,8 +23,14 @@ use Rattle.model.specs.declared.Cause.{Cause}
 use Rattle.keeper.specs.Ready.{Ready, ReadyWhere, Passed}
 
 -- a header that is right says the file's sizes
-pub right-sized : {h : Header} {s : Size} {n : ℕ} → h ≡ Right s → Told h n → Sized n s
-right-sized {h} {s} {n} e t = subst (λ (x : Header). Told x n) e t
+pub right-said : {h : Header} {s : Size} {xs : List ℕ} → h ≡ Right s → Told h xs → Said s xs
+right-said {h} {s} {xs} e t = subst (λ (x : Header). Told x xs) e t
+
+pub wrong-said : {h : Header} (xs : List ℕ) → h ≡ Wrong → Told h xs → headerOf xs ≡ nothing
+wrong-said {h} xs e t = subst (λ (x : Header). Told x xs) e t
+
+pub right-sized : {h : Header} {s : Size} (xs : List ℕ) → h ≡ Right s → Told h xs → Sized (length xs) s
+right-sized xs e t = right-said e t .sized
 
 -- a free slot that was found is one of the file's
 pub room-inside : {r : Room} {k n : ℕ} → r ≡ RoomAt k → RoomInside r n → k < n
@@ -36,3 +47,10 @@ fine-ready c {xs} e t = subst (λ (x : Verdict). ReadyWhere x c xs) e t
 -- a refusal says nothing of the file
 pub refused-passed : (c : Checked) {cause : Cause} (xs : List ℕ) → c .verdict ≡ Refused cause → Passed c xs
 refused-passed c {cause} xs e = rw e tt
+
+-- sizes that fit a length, and sizes that do not
+pub fitting-right : {h : Header} {s : Size} {n b slots : ℕ} → h ≡ Right s → Fitting h n b slots → Sized n s × (s .b ≡ b) × (s .slots ≡ slots)
+fitting-right {h} {s} {n} {b} {slots} e t = subst (λ (x : Header). Fitting x n b slots) e t
+
+pub fitting-wrong : {h : Header} (n b slots : ℕ) → h ≡ Wrong → Fitting h n b slots → (legalSizes b slots && eqb n (fileSize b slots)) ≡ false
+fitting-wrong {h} n b slots e t = subst (λ (x : Header). Fitting x n b slots) e t

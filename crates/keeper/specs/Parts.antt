@@ -1,6 +1,13 @@
 -- What every split has: a string of 1 to 24 digits, and parts of 1 to b entries.
-use Prim.Native.Nat.{ℕ, _≤_}
+use mathlib.Core.Path.{_≡_}
+use Prim.Native.Nat.{ℕ, _<_, _≤_}
 use Rattle.keeper.specs.declared.splitting.Split.{Split}
+
+-- A number as it is, or 255 where it is more.
+pub record Small (r x : ℕ) : Type 0 where
+  pub most : r ≤ 255
+  pub same : x ≤ 255 → r ≡ x
+  pub cut : 255 < x → r ≡ 255
 
 pub record Parted (s : Split) (b : ℕ) : Type 0 where
   pub len-least : 1 ≤ s .len

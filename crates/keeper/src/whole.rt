@@ -1,6 +1,9 @@
 // The calls on a whole file: create, check, recover, rebuild.
 ghost use mathlib.Core.Path.{_≡_};
 ghost use Prim.Native.Nat.{_≤_, _<_, _+_, _*_};
+ghost use Rattle.model.specs.Calls.{createOf, new-trie};
+ghost use Rattle.keeper.specs.Outcomes.{created};
+ghost use Rattle.keeper.specs.Parts.{Small};
 use file::Header;
 use file::Kind;
 use model::Cause;
@@ -8,7 +11,9 @@ use model::RecoverAnswer;
 use model::TrieAnswer;
 use model::TrieGiven;
 
-fn refused(cause: Cause) -> TrieGiven {
+fn refused(cause: Cause) -> TrieGiven
+    ensures { λ r. ⌜ (r .answer ≡ TrieAnswer.Refused cause) × (r .trie ≡ new-trie) ⌝ }
+{
     TrieGiven {
         answer: TrieAnswer::Refused(cause),
         trie: trie::lone(0),
@@ -17,7 +22,7 @@ fn refused(cause: Cause) -> TrieGiven {
 
 // A number that is no size of a file stays none.
 fn small(x: u64) -> usize
-    ensures { λ r. ⌜ r ≤ 255 ⌝ }
+    ensures { λ r. ⌜ Small r x ⌝ }
 {
     if 255 < x {
         return 255;
@@ -26,7 +31,9 @@ fn small(x: u64) -> usize
 }
 
 // Writes the whole buffer: a file with one empty bucket without limits, in slot 0.
-pub fn create(file: &mut [u8], version: u64, b: u64, slots: u64) -> TrieGiven {
+pub fn create(file: &mut [u8], version: u64, b: u64, slots: u64) -> TrieGiven
+    ensures { λ r. ⌜ created r (now (file .exit)) ≡ createOf (now (file .entry)) version b slots ⌝ }
+{
     if version != 1 {
         return refused(Cause::WrongSize);
     }

@@ -7,8 +7,6 @@ ghost use Prim.Native.Nat.{_≤_, _<_, _+_, _-_};
 ghost use lib.ListN.{length};
 ghost use mathlib.Core.Bool.{cond};
 ghost use lib.Dec.{ltb, eqb};
-ghost use mathlib.Core.List.{[]};
-ghost use Rattle.model.specs.Tries.{trie-of};
 ghost use Rattle.rebuilding.specs.Roots.{run, least, many, place, middle};
 ghost use Rattle.rebuilding.specs.Runs.{cell-at, rebuilt-of, side-at};
 use digits::index;
@@ -170,22 +168,6 @@ fn kept(from: usize, to: usize) -> usize
     0
 }
 
-// The trie with count 0 that leads every name to one slot.
-fn lone(first: u16) -> Trie
-    ensures { λ r. ⌜ r ≡ trie-of [] (Side.Slot first) ⌝ }
-{
-    Trie {
-        cells: [Cell {
-            digit: 0,
-            number: 0,
-            left: Side::Slot(0),
-            right: Side::Slot(0),
-        }; 256],
-        count: 0,
-        first,
-    }
-}
-
 // The trie of the strings.
 pub fn rebuilt(strings: Strings) -> Trie
     requires { ⌜ strings .count ≤ 256 ⌝ }
@@ -196,9 +178,9 @@ pub fn rebuilt(strings: Strings) -> Trie
     let slots = strings.slots;
     let count = strings.count;
     if count == 0 {
-        return lone(slot_number(slots[0]));
+        return trie::lone(slot_number(slots[0]));
     }
-    let mut trie = lone(0);
+    let mut trie = trie::lone(0);
     let mut runs = [Run { from: 0, to: 0 }; 512];
     let whole = Run {
         from: 0,

@@ -4,7 +4,8 @@ ghost use mathlib.Core.Path.{_≡_};
 ghost use Prim.Native.Nat.{_≤_, _<_, _+_};
 ghost use lib.ListN.{take};
 ghost use Rattle.model.specs.Names as names;
-ghost use Rattle.model.specs.Tries.{root-side};
+ghost use mathlib.Core.List.{[]};
+ghost use Rattle.model.specs.Tries.{root-side, trie-of};
 ghost use Rattle.trie.specs.Arrivals.{Inside};
 ghost use Rattle.trie.specs.Walks.{Begun, Stepped, Walks, arrivalOf, walkOf};
 use digits::index;
@@ -50,18 +51,10 @@ pub fn number(x: u16) -> usize
     x as usize
 }
 
-// A cell past the count.
-pub fn no_cell() -> Cell {
-    Cell {
-        digit: 0,
-        number: 0,
-        left: Side::Slot(0),
-        right: Side::Slot(0),
-    }
-}
-
 // The trie with count 0 that leads every name to one slot.
-pub fn lone(first: u16) -> Trie {
+pub fn lone(first: u16) -> Trie
+    ensures { λ r. ⌜ r ≡ trie-of [] (Side.Slot first) ⌝ }
+{
     Trie {
         cells: [Cell {
             digit: 0,

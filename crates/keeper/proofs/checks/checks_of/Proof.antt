@@ -20,7 +20,7 @@ returns : tie.Need-returns
 returns c = refused-passed (c .refused .result) _ (c .refused .ensures)
 
 survey-of-requires : tie.Need-survey-of-requires
-survey-of-requires c κs = right-sized (c .before .size .given .1) (c .before .before .before .header-of .ensures)
+survey-of-requires c κs = right-sized _ (c .before .size .given .1) (c .before .before .before .header-of .ensures)
 
 enum-told-2 : tie.Need-enum-told-2
 enum-told-2 c = search needs
@@ -38,7 +38,7 @@ enum-told-4 : tie.Need-enum-told-4
 enum-told-4 c = search needs
 
 agreed-requires : tie.Need-agreed-requires
-agreed-requires c κs = (right-sized (c .before .before .before .before .size .given .1) (c .before .before .before .before .before .before .header-of .ensures), c .before .before .survey-of .ensures)
+agreed-requires c κs = (right-sized _ (c .before .before .before .before .size .given .1) (c .before .before .before .before .before .before .header-of .ensures), c .before .before .survey-of .ensures)
 
 returns-2 : tie.Need-returns-2
 returns-2 c = refused-passed (c .refused2 .result) _ (c .refused2 .ensures)

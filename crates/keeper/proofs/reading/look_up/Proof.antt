@@ -44,7 +44,7 @@ returns-3 : tie.Need-returns-3
 returns-3 c = search needs
 
 slot-at-requires : tie.Need-slot-at-requires
-slot-at-requires c κs = (right-sized (c .before .before .before .before .before .before .before .size .given .1) (c .before .before .before .before .before .before .before .before .before .header-of .ensures), arrival-inside (c .before .k .given .1) (c .before .before .before .arrival-of .ensures .0))
+slot-at-requires c κs = (right-sized _ (c .before .before .before .before .before .before .before .size .given .1) (c .before .before .before .before .before .before .before .before .before .header-of .ensures), arrival-inside (c .before .k .given .1) (c .before .before .before .arrival-of .ensures .0))
 
 slice-aggregate-key-at : tie.Need-slice-aggregate-key-at
 slice-aggregate-key-at c = search needs
@@ -54,7 +54,7 @@ key-at-requires c κs = search needs
 
 answer-of-requires : tie.Need-answer-of-requires
 answer-of-requires c κs =
-    let l = right-sized (c .before .before .before .before .before .before .before .before .before .before .size .given .1) (c .before .before .before .before .before .before .before .before .before .before .before .before .header-of .ensures) .legal in
+    let l = right-sized _ (c .before .before .before .before .before .before .before .before .before .before .size .given .1) (c .before .before .before .before .before .before .before .before .before .before .before .before .header-of .ensures) .legal in
     search needs
 
 returns-4 : tie.Need-returns-4

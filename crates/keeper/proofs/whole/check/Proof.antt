@@ -17,7 +17,7 @@ returns : tie.Need-returns
 returns c = search needs
 
 survey-of-requires : tie.Need-survey-of-requires
-survey-of-requires c κs = right-sized (c .before .size .given .1) (c .before .before .before .header-of .ensures)
+survey-of-requires c κs = right-sized _ (c .before .size .given .1) (c .before .before .before .header-of .ensures)
 
 returns-2 : tie.Need-returns-2
 returns-2 c = search needs

@@ -20,7 +20,7 @@ returns : tie.Need-returns
 returns c = search needs
 
 survey-of-requires : tie.Need-survey-of-requires
-survey-of-requires c κs = right-sized (c .before .size .given .1) (c .before .before .before .header-of .ensures)
+survey-of-requires c κs = right-sized _ (c .before .size .given .1) (c .before .before .before .header-of .ensures)
 
 enum-told-2 : tie.Need-enum-told-2
 enum-told-2 c = search needs
@@ -40,7 +40,7 @@ enum-told-4 c = search needs
 strings-of-requires : tie.Need-strings-of-requires
 strings-of-requires c κs =
     let v = c .before .before .before .before .survey-of .ensures in
-    (right-sized (c .before .before .before .before .before .before .size .given .1) (c .before .before .before .before .before .before .before .before .header-of .ensures), v .slots-inside, v .count-most)
+    (right-sized _ (c .before .before .before .before .before .before .size .given .1) (c .before .before .before .before .before .before .before .before .header-of .ensures), v .slots-inside, v .count-most)
 
 refused-requires-4 : tie.Need-refused-requires-4
 refused-requires-4 c κs = search needs

@@ -23,7 +23,7 @@ returns-2 : tie.Need-returns-2
 returns-2 c = search needs
 
 survey-of-requires : tie.Need-survey-of-requires
-survey-of-requires c κs = right-sized (c .before .before .size .given .1) (c .before .before .before .before .header-of .ensures)
+survey-of-requires c κs = right-sized _ (c .before .before .size .given .1) (c .before .before .before .before .header-of .ensures)
 
 enum-told-2 : tie.Need-enum-told-2
 enum-told-2 c = search needs
@@ -41,7 +41,7 @@ returns-3 : tie.Need-returns-3
 returns-3 c = search needs
 
 slot-size-requires : tie.Need-slot-size-requires
-slot-size-requires c κs = right-sized (c .before .before .before .before .before .before .size .given .1) (c .before .before .before .before .before .before .before .before .header-of .ensures) .legal
+slot-size-requires c κs = right-sized _ (c .before .before .before .before .before .before .size .given .1) (c .before .before .before .before .before .before .before .before .header-of .ensures) .legal
 
 sub-store : tie.Need-sub-store
 sub-store c = search needs
@@ -51,13 +51,13 @@ part-store-start c = search needs
 
 part-store-end : tie.Need-part-store-end
 part-store-end c =
-    let h = right-sized (c .before .before .before .before .before .before .before .before .before .size .given .1) (c .before .before .before .before .before .before .before .before .before .before .before .header-of .ensures) in
+    let h = right-sized _ (c .before .before .before .before .before .before .before .before .before .size .given .1) (c .before .before .before .before .before .before .before .before .before .before .before .header-of .ensures) in
     let l = h .legal in
     search needs
 
 store-requires : tie.Need-store-requires
 store-requires c κs =
-    let h = right-sized (c .before .before .before .before .before .before .before .before .before .before .size .given .1) (c .before .before .before .before .before .before .before .before .before .before .before .before .header-of .ensures) in
+    let h = right-sized _ (c .before .before .before .before .before .before .before .before .before .before .size .given .1) (c .before .before .before .before .before .before .before .before .before .before .before .before .header-of .ensures) in
     let l = h .legal in
     (h, c .before .before .before .before .before .before .before .survey-of .ensures .inner-inside, search needs)
 
