@@ -1,6 +1,6 @@
 -- The trie that is made of the arrays is document 01's: the tree of a run is the one that rebuild takes of its strings.
 use mathlib.Core.Path.{_∙_, _≡_, ap, refl, sym}
-use mathlib.Core.List.{List, List·Memᴰ, List·Memᴰ·head, List·Memᴰ·tail, [], _∷_, map}
+use mathlib.Core.List.{List, [], _∷_, map}
 use Prim.Native.Nat.{_+_, _-_, _<_, _≤_, suc, zero, ℕ}
 use native.Mathlib.Nat.{add-zero}
 use native.Mathlib.Omega.{arith}
@@ -8,9 +8,10 @@ use lib.ListN.{drop, getD, length, length-drop, length-take, take}
 use lib.Seq.{getD-drop, getD-take}
 use Rattle.model.specs.Order.{Low, Str, at, none}
 use Rattle.model.specs.Files.{Slot, Sound, order-of, ranges, strings-of}
-use Rattle.model.specs.Tries.{Tree, leaf, node}
+use Rattle.model.specs.Tries.{leaf}
 use Rattle.model.specs.Rebuilding.{build, label, laid, last-digit, pick, rebuilt-trie}
 use Rattle.model.specs.Agreeing.{slotsBetween}
+use Rattle.model.proofs.Strings.{mem-at}
 use Rattle.model.proofs.Files.{strings-only}
 use Rattle.model.proofs.Rebuilding.{pick-fits}
 use Rattle.trie.specs.declared.Strings.{Strings}
@@ -124,11 +125,6 @@ between-at fs l [] i h = absurd (omega arith)
 between-at fs l (x ∷ xs) zero h = between-first fs (at x) xs
 between-at fs l (x ∷ xs) (suc i) h = between-at fs (at x) xs i (omega arith)
 
-mem-at : (ss : List Str) (i : ℕ) → i < length ss → List·Memᴰ (getD ss i []) ss
-mem-at [] i h = absurd (omega arith)
-mem-at (x ∷ xs) zero h = List·Memᴰ·head refl
-mem-at (x ∷ xs) (suc i) h = List·Memᴰ·tail (mem-at xs i (omega arith))
-
 pub rebuilt-right : {b : ℕ} {fs : List Slot} → Sound b fs → (s : Strings)
     → Holds s (strings-of fs) (slotsBetween fs none (strings-of fs)) → length (strings-of fs) ≤ 256
     → rebuilt-of (s .lens) (s .digits) (s .slots) (s .count) ≡ rebuilt-trie fs
@@ -157,5 +153,5 @@ rebuilt-right {b} {fs} S s H few =
       digit-at = λ i h. rw (place i) (sym (getD-take n (s .digits) i 0 h) ∙ ap (λ (xs : List ℕ). getD xs i 0) (H .digits-are) ∙ last-digits-at ss i h);
       left-at = slots-at 0 (omega arith) ∙ between-first fs none ss;
       right-at = λ i h. rw (place i) (slots-at (suc i) (omega arith) ∙ between-at fs none ss i h);
-      short = λ i h. omega (arith, string-short S (strings-only b S (getD ss i []) (mem-at ss i h)));
+      short = λ i h. omega (arith, string-short S (strings-only b S (getD ss i []) (mem-at [] ss i h)));
     }
