@@ -47,7 +47,7 @@ module _ (lab : Low → ℕ) where
   trie-expect {l} (cut {u = u} {d = d} {i = i} {xs = xs} {ys = ys} hi a b L R) =
       rw (trie-expect L, trie-expect R) (expect-join xs l (cell d i u) ys)
 
-  abbrev labels : Low → List Str → List ℕ
+  abbrev pub labels : Low → List Str → List ℕ
   labels l [] = lab l ∷ []
   labels l (x ∷ xs) = lab l ∷ labels (at x) xs
 
@@ -60,7 +60,7 @@ module _ (lab : Low → ℕ) where
   to-strings (leads B ∷ es) = to-strings es
   to-strings (string q ∷ es) = q ∷ to-strings es
 
-  abbrev to-slots : List Token → List ℕ
+  abbrev pub to-slots : List Token → List ℕ
   to-slots [] = []
   to-slots (leads B ∷ es) = B ∷ to-slots es
   to-slots (string q ∷ es) = to-slots es
@@ -70,7 +70,7 @@ module _ (lab : Low → ℕ) where
   to-strings-append (leads B ∷ xs) ys = to-strings-append xs ys
   to-strings-append (string q ∷ xs) ys = ap (λ (r : List Str). q ∷ r) (to-strings-append xs ys)
 
-  to-slots-append : (xs ys : List Token) → to-slots (xs ++ ys) ≡ to-slots xs ++ to-slots ys
+  pub to-slots-append : (xs ys : List Token) → to-slots (xs ++ ys) ≡ to-slots xs ++ to-slots ys
   to-slots-append [] ys = refl
   to-slots-append (leads B ∷ xs) ys = ap (λ (r : List ℕ). B ∷ r) (to-slots-append xs ys)
   to-slots-append (string q ∷ xs) ys = to-slots-append xs ys
@@ -87,7 +87,7 @@ module _ (lab : Low → ℕ) where
   expect-strings l [] = refl
   expect-strings l (x ∷ xs) = ap (λ (r : List Str). x ∷ r) (expect-strings (at x) xs)
 
-  expect-slots : (l : Low) (ss : List Str) → to-slots (expect l ss) ≡ labels l ss
+  pub expect-slots : (l : Low) (ss : List Str) → to-slots (expect l ss) ≡ labels l ss
   expect-slots l [] = refl
   expect-slots l (x ∷ xs) = ap (λ (r : List ℕ). lab l ∷ r) (expect-slots (at x) xs)
 

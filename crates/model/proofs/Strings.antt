@@ -5,13 +5,19 @@ use mathlib.Core.List.{List, List·Memᴰ, List·Memᴰ·append-cases, List·Mem
 use Prim.Native.Nat.{_+_, _-_, _<_, _≤_, suc, zero, ℕ}
 use native.Mathlib.Decide.{decLe}
 use native.Mathlib.Omega.{arith}
-use lib.ListN.{drop, length, length-drop, length-take, take}
+use lib.ListN.{drop, getD, length, length-drop, length-take, take}
 use lib.Seq.{take-add, take-all, take-take}
 use Rattle.model.specs.Order.{Asc, Low, Str, _≺_, _⊑_, _◁_, above, at, diff, end, nil-not-le, over, step, top}
 use Rattle.model.specs.Files.{Begins, all, fresh, longer}
 use Rattle.model.specs.Tries.{Spans, Tree, cut, tip}
 use Rattle.model.proofs.Order.{diff-le-right, le-antisym, le-refl, low-at, low-lower, lt-le, lt-trans, take-diff}
 use Rattle.model.proofs.Growth.{chain-at-leaf}
+
+-- What stands at a place of a list is in the list.
+pub mem-at : {A : Type 0} (d : A) (xs : List A) (i : ℕ) → i < length xs → List·Memᴰ (getD xs i d) xs
+mem-at d [] i h = absurd (omega arith)
+mem-at d (x ∷ xs) zero h = List·Memᴰ·head refl
+mem-at d (x ∷ xs) (suc i) h = List·Memᴰ·tail (mem-at d xs i (omega arith))
 
 pub asc-split : (xs : List Str) {r : Str} {ys : List Str} {l : Low} {u : Str} → Asc l (xs ++ (r ∷ ys)) u → (Asc l xs r) × (l ◁ r) × (r ≺ u) × (Asc (at r) ys u)
 asc-split [] (step a b s) = (end, a, b, s)

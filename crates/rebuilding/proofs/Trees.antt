@@ -42,7 +42,7 @@ module _ (lens digits slots : List ℕ) where
   abbrev Root : ℕ → ℕ → ℕ
   Root from to = middle from (run from to lens)
 
-  node-of : (n from to : ℕ) → from < to
+  pub node-of : (n from to : ℕ) → from < to
       → run-tree (suc n) lens digits slots from to
       ≡ node (getD digits (Root from to) 0) (getD lens (Root from to) 0 - 1)
       (run-tree n lens digits slots from (Root from to))
@@ -50,7 +50,7 @@ module _ (lens digits slots : List ℕ) where
   unfolding run-tree
   node-of n from to h = rw (lt-ltb from to h)
 
-  leaf-of : (n from to : ℕ) → to ≤ from → run-tree n lens digits slots from to ≡ leaf (getD slots from 0)
+  pub leaf-of : (n from to : ℕ) → to ≤ from → run-tree n lens digits slots from to ≡ leaf (getD slots from 0)
   unfolding run-tree
   leaf-of zero from to h = refl
   leaf-of (suc n) from to h = rw (le-ltb from to h)

@@ -7,6 +7,7 @@ ghost use mathlib.Core.Path.{_≡_};
 ghost use Prim.Native.Nat.{_≤_, _<_, _+_, _*_};
 ghost use lib.ListN.{length};
 ghost use Rattle.file.specs.Sizes.{Sized, Below};
+ghost use Rattle.strings.specs.Arrays.{Added, Listed, Whole, beyond};
 use digits::index;
 use file::Size;
 use trie::Strings;
@@ -30,8 +31,10 @@ fn add(
     slot: u8,
     next: u8,
 ) -> usize
-    requires { ⌜ (count + length (now x) ≤ 256 + shared) × (shared ≤ length (now x)) × (length (now x) ≤ 24) ⌝ }
-    ensures { λ r. ⌜ r + shared ≡ count + length (now (x .entry)) ⌝ }
+    requires { ⌜ (count + length (now x) ≤ 256 + shared) × (shared ≤ length (now x)) × (length (now x) ≤ 24)
+        × Whole (now lens) (now digits) (now slots) ⌝ }
+    ensures { λ r. ⌜ Added (beyond shared (now (x .entry))) slot next count r (now (lens .entry)) (now (lens .exit))
+        (now (digits .entry)) (now (digits .exit)) (now (slots .entry)) (now (slots .exit)) ⌝ }
 {
     let mut n = count;
     let mut len = x.len();
@@ -50,7 +53,7 @@ fn add(
 // The strings of a sound file, whose buckets stand in range order.
 pub fn strings_of(file: &[u8], size: Size, order: &[u8; 64], count: usize) -> Strings
     requires { ⌜ (Sized (length (now file)) size) × (Below (now order) (size .slots)) × (count ≤ 64) ⌝ }
-    ensures { λ r. ⌜ r .count ≤ 256 ⌝ }
+    ensures { λ r. ⌜ Listed r (now (file .entry)) size (now (order .entry)) count ⌝ }
 {
     let mut lens = [0u8; 256];
     let mut digits = [0u8; 256];

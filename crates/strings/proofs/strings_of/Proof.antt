@@ -1,26 +1,26 @@
-use Prim.Native.Nat.{ℕ, _≤_, _-_, _<_, _+_, _*_}
+-- `strings_of` meets its contract: at each turn the arrays have the strings that come before a bucket's upper (proofs/Listing.antt).
+use Prim.Native.Nat.{_≤_, _-_}
 use native.Mathlib.Omega.{arith}
-use mathlib.Core.Path.{_≡_, refl, sym, _∙_}
-use lib.ListN.{length, take, drop, getD}
+use mathlib.Core.Path.{refl, _∙_, ap}
 use borrow.Author.Needs.{needs}
+use Rattle.bucket.specs.Slots.{upperAt}
+use Rattle.strings.specs.Arrays.{Whole}
+use Rattle.strings.proofs.Adding.{length-beyond}
+use Rattle.strings.proofs.Listing.{Goes, goes-end, goes-many, goes-none, goes-start, goes-step, upper-in}
 use Rattle.strings.proofs.strings_of.Statement.{statement}
 use Rattle.strings.proofs.strings_of.Tie as tie
-use Rattle.strings.proofs.strings_of.Reads as reads
-use Rattle.strings.proofs.strings_of.Lts as lts
-use Rattle.bucket.proofs.upper_of.Reads as upper-of-reads
-use Rattle.digits.proofs.index.Reads as index-reads
-use Rattle.digits.proofs.shared.Reads as shared-reads
-use Rattle.file.proofs.slot_at.Reads as slot-at-reads
-use Rattle.strings.proofs.add.Reads as add-reads
 
 abbrev Inv-loop : tie.InvT-loop
-Inv-loop file size order count lens₀ digits₀ slots₀ n₀ j₀ lens digits slots n j = (n ≤ 256) × (1 ≤ j)
+Inv-loop file size order count lens₀ digits₀ slots₀ n₀ j₀ lens digits slots n j =
+    (n ≤ 256) × (1 ≤ j) × Whole lens digits slots × Goes file order size count lens digits slots n j
 
 abbrev μ-loop : tie.MeasureT-loop
 μ-loop file size order count lens₀ digits₀ slots₀ n₀ j₀ lens digits slots n j = count - j
 
 loop-holds : tie.Need-loop-holds Inv-loop μ-loop
-loop-holds c = search needs
+loop-holds c =
+    let a = c .before .args in
+    (search needs, search needs, record { lens-whole = refl; digits-whole = refl; slots-whole = refl }, goes-start (a .file .now) (a .order .now) (a .size) (a .count) _ _ _)
 
 sub-slot : tie.Need-sub-slot Inv-loop μ-loop
 sub-slot c = search needs
@@ -65,10 +65,21 @@ add-if1-2 : tie.Need-add-if1-2 Inv-loop μ-loop
 add-if1-2 c = search needs
 
 returns : tie.Need-returns Inv-loop μ-loop
-returns c = search needs
+returns c =
+    let d = c .before in
+    let s = d .before .before .before .before .before .before .before .before .before .before .before .before in
+    let l = d .before .before .before .before .before .before .before .before .before .before .loop in
+    let f = s .args .file .now in
+    let o = s .args .order .now in
+    let z = s .args .size in
+    let up = upper-in f o z (s .args .count) in
+    let x-is = d .before .before .before .before .upper-of .ensures .0 ∙ ap upperAt (d .before .before .before .before .before .slot-at .ensures .0) ∙ ap up (d .before .before .before .before .before .before .index .ensures .0) in
+    let y-is = d .before .upper-of2 .ensures .0 ∙ ap upperAt (d .before .before .slot-at2 .ensures .0) ∙ ap up (d .before .before .before .index2 .ensures .0) in
+    goes-many f o z (s .args .count) (s .pre .1) (l .n) (l .j) _ _ (d .shared .result) _ _ (l .inv .1) (d .before .before .before .before .before .before .before .before .before .loop-test .taken)
+    refl refl x-is y-is (d .shared .ensures .2) (l .lens) (l .digits) (l .slots) (l .inv .3) _ refl refl (c .if1 .taken)
 
 add-requires : tie.Need-add-requires Inv-loop μ-loop
-add-requires c κs = search needs
+add-requires c κs = (search needs, search needs, search needs, c .before .before .before .before .before .before .before .before .before .before .before .before .before .before .loop .inv .2)
 
 add-j : tie.Need-add-j Inv-loop μ-loop
 add-j c = search needs
@@ -77,7 +88,24 @@ loop-less : tie.Need-loop-less Inv-loop μ-loop
 loop-less c = search needs
 
 loop-again : tie.Need-loop-again Inv-loop μ-loop
-loop-again c = search needs
+loop-again c =
+    let d = c .before .before .before .before .before in
+    let s = d .before .before .before .before .before .before .before .before .before .before .before .before in
+    let l = d .before .before .before .before .before .before .before .before .before .before .loop in
+    let f = s .args .file .now in
+    let o = s .args .order .now in
+    let z = s .args .size in
+    let up = upper-in f o z (s .args .count) in
+    let x-is = d .before .before .before .before .upper-of .ensures .0 ∙ ap upperAt (d .before .before .before .before .before .slot-at .ensures .0) ∙ ap up (d .before .before .before .before .before .before .index .ensures .0) in
+    let y-is = d .before .upper-of2 .ensures .0 ∙ ap upperAt (d .before .before .slot-at2 .ensures .0) ∙ ap up (d .before .before .before .index2 .ensures .0) in
+    let a = c .add .ensures in
+    let x = d .before .before .before .before .upper-of .result .now in (
+      omega (arith, a .count-is, length-beyond (d .shared .result) x, c .before .before .before .before .if1 .left),
+      search needs,
+      a .whole,
+      goes-step f o z (s .args .count) (s .pre .1) (l .n) (l .j) _ _ (d .shared .result) _ _ (l .inv .1) (d .before .before .before .before .before .before .before .before .before .loop-test .taken)
+          refl refl x-is y-is (d .shared .ensures .2) (l .lens) (l .digits) (l .slots) (l .inv .3) _ _ _ _ a,
+    )
 
 sub-slots : tie.Need-sub-slots Inv-loop μ-loop
 sub-slots c = search needs
@@ -89,10 +117,17 @@ array-write-slots : tie.Need-array-write-slots Inv-loop μ-loop
 array-write-slots c = search needs
 
 returns-2 : tie.Need-returns-2 Inv-loop μ-loop
-returns-2 c = search needs
+returns-2 c =
+    let s = c .before .before .before .before .before in
+    let l = c .before .before .before .loop in
+    goes-end (s .args .file .now) (s .args .order .now) (s .args .size) (s .args .count) (l .lens) (l .digits) (l .slots) (l .n) (l .j) _
+    (l .inv .0) (l .inv .2 .slots-whole) (c .before .before .loop-test .left) (c .before .if2 .taken) refl (l .inv .3) _ (refl, refl, refl, refl, refl)
 
 returns-3 : tie.Need-returns-3 Inv-loop μ-loop
-returns-3 c = search needs
+returns-3 c =
+    let s = c .before .before .before .before in
+    let l = c .before .before .loop in
+    goes-none (s .args .file .now) (s .args .order .now) (s .args .size) (s .args .count) _ (l .inv .0) (c .if2 .left)
 
 pub strings-of-spec : {M : Type 1} → statement M
 strings-of-spec =
