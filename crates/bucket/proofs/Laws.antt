@@ -312,7 +312,7 @@ pub take-entries : {l : Low} {u : Str} {es : List Entry} (ys : List ℕ) → Row
 take-entries {es = es} ys r = take-at (entriesBytes es) ys (32 * length es) (length-entriesBytes r)
 
 -- A name that is not above a row's lower limit is not held.
-find-not-over : {l : Low} {u : Str} {es : List Entry} (n : Str) → Row l es u → ¬ (l ◁ n) → find n es ≡ nothing
+pub find-not-over : {l : Low} {u : Str} {es : List Entry} (n : Str) → Row l es u → ¬ (l ◁ n) → find n es ≡ nothing
 unfolding find
 find-not-over n no-entries h = refl
 find-not-over n (entry {e = e} g a b r) h =

@@ -87,7 +87,7 @@ zeros-are (d ∷ z) e =
     let p = both-true (eqb d 0) (isZero z) e in
     ap₂ (λ (a : ℕ) (x : List ℕ). a ∷ x) (eqb-true d 0 (p .0)) (zeros-are z (p .1))
 
-are-zeros : (k : ℕ) → isZero (replicate k 0) ≡ true
+pub are-zeros : (k : ℕ) → isZero (replicate k 0) ≡ true
 unfolding isZero
 are-zeros zero = refl
 are-zeros (suc k) = are-zeros k
