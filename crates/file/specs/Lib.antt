@@ -1,3 +1,4 @@
 pub mod Sizes
 pub mod Surveys
+pub mod Copies
 pub mod Maps

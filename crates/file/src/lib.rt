@@ -9,7 +9,8 @@ ghost use lib.Seq.{paste};
 ghost use Rattle.model.specs.Files.{created};
 ghost use Rattle.model.specs.Checks.{sameStr};
 ghost use Rattle.model.specs.Format.{fileBytes, headerBytes};
-ghost use Rattle.file.specs.Sizes.{Legal, Sized, Fitting, Told, Below, Inside};
+ghost use Rattle.file.specs.Maps.{RoomTold};
+ghost use Rattle.file.specs.Sizes.{Legal, Sized, Fitting, Told, Below};
 use digits::index;
 
 mod order;
@@ -164,7 +165,7 @@ fn number(x: u32) -> usize
 
 // A new bucket always takes the lowest free slot.
 pub fn lowest_free(used: u64, slots: usize) -> Room
-    ensures { λ r. ⌜ Inside r slots ⌝ }
+    ensures { λ r. ⌜ RoomTold used slots r ⌝ }
 {
     if slots <= number(u64::count_ones(used)) {
         return Room::Full;

@@ -4,6 +4,7 @@ ghost use Prim.Native.Nat.{_≤_, _<_, _+_, _*_};
 ghost use lib.ListN.{length};
 ghost use Rattle.file.specs.Sizes.{Sized, Below};
 ghost use Rattle.file.specs.Surveys.{Surveyed};
+ghost use Rattle.file.specs.Copies.{CopyTold};
 use crate::Size;
 use crate::order;
 use crate::slot_at;
@@ -81,6 +82,7 @@ fn twin(file: &[u8], size: Size, order: &[u8; 64], count: usize) -> usize
 // exactly A's entries in N's range, or those and one more.
 fn is_copy_of(n: &[u8], a: &[u8], b: usize) -> bool
     requires { ⌜ (length (now n) ≡ 64 + 32 * b) × (length (now a) ≡ 64 + 32 * b) × (b ≤ 16) ⌝ }
+    ensures { λ r. ⌜ CopyTold b (now (n .entry)) (now (a .entry)) r ⌝ }
 {
     if index(a[1]) != b {
         return false;
