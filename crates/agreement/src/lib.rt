@@ -4,7 +4,13 @@
 // slot that stands there. The digits before the last are then the string's own, because in the right part of a cell no
 // number is smaller than the cell's.
 ghost use mathlib.Core.Path.{_≡_};
-ghost use Prim.Native.Nat.{_≤_, _<_, _+_};
+ghost use mathlib.Core.Bool.{false};
+ghost use Prim.Native.Nat.{_≤_, _<_};
+ghost use mathlib.Core.List.{[], _∷_};
+ghost use lib.ListN.{drop};
+ghost use Rattle.model.specs.Agreeing.{areZeroCells, sameSide};
+ghost use Rattle.agreement.specs.Decides.{Decides};
+ghost use Rattle.agreement.specs.Passes.{Passed};
 use digits::index;
 use model::Cell;
 use model::Side;
@@ -27,14 +33,18 @@ pub struct Agreement {
 // The place of a cell that was not reached.
 const NOWHERE: u16 = 256;
 
-fn no() -> Agreement {
+fn no() -> Agreement
+    ensures { λ r. ⌜ r .agrees ≡ false ⌝ }
+{
     Agreement {
         agrees: false,
         places: [256u16; 256],
     }
 }
 
-fn is_slot_0(side: Side) -> bool {
+fn is_slot_0(side: Side) -> bool
+    ensures { λ r. ⌜ r ≡ sameSide side (Side.Slot 0) ⌝ }
+{
     match side {
         Side::Slot(s) => s == 0,
         Side::Cell(_) => false,
@@ -42,7 +52,9 @@ fn is_slot_0(side: Side) -> bool {
 }
 
 // Cells past the count are zero with both sides leading to slot 0.
-fn is_no_cell(cell: Cell) -> bool {
+fn is_no_cell(cell: Cell) -> bool
+    ensures { λ r. ⌜ r ≡ areZeroCells (cell ∷ []) ⌝ }
+{
     if cell.digit != 0 {
         return false;
     }
@@ -59,6 +71,7 @@ fn is_no_cell(cell: Cell) -> bool {
 
 fn is_clear_past(trie: Trie, count: usize) -> bool
     requires { ⌜ count ≤ 256 ⌝ }
+    ensures { λ r. ⌜ r ≡ areZeroCells (drop count (trie .cells)) ⌝ }
 {
     let mut i = count;
     while i < 256 {
@@ -79,25 +92,16 @@ fn byte(x: usize) -> u8
 }
 
 fn short(x: usize) -> u16
-    requires { ⌜ x ≤ 256 ⌝ }
+    requires { ⌜ x < 65536 ⌝ }
     ensures { λ r. ⌜ r ≡ x ⌝ }
 {
     x as u16
 }
 
-fn length_of(frame: Frame) -> usize
-    ensures { λ r. ⌜ r ≤ 256 ⌝ }
-{
-    let len = number(frame.len);
-    if 256 < len {
-        return 256;
-    }
-    len
-}
-
 // The pass itself, over a trie whose count is the number of strings and not 0.
 fn pass(trie: Trie, strings: Strings) -> Agreement
     requires { ⌜ strings .count ≤ 256 ⌝ }
+    ensures { λ r. ⌜ Passed (trie .cells) strings (Side.Cell 0) r ⌝ }
 {
     let count = strings.count;
     let mut places = [256u16; 256];
@@ -136,7 +140,7 @@ fn pass(trie: Trie, strings: Strings) -> Agreement
                 }
                 places[k] = short(done);
                 done += 1;
-                len = length_of(frame);
+                len = number(frame.len);
                 least = n;
                 place = cell.right;
             }
@@ -173,6 +177,7 @@ fn pass(trie: Trie, strings: Strings) -> Agreement
 // Whether the trie agrees with the file that has these strings.
 pub fn agreement_of(trie: Trie, strings: Strings) -> Agreement
     requires { ⌜ strings .count ≤ 256 ⌝ }
+    ensures { λ r. ⌜ Decides trie strings r ⌝ }
 {
     if !strings.few {
         return no();

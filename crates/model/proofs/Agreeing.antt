@@ -143,6 +143,15 @@ unfolding areZeroCells sameSide
 zero-areZeroCells [] f = refl
 zero-areZeroCells (c ∷ cs) f = rw (f 0) (zero-areZeroCells cs (λ i. f (suc i)))
 
+module _ (n : ℕ) (cs : List Cell) where
+  pub zeros-past : areZeroCells (drop n cs) ≡ true → (i : ℕ) → n ≤ i → at-cell cs i ≡ zero-cell
+  zeros-past e i h =
+      let q : n + (i - n) ≡ i = omega arith in
+      rw (getD-drop, q) at (areZeroCells-zero (drop n cs) e (i - n))
+
+  pub past-zeros : ((i : ℕ) → n ≤ i → at-cell cs i ≡ zero-cell) → areZeroCells (drop n cs) ≡ true
+  past-zeros f = zero-areZeroCells (drop n cs) (λ i. getD-drop n cs i zero-cell ∙ f (n + i) (omega arith))
+
 -- The slots between the strings are the labels of the leaves.
 abbrev Labelled : List Slot → List ℕ → Low → Str → ℕ → Type 0
 Labelled fs Bs l u B = B ≡ label (ranges fs) Bs l
@@ -163,6 +172,12 @@ module _ (fs : List Slot) (Bs : List ℕ) (right : order-of fs ≡ Bs) where
 
 -- Both directions, of a sound file.
 module _ (b : ℕ) {fs : List Slot} (S : Sound b fs) where
+  -- The leaves of a trie of the file's strings lead to the slots between them.
+  pub trie-slots : (x : Tree) → Spans (Leads (ranges fs)) none [] x (all (bounds (ranges fs) (S .order))) → leaves x ≡ slotsBetween fs none (strings-of fs)
+  trie-slots x T =
+      let L = labelled (ranges fs) (S .order) (S .chain) (S .listed) x T in
+      rw (strings-right b S) (leaves-between fs (S .order) (order-right b S) (trie-flat (Labelled fs (S .order)) L .1))
+
   pub isAgreeing-agrees : (t : Trie) → isAgreeing fs t ≡ true → Agrees fs t
   unfolding isAgreeing isTrieOf
   isAgreeing-agrees t e =
@@ -172,7 +187,7 @@ module _ (b : ℕ) {fs : List Slot} (S : Sound b fs) where
       let s = both-true (leb (t .count) 256) (eqb (length (t .cells)) 256) (r .0) in
       let few : t .count ≤ 256 = leb-true (t .count) 256 (s .0) in
       let whole : length (t .cells) ≡ 256 = eqb-true (length (t .cells)) 256 (s .1) in
-      cells-agree b S {t = t} whole few (past (r .1)) (first (q .1)) (tree (readTree (suc (t .count)) cs a) refl (p .1))
+      cells-agree b S {t = t} whole few (zeros-past (t .count) (t .cells) (r .1)) (first (q .1)) (tree (readTree (suc (t .count)) cs a) refl (p .1))
     where
       cs : List Cell
       cs = take (t .count) (t .cells)
@@ -182,11 +197,6 @@ module _ (b : ℕ) {fs : List Slot} (S : Sound b fs) where
 
       zeros : Bool
       zeros = areZeroCells (drop (t .count) (t .cells))
-
-      past : zeros ≡ true → (i : ℕ) → t .count ≤ i → at-cell (t .cells) i ≡ zero-cell
-      past e i h =
-          let q : t .count + (i - t .count) ≡ i = omega arith in
-          rw (getD-drop, q) at (areZeroCells-zero (drop (t .count) (t .cells)) e (i - t .count))
 
       first : (eqb (t .count) 0 || eqb (t .first) 0) ≡ true → 0 < t .count → t .first ≡ 0
       first e h = elim (either-true (eqb (t .count) 0) (eqb (t .first) 0) e)
@@ -226,7 +236,7 @@ module _ (b : ℕ) {fs : List Slot} (S : Sound b fs) where
       C = agrees-cells b S A
 
       zeros : areZeroCells (drop (t .count) (t .cells)) ≡ true
-      zeros = zero-areZeroCells (drop (t .count) (t .cells)) (λ i. getD-drop (t .count) (t .cells) i zero-cell ∙ A .past (t .count + i) (omega arith))
+      zeros = past-zeros (t .count) (t .cells) (A .past)
 
       first : (eqb (t .count) 0 || eqb (t .first) 0) ≡ true
       first = elim (ℕ-discrete (t .count) 0) [
@@ -247,6 +257,4 @@ module _ (b : ℕ) {fs : List Slot} (S : Sound b fs) where
       same = strings-are (Leads (ranges fs)) (C .trie) ∙ sym (strings-right b S)
 
       slots : leaves (C .tree) ≡ slotsBetween fs none (strings-of fs)
-      slots =
-          let T = labelled (ranges fs) (S .order) (S .chain) (S .listed) (C .tree) (C .trie) in
-          rw (strings-right b S) (leaves-between fs (S .order) (order-right b S) (trie-flat (Labelled fs (S .order)) T .1))
+      slots = trie-slots (C .tree) (C .trie)

@@ -120,7 +120,7 @@ total-append : (n : ℕ) (vs ws : List ℕ) → total n (vs ++ ws) ≡ total n v
 total-append zero vs ws = omega arith
 total-append (suc n) vs ws = omega (arith, occ-append n vs ws, total-append n vs ws)
 
-reads-total : {cs : List Cell} {a : Side} {t : Tree} {vs : List ℕ} → Reads cs a t vs → length vs ≡ total (length cs) vs
+pub reads-total : {cs : List Cell} {a : Side} {t : Tree} {vs : List ℕ} → Reads cs a t vs → length vs ≡ total (length cs) vs
 reads-total {cs} here = sym (total-nil (length cs))
 reads-total {cs} (there {n = m} {vs = vs} {ws = ws} h l r) =
     omega (arith, reads-total l, reads-total r, length-append vs ws, total-append (length cs) vs ws, total-cons (length cs) m (vs ++ ws) h)
@@ -133,6 +133,13 @@ visits-count {cs} {vs = vs} r each = reads-total r ∙ total-each (length cs) vs
 pub total-le : (n : ℕ) (vs : List ℕ) → ((i : ℕ) → occ i vs ≤ 1) → total n vs ≤ n
 total-le zero vs f = omega arith
 total-le (suc n) vs f = omega (arith, f n, total-le n vs f)
+
+-- As many of them as there are: each is there.
+pub total-once : (n : ℕ) (vs : List ℕ) → ((i : ℕ) → occ i vs ≤ 1) → total n vs ≡ n → (i : ℕ) → i < n → occ i vs ≡ 1
+total-once zero vs f e i h = absurd (omega arith)
+total-once (suc n) vs f e i h =
+    let o : occ n vs ≡ 1 = omega (arith, f n, total-le n vs f) in
+    elim (ℕ-discrete i n) [ yes q ↦ rw q o | no q ↦ total-once n vs f (omega arith) i (omega arith) ]
 
 pub total-all : (n : ℕ) (vs : List ℕ) → ((v : ℕ) → List·Memᴰ v vs → v < n) → length vs ≡ total n vs
 total-all n [] f = sym (total-nil n)

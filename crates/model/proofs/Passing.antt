@@ -90,7 +90,7 @@ one-if-not : {A : Type 0} → ¬ A → (d : Dec A) → one-if d ≡ 0
 one-if-not k (yes e) = absurd (k e)
 one-if-not k (no n) = refl
 
-occ-snoc : (m : ℕ) (vs : List ℕ) → occ m vs ≡ 0 → ((i : ℕ) → occ i vs ≤ 1) → (i : ℕ) → occ i (vs ++ (m ∷ [])) ≤ 1
+pub occ-snoc : (m : ℕ) (vs : List ℕ) → occ m vs ≡ 0 → ((i : ℕ) → occ i vs ≤ 1) → (i : ℕ) → occ i (vs ++ (m ∷ [])) ≤ 1
 occ-snoc m vs o f i = go (ℕ-discrete i m)
   where
     go : Dec (i ≡ m) → occ i (vs ++ (m ∷ [])) ≤ 1

@@ -1,22 +1,22 @@
-use Prim.Native.Nat.{ℕ, _≤_, _-_, _<_, _+_, _*_}
+-- `is_clear_past` is the model's test: of the cells not passed yet it says what it says of all from the count on.
+use Prim.Native.Nat.{_-_, _≤_}
+use mathlib.Core.Path.{_≡_, _∙_, refl, sym}
 use native.Mathlib.Omega.{arith}
-use mathlib.Core.Path.{_≡_, refl, sym, _∙_}
-use lib.ListN.{length, take, drop, getD}
+use lib.ListN.{drop, length, length-map}
 use borrow.Author.Needs.{needs}
+use Rattle.model.specs.Agreeing.{areZeroCells}
+use Rattle.agreement.proofs.Clear.{clear-end, clear-not, clear-on}
 use Rattle.agreement.proofs.is_clear_past.Statement.{statement}
 use Rattle.agreement.proofs.is_clear_past.Tie as tie
-use Rattle.agreement.proofs.is_clear_past.Reads as reads
-use Rattle.agreement.proofs.is_clear_past.Lts as lts
-use Rattle.agreement.proofs.is_no_cell.Reads as is-no-cell-reads
 
 abbrev Inv-loop : tie.InvT-loop
-Inv-loop count trie i₀ i = i ≤ 256
+Inv-loop count trie i₀ i = (i ≤ 256) × (areZeroCells (drop count (trie .cells)) ≡ areZeroCells (drop i (trie .cells)))
 
 abbrev μ-loop : tie.MeasureT-loop
 μ-loop count trie i₀ i = 256 - i
 
 loop-holds : tie.Need-loop-holds Inv-loop μ-loop
-loop-holds c = search needs
+loop-holds c = (search needs, refl)
 
 mul-cell : tie.Need-mul-cell Inv-loop μ-loop
 mul-cell c = search needs
@@ -28,7 +28,11 @@ is-no-cell-requires : tie.Need-is-no-cell-requires Inv-loop μ-loop
 is-no-cell-requires c κs = search needs
 
 returns : tie.Need-returns Inv-loop μ-loop
-returns c = search needs
+returns c =
+    let l = c .before .before .before .before in
+    let x = c .before .is-no-cell in
+    let full : length (l .before .args .t1 .cells) ≡ 256 = simp length-map at (l .before .good .0 .1 .1 .0 .1 .0 .1) in
+    sym (l .loop .inv .1 ∙ clear-not (l .before .args .t1 .cells) (l .loop .i) (x .result) (omega arith) (x .ensures) (c .if1 .taken))
 
 add-i : tie.Need-add-i Inv-loop μ-loop
 add-i c = search needs
@@ -37,10 +41,17 @@ loop-less : tie.Need-loop-less Inv-loop μ-loop
 loop-less c = search needs
 
 loop-again : tie.Need-loop-again Inv-loop μ-loop
-loop-again c = search needs
+loop-again c =
+    let l = c .before .before .before .before in
+    let x = c .before .is-no-cell in
+    let full : length (l .before .args .t1 .cells) ≡ 256 = simp length-map at (l .before .good .0 .1 .1 .0 .1 .0 .1) in
+    (search needs, l .loop .inv .1 ∙ clear-on (l .before .args .t1 .cells) (l .loop .i) (x .result) (omega arith) (x .ensures) (c .if1 .left))
 
 returns-2 : tie.Need-returns-2 Inv-loop μ-loop
-returns-2 c = search needs
+returns-2 c =
+    let l = c .before in
+    let full : length (l .before .args .t1 .cells) ≡ 256 = simp length-map at (l .before .good .0 .1 .1 .0 .1 .0 .1) in
+    sym (l .loop .inv .1 ∙ clear-end (l .before .args .t1 .cells) (l .loop .i) (omega arith))
 
 pub is-clear-past-spec : {M : Type 1} → statement M
 is-clear-past-spec =

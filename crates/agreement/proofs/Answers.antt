@@ -1,0 +1,68 @@
+-- Each answer of `agreement_of` decides agreement.
+use mathlib.Core.Path.{_∙_, _≡_, subst, sym}
+use mathlib.Core.Bool.{false, true}
+use mathlib.Core.List.{List, []}
+use Prim.Native.Nat.{_<_, _≤_, ℕ}
+use native.Mathlib.Omega.{arith}
+use lib.Dec.{eqb}
+use lib.ListN.{drop, getD, length}
+use borrow.Author.Tests.{eq-eqb, eqb-true}
+use Rattle.model.specs.declared.Side.{Side}
+use Rattle.model.specs.declared.Side.the-variants.{Cell as further, Slot as slot}
+use Rattle.model.specs.declared.Trie.{Trie}
+use Rattle.model.specs.Tries.{root-side}
+use Rattle.model.specs.Agreeing.{areZeroCells}
+use Rattle.model.proofs.Agreeing.{past-zeros}
+use Rattle.trie.specs.declared.Strings.{Strings}
+use Rattle.trie.proofs.Laws.{root-further}
+use Rattle.agreement.specs.declared.Agreement.{Agreement}
+use Rattle.agreement.specs.Decides.{Decides}
+use Rattle.agreement.specs.Passes.{Passed, ends}
+use Rattle.agreement.proofs.States.{at-leaf}
+use Rattle.agreement.proofs.Laws.{agreed-few, agreed-passing, agreed-same, decided, met-agrees, met-placed, refused}
+
+root-slot : (count first : ℕ) → count ≡ 0 → slot first ≡ root-side count first
+root-slot count first e = rw e
+
+module _ (t : Trie) (s : Strings) where
+  -- The answer is no.
+  module _ {r : Agreement} (no : r .agrees ≡ false) where
+    pub not-few : s .few ≡ false → Decides t s r
+    not-few e b fs S H = refused b S t no (λ A. let q = agreed-few b S t H A in let z : _≡_ {A = ℕ} 0 1 = cc in omega arith)
+
+    pub not-count : (t .count ≡ s .count → ⊥) → Decides t s r
+    not-count n b fs S H = refused b S t no (λ A. n (agreed-same b S t H A))
+
+    pub not-clear : areZeroCells (drop (s .count) (t .cells)) ≡ false → Decides t s r
+    not-clear e b fs S H = refused b S t no λ A.
+        let q : areZeroCells (drop (s .count) (t .cells)) ≡ true = rw (agreed-same b S t H A) at (past-zeros (t .count) (t .cells) (A .past)) in
+        let z : _≡_ {A = ℕ} 0 1 = cc in
+        omega arith
+
+    pub not-first : 0 < s .count → (t .first ≡ 0 → ⊥) → Decides t s r
+    not-first h n b fs S H = refused b S t no (λ A. n (A .first-leaf (omega (arith, agreed-same b S t H A))))
+
+  -- The answer is the pass's.
+  module _ (full : length (t .cells) ≡ 256) (few : s .few ≡ true) (small : s .count ≤ 256) (e : t .count ≡ s .count)
+      (clear : areZeroCells (drop (s .count) (t .cells)) ≡ true) where
+    passed : {r : Agreement} → (0 < t .count → t .first ≡ 0) → Passed (t .cells) s (root-side (t .count) (t .first)) r → Decides t s r
+    passed first P b fs S H =
+        decided b S t (λ p. (met-agrees b S t H full few small e clear first (P .met p), met-placed b S t H full few small e clear first (P .met p)))
+        (λ A. let x = agreed-passing b S t H A in P .every (x .order) (x .passes))
+
+    pub by-pass : {r : Agreement} → (s .count ≡ 0 → ⊥) → t .first ≡ 0 → Passed (t .cells) s (further 0) r → Decides t s r
+    by-pass {r} n f P =
+        passed (λ h. f) (subst (λ (a : Side). Passed (t .cells) s a r) (root-further (t .count) (t .first) (λ z. n (omega arith))) P)
+
+    pub by-leaf : {first other : ℕ} {places : List ℕ} → s .count ≡ 0 → first ≡ t .first → other ≡ getD (s .slots) 0 0
+        → Decides t s (record { agrees = eqb first other; places = places })
+    by-leaf {first} {other} {places} z ef eo =
+        passed (λ h. absurd (omega arith)) (subst (λ (a : Side). Passed (t .cells) s a (record { agrees = eqb first other; places = places })) (root-slot (t .count) (t .first) (omega arith)) P)
+      where
+        P : Passed (t .cells) s (slot (t .first)) (record { agrees = eqb first other; places = places })
+        P = record {
+          met = λ q.
+              let h : t .first ≡ getD (s .slots) 0 0 = sym ef ∙ eqb-true first other q ∙ eo in
+              record { order = []; passes = ends h (sym z); place-is = λ j i. absurd (omega arith) };
+          every = λ order p. eq-eqb first other (ef ∙ at-leaf p ∙ sym eo);
+        }

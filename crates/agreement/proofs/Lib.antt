@@ -1,0 +1,7 @@
+pub mod Clear
+pub mod Marks
+pub mod States
+pub mod Parts
+pub mod Fitting
+pub mod Laws
+pub mod Answers

@@ -1,0 +1,107 @@
+-- The places of the cells that have met their strings, and the stack of those that have not.
+use mathlib.Core.Path.{_∙_, _≡_, refl, sym}
+use mathlib.Core.List.{List, [], _++_, _∷_}
+use Prim.Native.Nat.{_+_, _-_, _<_, _≤_, suc, zero, ℕ}
+use native.Mathlib.Decide.{decLt, ℕ-discrete}
+use native.Mathlib.Numerals.{add-one}
+use native.Mathlib.Omega.{arith}
+use lib.ListN.{List·getD-append, getD, getD-replicate, length, length-append, length-replicate, length-set, replicate, set}
+use lib.Seq.{getD-append-seam, getD-set-other, getD-set-same}
+use Rattle.model.specs.Tries.{occ, one-if}
+use Rattle.model.proofs.Cells.{occ-append, one-if-equal}
+use Rattle.agreement.specs.declared.Frame.{Frame}
+
+-- A number that stands in a list stands at a place.
+pub record Stands (k : ℕ) (vs : List ℕ) : Type 0 where
+  pub place : ℕ
+  pub inside : place < length vs
+  pub is : getD vs place 0 ≡ k
+
+occ-stands : (k : ℕ) (vs : List ℕ) → 0 < occ k vs → Stands k vs
+occ-stands k [] h = absurd (omega arith)
+occ-stands k (v ∷ vs) h = go (ℕ-discrete k v) h (occ-stands k vs)
+  where
+    go : (d : Dec (k ≡ v)) → 0 < one-if d + occ k vs → (0 < occ k vs → Stands k vs) → Stands k (v ∷ vs)
+    go (yes e) h f = record { place = 0; inside = omega arith; is = sym e }
+    go (no e) h f = let r = f (omega arith) in record { place = suc (r .place); inside = omega (arith, r .inside); is = r .is }
+
+stands-occ : (vs : List ℕ) (j : ℕ) → j < length vs → 0 < occ (getD vs j 0) vs
+stands-occ [] j h = absurd (omega arith)
+stands-occ (v ∷ vs) zero h = omega (arith, one-if-equal refl (ℕ-discrete v v))
+stands-occ (v ∷ vs) (suc j) h = omega (arith, stands-occ vs j (omega arith))
+
+-- The array has, under each number of the list, its place there, and 256 under each other number.
+pub record Marks (seen places : List ℕ) : Type 0 where
+  pub whole : length places ≡ 256
+  pub unseen : (k : ℕ) → k < 256 → occ k seen ≡ 0 → getD places k 0 ≡ 256
+  pub place-is : (j : ℕ) → j < length seen → getD places (getD seen j 0) 0 ≡ j
+
+pub marks-none : Marks [] (replicate {A = ℕ} 256 256)
+marks-none = record {
+  whole = length-replicate {A = ℕ} 256 256;
+  unseen = λ k h o. getD-replicate {A = ℕ} 256 k 256 0 h;
+  place-is = λ j h. absurd (omega arith);
+}
+
+module _ {seen places : List ℕ} (M : Marks seen places) (k : ℕ) where
+  pub marks-unseen : length seen ≤ 256 → getD places k 0 ≡ 256 → occ k seen ≡ 0
+  marks-unseen h e = elim (ℕ-discrete (occ k seen) 0) [
+    | yes o ↦ o
+    | no o ↦
+        let r : Stands k seen = occ-stands k seen (omega arith) in
+        let p : getD places k 0 ≡ r .place = rw (r .is) at (M .place-is (r .place) (r .inside)) in
+        absurd (omega (arith, r .inside))
+  ]
+
+  pub marks-next : (d : ℕ) → k < 256 → occ k seen ≡ 0 → length seen ≡ d → Marks (seen ++ (k ∷ [])) (set places k d)
+  marks-next d h o e = record { whole = length-set places k d ∙ M .whole; unseen = unseen; place-is = λ j i. place j i (decLt j (length seen)) }
+    where
+      unseen : (i : ℕ) → i < 256 → occ i (seen ++ (k ∷ [])) ≡ 0 → getD (set places k d) i 0 ≡ 256
+      unseen i l z =
+          getD-set-other places k i d 0 (λ q. omega (arith, occ-append i seen (k ∷ []), one-if-equal q (ℕ-discrete i k)))
+          ∙ M .unseen i l (omega (arith, occ-append i seen (k ∷ [])))
+
+      place : (j : ℕ) → j < length (seen ++ (k ∷ [])) → Dec (j < length seen) → getD (set places k d) (getD (seen ++ (k ∷ [])) j 0) 0 ≡ j
+      place j i (yes l) =
+          let other : ¬ (getD seen j 0 ≡ k) = λ q.
+          let n : 0 < occ k seen = rw q at (stands-occ seen j l) in
+          omega arith in
+          rw (List·getD-append seen (k ∷ []) 0 j l) (getD-set-other places k (getD seen j 0) d 0 other ∙ M .place-is j l)
+      place j i (no l) =
+          let q : j ≡ length seen = omega (arith, length-append seen (k ∷ [])) in
+          rw (q, getD-append-seam seen k [] 0) (getD-set-same places k d 0 (omega (arith, M .whole)) ∙ sym e)
+
+abbrev pub no-frame : Frame
+no-frame = record { cell = 0; len = 0 }
+
+abbrev pub at-frame : List Frame → ℕ → Frame
+at-frame frames t = getD frames t no-frame
+
+-- The first t frames, the last one on top.
+unfoldable pub stack : ℕ → List Frame → List Frame
+stack zero frames = []
+stack (suc t) frames = at-frame frames t ∷ stack t frames
+
+stack-set : (t j : ℕ) (frames : List Frame) (f : Frame) → t ≤ j → stack t (set frames j f) ≡ stack t frames
+unfolding stack
+stack-set zero j frames f h = refl
+stack-set (suc t) j frames f h =
+    rw (getD-set-other frames j t f no-frame (λ e. omega arith), stack-set t j frames f (omega arith))
+
+pub stack-push : (t : ℕ) (frames : List Frame) (f : Frame) → t < length frames → stack (t + 1) (set frames t f) ≡ f ∷ stack t frames
+unfolding stack
+stack-push t frames f h = rw (add-one t, getD-set-same frames t f no-frame h, stack-set t t frames f (omega arith))
+
+pub stack-none : (t : ℕ) (frames : List Frame) → t ≡ 0 → stack t frames ≡ []
+unfolding stack
+stack-none t frames e = rw e
+
+pub stack-pop : (t : ℕ) (frames : List Frame) → (t ≡ 0 → ⊥) → stack t frames ≡ at-frame frames (t - 1) ∷ stack (t - 1) frames
+unfolding stack
+stack-pop zero frames h = absurd (h refl)
+stack-pop (suc t) frames h = let e : suc t - 1 ≡ t = omega arith in rw e
+
+pub length-stack : (t : ℕ) (frames : List Frame) → length (stack t frames) ≡ t
+unfolding stack
+length-stack zero frames = refl
+length-stack (suc t) frames = omega (arith, length-stack t frames)
