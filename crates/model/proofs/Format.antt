@@ -329,7 +329,7 @@ fileBytes-readFile xs e =
     (sym (take-append-drop 16 xs) ∙ rw (r .headed .header, listed-slots (r .headed) (r .listed) .1), r .headed .sizes)
 
 -- Each slot of a file that is read, read by itself.
-readSlots-each : (b n k j : ℕ) (xs : List ℕ) {fs : List Slot} → j < n → readSlots b n k xs ≡ some fs → readSlot b (slotAt b (k + j) xs) ≡ some (slot-at fs j)
+pub readSlots-each : (b n k j : ℕ) (xs : List ℕ) {fs : List Slot} → j < n → readSlots b n k xs ≡ some fs → readSlot b (slotAt b (k + j) xs) ≡ some (slot-at fs j)
 unfolding readSlots joined
 readSlots-each b zero k j xs h e = absurd (omega arith)
 readSlots-each b (suc n) k j xs {fs} h e =
