@@ -210,7 +210,7 @@ module _ {b : ℕ} {xs : List ℕ} {l : Low} {u : Str} {es : List Entry} (R : Re
       ])
 
 -- The entries from one place on, as bytes.
-part-row : {l : Low} {u : Str} {es : List Entry} (ys : List ℕ) → Row l es u → (i k : ℕ) → i + k ≤ length es
+pub part-row : {l : Low} {u : Str} {es : List Entry} (ys : List ℕ) → Row l es u → (i k : ℕ) → i + k ≤ length es
     → take (32 * k) (drop (32 * i) (entriesBytes es ++ ys)) ≡ entriesBytes (take k (drop i es))
 unfolding entriesBytes
 part-row ys r zero zero h = refl
