@@ -6,7 +6,7 @@ use Prim.Native.Nat.{_*_, _+_, _-_, _<_, _^_, _≤_, suc, zero, ℕ}
 use native.Mathlib.Decide.{decLe}
 use native.Mathlib.Omega.{arith}
 use lib.Dec.{leb, ltb}
-use lib.ListN.{drop, length, length-drop, replicate, take}
+use lib.ListN.{drop, length, replicate, take}
 use lib.Seq.{drop-at, drop-drop, take-at}
 use borrow.Author.Tests.{le-leb, le-ltb, leb-true}
 use Rattle.model.specs.Order.{Low, Str, _◁_, at, le?, none, over, str?}
