@@ -277,10 +277,10 @@ module _ (b : ℕ) (l : Low) (u : Str) (es : List Entry) where
 
 -- Behind an entry that stays, a change of the others is the same change.
 module _ (e xs : List ℕ) (whole : length e ≡ 32) where
-  take-behind : (i : ℕ) → take (32 * suc i) (e ++ xs) ≡ e ++ take (32 * i) xs
+  pub take-behind : (i : ℕ) → take (32 * suc i) (e ++ xs) ≡ e ++ take (32 * i) xs
   take-behind i = let s : 32 * suc i ≡ length e + 32 * i = omega arith in rw s (take-append-add e xs (32 * i))
 
-  drop-behind : (i : ℕ) → drop (32 * suc i) (e ++ xs) ≡ drop (32 * i) xs
+  pub drop-behind : (i : ℕ) → drop (32 * suc i) (e ++ xs) ≡ drop (32 * i) xs
   drop-behind i = let s : 32 * suc i ≡ length e + 32 * i = omega arith in rw s (drop-append-add e xs (32 * i))
 
   with-behind : (count i : ℕ) (n : List ℕ) (v : ℕ) → withEntry (e ++ xs) (suc count) (suc i) n v ≡ e ++ withEntry xs count i n v
@@ -304,15 +304,15 @@ module _ (e xs : List ℕ) (whole : length e ≡ 32) where
       rw (take-behind count, t, d) (simp append-assoc)
 
 -- The bytes of an entry, and of entries in front of others.
-length-entryBytes : (e : Entry) → Legal (e .0) → length (entryBytes e) ≡ 32
+pub length-entryBytes : (e : Entry) → Legal (e .0) → length (entryBytes e) ≡ 32
 unfolding entryBytes
 length-entryBytes e g = omega (arith, length-append (e .0) (valueBytes (e .1)), legal-length g, length-valueBytes (e .1))
 
-take-entries : {l : Low} {u : Str} {es : List Entry} (ys : List ℕ) → Row l es u → take (32 * length es) (entriesBytes es ++ ys) ≡ entriesBytes es
+pub take-entries : {l : Low} {u : Str} {es : List Entry} (ys : List ℕ) → Row l es u → take (32 * length es) (entriesBytes es ++ ys) ≡ entriesBytes es
 take-entries {es = es} ys r = take-at (entriesBytes es) ys (32 * length es) (length-entriesBytes r)
 
 -- A name that is not above a row's lower limit is not held.
-find-not-over : {l : Low} {u : Str} {es : List Entry} (n : Str) → Row l es u → ¬ (l ◁ n) → find n es ≡ nothing
+pub find-not-over : {l : Low} {u : Str} {es : List Entry} (n : Str) → Row l es u → ¬ (l ◁ n) → find n es ≡ nothing
 unfolding find
 find-not-over n no-entries h = refl
 find-not-over n (entry {e = e} g a b r) h =

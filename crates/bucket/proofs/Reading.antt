@@ -29,10 +29,10 @@ use Rattle.bucket.proofs.Laws.{entries-slot}
 unfoldable pub isBound : ℕ → List ℕ → Bool
 isBound len s = leb len 24 && legalBound (take len s) && isZero (drop len s)
 
-abbrev lowIn : List ℕ → Low
+abbrev pub lowIn : List ℕ → Low
 lowIn xs = lowOf (take (getD xs 2 0) (drop 8 xs))
 
-abbrev highIn : List ℕ → Str
+abbrev pub highIn : List ℕ → Str
 highIn xs = take (getD xs 3 0) (drop 32 xs)
 
 -- What the code tests of a used slot.
@@ -87,7 +87,7 @@ zeros-are (d ∷ z) e =
     let p = both-true (eqb d 0) (isZero z) e in
     ap₂ (λ (a : ℕ) (x : List ℕ). a ∷ x) (eqb-true d 0 (p .0)) (zeros-are z (p .1))
 
-are-zeros : (k : ℕ) → isZero (replicate k 0) ≡ true
+pub are-zeros : (k : ℕ) → isZero (replicate k 0) ≡ true
 unfolding isZero
 are-zeros zero = refl
 are-zeros (suc k) = are-zeros k
@@ -139,10 +139,10 @@ first-four (a ∷ b ∷ c ∷ []) h = absurd (omega arith)
 first-four (a ∷ b ∷ c ∷ d ∷ xs) h = refl
 
 -- Limits and names as numbers.
-under-bound : (x : Str) → legalBound x ≡ true → Under x
+pub under-bound : (x : Str) → legalBound x ≡ true → Under x
 under-bound x e = digits-under 0x20 x (legalBound-bound x e .digits)
 
-low-above : (l : Low) (u : Str) → legalLow l ≡ true → legalBound u ≡ true → ltb (lowValue l) (value (continued u)) ≡ isAbove l u
+pub low-above : (l : Low) (u : Str) → legalLow l ≡ true → legalBound u ≡ true → ltb (lowValue l) (value (continued u)) ≡ isAbove l u
 unfolding lowValue isAbove legalLow continued
 low-above none u g h = lt-ltb 0 (value (continued u)) (value-some (continued u) (some-first u (legalBound-bound u h .digits)))
   where
@@ -152,19 +152,19 @@ low-above none u g h = lt-ltb 0 (value (continued u)) (value-some (continued u) 
 low-above (at x) u g h =
     bound-below x u (under-bound x g) (under-bound u h) (legalBound-bound x g .fits) (legalBound-bound u h .fits)
 
-name-legal : (n : Str) → legalFilled n ≡ true → legalBound n ≡ true
+pub name-legal : (n : Str) → legalFilled n ≡ true → legalBound n ≡ true
 name-legal n e =
     let g = legalFilled-legal n e in
     let t : take 24 n ≡ n = take-all 24 n (omega (arith, legal-length g)) in
     sym (ap legalBound t) ∙ bound-legalBound (legal-bound g 24)
 
-name-value : (n : Str) → legalFilled n ≡ true → value (continued n) ≡ value n
+pub name-value : (n : Str) → legalFilled n ≡ true → value (continued n) ≡ value n
 name-value n e = ap value (continued-whole n (legal-length (legalFilled-legal n e)))
 
-name-low : (l : Low) (n : Str) → legalLow l ≡ true → legalFilled n ≡ true → ltb (lowValue l) (value n) ≡ isAbove l n
+pub name-low : (l : Low) (n : Str) → legalLow l ≡ true → legalFilled n ≡ true → ltb (lowValue l) (value n) ≡ isAbove l n
 name-low l n g e = ap (ltb (lowValue l)) (sym (name-value n e)) ∙ low-above l n g (name-legal n e)
 
-name-high : (n u : Str) → legalFilled n ≡ true → legalBound u ≡ true → leb (value n) (value (continued u)) ≡ atMost n u
+pub name-high : (n u : Str) → legalFilled n ≡ true → legalBound u ≡ true → leb (value n) (value (continued u)) ≡ atMost n u
 name-high n u e h = name-atMost n u (under-bound n (name-legal n e)) (under-bound u h) (legal-length (legalFilled-legal n e)) (legalBound-bound u h .fits)
 
 -- Entries that pass the code's test are a row, and the other way round.
@@ -315,7 +315,7 @@ low-back (at []) [] e = let z : _≡_ {A = ℕ} 0 1 = cc in absurd (omega arith)
 low-back (at []) (d ∷ u) e = let z : _≡_ {A = ℕ} 0 1 = cc in absurd (omega arith)
 low-back (at (d ∷ x)) u e = refl
 
-low-legal : (l : Low) → legalLow l ≡ true → legalBound (lowDigits l) ≡ true
+pub low-legal : (l : Low) → legalLow l ≡ true → legalBound (lowDigits l) ≡ true
 unfolding legalLow lowDigits legalBound areDigits
 low-legal none e = refl
 low-legal (at x) e = e
@@ -340,14 +340,14 @@ module _ (b : ℕ) (l : Low) (u : Str) (es : List Entry) (w : isWell b (used l u
   abbrev xs : List ℕ
   xs = slotBytes b (used l u es)
 
-  record Wells : Type 0 where
-    low : legalLow l ≡ true
-    high : legalBound u ≡ true
-    above : isAbove l u ≡ true
-    row : isRow l es u ≡ true
-    most : length es ≤ b
+  pub record Wells : Type 0 where
+    pub low : legalLow l ≡ true
+    pub high : legalBound u ≡ true
+    pub above : isAbove l u ≡ true
+    pub row : isRow l es u ≡ true
+    pub most : length es ≤ b
 
-  wells : Wells
+  pub wells : Wells
   unfolding isWell
   wells =
       let p = both-true (legalLow l && legalBound u && isAbove l u && isRow l es u) (leb (length es) b) w in

@@ -168,13 +168,13 @@ module _ {xs : List ℕ} {size : Size} {k : ℕ} {order : List ℕ} {count map :
     once : (B : ℕ) → IsUsed (head (slot-at (set (L .slots) k (used l u es)) B)) → occ B (take (count + 1) new) ≡ 1
     once B v = elim (ℕ-discrete B k) [
       | yes e ↦ (
-        let f : one-if (ℕ-discrete B n) ≡ 1 = one-if-equal (e ∙ sym n-is) (ℕ-discrete B n) in
-        let g : occ B (take count order) ≡ 0 = none-of B e in
-        omega (arith, occ-is B))
+          let f : one-if (ℕ-discrete B n) ≡ 1 = one-if-equal (e ∙ sym n-is) (ℕ-discrete B n) in
+          let g : occ B (take count order) ≡ 0 = none-of B e in
+          omega (arith, occ-is B))
       | no d ↦ (
-        let f : one-if (ℕ-discrete B n) ≡ 0 = one-if-other (λ e. d (e ∙ n-is)) (ℕ-discrete B n) in
-        let g : occ B (take count order) ≡ 1 = L .once B (rw (there B d) at v) in
-        omega (arith, occ-is B))
+          let f : one-if (ℕ-discrete B n) ≡ 0 = one-if-other (λ e. d (e ∙ n-is)) (ℕ-discrete B n) in
+          let g : occ B (take count order) ≡ 1 = L .once B (rw (there B d) at v) in
+          omega (arith, occ-is B))
     ]
       where
         none-of : (B : ℕ) → B ≡ k → occ B (take count order) ≡ 0

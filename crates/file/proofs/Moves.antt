@@ -156,9 +156,9 @@ closed-end o m count place j r p q h g f = ext-getD 0 (take (count - 1) m) (xs +
         getD-take (count - 1) m i 0 u ∙ elim (decLt i place) [
           | yes b ↦ r .kept i b ∙ sym (List·getD-append xs ys 0 i (omega (arith, front)) ∙ getD-take place o i 0 b)
           | no b ↦ (
-            let e : i ≡ length xs + (i - place) = omega (arith, front) in
-            let d : suc place + (i - place) < count = omega arith in
-            let s : suc place + (i - place) ≡ suc i = omega arith in
-            r .closed i (omega arith) (omega arith)
-            ∙ sym (ap (λ n. getD (xs ++ ys) n 0) e ∙ getD-append-add xs ys (i - place) 0 ∙ part-at o (suc place) count (i - place) d ∙ ap (λ n. getD o n 0) s))
+              let e : i ≡ length xs + (i - place) = omega (arith, front) in
+              let d : suc place + (i - place) < count = omega arith in
+              let s : suc place + (i - place) ≡ suc i = omega arith in
+              r .closed i (omega arith) (omega arith)
+              ∙ sym (ap (λ n. getD (xs ++ ys) n 0) e ∙ getD-append-add xs ys (i - place) 0 ∙ part-at o (suc place) count (i - place) d ∙ ap (λ n. getD o n 0) s))
         ]

@@ -123,8 +123,8 @@ module _ {xs : List ℕ} {size : Size} {order : List ℕ} {count map : ℕ} (few
     sorted : Sorted (L .slots) (take count order)
     sorted = neighbours-places (Before (ranges (L .slots))) (take count order)
         (λ j h.
-          (let g : suc j < count = omega (arith, length-order) in
-          rw (at-place j (omega arith), at-place (suc j) g) (L .sorted j g)))
+        (let g : suc j < count = omega (arith, length-order) in
+        rw (at-place j (omega arith), at-place (suc j) g) (L .sorted j g)))
 
     pub laid-order : Ordered xs size order count
     laid-order fs e S =
@@ -150,8 +150,8 @@ module _ {xs : List ℕ} {size : Size} {order : List ℕ} {count map : ℕ} (few
       apart : Apart (L .slots) (take count order)
       apart = neighbours-places (Differ (ranges (L .slots))) (take count order)
           (λ j h.
-            (let g : suc j < count = omega (arith, length-order) in
-            rw (at-place j (omega arith), at-place (suc j) g) (T .apart j (omega arith) g)))
+          (let g : suc j < count = omega (arith, length-order) in
+          rw (at-place j (omega arith), at-place (suc j) g) (T .apart j (omega arith) g)))
 
       pub said-sound : r ≡ true → is-sound ≡ checkSlots (size .b) (size .slots) xs
       said-sound t = said is-sound (check-sound (size .b) (L .slots) (chain-sound (size .b) (L .slots) (L .well) lists (C .chained t)))
@@ -178,10 +178,10 @@ module _ {xs : List ℕ} {size : Size} {order : List ℕ} {count map : ℕ} (few
         is = parts;
         apart = subst (λ Cs. Apart (L .slots) Cs) first-is (neighbours-places (Differ (ranges (L .slots))) (take (suc p) (take count order))
             (λ j g.
-              (let m : length (take (suc p) (take count order)) ≡ suc p = length-take-le (suc p) (take count order) (omega (arith, length-order)) in
-              let i : suc j < suc p = omega arith in
-              rw (getD-take (suc p) (take count order) j 0 (omega arith), getD-take (suc p) (take count order) (suc j) 0 i, at-place j (omega arith), at-place (suc j) (omega arith))
-              (T .apart j (omega arith) (omega arith)))));
+            (let m : length (take (suc p) (take count order)) ≡ suc p = length-take-le (suc p) (take count order) (omega (arith, length-order)) in
+            let i : suc j < suc p = omega arith in
+            rw (getD-take (suc p) (take count order) j 0 (omega arith), getD-take (suc p) (take count order) (suc j) 0 i, at-place j (omega arith), at-place (suc j) (omega arith))
+            (T .apart j (omega arith) (omega arith)))));
         same = T .same p e h;
       }
 

@@ -1,5 +1,5 @@
 pub mod Sizes
 pub mod Surveys
-pub mod Maps
 pub mod Copies
+pub mod Maps
 pub mod Orders

@@ -6,7 +6,8 @@ ghost use mathlib.Core.Path.{_≡_};
 ghost use Prim.Native.Nat.{_≤_, _<_, _+_, _*_};
 ghost use lib.ListN.{length, take, drop};
 ghost use lib.Seq.{paste};
-ghost use Rattle.file.specs.Sizes.{Legal, Sized, Told, Below, Inside};
+ghost use Rattle.file.specs.Sizes.{Legal, Sized, Told, Below};
+ghost use Rattle.file.specs.Maps.{RoomTold};
 use digits::index;
 
 mod order;
@@ -157,7 +158,7 @@ fn number(x: u32) -> usize
 
 // A new bucket always takes the lowest free slot.
 pub fn lowest_free(used: u64, slots: usize) -> Room
-    ensures { λ r. ⌜ Inside r slots ⌝ }
+    ensures { λ r. ⌜ RoomTold used slots r ⌝ }
 {
     if slots <= number(u64::count_ones(used)) {
         return Room::Full;

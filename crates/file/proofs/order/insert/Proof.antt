@@ -49,8 +49,7 @@ returns c =
     let l = c .before .loop in
     let s = c .before .before in
     let o = s .args .order .now in
-    let r : Raised o (l .order) (s .args .count) (s .args .place) = subst (λ (j : ℕ). Raised o (l .order) (s .args .count) j) (omega arith) (l .inv .4) in
-    (
+    let r : Raised o (l .order) (s .args .count) (s .args .place) = subst (λ (j : ℕ). Raised o (l .order) (s .args .count) j) (omega arith) (l .inv .4) in (
       λ n. λ h. λ p. below-set (l .order) (s .args .place) _ n (l .inv .2 n h) p,
       simp length-set (l .inv .3),
       raised-end o (l .order) (s .args .count) (s .args .place) _ r (s .pre .2) (l .inv .3) (omega arith) (omega arith),

@@ -13,7 +13,7 @@ use Rattle.file.proofs.order.place_of.Statement.{statement}
 use Rattle.file.proofs.order.place_of.Tie as tie
 
 abbrev Inv-loop : tie.InvT-loop
-Inv-loop file size order count low high least₀ most₀ least most = 
+Inv-loop file size order count low high least₀ most₀ least most =
     (least ≤ most) × (most ≤ count)
     × ((fs : List Slot) → Known (size .b) file fs → Listed fs order count
     → ((j : ℕ) → suc j ≡ least → stands (keyValue high) (keyValue low) (placed fs order j) ≡ false)
@@ -61,15 +61,15 @@ loop-again c =
     let s = c .before .before .before .before .before .before .before .before .before .before in
     let m = l .least + (l .most - l .least) / 2 in
     let told : (fs : List Slot) → Known (s .args .size .b) (s .args .file .now) fs → Listed fs (s .args .order .now) (s .args .count)
-        → stands (keyValue (s .args .high)) (keyValue (s .args .low)) (placed fs (s .args .order .now) m) ≡ true =
+    → stands (keyValue (s .args .high)) (keyValue (s .args .low)) (placed fs (s .args .order .now) m) ≡ true =
     λ fs. λ K. λ L.
-        let k = c .before .before .before .before .before .index .ensures .0 in
-        let y = c .before .before .before .before .slot-at .ensures .0 in
-        stands-by (c .before .is-before .result) true (keyValue (s .args .high)) (keyValue (s .args .low)) (keyValue (c .before .before .before .high-of .result)) (keyValue (c .before .before .low-of .result)) (placed fs (s .args .order .now) m)
-        (c .before .is-before .ensures)
-        (place-high K (s .args .order .now) (s .args .count) L m (omega arith) _ k _ y _ (c .before .before .before .high-of .ensures))
-        (place-low K (s .args .order .now) (s .args .count) L m (omega arith) _ k _ y _ (c .before .before .low-of .ensures))
-        (c .if1 .taken) in
+    let k = c .before .before .before .before .before .index .ensures .0 in
+    let y = c .before .before .before .before .slot-at .ensures .0 in
+    stands-by (c .before .is-before .result) true (keyValue (s .args .high)) (keyValue (s .args .low)) (keyValue (c .before .before .before .high-of .result)) (keyValue (c .before .before .low-of .result)) (placed fs (s .args .order .now) m)
+    (c .before .is-before .ensures)
+    (place-high K (s .args .order .now) (s .args .count) L m (omega arith) _ k _ y _ (c .before .before .before .high-of .ensures))
+    (place-low K (s .args .order .now) (s .args .count) L m (omega arith) _ k _ y _ (c .before .before .low-of .ensures))
+    (c .if1 .taken) in
     (omega arith, omega arith, λ fs. λ K. λ L. (l .inv .2 fs K L .0, λ h. told fs K L))
 
 add-least : tie.Need-add-least Inv-loop μ-loop
@@ -84,25 +84,27 @@ loop-again-2 c =
     let s = c .before .before .before .before .before .before .before .before .before .before in
     let m = l .least + (l .most - l .least) / 2 in
     let told : (fs : List Slot) → Known (s .args .size .b) (s .args .file .now) fs → Listed fs (s .args .order .now) (s .args .count)
-        → stands (keyValue (s .args .high)) (keyValue (s .args .low)) (placed fs (s .args .order .now) m) ≡ false =
+    → stands (keyValue (s .args .high)) (keyValue (s .args .low)) (placed fs (s .args .order .now) m) ≡ false =
     λ fs. λ K. λ L.
-        let k = c .before .before .before .before .before .index .ensures .0 in
-        let y = c .before .before .before .before .slot-at .ensures .0 in
-        stands-by (c .before .is-before .result) false (keyValue (s .args .high)) (keyValue (s .args .low)) (keyValue (c .before .before .before .high-of .result)) (keyValue (c .before .before .low-of .result)) (placed fs (s .args .order .now) m)
-        (c .before .is-before .ensures)
-        (place-high K (s .args .order .now) (s .args .count) L m (omega arith) _ k _ y _ (c .before .before .before .high-of .ensures))
-        (place-low K (s .args .order .now) (s .args .count) L m (omega arith) _ k _ y _ (c .before .before .low-of .ensures))
-        (c .if1 .left) in
+    let k = c .before .before .before .before .before .index .ensures .0 in
+    let y = c .before .before .before .before .slot-at .ensures .0 in
+    stands-by (c .before .is-before .result) false (keyValue (s .args .high)) (keyValue (s .args .low)) (keyValue (c .before .before .before .high-of .result)) (keyValue (c .before .before .low-of .result)) (placed fs (s .args .order .now) m)
+    (c .before .is-before .ensures)
+    (place-high K (s .args .order .now) (s .args .count) L m (omega arith) _ k _ y _ (c .before .before .before .high-of .ensures))
+    (place-low K (s .args .order .now) (s .args .count) L m (omega arith) _ k _ y _ (c .before .before .low-of .ensures))
+    (c .if1 .left) in
     (omega arith, omega arith, λ fs. λ K. λ L. (λ j. λ e. subst (λ (n : ℕ). stands (keyValue (s .args .high)) (keyValue (s .args .low)) (placed fs (s .args .order .now) n) ≡ false) (omega arith) (told fs K L), l .inv .2 fs K L .1))
 
 returns : tie.Need-returns Inv-loop μ-loop
 returns c =
     let l = c .before .loop in
-    let s = c .before .before .before in
-    (omega arith, λ fs. λ K. λ L. record {
-      left = l .inv .2 fs K L .0;
-      right = subst (λ (n : ℕ). n < s .args .count → stands (keyValue (s .args .high)) (keyValue (s .args .low)) (placed fs (s .args .order .now) n) ≡ true) (omega arith) (l .inv .2 fs K L .1);
-    })
+    let s = c .before .before .before in (
+      omega arith,
+      λ fs. λ K. λ L. record {
+        left = l .inv .2 fs K L .0;
+        right = subst (λ (n : ℕ). n < s .args .count → stands (keyValue (s .args .high)) (keyValue (s .args .low)) (placed fs (s .args .order .now) n) ≡ true) (omega arith) (l .inv .2 fs K L .1);
+      },
+    )
 
 pub place-of-spec : {M : Type 1} → statement M
 place-of-spec =

@@ -65,13 +65,15 @@ loop-less c = search needs
 loop-again : tie.Need-loop-again Inv-loop μ-loop
 loop-again c =
     let l = c .before .before .before .before .before .before .before .before .loop in
-    let s = c .before .before .before .before .before .before .before .before .before .before .before in
-    (omega arith, λ fs. λ K. λ L. ended-next K (s .args .order .now) (s .args .count) (omega (arith, s .pre .3)) L (l .j) (keyValue (l .end)) (l .inv .1 fs K L) (omega arith)
-    (keyValue (c .before .before .before .low-of .result))
-    (place-low K (s .args .order .now) (s .args .count) L (l .j) (omega arith) _ (c .before .before .before .before .before .index .ensures .0) _ (c .before .before .before .before .slot-at .ensures .0) _ (c .before .before .before .low-of .ensures))
-    (c .before .before .is-same .result) (c .before .before .is-same .ensures) (not-false _ (c .before .if1 .left))
-    (keyValue (c .high-of .result))
-    (place-high K (s .args .order .now) (s .args .count) L (l .j) (omega arith) _ (c .before .before .before .before .before .index .ensures .0) _ (c .before .before .before .before .slot-at .ensures .0) _ (c .high-of .ensures)))
+    let s = c .before .before .before .before .before .before .before .before .before .before .before in (
+      omega arith,
+      λ fs. λ K. λ L. ended-next K (s .args .order .now) (s .args .count) (omega (arith, s .pre .3)) L (l .j) (keyValue (l .end)) (l .inv .1 fs K L) (omega arith)
+          (keyValue (c .before .before .before .low-of .result))
+          (place-low K (s .args .order .now) (s .args .count) L (l .j) (omega arith) _ (c .before .before .before .before .before .index .ensures .0) _ (c .before .before .before .before .slot-at .ensures .0) _ (c .before .before .before .low-of .ensures))
+          (c .before .before .is-same .result) (c .before .before .is-same .ensures) (not-false _ (c .before .if1 .left))
+          (keyValue (c .high-of .result))
+          (place-high K (s .args .order .now) (s .args .count) L (l .j) (omega arith) _ (c .before .before .before .before .before .index .ensures .0) _ (c .before .before .before .before .slot-at .ensures .0) _ (c .high-of .ensures)),
+    )
 
 no-end-requires : tie.Need-no-end-requires Inv-loop μ-loop
 no-end-requires c κs = search needs

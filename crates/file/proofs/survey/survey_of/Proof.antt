@@ -121,13 +121,12 @@ loop-again-2 c =
     let z = vacant-taken (c .before .before .before .before .before .before .before .before .before .before .before .before .vacancy-of .result) _ (c .before .before .before .before .before .before .before .before .before .before .before .before .vacancy-of .ensures) (c .before .before .before .before .before .before .before .before .before .before .enum-told2 .given .1) in
     let W = subst (λ (r : Form). Formed (size .b) (c .before .before .before .before .before .before .before .before .before .before .before .before .before .slot-at .result .now) r) (c .before .before .before .before .before .before .before .form .given .1) (c .before .before .before .before .before .before .before .before .before .form-of .ensures) in
     let n = c .before .insert .ensures in
-    let p = c .before .before .before .before .place-of in
-    (
+    let p = c .before .before .before .before .place-of in (
       omega (arith, t, l .inv .0),
       omega (arith, t, l .inv .1),
       n .0 (size .slots) (l .inv .2) (omega (arith, t, l .inv .0)),
       laid-used L (omega (arith, t, l .inv .0)) most _ (y .0) (y .1) (omega (arith, t, l .inv .1, most)) z (W .is) (W .well) _ _ (W .high-is) (W .low-is) (p .result) (p .ensures .0) (p .ensures .1)
-      _ (c .before .before .byte .ensures) _ (n .1) (n .2) _ (c .with-next2 .ensures),
+          _ (c .before .before .byte .ensures) _ (n .1) (n .2) _ (c .with-next2 .ensures),
     )
 
 kind-of-requires : tie.Need-kind-of-requires Inv-loop μ-loop

@@ -66,16 +66,18 @@ returns c =
     let l = c .before .before .before .before .before .before .before .before .before .before .before .loop in
     let s = c .before .before .before .before .before .before .before .before .before .before .before .before .before in
     let o = s .args .order .now in
-    let n = s .args .count in
-    (λ h. l .inv .0, λ fs. λ K. λ L. record {
-      apart = l .inv .1 fs K L;
-      same = λ i e h. subst (λ (k : ℕ). upper-of (head (placed fs o k)) ≡ upper-of (head (placed fs o (l .j)))) (omega arith)
-          (same-upper K o n (omega (arith, s .pre .3)) L (l .j - 1) (l .j) (omega arith) (omega arith)
-        (keyValue (c .before .before .before .high-of .result)) (keyValue (c .before .before .high-of2 .result))
-        (place-high K o n L (l .j - 1) (omega arith) _ (c .before .before .before .before .before .before .before .before .index .ensures .0) _ (c .before .before .before .before .before .before .before .slot-at .ensures .0) _ (c .before .before .before .high-of .ensures))
-        (place-high K o n L (l .j) (omega arith) _ (c .before .before .before .before .before .index2 .ensures .0) _ (c .before .before .before .before .slot-at2 .ensures .0) _ (c .before .before .high-of2 .ensures))
-        (c .before .is-same .result) (c .before .is-same .ensures) (c .if1 .taken));
-    })
+    let n = s .args .count in (
+      λ h. l .inv .0,
+      λ fs. λ K. λ L. record {
+        apart = l .inv .1 fs K L;
+        same = λ i e h. subst (λ (k : ℕ). upper-of (head (placed fs o k)) ≡ upper-of (head (placed fs o (l .j)))) (omega arith)
+            (same-upper K o n (omega (arith, s .pre .3)) L (l .j - 1) (l .j) (omega arith) (omega arith)
+            (keyValue (c .before .before .before .high-of .result)) (keyValue (c .before .before .high-of2 .result))
+            (place-high K o n L (l .j - 1) (omega arith) _ (c .before .before .before .before .before .before .before .before .index .ensures .0) _ (c .before .before .before .before .before .before .before .slot-at .ensures .0) _ (c .before .before .before .high-of .ensures))
+            (place-high K o n L (l .j) (omega arith) _ (c .before .before .before .before .before .index2 .ensures .0) _ (c .before .before .before .before .slot-at2 .ensures .0) _ (c .before .before .high-of2 .ensures))
+            (c .before .is-same .result) (c .before .is-same .ensures) (c .if1 .taken));
+      },
+    )
 
 add-j : tie.Need-add-j Inv-loop μ-loop
 add-j c = search needs
@@ -90,25 +92,29 @@ loop-again c =
     let o = s .args .order .now in
     let n = s .args .count in
     let now : (fs : List Slot) → Known (s .args .size .b) (s .args .file .now) fs → Listed fs o n
-        → upper-of (head (placed fs o (l .j - 1))) ≡ upper-of (head (placed fs o (l .j))) → ⊥ =
+    → upper-of (head (placed fs o (l .j - 1))) ≡ upper-of (head (placed fs o (l .j))) → ⊥ =
     λ fs. λ K. λ L. other-upper K o n (omega (arith, s .pre .3)) L (l .j - 1) (l .j) (omega arith) (omega arith)
-        (keyValue (c .before .before .before .high-of .result)) (keyValue (c .before .before .high-of2 .result))
-        (place-high K o n L (l .j - 1) (omega arith) _ (c .before .before .before .before .before .before .before .before .index .ensures .0) _ (c .before .before .before .before .before .before .before .slot-at .ensures .0) _ (c .before .before .before .high-of .ensures))
-        (place-high K o n L (l .j) (omega arith) _ (c .before .before .before .before .before .index2 .ensures .0) _ (c .before .before .before .before .slot-at2 .ensures .0) _ (c .before .before .high-of2 .ensures))
-        (c .before .is-same .result) (c .before .is-same .ensures) (c .if1 .left) in
-    (omega arith, λ fs. λ K. λ L. λ i. λ h. λ g. elim (ℕ-discrete (suc i) (l .j)) [
-      | yes e ↦ subst (λ (k : ℕ). upper-of (head (placed fs o i)) ≡ upper-of (head (placed fs o k)) → ⊥) (omega arith)
-          (subst (λ (k : ℕ). upper-of (head (placed fs o k)) ≡ upper-of (head (placed fs o (l .j))) → ⊥) (omega arith) (now fs K L))
-      | no d ↦ l .inv .1 fs K L i (omega arith) g
-    ])
+    (keyValue (c .before .before .before .high-of .result)) (keyValue (c .before .before .high-of2 .result))
+    (place-high K o n L (l .j - 1) (omega arith) _ (c .before .before .before .before .before .before .before .before .index .ensures .0) _ (c .before .before .before .before .before .before .before .slot-at .ensures .0) _ (c .before .before .before .high-of .ensures))
+    (place-high K o n L (l .j) (omega arith) _ (c .before .before .before .before .before .index2 .ensures .0) _ (c .before .before .before .before .slot-at2 .ensures .0) _ (c .before .before .high-of2 .ensures))
+    (c .before .is-same .result) (c .before .is-same .ensures) (c .if1 .left) in (
+      omega arith,
+      λ fs. λ K. λ L. λ i. λ h. λ g. elim (ℕ-discrete (suc i) (l .j)) [
+        | yes e ↦ subst (λ (k : ℕ). upper-of (head (placed fs o i)) ≡ upper-of (head (placed fs o k)) → ⊥) (omega arith)
+            (subst (λ (k : ℕ). upper-of (head (placed fs o k)) ≡ upper-of (head (placed fs o (l .j))) → ⊥) (omega arith) (now fs K L))
+        | no d ↦ l .inv .1 fs K L i (omega arith) g
+      ],
+    )
 
 returns-2 : tie.Need-returns-2 Inv-loop μ-loop
 returns-2 c =
-    let l = c .before .loop in
-    (λ h. absurd (omega arith), λ fs. λ K. λ L. record {
-      apart = λ i h g. l .inv .1 fs K L i (omega arith) g;
-      same = λ i e h. absurd (omega arith);
-    })
+    let l = c .before .loop in (
+      λ h. absurd (omega arith),
+      λ fs. λ K. λ L. record {
+        apart = λ i h g. l .inv .1 fs K L i (omega arith) g;
+        same = λ i e h. absurd (omega arith);
+      },
+    )
 
 pub twin-spec : {M : Type 1} → statement M
 twin-spec =

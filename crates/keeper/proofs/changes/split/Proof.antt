@@ -47,7 +47,7 @@ returns-3 c = search needs
 divide-requires : tie.Need-divide-requires
 divide-requires c κs =
     let s = c .before .before .before .before .before .before .before .before .before .before .before .before .before .before .before in
-    let h = room-inside (c .before .before .before .before .before .before .before .before .before .n .given .1) (c .before .before .before .before .before .before .before .before .before .before .before .lowest-free .ensures) in
+    let h = room-inside (c .before .before .before .before .before .before .before .before .before .n .given .1) (c .before .before .before .before .before .before .before .before .before .before .before .lowest-free .ensures .inside) in
     (s .pre .0, s .pre .1, h, c .before .before .before .before .before .before .before .split-of .ensures, omega arith)
 
 same-length : tie.Need-same-length
