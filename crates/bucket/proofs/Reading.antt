@@ -315,7 +315,7 @@ low-back (at []) [] e = let z : _≡_ {A = ℕ} 0 1 = cc in absurd (omega arith)
 low-back (at []) (d ∷ u) e = let z : _≡_ {A = ℕ} 0 1 = cc in absurd (omega arith)
 low-back (at (d ∷ x)) u e = refl
 
-low-legal : (l : Low) → legalLow l ≡ true → legalBound (lowDigits l) ≡ true
+pub low-legal : (l : Low) → legalLow l ≡ true → legalBound (lowDigits l) ≡ true
 unfolding legalLow lowDigits legalBound areDigits
 low-legal none e = refl
 low-legal (at x) e = e
@@ -388,6 +388,12 @@ module _ (b : ℕ) (l : Low) (u : Str) (es : List Entry) (w : isWell b (used l u
 
   high-is : highIn xs ≡ u
   high-is = ap₂ (λ (k : ℕ) (v : List ℕ). take k v) (head-is .3) from-high ∙ in-front u z high-fits
+
+  pub low-in : lowOf (take (getD xs 2 0) (drop 8 xs)) ≡ l
+  low-in = low-is
+
+  pub high-in : take (getD xs 3 0) (drop 32 xs) ≡ u
+  high-in = high-is
 
   length-row : length (entriesBytes es) ≡ 32 * length es
   length-row = length-entriesBytes (isRow-row l es u (wells .row))
