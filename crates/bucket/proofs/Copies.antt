@@ -6,7 +6,7 @@ use Prim.Native.Nat.{_*_, _+_, _-_, _<_, _^_, _≤_, suc, zero, ℕ}
 use native.Mathlib.Decide.{decLe}
 use native.Mathlib.Omega.{arith}
 use lib.Dec.{leb, ltb}
-use lib.ListN.{drop, length, length-drop, replicate, take}
+use lib.ListN.{drop, length, replicate, take}
 use lib.Seq.{drop-at, drop-drop, take-at}
 use borrow.Author.Tests.{le-leb, le-ltb, leb-true}
 use Rattle.model.specs.Order.{Low, Str, _◁_, at, le?, none, over, str?}
@@ -134,20 +134,19 @@ among-without (entry {e = e} {es = es} g a c r) (suc i) h =
     rw (without-tail e r i (omega arith), sameStr-self (entryBytes e)) (k .0, ap suc (k .1))
 
 -- "exactly A's entries in N's range, or those and one more"
-module _ {l m : Low} {u v : Str} {es ns : List Entry} (r : Row l es u) (s : Row m ns v) where
-  abbrev pub met : Bool
-  met = areAmong (each ns) (each es) && leb (length ns) (length es + 1)
+abbrev pub met : List Entry → List Entry → Bool
+met es ns = areAmong (each ns) (each es) && leb (length ns) (length es + 1)
 
-  pub met-copied : Values es → Values ns → met ≡ true → Copied es ns
-  met-copied p q t =
-      let w = both-true (areAmong (each ns) (each es)) (leb (length ns) (length es + 1)) t in
-      let k : length ns ≤ length es + 1 = leb-true (length ns) (length es + 1) (w .1) in
-      elim (decLe (length ns) (length es)) [
-        | yes h ↦ rw (← among-same r s p q (w .0) h) exactly
-        | no h ↦ let i = among-one r s p q (w .0) (omega arith) in one-more (i .0) (i .1) (i .2)
-      ]
+pub met-copied : {l m : Low} {u v : Str} {es ns : List Entry} → Row l es u → Row m ns v → Values es → Values ns → met es ns ≡ true → Copied es ns
+met-copied {es = es} {ns = ns} r s p q t =
+    let w = both-true (areAmong (each ns) (each es)) (leb (length ns) (length es + 1)) t in
+    let k : length ns ≤ length es + 1 = leb-true (length ns) (length es + 1) (w .1) in
+    elim (decLe (length ns) (length es)) [
+      | yes h ↦ rw (← among-same r s p q (w .0) h) exactly
+      | no h ↦ let i = among-one r s p q (w .0) (omega arith) in one-more (i .0) (i .1) (i .2)
+    ]
 
-pub copied-met : {m : Low} {v : Str} {es ns : List Entry} → Row m ns v → Copied es ns → (areAmong (each ns) (each es) && leb (length ns) (length es + 1)) ≡ true
+pub copied-met : {m : Low} {v : Str} {es ns : List Entry} → Row m ns v → Copied es ns → met es ns ≡ true
 copied-met {ns = ns} s exactly = rw (among-self (each ns), le-leb (length ns) (length ns + 1) (omega arith))
 copied-met {ns = ns} s (one-more i h q) =
     let k = among-without s i h in
@@ -179,7 +178,7 @@ module _ {b : ℕ} {n a : List ℕ} {k l : Low} {u v : Str} {ns es : List Entry}
 
   pub copy-is : legalBound low ≡ true → (count : ℕ) → count ≡ length ns
       → (areAmong (pieces count (drop 64 n)) (pieces (b - stay) (drop (64 + 32 * stay) a)) && leb count (b - stay + 1))
-      ≡ (areAmong (each ns) (each (move low es)) && leb (length ns) (length (move low es) + 1))
+      ≡ met (move low es) ns
   copy-is h count c =
       let m = moved low h (A .row) in
       let j = notAbove (value (continued low)) (numbers es) in

@@ -6,14 +6,14 @@ use mathlib.Core.List.{List, [], _++_, _∷_, append-assoc}
 use Prim.Native.Nat.{_*_, _+_, _-_, _<_, _^_, _≤_, suc, zero, ℕ}
 use native.Mathlib.Decide.{decLt}
 use native.Mathlib.Omega.{arith}
-use lib.Dec.{eqb, ltb}
+use lib.Dec.{ltb}
 use lib.ListN.{drop, getD, length, replicate, take}
 use lib.Seq.{drop-cons, drop-drop}
 use borrow.Author.Tests.{eq-eqb, ne-eqb}
 use Rattle.model.specs.Order.{Low, Str, _⊑_, at, le?, over, str?}
 use Rattle.model.specs.Names.{Legal, atMost, legalBound}
 use Rattle.model.specs.Entries.{Entry, Row, entry, find, name-at, no-entries}
-use Rattle.model.specs.Files.{Slot, Well, free, used}
+use Rattle.model.specs.Files.{Slot, free, used}
 use Rattle.model.specs.Checks.{isAbove, isWell, legalLow}
 use Rattle.model.specs.Format.{Values, entriesBytes, entryBytes, readSlot, readUsed, slotBytes, slotSize, valueBytes, valueOf}
 use Rattle.model.specs.Calls.{between}
@@ -35,7 +35,7 @@ use Rattle.bucket.specs.Slots.{countAt}
 use Rattle.bucket.proofs.Laws.{countAt-slot, drop-behind, find-not-over, length-entryBytes, take-behind}
 use Rattle.bucket.proofs.Forms.{held-behind, held-here, held-other}
 use Rattle.bucket.proofs.Reading.{are-zeros, name-legal, name-low, name-value, under-bound}
-use Rattle.bucket.proofs.Rows.{Reads, drop-row, name-first, name-over, numbers, read-by-zero, read-written, reads, value-behind, values-row}
+use Rattle.bucket.proofs.Rows.{Reads, drop-row, name-first, name-over, numbers, read-by-zero, reads, value-behind, values-row}
 
 -- A slot is free where it is all zero.
 module _ (b : ℕ) (xs : List ℕ) (size : length xs ≡ slotSize b) where
@@ -210,7 +210,7 @@ module _ {b : ℕ} {xs : List ℕ} {l : Low} {u : Str} {es : List Entry} (R : Re
       ])
 
 -- The entries from one place on, as bytes.
-part-row : {l : Low} {u : Str} {es : List Entry} (ys : List ℕ) → Row l es u → (i k : ℕ) → i + k ≤ length es
+pub part-row : {l : Low} {u : Str} {es : List Entry} (ys : List ℕ) → Row l es u → (i k : ℕ) → i + k ≤ length es
     → take (32 * k) (drop (32 * i) (entriesBytes es ++ ys)) ≡ entriesBytes (take k (drop i es))
 unfolding entriesBytes
 part-row ys r zero zero h = refl

@@ -315,7 +315,7 @@ low-back (at []) [] e = let z : _≡_ {A = ℕ} 0 1 = cc in absurd (omega arith)
 low-back (at []) (d ∷ u) e = let z : _≡_ {A = ℕ} 0 1 = cc in absurd (omega arith)
 low-back (at (d ∷ x)) u e = refl
 
-low-legal : (l : Low) → legalLow l ≡ true → legalBound (lowDigits l) ≡ true
+pub low-legal : (l : Low) → legalLow l ≡ true → legalBound (lowDigits l) ≡ true
 unfolding legalLow lowDigits legalBound areDigits
 low-legal none e = refl
 low-legal (at x) e = e

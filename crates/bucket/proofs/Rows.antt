@@ -1,5 +1,5 @@
 -- A slot that reads as used and is well formed: its parts, the numbers of its names and the bytes of its entries.
-use mathlib.Core.Path.{_∙_, _≡_, ap, refl, sym}
+use mathlib.Core.Path.{_∙_, _≡_, ap, refl}
 use mathlib.Core.Bool.{Bool, _&&_, cond, false, not, true}
 use mathlib.Core.Option.{none as nothing, some}
 use mathlib.Core.List.{List, [], _++_, _∷_, append-assoc}

@@ -1,5 +1,5 @@
 -- The map of the used slots: its ones are counted, and the zeros of its complement end at the lowest free slot.
-use mathlib.Core.Path.{_∙_, _≡_, ap, refl, sym}
+use mathlib.Core.Path.{_∙_, _≡_, ap, refl}
 use mathlib.Core.List.{List, [], _∷_}
 use Prim.Native.Nat.{_%_, _*_, _+_, _-_, _/_, _<_, _^_, _≤_, suc, zero, ℕ}
 use native.Mathlib.Nat.{pow-suc}
@@ -11,7 +11,6 @@ use borrow.Author.Tests.{le-ltb, lt-ltb}
 use Rattle.model.specs.Files.{Slot, first, free, used}
 use Rattle.model.specs.Changes.{free?}
 use Rattle.model.specs.Entries.{chosen}
-use Rattle.file.specs.declared.Room.{Room}
 use Rattle.file.specs.declared.Room.the-variants.{At, Full}
 use Rattle.file.specs.Maps.{map-of, room-of}
 

@@ -1,6 +1,5 @@
 -- `lowest_free` meets its contract: where fewer slots are used than there are, the map's complement begins with the used ones.
 use mathlib.Core.Path.{_≡_, ap}
-use Prim.Native.Nat.{ℕ}
 use native.Mathlib.Omega.{arith}
 use lib.Count.{ones}
 use Rattle.model.specs.Files.{first}

@@ -1,11 +1,11 @@
 -- `is_copy_of` meets its contract: each test that it makes is one that a copy passes.
 use mathlib.Core.Path.{_∙_, _≡_, ap, ap₂, sym}
-use mathlib.Core.Bool.{Bool, _&&_}
+use mathlib.Core.Bool.{_&&_}
 use mathlib.Core.List.{List}
 use Prim.Native.Nat.{_*_, _+_, _-_, ℕ}
 use native.Mathlib.Omega.{arith}
 use lib.Dec.{leb}
-use lib.ListN.{drop, length, take}
+use lib.ListN.{drop}
 use borrow.Author.Tests.{not-false, not-true}
 use Rattle.digits.specs.Keys.{keyValue}
 use Rattle.bucket.specs.Forms.{areAmong, notAbove, pieces, values}
