@@ -20,7 +20,9 @@ use Rattle.keeper.specs.declared.checks.Checked.{Checked}
 use Rattle.keeper.specs.declared.checks.Verdict.{Verdict}
 use Rattle.keeper.specs.declared.checks.Verdict.the-variants.{Fine, Refused}
 use Rattle.model.specs.declared.Cause.{Cause}
-use Rattle.keeper.specs.Ready.{Ready, ReadyWhere, Passed}
+use Rattle.keeper.specs.Ready.{Agreed, AgreedWhere, Passed}
+use Rattle.model.specs.declared.Trie.{Trie}
+use Rattle.model.specs.Calls.{lookedOf, refusing}
 
 -- a header that is right says the file's sizes
 pub right-said : {h : Header} {s : Size} {xs : List ℕ} → h ≡ Right s → Told h xs → Said s xs
@@ -40,13 +42,12 @@ room-inside {r} {k} {n} e t = subst (λ (x : Room). RoomInside x n) e t
 pub arrival-inside : {a : Arrival} {k n : ℕ} → a ≡ ArrivalAt k → ArrivalInside a n → k < n
 arrival-inside {a} {k} {n} e t = subst (λ (x : Arrival). ArrivalInside x n) e t
 
--- checks whose verdict is fine found a file that is ready
-pub fine-ready : (c : Checked) {xs : List ℕ} → c .verdict ≡ Fine → Passed c xs → Ready c xs
-fine-ready c {xs} e t = subst (λ (x : Verdict). ReadyWhere x c xs) e t
+-- checks whose verdict is fine found a file and a trie that agree, and others the cause
+pub fine-agreed : (c : Checked) {xs : List ℕ} {t : Trie} → c .verdict ≡ Fine → Passed c xs t → Agreed c xs t
+fine-agreed c {xs} {t} e h = subst (λ (x : Verdict). AgreedWhere x c xs t) e h
 
--- a refusal says nothing of the file
-pub refused-passed : (c : Checked) {cause : Cause} (xs : List ℕ) → c .verdict ≡ Refused cause → Passed c xs
-refused-passed c {cause} xs e = rw e tt
+pub refused-looked : (c : Checked) {cause : Cause} (xs : List ℕ) (t : Trie) → c .verdict ≡ Refused cause → Passed c xs t → lookedOf xs t ≡ refusing cause
+refused-looked c {cause} xs t e h = subst (λ (x : Verdict). AgreedWhere x c xs t) e h
 
 -- sizes that fit a length, and sizes that do not
 pub fitting-right : {h : Header} {s : Size} {n b slots : ℕ} → h ≡ Right s → Fitting h n b slots → Sized n s × (s .b ≡ b) × (s .slots ≡ slots)

@@ -3,7 +3,7 @@ ghost use mathlib.Core.Path.{_≡_};
 ghost use Prim.Native.Nat.{_≤_, _<_, _+_, _*_};
 ghost use lib.ListN.{length};
 ghost use Rattle.file.specs.Sizes.{Sized, Below};
-ghost use Rattle.keeper.specs.Ready.{Ready};
+ghost use Rattle.keeper.specs.Ready.{Agreed, Ready};
 ghost use Rattle.keeper.specs.Parts.{Parted};
 ghost use Rattle.keeper.specs.Spots.{Spotted};
 use crate::checks::Checked;
@@ -206,7 +206,7 @@ fn divide(
     limit: u64,
     trie: Trie,
 ) -> PutGiven
-    requires { ⌜ (Ready checked (now file)) × (a < checked .size .slots) × (n < checked .size .slots) × (Parted split (checked .size .b))
+    requires { ⌜ (Agreed checked (now file) trie) × (a < checked .size .slots) × (n < checked .size .slots) × (Parted split (checked .size .b))
         × (trie .count + split .len ≤ 256 + split .shared) ⌝ }
 {
     if limit < 1 {
@@ -233,7 +233,7 @@ fn split(
     limit: u64,
     trie: Trie,
 ) -> PutGiven
-    requires { ⌜ (Ready checked (now file)) × (a < checked .size .slots) ⌝ }
+    requires { ⌜ (Agreed checked (now file) trie) × (a < checked .size .slots) ⌝ }
 {
     let size = checked.size;
     let survey = checked.survey;
@@ -259,7 +259,7 @@ fn put_checked(
     limit: u64,
     trie: Trie,
 ) -> PutGiven
-    requires { ⌜ Ready checked (now file) ⌝ }
+    requires { ⌜ Agreed checked (now file) trie ⌝ }
 {
     let size = checked.size;
     let key = digits::key_at(name, 0);

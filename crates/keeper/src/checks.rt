@@ -55,7 +55,7 @@ fn refused(cause: Cause) -> Checked
 // The agreement of a sound file and a trie.
 fn agreed(file: &[u8], trie: Trie, size: Size, survey: Survey) -> Checked
     requires { ⌜ (Sized (length (now file)) size) × (Surveyed survey (now file) size) ⌝ }
-    ensures { λ r. ⌜ Passed r (now (file .entry)) ⌝ }
+    ensures { λ r. ⌜ Passed r (now (file .entry)) trie ⌝ }
 {
     let order = survey.order;
     let strings = strings::strings_of(file, size, &order, survey.count);
@@ -75,7 +75,7 @@ fn agreed(file: &[u8], trie: Trie, size: Size, survey: Survey) -> Checked
 
 // The checks of a file and a trie, in the order 2, 3, 4.
 pub fn checks_of(file: &[u8], trie: Trie) -> Checked
-    ensures { λ r. ⌜ Passed r (now (file .entry)) ⌝ }
+    ensures { λ r. ⌜ Passed r (now (file .entry)) trie ⌝ }
 {
     let Header::Right(size) = file::header_of(file) else {
         return refused(Cause::BadFile);

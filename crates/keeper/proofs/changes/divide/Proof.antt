@@ -36,7 +36,7 @@ store-requires-2 c κs = search needs
 grown-requires : tie.Need-grown-requires
 grown-requires c κs =
     let s = c .before .before .before .before .before .before .before .before .before .before .before .before .before .before .before .before .before .before in
-    let l = s .pre .0 .sized .legal in
+    let l = s .pre .0 .ready .said .sized .legal in
     let p = s .pre .3 in
     search needs
 

@@ -1,5 +1,5 @@
 -- `put` meets its contract: what passed the checks is ready.
-use Rattle.keeper.proofs.Laws.{fine-ready}
+use Rattle.keeper.proofs.Laws.{fine-agreed}
 use borrow.Author.Needs.{needs}
 use Rattle.keeper.proofs.changes.put.Statement.{statement}
 use Rattle.keeper.proofs.changes.put.Tie as tie
@@ -41,7 +41,7 @@ filled-requires : tie.Need-filled-requires
 filled-requires c κs = search needs
 
 put-checked-requires : tie.Need-put-checked-requires
-put-checked-requires c κs = fine-ready (c .before .before .before .before .before .checks-of .result) (c .before .before .before .enum-told3 .given .1) (c .before .before .before .before .before .checks-of .ensures)
+put-checked-requires c κs = fine-agreed (c .before .before .before .before .before .checks-of .result) (c .before .before .before .enum-told3 .given .1) (c .before .before .before .before .before .checks-of .ensures)
 
 same-length : tie.Need-same-length
 same-length c = search needs

@@ -1,5 +1,5 @@
 -- `remove` meets its contract: what passed the checks is ready.
-use Rattle.keeper.proofs.Laws.{fine-ready}
+use Rattle.keeper.proofs.Laws.{fine-agreed}
 use borrow.Author.Needs.{needs}
 use Rattle.keeper.proofs.changes.remove.Statement.{statement}
 use Rattle.keeper.proofs.changes.remove.Tie as tie
@@ -38,7 +38,7 @@ key-at-requires : tie.Need-key-at-requires
 key-at-requires c κs = search needs
 
 remove-checked-requires : tie.Need-remove-checked-requires
-remove-checked-requires c κs = fine-ready (c .before .before .before .before .before .before .checks-of .result) (c .before .before .before .before .enum-told3 .given .1) (c .before .before .before .before .before .before .checks-of .ensures)
+remove-checked-requires c κs = fine-agreed (c .before .before .before .before .before .before .checks-of .result) (c .before .before .before .before .enum-told3 .given .1) (c .before .before .before .before .before .before .checks-of .ensures) .ready
 
 same-length : tie.Need-same-length
 same-length c = search needs

@@ -16,7 +16,7 @@ index-requires c κs = search needs
 slot-at-requires : tie.Need-slot-at-requires
 slot-at-requires c κs =
     let s = c .before .before .before .before .before .before .before in
-    (s .pre .sized, omega (arith, s .pre .surveyed .slots-inside (c .before .holder .result)))
+    (s .pre .said .sized, omega (arith, s .pre .slots-inside (c .before .holder .result)))
 
 count-of-requires : tie.Need-count-of-requires
 count-of-requires c κs = search needs
@@ -38,7 +38,7 @@ returns c =
     let s = c .before .before .before .before .before .before .before .before .before .before .before in
     let i = c .before .before .before .before .index .ensures .0 in
     record {
-      slot-inside = omega (arith, s .pre .surveyed .slots-inside (c .before .before .before .before .before .holder .result));
+      slot-inside = omega (arith, s .pre .slots-inside (c .before .before .before .before .before .holder .result));
       count-most = c .before .before .count-of .ensures .1;
       place-most = c .rank .ensures .0;
     }

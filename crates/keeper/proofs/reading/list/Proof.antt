@@ -1,5 +1,5 @@
 -- `list` meets its contract: what passed the checks is ready.
-use Rattle.keeper.proofs.Laws.{fine-ready}
+use Rattle.keeper.proofs.Laws.{fine-agreed}
 use borrow.Author.Needs.{needs}
 use Rattle.keeper.proofs.reading.list.Statement.{statement}
 use Rattle.keeper.proofs.reading.list.Tie as tie
@@ -56,7 +56,7 @@ key-at-requires-2 : tie.Need-key-at-requires-2
 key-at-requires-2 c κs = search needs
 
 list-checked-requires : tie.Need-list-checked-requires
-list-checked-requires c κs = fine-ready (c .before .before .before .before .before .before .before .before .before .checks-of .result) (c .before .before .before .before .before .before .before .enum-told5 .given .1) (c .before .before .before .before .before .before .before .before .before .checks-of .ensures)
+list-checked-requires c κs = fine-agreed (c .before .before .before .before .before .before .before .before .before .checks-of .result) (c .before .before .before .before .before .before .before .enum-told5 .given .1) (c .before .before .before .before .before .before .before .before .before .checks-of .ensures) .ready
 
 returns-3 : tie.Need-returns-3
 returns-3 c = search needs
