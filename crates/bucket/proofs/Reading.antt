@@ -389,12 +389,6 @@ module _ (b : ℕ) (l : Low) (u : Str) (es : List Entry) (w : isWell b (used l u
   high-is : highIn xs ≡ u
   high-is = ap₂ (λ (k : ℕ) (v : List ℕ). take k v) (head-is .3) from-high ∙ in-front u z high-fits
 
-  pub low-in : lowOf (take (getD xs 2 0) (drop 8 xs)) ≡ l
-  low-in = low-is
-
-  pub high-in : take (getD xs 3 0) (drop 32 xs) ≡ u
-  high-in = high-is
-
   length-row : length (entriesBytes es) ≡ 32 * length es
   length-row = length-entriesBytes (isRow-row l es u (wells .row))
 

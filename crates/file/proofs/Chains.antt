@@ -3,7 +3,6 @@ use mathlib.Core.Path.{_∙_, _≡_, ap, refl, subst, sym}
 use mathlib.Core.Bool.{Bool, false, true}
 use mathlib.Core.List.{List, List·Memᴰ, List·Memᴰ·head, List·Memᴰ·not-nil, List·Memᴰ·tail, [], _∷_}
 use Prim.Native.Nat.{_+_, _-_, _<_, _≤_, suc, zero, ℕ}
-use native.Mathlib.Nat.{le-of-eq}
 use native.Mathlib.Numerals.{add-one}
 use native.Mathlib.Omega.{arith}
 use lib.Dec.{eqb}
@@ -12,7 +11,7 @@ use lib.Seq.{drop-cons, getD-take, length-take-le}
 use borrow.Author.Tests.{eqb-false, eqb-true}
 use Rattle.model.specs.Order.{Low, at, none}
 use Rattle.model.specs.Names.{Bound, BoundLow, limit, unlimited}
-use Rattle.model.specs.Files.{Chain, IsUsed, Slot, Well, free, head, lower-of, ranges, slot-at, upper-of, used}
+use Rattle.model.specs.Files.{IsUsed, Slot, Well, free, head, lower-of, ranges, slot-at, upper-of, used}
 use Rattle.model.proofs.Files.{well-parts}
 use Rattle.model.proofs.Surveys.{Follows, From, Neighbours, chain-follows, follows-chain}
 use Rattle.digits.specs.Keys.{continued, value}

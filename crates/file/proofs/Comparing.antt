@@ -2,27 +2,28 @@
 use mathlib.Core.Path.{_∙_, _≡_, ap, refl, sym}
 use mathlib.Core.Logic.{_⊎_, inl, inr}
 use mathlib.Core.Bool.{Bool, _&&_, _||_, false, not, true}
-use mathlib.Core.Option.{Option, some}
-use mathlib.Core.List.{List, [], _∷_}
-use Prim.Native.Nat.{_*_, _+_, _-_, _<_, _≤_, suc, zero, ℕ}
+use mathlib.Core.Option.{some}
+use mathlib.Core.List.{List}
+use Prim.Native.Nat.{_*_, _+_, _-_, _<_, _≤_, ℕ}
 use native.Mathlib.Omega.{arith}
-use lib.Dec.{eqb, leb, ltb}
-use lib.ListN.{drop, getD, length, take}
+use lib.Dec.{eqb, ltb}
+use lib.ListN.{drop, getD, take}
 use borrow.Author.Tests.{eqb-false, eqb-true, le-leb, lt-ltb, ltb-false, ltb-true, not-true}
 use Rattle.model.specs.Order.{Low, Str, _≺_, _⊑_, _⊴_, at, below, least, none}
-use Rattle.model.specs.Names.{Bound, BoundLow, Digits, atMost, limit, unlimited}
+use Rattle.model.specs.Names.{Bound, BoundLow, atMost, limit, unlimited}
+use Rattle.model.specs.Checks.{isAbove, legalLow}
 use Rattle.model.specs.Entries.{Entry}
 use Rattle.model.specs.Files.{IsUsed, Slot, Well, free, head, lower-of, slot-at, upper-of, used}
-use Rattle.model.specs.Format.{lowOf, readSlot, readUsed, slotAt, slotBytes, slotSize}
-use Rattle.model.proofs.Names.{atMost-le, atMost-lt}
-use Rattle.model.proofs.Checks.{well-isWell}
+use Rattle.model.specs.Format.{lowOf, readSlot, readUsed, slotAt, slotSize}
+use Rattle.model.proofs.Names.{atMost-le, atMost-lt, bound-legalBound}
 use Rattle.model.proofs.Files.{well-parts}
-use Rattle.model.proofs.Format.{slotBytes-readSlot}
 use Rattle.digits.specs.Keys.{continued, isZero, value}
-use Rattle.digits.proofs.Keys.{bound-atMost, bound-below, bound-same, digits-under, value-some}
+use Rattle.digits.proofs.Keys.{bound-atMost, bound-below, bound-same, digits-under}
 use Rattle.bucket.specs.Forms.{lowValue}
-use Rattle.bucket.proofs.Reading.{by-bound, high-in, low-in, well-tested}
+use Rattle.bucket.proofs.Reading.{low-above}
+use Rattle.bucket.proofs.Rows.{read-high, read-low, reads}
 use Rattle.file.specs.Orders.{Known, Listed, Sorts, ahead, placed, stands}
+use Rattle.file.proofs.Readings.{used-read}
 
 -- Bounds.
 module _ {p q : Str} (f : Bound p) (g : Bound q) where
@@ -38,25 +39,21 @@ module _ {p q : Str} (f : Bound p) (g : Bound q) where
   high-le : value (continued p) ≤ value (continued q) → p ⊑ q
   high-le h = atMost-le p q (sym (bound-atMost p q (digits-under 0x20 p (f .digits)) (digits-under 0x20 q (g .digits)) (f .fits) (g .fits)) ∙ le-leb (value (continued p)) (value (continued q)) h)
 
-some-value : (u : Str) → Digits 0x20 u → 0 < value (continued u)
-unfolding continued
-some-value u d = value-some (continued u) (first u d)
-  where
-    first : (u : Str) → Digits 0x20 u → 0 < getD (continued u) 0 0
-    first [] d = omega arith
-    first (x ∷ u) d = omega (arith, d .0)
+some-value : {u : Str} → Bound u → 0 < value (continued u)
+unfolding lowValue legalLow isAbove
+some-value {u} f = ltb-true 0 (value (continued u)) (low-above none u refl (bound-legalBound f))
 
 low-le : {l m : Low} → BoundLow l → BoundLow m → lowValue l ≤ lowValue m → l ⊴ m
 unfolding lowValue
 low-le unlimited c h = least
-low-le (limit {x} f) unlimited h = absurd (omega (arith, some-value x (f .digits)))
+low-le (limit f) unlimited h = absurd (omega (arith, some-value f))
 low-le (limit f) (limit g) h = below (high-le f g h)
 
 pub low-same : {l m : Low} → BoundLow l → BoundLow m → lowValue l ≡ lowValue m → l ≡ m
 unfolding lowValue
 low-same unlimited unlimited h = refl
-low-same unlimited (limit {x} g) h = absurd (omega (arith, some-value x (g .digits)))
-low-same (limit {x} f) unlimited h = absurd (omega (arith, some-value x (f .digits)))
+low-same unlimited (limit g) h = absurd (omega (arith, some-value g))
+low-same (limit f) unlimited h = absurd (omega (arith, some-value f))
 low-same (limit f) (limit g) h = ap at (high-same f g h)
 
 -- A range that stands before another, and one that does not.
@@ -95,22 +92,6 @@ module _ (b : ℕ) {l m : Low} {u v : Str} {es ns : List Entry} (w : Well b (use
     | inr h ↦ inr (high-same (well-parts b x .1) (well-parts b w .1) (h .0), low-le (well-parts b x .0) (well-parts b w .0) (h .1))
   ]
 
--- The ends of a slot's range, as they are read from its bytes.
-module _ (b : ℕ) {l : Low} {u : Str} {es : List Entry} (w : Well b (used l u es)) (v : ℕ) where
-  high-bytes : (ys : List ℕ) → ys ≡ slotBytes b (used l u es)
-      → (getD ys 3 0 ≤ 24 → isZero (take (24 - getD ys 3 0) (drop (32 + getD ys 3 0) ys)) ≡ true → v ≡ value (continued (take (getD ys 3 0) (drop 32 ys))))
-      → v ≡ value (continued u)
-  high-bytes ys e f =
-      let t = rw (← e) at (well-tested b l u es (well-isWell b w)) in
-      by-bound 32 (getD ys 3 0) ys (t .upper) f ∙ ap (λ (x : Str). value (continued x)) (rw (← e) at (high-in b l u es (well-isWell b w)))
-
-  low-bytes : (ys : List ℕ) → ys ≡ slotBytes b (used l u es)
-      → (getD ys 2 0 ≤ 24 → isZero (take (24 - getD ys 2 0) (drop (8 + getD ys 2 0) ys)) ≡ true → v ≡ lowValue (lowOf (take (getD ys 2 0) (drop 8 ys))))
-      → v ≡ lowValue l
-  low-bytes ys e f =
-      let t = rw (← e) at (well-tested b l u es (well-isWell b w)) in
-      by-bound 8 (getD ys 2 0) ys (t .lower) f ∙ ap lowValue (rw (← e) at (low-in b l u es (well-isWell b w)))
-
 -- The bytes of slot B, as the code takes them.
 abbrev pub bytesAt : ℕ → ℕ → List ℕ → List ℕ
 bytesAt b B xs = take (64 + 32 * b) (drop (16 + B * (64 + 32 * b)) xs)
@@ -120,23 +101,26 @@ unfolding slotAt slotSize
 bytes-at b B xs = refl
 
 module _ {b : ℕ} {xs : List ℕ} {fs : List Slot} (K : Known b xs fs) (B : ℕ) (ys : List ℕ) (e : ys ≡ bytesAt b B xs) (v : ℕ) where
+  known-read : IsUsed (head (slot-at fs B)) → readUsed b ys ≡ some (slot-at fs B)
+  known-read k = used-read b ys (slot-at fs B) k (ap (readSlot b) (e ∙ bytes-at b B xs) ∙ K .read B k)
+
   pub known-high : IsUsed (head (slot-at fs B))
       → (getD ys 3 0 ≤ 24 → isZero (take (24 - getD ys 3 0) (drop (32 + getD ys 3 0) ys)) ≡ true → v ≡ value (continued (take (getD ys 3 0) (drop 32 ys))))
       → v ≡ value (continued (upper-of (head (slot-at fs B))))
-  known-high k f = go (slot-at fs B) k (K .well B) (e ∙ bytes-at b B xs ∙ slotBytes-readSlot b (slotAt b B xs) (K .read B k))
+  known-high k f = go (slot-at fs B) k (K .well B) (known-read k)
     where
-      go : (s : Slot) → IsUsed (head s) → Well b s → ys ≡ slotBytes b s → v ≡ value (continued (upper-of (head s)))
+      go : (s : Slot) → IsUsed (head s) → Well b s → readUsed b ys ≡ some s → v ≡ value (continued (upper-of (head s)))
       go free k w i = absurd k
-      go (used l u es) k w i = high-bytes b w v ys i f
+      go (used l u es) k w i = read-high b ys v (reads b ys i w) f
 
   pub known-low : IsUsed (head (slot-at fs B))
       → (getD ys 2 0 ≤ 24 → isZero (take (24 - getD ys 2 0) (drop (8 + getD ys 2 0) ys)) ≡ true → v ≡ lowValue (lowOf (take (getD ys 2 0) (drop 8 ys))))
       → v ≡ lowValue (lower-of (head (slot-at fs B)))
-  known-low k f = go (slot-at fs B) k (K .well B) (e ∙ bytes-at b B xs ∙ slotBytes-readSlot b (slotAt b B xs) (K .read B k))
+  known-low k f = go (slot-at fs B) k (K .well B) (known-read k)
     where
-      go : (s : Slot) → IsUsed (head s) → Well b s → ys ≡ slotBytes b s → v ≡ lowValue (lower-of (head s))
+      go : (s : Slot) → IsUsed (head s) → Well b s → readUsed b ys ≡ some s → v ≡ lowValue (lower-of (head s))
       go free k w i = absurd k
-      go (used l u es) k w i = low-bytes b w v ys i f
+      go (used l u es) k w i = read-low b ys v (reads b ys i w) f
 
 pub stands-by : (r t : Bool) (h l p q : ℕ) (s : Slot) → r ≡ ahead h l p q → p ≡ value (continued (upper-of (head s))) → q ≡ lowValue (lower-of (head s))
     → r ≡ t → stands h l s ≡ t

@@ -2,56 +2,43 @@
 use mathlib.Core.Path.{_∙_, _≡_, ap, refl, subst, sym}
 use mathlib.Core.Bool.{Bool, cond, false, true}
 use mathlib.Core.Option.{Option, none as nothing, some}
-use mathlib.Core.List.{List, List·Memᴰ, List·Memᴰ·append-cases, List·Memᴰ·cases-cons, List·Memᴰ·not-nil, Memᴰ·append-left, Memᴰ·append-right, [], _++_, _∷_}
-use mathlib.Core.Logic.{_⊎_, inl, inr}
+use mathlib.Core.List.{List, List·Memᴰ, List·Memᴰ·append-cases, List·Memᴰ·cases-cons, List·Memᴰ·not-nil, Memᴰ·append-left, Memᴰ·append-right, _++_, _∷_}
+use mathlib.Core.Logic.{inl, inr}
 use Prim.Native.Nat.{_*_, _+_, _-_, _<_, _^_, _≤_, suc, zero, ℕ}
 use native.Mathlib.Decide.{decLt, ℕ-discrete}
-use native.Mathlib.Nat.{pow-le-pow-right, pow-succ', zero-add}
+use native.Mathlib.Nat.{zero-add}
 use native.Mathlib.Omega.{arith}
 use lib.ListN.{drop, drop-of-length-le, getD, length, length-drop, length-replicate, length-set, replicate, set, take, take-append-drop}
 use lib.Seq.{drop-cons, drop-set-lt, getD-set-other, getD-set-same, take-take}
 use Rattle.model.specs.Order.{Low, Str}
 use Rattle.model.specs.Entries.{Entry}
-use Rattle.model.specs.Files.{IsUsed, Slot, Sound, Well, free, head, slot-at, used, well-free}
+use Rattle.model.specs.Files.{IsUsed, Slot, Well, free, head, slot-at, used, well-free}
 use Rattle.model.specs.Tries.{occ, one-if}
-use Rattle.model.specs.Checks.{check, is-bad, isWell}
-use Rattle.model.specs.Format.{readSlot, readSlots, readUsed, slotAt}
+use Rattle.model.specs.Checks.{is-bad, isWell}
+use Rattle.model.specs.Format.{readSlot, readSlots, readUsed, slotAt, slotSize}
 use Rattle.model.proofs.Cells.{occ-append, occ-mem, one-if-equal}
 use Rattle.model.proofs.Checks.{isWell-well, well-isWell}
 use Rattle.model.proofs.Files.{cut-well}
 use Rattle.model.proofs.Format.{readSlots-each}
 use Rattle.digits.specs.Keys.{continued, isZero, value}
 use Rattle.bucket.specs.Forms.{lowValue}
+use Rattle.bucket.proofs.Rows.{read-by-zero}
 use Rattle.file.specs.declared.Size.{Size}
 use Rattle.file.specs.Maps.{bit-of, map-of}
 use Rattle.file.specs.Orders.{Known, Laid, Listed, Placed, Sorts, placed, stands}
 use Rattle.file.specs.Surveys.{checkSlots}
 use Rattle.file.proofs.Moves.{put-back, put-front, put-here}
 use Rattle.file.proofs.Comparing.{bytes-at, bytesAt, not-stands-sorts, stands-sorts}
-use Rattle.file.proofs.Readings.{read-by}
+use Rattle.file.proofs.Maps.{map-lt}
 use Rattle.file.proofs.Verdicts.{Mapped, Ordered, check-bad, check-none, check-slots, laid-known, laid-listed}
 
--- The map of slots, slot by slot, and how large it is.
+-- The map of slots, slot by slot.
 map-next : (fs : List Slot) (k : ℕ) → k < length fs → map-of (drop k fs) ≡ 2 * map-of (drop (suc k) fs) + bit-of (slot-at fs k)
 unfolding map-of
 map-next fs k h = ap map-of (drop-cons fs k free h)
 
-bit-most : (s : Slot) → bit-of s ≤ 1
-bit-most free = omega arith
-bit-most (used l u es) = omega arith
-
-map-small : (fs : List Slot) → map-of fs < 2 ^ length fs
-unfolding map-of
-map-small [] = omega arith
-map-small (x ∷ fs) =
-    let e : 2 ^ length (x ∷ fs) ≡ 2 * 2 ^ length fs = pow-succ' 2 (length fs) in
-    omega (arith, map-small fs, bit-most x)
-
 map-fits : (fs : List Slot) (k : ℕ) → length fs ≤ 64 → map-of (drop k fs) < 2 ^ 64
-map-fits fs k h =
-    let l : length (drop k fs) ≤ 64 = omega (arith, length-drop k fs) in
-    let p : 2 ^ length (drop k fs) ≤ 2 ^ 64 = pow-le-pow-right (omega arith) l in
-    omega (arith, map-small (drop k fs))
+map-fits fs k h = map-lt 64 (drop k fs) (omega (arith, length-drop k fs))
 
 -- Nothing is seen yet.
 all-free : (n B : ℕ) → slot-at (replicate n free) B ≡ free
@@ -84,7 +71,8 @@ module _ {xs : List ℕ} {size : Size} {k : ℕ} {order : List ℕ} {count map :
   k-inside = omega (arith, L .long)
 
   k-read : readSlot (size .b) (slotAt (size .b) k xs) ≡ cond (isZero ys) (some free) (readUsed (size .b) ys)
-  k-read = ap (readSlot (size .b)) (sym (is ∙ bytes-at (size .b) k xs)) ∙ read-by (size .b) ys whole
+  unfolding slotSize
+  k-read = ap (readSlot (size .b)) (sym (is ∙ bytes-at (size .b) k xs)) ∙ read-by-zero (size .b) ys whole
 
   pub laid-free : isZero ys ≡ true → (v : ℕ) → (2 * map + 0 < 2 ^ 64 → v ≡ 2 * map + 0) → Laid xs size k order count v
   laid-free z v f =

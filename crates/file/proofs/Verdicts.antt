@@ -1,28 +1,27 @@
 -- What the survey says of slots that are laid out in order is what check says, and of a sound file its order and its map.
 use mathlib.Core.Path.{_∙_, _≡_, ap, refl, subst, sym}
 use mathlib.Core.Bool.{Bool, false, true}
-use mathlib.Core.Option.{Option, none as nothing, some}
+use mathlib.Core.Option.{none as nothing, some}
 use mathlib.Core.List.{List, List·Memᴰ, [], _++_, _∷_}
-use Prim.Native.Nat.{_*_, _+_, _-_, _<_, _≤_, suc, zero, ℕ}
+use Prim.Native.Nat.{_+_, _-_, _<_, _≤_, suc, ℕ}
 use native.Mathlib.Decide.{decLe}
 use native.Mathlib.Nat.{zero-add}
 use native.Mathlib.Omega.{arith}
 use lib.ListN.{drop, getD, length, take}
 use lib.Seq.{append-snoc, drop-cons, getD-take, length-take-le, split-at, take-suc, take-take}
-use Rattle.model.specs.Order.{Low, Str, at, none}
-use Rattle.model.specs.Entries.{Entry}
-use Rattle.model.specs.Files.{Bad, Chain, Cut, IsUsed, Slot, Sound, Well, free, head, order-of, ranges, slot-at, upper-of, used}
+use Rattle.model.specs.Order.{at, none}
+use Rattle.model.specs.Files.{Bad, Chain, Cut, IsUsed, Slot, Sound, free, head, order-of, ranges, slot-at, upper-of, used}
 use Rattle.model.specs.Checks.{Kind, check, is-bad, is-cut, is-sound}
-use Rattle.model.specs.Format.{checkRead, readSlot, readSlots, readUsed, sized, slotAt}
+use Rattle.model.specs.Format.{checkRead, readSlots, readUsed, sized, slotAt}
 use Rattle.model.proofs.Files.{cut-not-sound, cut-unique, order-right, used-inside}
 use Rattle.model.proofs.Checks.{Checked, check-right}
-use Rattle.model.proofs.Surveys.{Apart, Before, Copy, Differ, Follows, Lists, Neighbours, Sorted, Twins, apart-bad, chain-follows, chain-sound, copy-cut, follows-chain, mem-insert, sound-sorted, twin-bad}
+use Rattle.model.proofs.Surveys.{Apart, Before, Copy, Differ, Lists, Sorted, Twins, apart-bad, chain-follows, chain-sound, copy-cut, follows-chain, mem-insert, sound-sorted, twin-bad}
 use Rattle.file.specs.declared.Size.{Size}
 use Rattle.file.specs.declared.survey.Kind.{Kind as Found}
 use Rattle.file.specs.declared.survey.Survey.{Survey}
 use Rattle.file.specs.Copies.{CopyTold}
 use Rattle.file.specs.Maps.{map-of}
-use Rattle.file.specs.Orders.{Chained, Known, Laid, Listed, Twinned, placed}
+use Rattle.file.specs.Orders.{Chained, Known, Laid, Listed, Twinned}
 use Rattle.file.specs.Sizes.{Below}
 use Rattle.file.specs.Surveys.{Surveyed, checkSlots, verdict}
 use Rattle.file.proofs.Chains.{listed-mem, neighbours-places}

@@ -2,7 +2,7 @@
 use Prim.Native.Nat.{_<_, _≤_, _-_, _+_, _/_, suc, ℕ}
 use native.Mathlib.Omega.{arith}
 use mathlib.Core.Path.{_≡_, subst}
-use mathlib.Core.Bool.{Bool, false, true}
+use mathlib.Core.Bool.{false, true}
 use mathlib.Core.List.{List}
 use Rattle.model.specs.Files.{Slot}
 use Rattle.digits.specs.Keys.{keyValue}

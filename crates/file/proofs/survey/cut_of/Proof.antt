@@ -1,8 +1,7 @@
 -- `cut_of` meets its contract: the second of the two is the slot to free, where it is a copy and the rest is a chain.
 use Prim.Native.Nat.{_-_, ℕ}
-use lib.ListN.{getD}
 use native.Mathlib.Omega.{arith}
-use mathlib.Core.Path.{_≡_, _∙_, ap}
+use mathlib.Core.Path.{_∙_, ap}
 use borrow.Author.Tests.{not-false, not-true}
 use Rattle.model.specs.Checks.{is-cut}
 use Rattle.model.specs.Format.{slotAt}

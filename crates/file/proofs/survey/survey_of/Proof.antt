@@ -1,17 +1,17 @@
 -- `survey_of` meets its contract: with k slots left to see, the count and k together are not above the slots.
 use Prim.Native.Nat.{_<_, _≤_, _+_, _-_, suc, ℕ}
-use mathlib.Core.Path.{_≡_, subst}
+use mathlib.Core.Path.{_∙_, subst, sym}
 use lib.ListN.{replicate}
 use native.Mathlib.Omega.{arith}
 use borrow.Author.Needs.{needs}
 use Rattle.file.specs.Sizes.{Below}
 use Rattle.bucket.specs.declared.Form.{Form}
 use Rattle.bucket.specs.Forms.{Formed}
+use Rattle.bucket.proofs.Finding.{vacant-free, vacant-taken}
 use Rattle.file.specs.declared.survey.Kind.the-variants.{Bad}
 use Rattle.file.specs.Orders.{Laid}
 use Rattle.file.proofs.Laws.{some-slot, below-zeros}
 use Rattle.file.proofs.Laying.{ill-map, ill-order, ill-said, laid-free, laid-start, laid-used}
-use Rattle.file.proofs.Readings.{vacant-free, vacant-taken}
 use Rattle.file.proofs.Verdicts.{surveyed}
 use Rattle.file.proofs.survey.survey_of.Statement.{statement}
 use Rattle.file.proofs.survey.survey_of.Tie as tie
@@ -53,7 +53,7 @@ loop-again c =
     let size = s .args .size in
     let L : Laid xs size (suc (l .k - 1)) (l .order) (l .count) (l .used) = subst (λ (n : ℕ). Laid xs size n (l .order) (l .count) (l .used)) (omega arith) (l .inv .3) in
     let y = c .before .before .before .before .slot-at .ensures in
-    let z = vacant-free (c .before .before .before .vacancy-of .result) _ (c .before .before .before .vacancy-of .ensures) (c .before .enum-told .given .1) in
+    let z = vacant-free _ (sym (c .before .enum-told .given .1) ∙ c .before .before .before .vacancy-of .ensures) in
     (omega arith, omega arith, l .inv .2, laid-free L (omega arith) (s .pre .legal .slots-most) _ (y .0) (y .1) z _ (c .with-next .ensures))
 
 enum-told-2 : tie.Need-enum-told-2 Inv-loop μ-loop
@@ -79,7 +79,7 @@ returns c =
     let size = s .args .size in
     let L : Laid xs size (suc (l .k - 1)) (l .order) (l .count) (l .used) = subst (λ (n : ℕ). Laid xs size n (l .order) (l .count) (l .used)) (omega arith) (l .inv .3) in
     let y = c .before .before .before .before .before .before .before .before .slot-at .ensures in
-    let z = vacant-taken (c .before .before .before .before .before .before .before .vacancy-of .result) _ (c .before .before .before .before .before .before .before .vacancy-of .ensures) (c .before .before .before .before .before .enum-told2 .given .1) in
+    let z = vacant-taken _ (sym (c .before .before .before .before .before .enum-told2 .given .1) ∙ c .before .before .before .before .before .before .before .vacancy-of .ensures) in
     let h = some-slot _ size (s .pre) .0 in
     let ill = subst (λ (r : Form). Formed (size .b) (c .before .before .before .before .before .before .before .before .slot-at .result .now) r) (c .before .before .enum-told3 .given .1) (c .before .before .before .before .form-of .ensures) in
     surveyed (c .found .result) _ _ _ (replicate 64 0) _ Bad 0 (c .found .ensures) (below-zeros 64 _ h) (omega arith) h
@@ -118,7 +118,7 @@ loop-again-2 c =
     let size = s .args .size in
     let L : Laid xs size (suc (l .k - 1)) (l .order) (l .count) (l .used) = subst (λ (n : ℕ). Laid xs size n (l .order) (l .count) (l .used)) (omega arith) (l .inv .3) in
     let y = c .before .before .before .before .before .before .before .before .before .before .before .before .before .slot-at .ensures in
-    let z = vacant-taken (c .before .before .before .before .before .before .before .before .before .before .before .before .vacancy-of .result) _ (c .before .before .before .before .before .before .before .before .before .before .before .before .vacancy-of .ensures) (c .before .before .before .before .before .before .before .before .before .before .enum-told2 .given .1) in
+    let z = vacant-taken _ (sym (c .before .before .before .before .before .before .before .before .before .before .enum-told2 .given .1) ∙ c .before .before .before .before .before .before .before .before .before .before .before .before .vacancy-of .ensures) in
     let W = subst (λ (r : Form). Formed (size .b) (c .before .before .before .before .before .before .before .before .before .before .before .before .before .slot-at .result .now) r) (c .before .before .before .before .before .before .before .form .given .1) (c .before .before .before .before .before .before .before .before .before .form-of .ensures) in
     let n = c .before .insert .ensures in
     let p = c .before .before .before .before .place-of in (

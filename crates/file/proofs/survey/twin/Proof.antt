@@ -1,10 +1,9 @@
 -- `twin` meets its contract: the neighbours passed have different upper bounds.
-use Prim.Native.Nat.{_<_, _≤_, _+_, _-_, suc, ℕ}
+use Prim.Native.Nat.{_<_, _≤_, _-_, suc, ℕ}
 use native.Mathlib.Decide.{ℕ-discrete}
 use native.Mathlib.Omega.{arith}
 use mathlib.Core.Path.{_≡_, subst}
 use mathlib.Core.List.{List}
-use lib.ListN.{length}
 use Rattle.model.specs.Files.{Slot, head, upper-of}
 use Rattle.digits.specs.Keys.{keyValue}
 use Rattle.file.specs.Orders.{Known, Listed, placed}
