@@ -15,11 +15,11 @@ use Rattle.trie.specs.Places.{Placed}
 use Rattle.trie.specs.Strung.{lengths}
 use Rattle.trie.specs.Walks.{By}
 
-abbrev pub live : Trie → List Cell
-live t = take (t .count) (t .cells)
+abbrev pub live-cells : Trie → List Cell
+live-cells t = take (t .count) (t .cells)
 
-abbrev pub top : Trie → Side
-top t = root-side (t .count) (t .first)
+abbrev pub top-side : Trie → Side
+top-side t = root-side (t .count) (t .first)
 
 -- The split key c was walked with: by which side its leaf was reached, how many digits the split string s, a beginning of
 -- c, shares with the leaf's path, and the slot a. Places and lengths are those of the file's strings.
@@ -32,6 +32,6 @@ pub record Asked (t : Trie) (places lens : List ℕ) (w : Walk) (c s : Str) (sha
   pub lens-are : take (length (strings-of fs)) lens ≡ lengths (strings-of fs)
   pub some : 0 < length s
   pub begins : s ≡ take (length s) c
-  pub by : By (spot-cells (live t) c (suc (length (live t))) [] root (top t)) w
-  pub shares : shared ≡ diff s (path-cells (live t) c (suc (length (live t))) [] (top t))
-  pub slot-is : a ≡ walk-cells (live t) c (suc (length (live t))) [] (top t)
+  pub by : By (spot-cells (live-cells t) c (suc (length (live-cells t))) [] root (top-side t)) w
+  pub shares : shared ≡ diff s (path-cells (live-cells t) c (suc (length (live-cells t))) [] (top-side t))
+  pub slot-is : a ≡ walk-cells (live-cells t) c (suc (length (live-cells t))) [] (top-side t)
