@@ -9,7 +9,7 @@ use native.Mathlib.Numerals.{add-one}
 use native.Mathlib.Omega.{arith}
 use borrow.Author.Tests.{eq-eqb, le-leb, lt-leb, ne-eqb}
 use lib.ListN.{List·getD-append, drop, getD, length, length-append, length-drop, length-replicate, length-set, replicate, set, take}
-use lib.Seq.{drop-length, ext-getD, getD-append-add, getD-set-other, getD-set-same, getD-take, take-length}
+use lib.Seq.{drop-length, ext-getD, getD-append-add, getD-set-other, getD-set-same, getD-take, take-all}
 use Rattle.model.specs.declared.Cell.{Cell}
 use Rattle.model.specs.declared.Side.{Side}
 use Rattle.model.specs.declared.Side.the-variants.{Cell as further, Slot as slot}
@@ -27,7 +27,7 @@ use Rattle.trie.specs.Walks.{By}
 use Rattle.growth.specs.Grows.{Asked, live-cells, top-side}
 use Rattle.growth.specs.Parts.{Appended, FirstPlace, Redirected, cell-turned, leaf-place, new-cell, next-side, side-joined, side-turned, walk-joined}
 use Rattle.growth.proofs.Meeting.{Comes, Kept, Met, met-kept, met-left, string-of, turn-met, visited-met, walk-comes}
-use Rattle.growth.proofs.Standing.{Ends, Side-by, Stands, left-of, met-stands, no-cell, right-of}
+use Rattle.growth.proofs.Standing.{Ends, Side-by, Stands, left-of, met-stands, no-cell, order-below, right-of}
 use Rattle.growth.proofs.Parting.{C, Parted, above-leaf, below-leaf, ends, leaf-place-is, live, old-parted, order-count, os, path, path-above, path-is, shares, some-cells, sp, spot-is, ss, strings-count, visits, walk-is}
 use Rattle.growth.proofs.Chains.{chain-side, chain-size, graft-kept, graft-none, grown-at, met-first, met-old, next-further, next-slot, path-on, path-to, proper-above}
 
@@ -103,7 +103,24 @@ join-same : (r : Trie) (n : ℕ) (w : Walk) (m : ℕ) → w .cell ≡ m → m < 
 join-same r n w m e h l =
     ap (λ (x : List Cell). at-cell x m) (join-cells r n w (omega arith))
     ∙ subst (λ (k : ℕ). at-cell (set (r .cells) k (side-joined (at-cell (r .cells) k) (w .left) n)) m ≡ side-joined (at-cell (r .cells) m) (w .left) n) (sym e)
-        (getD-set-same (r .cells) m (side-joined (at-cell (r .cells) m) (w .left) n) zero-cell l)
+    (getD-set-same (r .cells) m (side-joined (at-cell (r .cells) m) (w .left) n) zero-cell l)
+
+-- What a leaf leads to, by whether its path is above s.
+turn-stays : (s : Str) (A N : ℕ) (p : Str) (B : ℕ) → p ⊑ s → turn s A N p B ≡ B
+turn-stays s A N p B h = go (ℕ-discrete B A) (le? p s)
+  where
+    go : (d : Dec (B ≡ A)) (e : Dec (p ⊑ s)) → turned d e B N ≡ B
+    go (no n) e = refl
+    go (yes q) (yes e) = refl
+    go (yes q) (no e) = absurd (e h)
+
+turn-goes : (s : Str) (A N : ℕ) (p : Str) (B : ℕ) → B ≡ A → ¬ (p ⊑ s) → turn s A N p B ≡ N
+turn-goes s A N p B b h = go (ℕ-discrete B A) (le? p s)
+  where
+    go : (d : Dec (B ≡ A)) (e : Dec (p ⊑ s)) → turned d e B N ≡ N
+    go (no n) e = absurd (n b)
+    go (yes q) (yes e) = absurd (h e)
+    go (yes q) (no e) = refl
 
 placed-top : (n first : ℕ) (x : Side) → 0 < n → placed (root-side n first) x ≡ root-side n first
 placed-top zero first x h = absurd (omega arith)
@@ -176,7 +193,7 @@ module _ {t : Trie} {places lens : List ℕ} {w : Walk} {c s : Str} {shared a : 
     unfolding cell-turned
     string-grown last r F R =
         made r T (turn-side (turn s a N) [] (top-side t)) (R .full ∙ K .agrees .whole) (omega (arith, size, live K, K .agrees .few)) each past
-            (R .count-is ∙ sym (live K) ∙ sym size) (R .first-is ∙ K .agrees .first-leaf (some-cells K same) ∙ sym (top-first (turn s a N) (t .count) (t .first) (some-cells K same)))
+        (R .count-is ∙ sym (live K) ∙ sym size) (R .first-is ∙ K .agrees .first-leaf (some-cells K same) ∙ sym (top-first (turn s a N) (t .count) (t .first) (some-cells K same)))
         ∙ sym (ap₂ (λ (y : List Cell) (z : Side). trie-of y z) cells-are (ap (turn-side (turn s a N) []) root-same))
       where
         size : length T ≡ length (live-cells t)
@@ -196,9 +213,9 @@ module _ {t : Trie} {places lens : List ℕ} {w : Walk} {c s : Str} {shared a : 
             let x : Cell = at-cell (live-cells t) i in
             redirected-at last r R i b
             ∙ cell-same refl refl
-                (side-same s a N (string-of x (H .path)) (S .place) last (x .left) (λ B e. rw (S .string) at (old-parted K same last F′ (S .place))))
-                (ap (λ (j : ℕ). side-turned (x .right) j last a N) (add-one (S .place))
-                ∙ side-same s a N (H .path) (suc (S .place)) last (x .right) (λ B e. rw (S .next B e) at (old-parted K same last F′ (suc (S .place)))))
+            (side-same s a N (string-of x (H .path)) (S .place) last (x .left) (λ B e. rw (S .string) at (old-parted K same last F′ (S .place))))
+            (ap (λ (j : ℕ). side-turned (x .right) j last a N) (add-one (S .place))
+            ∙ side-same s a N (H .path) (suc (S .place)) last (x .right) (λ B e. rw (S .next B e) at (old-parted K same last F′ (suc (S .place)))))
             ∙ sym (turn-met (turn s a N) (suc (length (live-cells t))) (C K .tree) [] (C K .reads) once tall i (H .path) (H .met))
 
         past : (i : ℕ) → length T ≤ i → at-cell (r .cells) i ≡ zero-cell
@@ -291,7 +308,7 @@ module _ {t : Trie} {places lens : List ℕ} {w : Walk} {c s : Str} {shared a : 
     new-met zero h =
         let e : n ≡ n + 0 = omega arith in
         subst (λ (j : ℕ). Met G [] top-grown j (path K)) e
-            (subst (λ (x : Side). Met G [] (placed (top-side t) x) n (path K)) (sym side-new) (met-first (C K .reads) G n keep comes grown-there))
+        (subst (λ (x : Side). Met G [] (placed (top-side t) x) n (path K)) (sym side-new) (met-first (C K .reads) G n keep comes grown-there))
     new-met (suc i) h =
         subst (λ (p : Str). Met G [] top-grown (n + suc i) p) (new-string i (omega arith)) (met-left (new-met i (omega arith)) (new-left i h))
 
@@ -307,3 +324,176 @@ module _ {t : Trie} {places lens : List ℕ} {w : Walk} {c s : Str} {shared a : 
 
     turned-at : (i : ℕ) (r : Str) → Met G [] top-grown i r → at-cell Q i ≡ turn-cell (turn s a N) r (at-cell G i)
     turned-at = turn-met (turn s a N) (suc (length G)) (replace c X [] (C K .tree)) [] (grows .1) (each-once (grows .1) (grows .2)) tall-grown
+
+    -- The new cells as the code writes them.
+    path-over : (i : ℕ) → diff s (path K) + i < length s → ¬ (path-to s (path K) i ⊑ s)
+    path-over zero h = path-above K new
+    path-over (suc i) h = proper-above (suc (diff s (path K) + i)) s (omega arith)
+
+    left-new : (i : ℕ) → diff s (path K) + i < length s
+        → next-side (n + i) (n + (length s - diff s (path K))) a ≡ turn-side (turn s a N) (take (suc (diff s (path K) + i)) s) (next-side (n + i) (n + (length s - diff s (path K))) W)
+    left-new i h = elim (decLt (suc (diff s (path K) + i)) (length s)) [
+      | yes b ↦ next-further (n + i) (n + (length s - diff s (path K))) a (omega arith)
+          ∙ ap (turn-side (turn s a N) (take (suc (diff s (path K) + i)) s)) (sym (next-further (n + i) (n + (length s - diff s (path K))) W (omega arith)))
+      | no b ↦ next-slot (n + i) (n + (length s - diff s (path K))) a (omega arith)
+          ∙ ap (λ (B : ℕ). slot B) (sym (turn-stays s a N (take (suc (diff s (path K) + i)) s) W (whole (omega arith)) ∙ slot-same))
+          ∙ ap (turn-side (turn s a N) (take (suc (diff s (path K) + i)) s)) (sym (next-slot (n + i) (n + (length s - diff s (path K))) W (omega arith)))
+    ]
+      where
+        whole : length s ≤ suc (diff s (path K) + i) → take (suc (diff s (path K) + i)) s ⊑ s
+        whole b = subst (λ (x : Str). x ⊑ s) (sym (take-all (suc (diff s (path K) + i)) s b)) (le-refl s)
+
+    new-same : (i : ℕ) → diff s (path K) + i < length s → new-cell s (diff s (path K) + i) (n + i) (n + (length s - diff s (path K))) a N ≡ at-cell Q (n + i)
+    unfolding new-cell
+    new-same i h =
+        cell-same refl refl
+        (left-new i h ∙ ap (λ (p : Str). turn-side (turn s a N) p (next-side (n + i) (n + (length s - diff s (path K))) W)) (sym (path-on s (path K) i h)))
+        (ap (λ (B : ℕ). slot B) (sym (turn-goes s a N (path-to s (path K) i) W slot-same (path-over i h))))
+        ∙ ap (turn-cell (turn s a N) (path-to s (path K) i)) (sym (new-at i h))
+        ∙ sym (turned-at (n + i) (path-to s (path K) i) (new-met i h))
+
+    -- The old cells: only the leaf that c reaches stands at the place that parts.
+    left-parted : (i : ℕ) (h : i < n) (B : ℕ) → at-cell (live-cells t) i .left ≡ slot B → sp K ≢ left i
+        → Parted s (ends K .place) (getD (ss K) (here-at i h .stands .place) []) (here-at i h .stands .place)
+    left-parted i h B e d = elim (decLt j (ends K .place)) [
+      | yes b ↦ (λ q. omega arith, λ q. below-leaf K new j b)
+      | no b ↦ elim (decLt (ends K .place) j) [
+        | yes b′ ↦ (λ q. absurd (above-leaf K new j (omega arith) q), λ q. absurd (omega arith))
+        | no b′ ↦ absurd (d (there (omega arith)))
+      ]
+    ]
+      where
+        j : ℕ
+        j = here-at i h .stands .place
+
+        there : ends K .place ≡ j → sp K ≡ left i
+        there q =
+            let g : getD (os K) (ends K .place) 0 ≡ i = ap (λ (k : ℕ). getD (os K) k 0) q ∙ here-at i h .stands .is in
+            ends K .left-only B (omega (arith, q, here-at i h .stands .fits, strings-count K, order-count K)) (subst (λ (k : ℕ). at-cell (live-cells t) k .left ≡ slot B) (sym g) e)
+            ∙ ap (λ (k : ℕ). left k) g
+
+    right-parted : (i : ℕ) (h : i < n) (B : ℕ) → at-cell (live-cells t) i .right ≡ slot B → sp K ≢ right i
+        → Parted s (ends K .place) (getD (ss K) (suc (here-at i h .stands .place)) []) (suc (here-at i h .stands .place))
+    right-parted i h B e d = elim (decLt (suc j) (ends K .place)) [
+      | yes b ↦ (λ q. omega arith, λ q. below-leaf K new (suc j) b)
+      | no b ↦ elim (decLt (ends K .place) (suc j)) [
+        | yes b′ ↦ (λ q. absurd (above-leaf K new (suc j) (omega arith) q), λ q. absurd (omega arith))
+        | no b′ ↦ absurd (d (there (omega arith)))
+      ]
+    ]
+      where
+        j : ℕ
+        j = here-at i h .stands .place
+
+        there : ends K .place ≡ suc j → sp K ≡ right i
+        there q =
+            let g : getD (os K) j 0 ≡ i = here-at i h .stands .is in
+            ends K .right-only j B q (subst (λ (k : ℕ). at-cell (live-cells t) k .right ≡ slot B) (sym g) e) ∙ ap (λ (k : ℕ). right k) g
+
+    left-same : (i : ℕ) (h : i < n) → sp K ≢ left i
+        → side-turned (at-cell (live-cells t) i .left) (here-at i h .stands .place) (ends K .place) a N
+        ≡ turn-side (turn s a N) (string-of (at-cell (live-cells t) i) (here-at i h .path)) (at-cell (live-cells t) i .left)
+    left-same i h d =
+        let S = here-at i h .stands in
+        side-same s a N (string-of (at-cell (live-cells t) i) (here-at i h .path)) (S .place) (ends K .place) (at-cell (live-cells t) i .left)
+        (λ B e. subst (λ (p : Str). Parted s (ends K .place) p (S .place)) (S .string) (left-parted i h B e d))
+
+    right-same : (i : ℕ) (h : i < n) → sp K ≢ right i
+        → side-turned (at-cell (live-cells t) i .right) (here-at i h .stands .place + 1) (ends K .place) a N ≡ turn-side (turn s a N) (here-at i h .path) (at-cell (live-cells t) i .right)
+    right-same i h d =
+        let S = here-at i h .stands in
+        ap (λ (j : ℕ). side-turned (at-cell (live-cells t) i .right) j (ends K .place) a N) (add-one (S .place))
+        ∙ side-same s a N (here-at i h .path) (suc (S .place)) (ends K .place) (at-cell (live-cells t) i .right)
+        (λ B e. subst (λ (p : Str). Parted s (ends K .place) p (suc (S .place))) (S .next B e) (right-parted i h B e d))
+
+    turned-old : (i : ℕ) (h : i < n) → at-cell Q i ≡ turn-cell (turn s a N) (here-at i h .path) (at-cell G i)
+    turned-old i h = turned-at i (here-at i h .path) (met-old (C K .reads) G n keep (side-of n X) (here-at i h .met))
+
+    there-at : (m : ℕ) → cell-of (sp K) ≡ m → m < n → at-cell G m ≡ changed (at-cell (live-cells t) m) (sp K) (further n)
+    there-at m e h = subst (λ (k : ℕ). at-cell G k ≡ changed (at-cell (live-cells t) k) (sp K) (further n)) e (grown-there (omega (arith, e, h)))
+
+    module _ (r : Trie) (R : Redirected t places n (ends K .place) a N r) where
+      abbrev J : List Cell
+      J = walk-joined r n w .cells
+
+      long : (m : ℕ) → m < n → m < length (r .cells)
+      long m h = omega (arith, h, R .full, K .agrees .whole, K .agrees .few, live K)
+
+      -- A cell that the graft leaves.
+      other-same : (i : ℕ) (h : i < n) (m : ℕ) → w .cell ≡ m → m < n → i ≢ m → cell-of (sp K) ≡ m → sp K ≢ left i → sp K ≢ right i → at-cell J i ≡ at-cell Q i
+      unfolding cell-turned
+      other-same i h m e b d q dl dr =
+          join-other r n w m i e b d
+          ∙ redirected-at (ends K .place) r R i h
+          ∙ cell-same refl refl (left-same i h dl) (right-same i h dr)
+          ∙ ap (turn-cell (turn s a N) (here-at i h .path)) (sym (grown-other i h (λ x. d (x ∙ q))))
+          ∙ sym (turned-old i h)
+
+      left-joined : (i : ℕ) (h : i < n) → w .cell ≡ i → w .left ≡ true → sp K ≡ left i → sp K ≢ right i → at-cell J i ≡ at-cell Q i
+      unfolding cell-turned side-joined
+      left-joined i h e l q d =
+          join-same r n w i e h (long i h)
+          ∙ ap₂ (λ (x : Cell) (b : Bool). side-joined x b n) (redirected-at (ends K .place) r R i h) l
+          ∙ cell-same refl refl refl (right-same i h d)
+          ∙ ap (turn-cell (turn s a N) (here-at i h .path)) (sym (there-at i (ap cell-of q) h ∙ ap (λ (p : Spot). changed (at-cell (live-cells t) i) p (further n)) q))
+          ∙ sym (turned-old i h)
+
+      right-joined : (i : ℕ) (h : i < n) → w .cell ≡ i → w .left ≡ false → sp K ≡ right i → sp K ≢ left i → at-cell J i ≡ at-cell Q i
+      unfolding cell-turned side-joined
+      right-joined i h e l q d =
+          join-same r n w i e h (long i h)
+          ∙ ap₂ (λ (x : Cell) (b : Bool). side-joined x b n) (redirected-at (ends K .place) r R i h) l
+          ∙ cell-same refl refl (left-same i h d) refl
+          ∙ ap (turn-cell (turn s a N) (here-at i h .path)) (sym (there-at i (ap cell-of q) h ∙ ap (λ (p : Spot). changed (at-cell (live-cells t) i) p (further n)) q))
+          ∙ sym (turned-old i h)
+
+      old-same : (i : ℕ) → i < n → at-cell J i ≡ at-cell Q i
+      old-same i h = go (ends K .by) refl (rw (spot-is K) at (K .by))
+        where
+          below : (j : ℕ) → j < length (os K) → getD (os K) j 0 < n
+          below j b = order-below (K .placed .in-order) j b
+
+          to-left : (m : ℕ) → m < n → sp K ≡ left m → (w .cell ≡ m) × (w .left ≡ true) → Dec (i ≡ m) → at-cell J i ≡ at-cell Q i
+          to-left m b q y (yes e) =
+              left-joined i h (y .0 ∙ sym e) (y .1) (q ∙ ap (λ (k : ℕ). left k) (sym e)) (λ x. let z : _≡_ {A = ℕ} 0 1 = cc in absurd (omega arith))
+          to-left m b q y (no d) =
+              other-same i h m (y .0) b d (ap cell-of q) (λ x. let z : i ≡ m = cc in d z) (λ x. let z : _≡_ {A = ℕ} 0 1 = cc in absurd (omega arith))
+
+          to-right : (m : ℕ) → m < n → sp K ≡ right m → (w .cell ≡ m) × (w .left ≡ false) → Dec (i ≡ m) → at-cell J i ≡ at-cell Q i
+          to-right m b q y (yes e) =
+              right-joined i h (y .0 ∙ sym e) (y .1) (q ∙ ap (λ (k : ℕ). right k) (sym e)) (λ x. let z : _≡_ {A = ℕ} 0 1 = cc in absurd (omega arith))
+          to-right m b q y (no d) =
+              other-same i h m (y .0) b d (ap cell-of q) (λ x. let z : _≡_ {A = ℕ} 0 1 = cc in absurd (omega arith)) (λ x. let z : i ≡ m = cc in d z)
+
+          go : {j : ℕ} {p : Spot} → Side-by root (os K) j p → sp K ≡ p → By p w → at-cell J i ≡ at-cell Q i
+          go (no-cell e) q y = absurd (omega (arith, e, h, order-count K, live K))
+          go (left-of j b) q y = to-left (getD (os K) j 0) (below j b) q y (ℕ-discrete i (getD (os K) j 0))
+          go (right-of j b) q y = to-right (getD (os K) j 0) (below j b) q y (ℕ-discrete i (getD (os K) j 0))
+
+    pub new-grown : (r r′ : Trie) → n + length s ≤ 256 + shared → Redirected t places n (leaf-place w places) a N r → Appended (walk-joined r n w) n s shared a N r′ → r′ ≡ grown-trie t c s a N
+    new-grown r r′ room R P =
+        made r′ Q (turn-side (turn s a N) [] top-grown) full (omega (arith, size-turned, room, shares K)) each past
+        (P .count-is ∙ ap (λ (k : ℕ). n + (length s - k)) (shares K) ∙ sym size-turned)
+        (P .first-is ∙ sym (ap (λ (x : Side). first-leaf-of (turn-side (turn s a N) [] (placed (top-side t) x))) side-new ∙ placed-first (turn s a N) (top-side t) n))
+        ∙ sym (ap₂ (λ (y : List Cell) (z : Side). trie-of y z) grown-is root-is)
+      where
+        full : length (r′ .cells) ≡ 256
+        full = P .written .full ∙ join-length r n w ∙ R .full ∙ K .agrees .whole
+
+        added : (j : ℕ) → diff s (path K) + j < length s → at-cell (r′ .cells) (n + j) ≡ at-cell Q (n + j)
+        added j h =
+            P .written .new j (omega (arith, h, shares K, new)) (omega (arith, h, shares K, new, room, full, P .written .full))
+            ∙ ap (λ (k : ℕ). new-cell s (k + j) (n + j) (n + (length s - k)) a N) (shares K)
+            ∙ new-same j h
+
+        each : (i : ℕ) → i < length Q → at-cell (r′ .cells) i ≡ at-cell Q i
+        each i h = elim (decLt i n) [
+          | yes b ↦ P .written .before i b
+              ∙ old-same r (subst (λ (j : ℕ). Redirected t places n j a N r) (leaf-place-is K (omega (arith, b, live K))) R) i b
+          | no b ↦ subst (λ (k : ℕ). at-cell (r′ .cells) k ≡ at-cell Q k) (omega arith) (added (i - n) (omega (arith, h, size-turned)))
+        ]
+
+        past : (i : ℕ) → length Q ≤ i → at-cell (r′ .cells) i ≡ zero-cell
+        past i h =
+            P .written .behind i (omega (arith, h, size-turned, shares K)) ∙ join-behind r n w i (omega (arith, h, size-turned))
+            ∙ R .rest i (omega (arith, h, size-turned)) ∙ K .agrees .past i (omega (arith, h, size-turned, live K))
