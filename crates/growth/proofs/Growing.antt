@@ -497,3 +497,17 @@ module _ {t : Trie} {places lens : List ℕ} {w : Walk} {c s : Str} {shared a : 
         past i h =
             P .written .behind i (omega (arith, h, size-turned, shares K)) ∙ join-behind r n w i (omega (arith, h, size-turned))
             ∙ R .rest i (omega (arith, h, size-turned)) ∙ K .agrees .past i (omega (arith, h, size-turned, live K))
+
+  -- As the code has them.
+  pub grown-string : {m place last : ℕ} {r : Trie} → shared ≡ length s → m ≡ t .count → place ≡ leaf-place w places → FirstPlace lens place shared last
+      → Redirected t places m last a N r → r ≡ grown-trie t c s a N
+  grown-string {m} {place} {last} {r} same em ep F R =
+      string-grown same last r (subst (λ (k : ℕ). FirstPlace lens (leaf-place w places) k last) same (subst (λ (k : ℕ). FirstPlace lens k shared last) ep F))
+      (subst (λ (k : ℕ). Redirected t places k last a N r) (em ∙ sym (live K)) R)
+
+  pub grown-new : {m place : ℕ} {r r′ r″ : Trie} → shared < length s → t .count + length s ≤ 256 + shared → m ≡ t .count → place ≡ leaf-place w places
+      → Redirected t places m place a N r → r′ ≡ walk-joined r m w → Appended r′ m s shared a N r″ → r″ ≡ grown-trie t c s a N
+  grown-new {m} {place} {r} {r′} {r″} new room em ep R e P =
+      let q : m ≡ length (live-cells t) = em ∙ sym (live K) in
+      new-grown new r r″ (omega (arith, room, live K)) (subst (λ (k : ℕ). Redirected t places k (leaf-place w places) a N r) q (subst (λ (k : ℕ). Redirected t places m k a N r) ep R))
+      (subst (λ (k : ℕ). Appended (walk-joined r k w) k s shared a N r″) q (subst (λ (x : Trie). Appended x m s shared a N r″) e P))

@@ -9,7 +9,7 @@ use Rattle.model.specs.declared.Trie.{Trie}
 use Rattle.model.specs.Order.{Str, diff}
 use Rattle.model.specs.Files.{Slot, Sound, strings-of}
 use Rattle.model.specs.Tries.{Agrees, root-side, walk-cells}
-use Rattle.model.specs.Growth.{path-cells, root, spot-cells}
+use Rattle.model.specs.Growth.{grown-trie, path-cells, root, spot-cells}
 use Rattle.trie.specs.declared.Walk.{Walk}
 use Rattle.trie.specs.Places.{Placed}
 use Rattle.trie.specs.Strung.{lengths}
@@ -35,3 +35,7 @@ pub record Asked (t : Trie) (places lens : List ℕ) (w : Walk) (c s : Str) (sha
   pub by : By (spot-cells (live-cells t) c (suc (length (live-cells t))) [] root (top-side t)) w
   pub shares : shared ≡ diff s (path-cells (live-cells t) c (suc (length (live-cells t))) [] (top-side t))
   pub slot-is : a ≡ walk-cells (live-cells t) c (suc (length (live-cells t))) [] (top-side t)
+
+-- It is then document 01's grown trie, n being the new slot.
+abbrev pub Grows : Trie → List ℕ → List ℕ → Walk → Str → ℕ → ℕ → ℕ → Trie → Type 0
+Grows t places lens w s shared a n r = (c : Str) → Asked t places lens w c s shared a → r ≡ grown-trie t c s a n

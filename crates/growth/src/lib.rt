@@ -7,6 +7,7 @@ ghost use mathlib.Core.Path.{_≡_};
 ghost use Prim.Native.Nat.{_≤_, _<_, _+_};
 ghost use lib.ListN.{length, take};
 ghost use Rattle.model.specs.Order.{diff};
+ghost use Rattle.growth.specs.Grows.{Grows};
 ghost use Rattle.growth.specs.Parts.{Appended, FirstPlace, Redirected, cell-turned, leaf-place, next-side, side-joined, side-turned, walk-joined};
 use digits::index;
 use model::Cell;
@@ -206,6 +207,7 @@ pub fn grown(
     n: u16,
 ) -> Trie
     requires { ⌜ (trie .count + length (now s) ≤ 256 + shared) × (shared ≤ length (now s)) × (length (now s) ≤ 24) ⌝ }
+    ensures { λ r. ⌜ Grows trie (now (places .entry)) (now (lens .entry)) walk (now (s .entry)) shared a n r ⌝ }
 {
     let count = number(trie.count);
     let place = leaf_place(walk, places);
