@@ -22,7 +22,7 @@ use crate::lives::{call_for, Said, World, ABOUT_TO, MOMENTS, SIGKILL, STOPPED};
 use crate::model::file::file_length;
 
 /// How often each thing happened.
-#[derive(Clone, Copy, Default)]
+#[derive(Default)]
 pub struct Tally {
     pub kills: u64,
     /// Kills between the two stores of a split: the file is left cut.
@@ -71,11 +71,11 @@ struct Trial<'a> {
     /// The first request that does not count yet.
     next: u64,
     refused: u64,
-    tally: Tally,
+    tally: &'a mut Tally,
 }
 
-impl Trial<'_> {
-    fn new(program: &Path, seed: u64) -> Trial<'_> {
+impl<'a> Trial<'a> {
+    fn new(program: &'a Path, seed: u64, tally: &'a mut Tally) -> Trial<'a> {
         let world = World::new(seed);
         let (b, slots) = (world.b as u64, world.slots as u64);
         let file = vec![0xA5; file_length(world.b, world.slots)];
@@ -84,7 +84,7 @@ impl Trial<'_> {
         assert!(created == by_model(&create), "create differs from the model");
         let path = std::env::temp_dir().join(format!("palhavento-killed-{}-{seed}", std::process::id()));
         std::fs::write(&path, &created.file).expect("the folder for temporary files can be written");
-        let tally = Tally { files: 1, ..Tally::default() };
+        tally.files += 1;
         Trial { program, path, seed, world, file: created.file, journal: BTreeMap::new(), next: 0, refused: 0, tally }
     }
 
@@ -95,7 +95,8 @@ impl Trial<'_> {
     /// One process from start to end. True if the request in flight counts, or none was.
     fn life(&mut self, kill: Kill) -> bool {
         let (end, moment) = match kill {
-            Kill::Moment(moment) => (u64::MAX, moment),
+            // Long before the hundredth request there was a store to die at.
+            Kill::Moment(moment) => (self.next + 100, moment),
             Kill::Never => (self.next, u64::MAX),
             _ => (u64::MAX, u64::MAX),
         };
@@ -256,21 +257,21 @@ impl Trial<'_> {
         before
     }
 
-    /// Kills at every moment of every store of the history, up to this request: before the first store of a call, between
-    /// any two, and after the last. A request that does not count is made again, and comes further.
+    /// Kills before the first store of each call of the history, between any two, and after the last, up to this request.
+    /// A request that does not count is made again, and comes further.
     fn at_every_moment(&mut self, requests: u64) {
         let mut moment = 0;
         while self.next < requests {
             // A cut file is recovered first, and that is a store too.
             let recovery = MOMENTS * self.is_cut() as u64;
             let counts = self.life(Kill::Moment(recovery + moment));
-            // So is the recovery killed, at each of its moments in turn.
+            // The recovery is killed as well, at each of its moments in turn.
             if self.is_cut() {
                 self.life(Kill::Moment(self.tally.recovering % MOMENTS));
             }
             moment = match moment % MOMENTS {
                 _ if counts => 0,
-                // A last store can be made only once: its two later moments take turns.
+                // A last store is made only once, so the moments before and after `fdatasync` take turns.
                 0 => moment + 1 + self.next % 2,
                 step => moment + MOMENTS - step,
             };
@@ -305,39 +306,24 @@ pub enum Moments {
     Random,
 }
 
-/// Tries one file after another until the time is over, the first three in any case: they have each size of bucket.
+/// Tries one file after another until the time is over, and at least three: so each size of bucket is tried.
 pub fn try_files(program: &Path, moments: Moments, time: Duration) -> Tally {
     let end = Instant::now() + time;
     let first = if moments == Moments::Every { 0 } else { 900_000 };
-    let mut all = Tally::default();
+    let mut tally = Tally::default();
     for seed in first.. {
         if seed - first >= 3 && Instant::now() >= end {
             break;
         }
-        let mut trial = Trial::new(program, seed);
+        let mut trial = Trial::new(program, seed, &mut tally);
         match moments {
             Moments::Every => trial.at_every_moment(8 * trial.world.b as u64),
-            Moments::Random => trial.at_random(&mut Chance::new(seed), end),
+            Moments::Random => trial.at_random(&mut Chance::new(seed), end.min(Instant::now() + time / 3)),
         }
         // The last kill, too, is followed by a process that finds every name.
         trial.life(Kill::Never);
-        all.add(&trial.tally);
     }
-    all
-}
-
-impl Tally {
-    pub fn add(&mut self, other: &Tally) {
-        self.kills += other.kills;
-        self.between += other.between;
-        self.unsaid += other.unsaid;
-        self.recovering += other.recovering;
-        self.freed += other.freed;
-        self.requests += other.requests;
-        self.names += other.names;
-        self.files += other.files;
-        self.torn += other.torn;
-    }
+    tally
 }
 
 impl std::fmt::Display for Tally {
@@ -345,7 +331,7 @@ impl std::fmt::Display for Tally {
         write!(
             to,
             "{} kills, {} between the two stores of a split, {} after a last store, {} in a recovery; {} recoveries \
-             freed a slot; {} names compared, {} requests, {} files; {} slots torn at a page's edge",
+             freed a slot; {} names compared, {} requests, {} files; {} torn slots put back",
             self.kills,
             self.between,
             self.unsaid,

@@ -2,7 +2,7 @@
 //!
 //! Each store is one `pwrite` of exactly the slot's bytes, then `fdatasync`; nothing else of the file is ever written. The
 //! library works on copies in memory; what it would store, and in which order, is seen by making the call with the limits
-//! 0, 1 and 2.
+//! 0, 1 and 2. So every call, recovery too, is first stopped and then made again.
 
 use std::fs::{File, OpenOptions};
 use std::io::{Read, Write};
@@ -35,7 +35,7 @@ pub struct Request<'a> {
 
 impl World {
     pub fn new(seed: u64) -> World {
-        // Small buckets split often; the number of names is what the file can just not hold.
+        // Small buckets split often; with more names than the file can hold, most puts are of new ones.
         let (b, slots, names) = [(2, 64, 250), (3, 64, 350), (16, 24, 500)][(seed % 3) as usize];
         let mut chance = Chance::new(seed);
         let style = make::STYLES[(seed / 3) as usize % make::STYLES.len()];
