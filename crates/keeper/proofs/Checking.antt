@@ -38,13 +38,13 @@ pub record Read (s : Size) (xs : List ℕ) : Type 0 where
   pub sound : Sound (s .b) slots
 
 pub sound-read : (xs : List ℕ) (s : Size) → Said s xs → checkFile xs ≡ is-sound → Read s xs
+unfolding sized
 sound-read xs s h e = go (readSlots (s .b) (s .slots) 0 xs) refl
   where
     file : SoundFile xs
     file = rw e at (checkFile-right xs)
 
     go : (o : Option (List Slot)) → readSlots (s .b) (s .slots) 0 xs ≡ o → Read s xs
-    unfolding sized
     go nothing f =
         let p : readFile xs ≡ nothing = said-read xs s h ∙ ap (sized (s .b)) f in
         let q : readFile xs ≡ some (file .b, file .slots) = file .is in
