@@ -1,9 +1,9 @@
 // The calls on a whole file: create, check, recover, rebuild.
 ghost use mathlib.Core.Path.{_≡_};
 ghost use Prim.Native.Nat.{_≤_, _<_, _+_, _*_};
-ghost use Rattle.model.specs.Calls.{createOf, new-trie, recoverOf};
+ghost use Rattle.model.specs.Calls.{createOf, new-trie, rebuildOf, recoverOf};
 ghost use Rattle.model.specs.Format.{checkFile};
-ghost use Rattle.keeper.specs.Outcomes.{created, found, recovered};
+ghost use Rattle.keeper.specs.Outcomes.{created, found, rebuilt, recovered};
 ghost use Rattle.keeper.specs.Parts.{Small};
 use file::Header;
 use file::Kind;
@@ -88,7 +88,9 @@ pub fn recover(file: &mut [u8], limit: u64) -> RecoverAnswer
 }
 
 // The trie of the bucket headers alone.
-pub fn rebuild(file: &[u8]) -> TrieGiven {
+pub fn rebuild(file: &[u8]) -> TrieGiven
+    ensures { λ r. ⌜ rebuilt r ≡ rebuildOf (now (file .entry)) ⌝ }
+{
     let Header::Right(size) = file::header_of(file) else {
         return refused(Cause::BadFile);
     };
