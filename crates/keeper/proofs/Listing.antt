@@ -146,14 +146,14 @@ module _ {xs : List ℕ} {s : Size} {order : List ℕ} {count : ℕ} {fs : List 
           let Ds = drop k (drop from Bs) in
           let e : As ++ (Cs ++ Ds) ≡ Bs = ap (λ (x : List ℕ). As ++ x) (take-append-drop k (drop from Bs)) ∙ take-append-drop from Bs in
           let a : between n m (entriesIn fs As) ≡ [] = in-none n m fs As (λ i d.
-              let z : i < from = omega (arith, length-take from Bs) in rw (getD-take from Bs i 0 z) (before-none i z)) in
+          let z : i < from = omega (arith, length-take from Bs) in rw (getD-take from Bs i 0 z) (before-none i z)) in
           let d : between n m (entriesIn fs Ds) ≡ [] = in-none n m fs Ds (λ i d.
-              rw (getD-drop k (drop from Bs) i 0, getD-drop from Bs (k + i) 0) (behind-none (from + (k + i)) (omega arith) (omega (arith, O .count-is, length-drop k (drop from Bs), length-drop from Bs)))) in
+          rw (getD-drop k (drop from Bs) i 0, getD-drop from Bs (k + i) 0) (behind-none (from + (k + i)) (omega arith) (omega (arith, O .count-is, length-drop k (drop from Bs), length-drop from Bs)))) in
           sym (
-            ap (λ (x : List ℕ). between n m (entriesIn fs x)) (sym e)
-            ∙ ap (between n m) (entriesIn-append fs As (Cs ++ Ds) ∙ ap (λ (x : List Entry). entriesIn fs As ++ x) (entriesIn-append fs Cs Ds))
-            ∙ between-append n m (entriesIn fs As) (entriesIn fs Cs ++ entriesIn fs Ds)
-            ∙ ap₂ (λ (x y : List Entry). x ++ y) a (between-append n m (entriesIn fs Cs) (entriesIn fs Ds) ∙ ap (λ (x : List Entry). between n m (entriesIn fs Cs) ++ x) d ∙ append-nil (between n m (entriesIn fs Cs)))
+          ap (λ (x : List ℕ). between n m (entriesIn fs x)) (sym e)
+          ∙ ap (between n m) (entriesIn-append fs As (Cs ++ Ds) ∙ ap (λ (x : List Entry). entriesIn fs As ++ x) (entriesIn-append fs Cs Ds))
+          ∙ between-append n m (entriesIn fs As) (entriesIn fs Cs ++ entriesIn fs Ds)
+          ∙ ap₂ (λ (x y : List Entry). x ++ y) a (between-append n m (entriesIn fs Cs) (entriesIn fs Ds) ∙ ap (λ (x : List Entry). between n m (entriesIn fs Cs) ++ x) d ∙ append-nil (between n m (entriesIn fs Cs)))
           )
 
       -- Where the second name's bucket is before the first's, the second name is below the first.
