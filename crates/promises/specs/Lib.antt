@@ -3,3 +3,4 @@ pub mod Growing
 pub mod Situations
 pub mod Demand2
 pub mod Demand3
+pub mod Demand1
