@@ -5,3 +5,5 @@ pub mod Demand3
 pub mod Tables
 pub mod Walking
 pub mod Demand1
+pub mod Determined
+pub mod Strength

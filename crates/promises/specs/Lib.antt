@@ -4,3 +4,5 @@ pub mod Situations
 pub mod Demand2
 pub mod Demand3
 pub mod Demand1
+pub mod Determined
+pub mod Strength
