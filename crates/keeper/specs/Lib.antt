@@ -1,4 +1,5 @@
 pub mod Ready
 pub mod Parts
 pub mod Spots
+pub mod Splits
 pub mod Outcomes
