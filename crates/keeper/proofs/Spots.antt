@@ -7,7 +7,7 @@ use Prim.Native.Nat.{_*_, _+_, _-_, _<_, _≤_, suc, zero, ℕ}
 use native.Mathlib.Omega.{arith}
 use lib.Dec.{eqb, ltb}
 use lib.ListN.{drop, getD, length, take}
-use lib.Seq.{drop-drop, paste}
+use lib.Seq.{drop-drop, paste, take-all}
 use borrow.Author.Tests.{eq-eqb, eqb-true, le-ltb, lt-ltb, ltb-true}
 use Rattle.model.specs.Order.{Low, Str}
 use Rattle.model.specs.Names.{Legal}
@@ -16,18 +16,18 @@ use Rattle.model.specs.Files.{In, Slot, Sound, first, free, head, order-of, slo
 use Rattle.model.specs.Changes.{holds?}
 use Rattle.model.specs.Checks.{sameStr}
 use Rattle.model.specs.Format.{entriesBytes, entriesOf, padded, readFile, readSlot, readUsed, slotAt, slotBytes, slotSize, storeBytes, usedOf, valueOf}
-use Rattle.model.proofs.Names.{both-true}
+use Rattle.model.proofs.Names.{both-true, legal-length}
 use Rattle.model.proofs.Entries.{row-insert}
 use Rattle.model.proofs.Files.{first-right, one-range, used-inside}
 use Rattle.model.proofs.Format.{length-entriesBytes, readSlot-readFile}
 use Rattle.digits.specs.Keys.{value}
-use Rattle.bucket.specs.Entries.{changedValue, place, withoutEntry}
+use Rattle.bucket.specs.Entries.{changedValue, place, withEntry, withoutEntry}
 use Rattle.bucket.specs.Forms.{below, values}
 use Rattle.bucket.specs.Slots.{countAt, lowerAt, upperAt, writtenBytes}
 use Rattle.bucket.proofs.Laws.{take-padded-whole}
 use Rattle.bucket.proofs.Rows.{Reads, read-written, reads}
 use Rattle.bucket.proofs.Finding.{below-place, count-is, place-found}
-use Rattle.bucket.proofs.Changing.{is-held, length-held, length-new, not-held, put-held-part, removed-part, rewritten-is, row-without}
+use Rattle.bucket.proofs.Changing.{is-held, length-held, length-new, not-held, put-held-part, put-new, removed-part, rewritten-is, row-without}
 use Rattle.file.specs.declared.Size.{Size}
 use Rattle.keeper.specs.declared.checks.Checked.{Checked}
 use Rattle.keeper.specs.declared.changes.Spot.{Spot}
@@ -136,6 +136,11 @@ module _ (xs : List ℕ) {b : ℕ} {fs : List Slot} (e : readFile xs ≡ some (b
           let r = is-held spot-reads n v g q (omega (arith, P .counted, P .placed)) (sym moved ∙ eqb-true there v (p .1)) in
           (h, (r .0, r .1))
 
+    -- The entries with the new one.
+    pub entries-new : (v : ℕ) (zs : List ℕ) → find n (P .entries) ≡ nothing → zs ≡ padded 544 (withEntry (drop 64 ys) (s .count) (s .place) n v)
+        → zs ≡ padded 544 (entriesBytes (insert n v (P .entries)))
+    entries-new v zs h z = z ∙ ap (padded 544) (rw (P .counted, P .placed) (put-new spot-reads n v h))
+
     -- The old value, as it is read.
     pub old-value : (w : ℕ) → find n (P .entries) ≡ some w → valueOf (take 8 (drop (32 * s .place + 24) (drop 64 ys))) ≡ w
     old-value w h =
@@ -179,6 +184,10 @@ module _ (xs : List ℕ) {b : ℕ} {fs : List Slot} (e : readFile xs ≡ some (b
 
 pub new-fits : {s : Spot} {fs : List Slot} {n : Str} (P : SpotIn s fs n) (v b : ℕ) → find n (P .entries) ≡ nothing → s .count < b → length (insert n v (P .entries)) ≤ b
 new-fits {n = n} P v b h k = omega (arith, length-new n v (P .entries) h, P .counted)
+
+-- The key of 24 digits.
+pub key-whole : (n : Str) (v : ℕ) → Legal n → v ≡ value (take 24 (drop 0 n)) → v ≡ value n
+key-whole n v g e = e ∙ ap value (take-all 24 n (omega (arith, legal-length g)))
 
 -- One store.
 pub store-is : (b k : ℕ) (s : Slot) (xs zs : List ℕ) → take (slotSize b) zs ≡ slotBytes b s
