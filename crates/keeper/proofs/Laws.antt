@@ -50,6 +50,9 @@ arrival-inside {a} {k} {n} e t = subst (λ (x : Arrival). ArrivalInside x n) e t
 pub fine-agreed : (c : Checked) {xs : List ℕ} {t : Trie} → c .verdict ≡ Fine → Passed c xs t → Agreed c xs t
 fine-agreed c {xs} {t} e h = subst (λ (x : Verdict). AgreedWhere x c xs t) e h
 
+pub looked-refused : (c : Checked) {cause : Cause} (xs : List ℕ) (t : Trie) → c .verdict ≡ Refused cause → lookedOf xs t ≡ refusing cause → Passed c xs t
+looked-refused c {cause} xs t e h = rw e h
+
 pub refused-looked : (c : Checked) {cause : Cause} (xs : List ℕ) (t : Trie) → c .verdict ≡ Refused cause → Passed c xs t → lookedOf xs t ≡ refusing cause
 refused-looked c {cause} xs t e h = subst (λ (x : Verdict). AgreedWhere x c xs t) e h
 
