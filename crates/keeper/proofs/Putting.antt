@@ -1,25 +1,24 @@
 -- Put, put together from the spot of the name.
-use mathlib.Core.Path.{_∙_, _≡_, ap, refl, sym}
-use mathlib.Core.Bool.{Bool, cond, false, true}
+use mathlib.Core.Path.{_≡_}
+use mathlib.Core.Bool.{false, true}
 use mathlib.Core.Option.{none as nothing, some}
 use mathlib.Core.List.{List, [], _∷_}
-use Prim.Native.Nat.{_*_, _+_, _<_, _≤_, ℕ}
+use Prim.Native.Nat.{_<_, _≤_, ℕ}
 use native.Mathlib.Decide.{decLe}
 use native.Mathlib.Omega.{arith}
-use lib.ListN.{drop, length, take}
+use lib.ListN.{length}
 use borrow.Author.Tests.{le-ltb, lt-ltb}
 use Rattle.model.specs.declared.Cause.{Cause}
 use Rattle.model.specs.declared.Cause.the-variants.{IllegalName, WrongSize}
-use Rattle.model.specs.declared.PutAnswer.{PutAnswer}
 use Rattle.model.specs.declared.PutAnswer.the-variants.{Added, Refused, Replaced, Stopped}
 use Rattle.model.specs.declared.PutGiven.{PutGiven}
 use Rattle.model.specs.declared.Trie.{Trie}
 use Rattle.model.specs.Order.{Str}
-use Rattle.model.specs.Names.{Legal, filled, legalName}
+use Rattle.model.specs.Names.{filled, legalName}
 use Rattle.model.specs.Entries.{find, insert}
 use Rattle.model.specs.Files.{Slot, used}
 use Rattle.model.specs.Changes.{call, put as asked, put-in, stores}
-use Rattle.model.specs.Format.{entriesBytes, padded, slotBytes, slotSize, storeBytes}
+use Rattle.model.specs.Format.{storeBytes}
 use Rattle.model.specs.Calls.{fine, lookedOf, putLooked, putMade, putOf, refusing, storesBytes, trieAfter}
 use Rattle.model.proofs.Entries.{chosen-yes}
 use Rattle.keeper.specs.declared.changes.Spot.{Spot}

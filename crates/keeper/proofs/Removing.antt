@@ -1,6 +1,6 @@
 -- Remove, put together from the spot of the name.
-use mathlib.Core.Path.{_∙_, _≡_, ap, refl, sym}
-use mathlib.Core.Bool.{Bool, cond, false, true}
+use mathlib.Core.Path.{_≡_}
+use mathlib.Core.Bool.{false, true}
 use mathlib.Core.Option.{none as nothing, some}
 use mathlib.Core.List.{List, [], _∷_}
 use Prim.Native.Nat.{_<_, _≤_, ℕ}

@@ -1,18 +1,18 @@
 -- The spot of a name in a file that is read and sound, and the bytes of one whole-slot store.
 use mathlib.Core.Path.{_∙_, _≡_, ap, refl, subst, sym}
-use mathlib.Core.Bool.{Bool, _&&_, cond, false, true}
+use mathlib.Core.Bool.{Bool, cond, false, true}
 use mathlib.Core.Option.{Option, none as nothing, some}
-use mathlib.Core.List.{List, [], _∷_}
+use mathlib.Core.List.{List, []}
 use Prim.Native.Nat.{_*_, _+_, _-_, _<_, _≤_, suc, zero, ℕ}
 use native.Mathlib.Omega.{arith}
 use lib.Dec.{eqb, ltb}
 use lib.ListN.{drop, getD, length, take}
-use lib.Seq.{drop-drop, paste, take-all}
+use lib.Seq.{drop-drop, getD-take, paste, take-all}
 use borrow.Author.Tests.{eq-eqb, eqb-true, le-ltb, lt-ltb, ltb-true}
 use Rattle.model.specs.Order.{Low, Str}
 use Rattle.model.specs.Names.{Legal}
 use Rattle.model.specs.Entries.{Entry, find, insert, without}
-use Rattle.model.specs.Files.{In, Slot, Sound, first, free, head, order-of, slot-at, used}
+use Rattle.model.specs.Files.{In, Slot, Sound, free, head, order-of, slot-at, used}
 use Rattle.model.specs.Changes.{holds?}
 use Rattle.model.specs.Checks.{sameStr}
 use Rattle.model.specs.Format.{entriesBytes, entriesOf, padded, readFile, readSlot, readUsed, slotAt, slotBytes, slotSize, storeBytes, usedOf, valueOf}
@@ -28,7 +28,7 @@ use Rattle.bucket.proofs.Laws.{take-padded-whole}
 use Rattle.bucket.proofs.Rows.{Reads, read-written, reads}
 use Rattle.bucket.proofs.Finding.{below-place, count-is, place-found}
 use Rattle.bucket.proofs.Changing.{is-held, length-held, length-new, not-held, put-held-part, put-new, removed-part, rewritten-is, row-without}
-use Rattle.file.specs.declared.Size.{Size}
+use Rattle.file.specs.Holders.{Holder, Ordered}
 use Rattle.keeper.specs.declared.checks.Checked.{Checked}
 use Rattle.keeper.specs.declared.changes.Spot.{Spot}
 use Rattle.keeper.specs.Ready.{Ready}
@@ -45,8 +45,21 @@ module _ {c : Checked} {xs : List ℕ} {fs : List Slot} (R : Ready c xs) (e : re
   pub ready-sound : Sound (c .size .b) fs
   ready-sound = subst (Sound (c .size .b)) same-slots (R .sound)
 
-  pub ready-order : take (c .survey .count) (c .survey .order) ≡ order-of fs
+  ready-order : take (c .survey .count) (c .survey .order) ≡ order-of fs
   ready-order = R .order-is ∙ ap order-of same-slots
+
+  ready-count : c .survey .count ≡ length (order-of fs)
+  ready-count = R .count-is ∙ ap (λ (gs : List Slot). length (order-of gs)) same-slots
+
+  pub ready-ordered : Ordered xs (c .size) (c .survey .order) (c .survey .count) fs
+  ready-ordered = record { is = e; sound = ready-sound; order-is = ready-order; count-is = ready-count }
+
+  -- The slot at the place where the name's range stands in order.
+  pub holder-slot : {n : Str} (r k : ℕ) → Holder fs n r → k ≡ getD (c .survey .order) r 0 → In (head (slot-at fs k)) n
+  holder-slot {n} r k H i =
+      let q : getD (order-of fs) r 0 ≡ k =
+      ap (λ (l : List ℕ). getD l r 0) (sym ready-order) ∙ getD-take (c .survey .count) (c .survey .order) r 0 (omega (arith, H .inside, ready-count)) ∙ sym i in
+      subst (λ (j : ℕ). In (head (slot-at fs j)) n) q (H .range)
 
 -- A slot that is not free is read as used.
 used-read : (b : ℕ) (xs : List ℕ) {l : Low} {u : Str} {es : List Entry} → readSlot b xs ≡ some (used l u es) → readUsed b xs ≡ some (used l u es)

@@ -5,11 +5,11 @@ use mathlib.Core.Option.{some}
 use mathlib.Core.List.{List}
 use Prim.Native.Nat.{_*_, _+_, _<_, _≤_, ℕ}
 use lib.Dec.{eqb, ltb}
-use lib.ListN.{drop, getD, length, take}
+use lib.ListN.{drop, length, take}
 use Rattle.model.specs.Order.{Low, Str, _⊑_, _◁_}
 use Rattle.model.specs.Names.{Legal}
 use Rattle.model.specs.Entries.{Entry}
-use Rattle.model.specs.Files.{In, Slot, Sound, first, head, order-of, slot-at, used}
+use Rattle.model.specs.Files.{Slot, first, slot-at, used}
 use Rattle.model.specs.Changes.{holds?}
 use Rattle.model.specs.Format.{readFile}
 use Rattle.digits.specs.declared.Key.{Key}
@@ -43,8 +43,3 @@ pub record SpotTold (s : Spot) (size : Size) (xs : List ℕ) (name : Key) : Type
 -- The name at a place, among so many entries, is the one whose number is v.
 unfoldable pub isHeld : List ℕ → ℕ → ℕ → ℕ → Bool
 isHeld xs count place v = ltb place count && eqb (value (take 24 (drop (64 + 32 * place) xs))) v
-
--- The place r in range order of the bucket whose range holds the name.
-pub record HolderTold (xs : List ℕ) (size : Size) (order : List ℕ) (count : ℕ) (name : Key) (r : ℕ) : Type 0 where
-  pub right : (fs : List Slot) → readFile xs ≡ some (size .b, fs) → Sound (size .b) fs → take count order ≡ order-of fs
-      → (n : Str) → Legal n → keyValue name ≡ value n → (r < count) × In (head (slot-at fs (getD order r 0))) n

@@ -1,17 +1,12 @@
 -- `add` meets its contract: one store, of the slot with the new entry.
-use mathlib.Core.Path.{_∙_, _≡_, ap, refl}
-use mathlib.Core.List.{List}
-use Prim.Native.Nat.{_*_, _+_, ℕ}
+use mathlib.Core.Path.{_∙_, ap, refl}
+use Prim.Native.Nat.{_*_, _+_}
 use native.Mathlib.Omega.{arith}
-use lib.ListN.{drop, length, take}
-use Rattle.model.specs.declared.PutAnswer.the-variants.{Replaced}
 use Rattle.model.specs.Entries.{insert}
 use Rattle.model.specs.Files.{used}
-use Rattle.model.specs.Format.{valueOf}
 use Rattle.bucket.specs.Slots.{lowerAt, upperAt, writtenBytes}
-use Rattle.bucket.proofs.Forms.{rest}
-use Rattle.keeper.proofs.Spots.{added-is, held-fits, new-fits, old-value, part-is, replaced-is, store-is}
-use Rattle.keeper.proofs.Putting.{put-added, put-replaced, put-stopped}
+use Rattle.keeper.proofs.Spots.{added-is, new-fits, part-is, store-is}
+use Rattle.keeper.proofs.Putting.{put-added, put-stopped}
 use borrow.Author.Needs.{needs}
 use Rattle.keeper.proofs.changes.add.Statement.{statement}
 use Rattle.keeper.proofs.changes.add.Tie as tie
@@ -64,10 +59,10 @@ returns-2 c =
     let es = s .args .entries .now in
     let r = c .before .before .before .before .before .before .rewritten .ensures ∙ ap (writtenBytes (lowerAt ys) (upperAt ys)) (part-is (32 * (s .args .spot .count + 1)) es es refl) in
     λ fs e S n v g p f q.
-        let z = added-is xs e S p ys i (s .pre .0 .legal .b-most) (c .before .before .before .before .before .before .rewritten .result) v es g f q r in
-        put-added xs (s .args .trie) (s .args .size .b) (s .args .limit) v p (new-fits p v (s .args .size .b) f (s .pre .2)) (c .given2 .result) _ (omega (arith, c .before .before .before .before .before .before .before .before .before .before .before .before .if1 .left)) f
-        (c .before .before .before .store .ensures .1 ∙ store-is (s .args .size .b) (s .args .spot .slot) (used (p .low) (p .up) (insert n v (p .entries))) xs (c .before .before .before .before .before .before .rewritten .result) z)
-        (c .given2 .ensures)
+    let z = added-is xs e S p ys i (s .pre .0 .legal .b-most) (c .before .before .before .before .before .before .rewritten .result) v es g f q r in
+    put-added xs (s .args .trie) (s .args .size .b) (s .args .limit) v p (new-fits p v (s .args .size .b) f (s .pre .2)) (c .given2 .result) _ (omega (arith, c .before .before .before .before .before .before .before .before .before .before .before .before .if1 .left)) f
+    (c .before .before .before .store .ensures .1 ∙ store-is (s .args .size .b) (s .args .spot .slot) (used (p .low) (p .up) (insert n v (p .entries))) xs (c .before .before .before .before .before .before .rewritten .result) z)
+    (c .given2 .ensures)
 
 pub add-spec : {M : Type 1} → statement M
 add-spec =

@@ -1,8 +1,8 @@
 -- `lessened` meets its contract.
-use mathlib.Core.Path.{_∙_, _≡_, ap}
+use mathlib.Core.Path.{_∙_, ap}
 use mathlib.Core.List.{List}
 use Prim.Native.Nat.{_*_, _-_, ℕ}
-use lib.ListN.{drop, length, take}
+use lib.ListN.{drop}
 use Rattle.model.specs.Format.{padded}
 use Rattle.bucket.specs.Entries.{withoutEntry}
 use Rattle.bucket.specs.Slots.{lowerAt, upperAt, writtenBytes}

@@ -2,11 +2,9 @@
 use mathlib.Core.Path.{_∙_, subst, sym}
 use native.Mathlib.Omega.{arith}
 use Rattle.model.specs.Order.{Str}
-use Rattle.model.specs.Names.{filled}
 use Rattle.model.proofs.Names.{legalName-legal}
 use Rattle.keeper.specs.Splits.{PutTold}
 use Rattle.keeper.proofs.Laws.{fine-agreed, refused-looked}
-
 use Rattle.keeper.proofs.LookingUp.{naming-illegal, naming-legal}
 use Rattle.keeper.proofs.Putting.{file-refused, limit-refused, name-refused, put-fine}
 use borrow.Author.Needs.{needs}

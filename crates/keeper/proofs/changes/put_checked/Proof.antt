@@ -1,10 +1,9 @@
 -- `put_checked` meets its contract: a held name is replaced, a new one added, with a split where its bucket is full.
-use mathlib.Core.Bool.{false, true}
 use mathlib.Core.Path.{_∙_, _≡_, ap, sym}
 use mathlib.Core.List.{List}
 use Prim.Native.Nat.{ℕ}
 use native.Mathlib.Omega.{arith}
-use lib.ListN.{drop, length, take}
+use lib.ListN.{length}
 use Rattle.model.specs.Format.{padded}
 use Rattle.digits.specs.Keys.{keyValue}
 use Rattle.bucket.specs.Entries.{withEntry}
@@ -30,9 +29,11 @@ is-held-requires c κs = search needs
 replace-requires : tie.Need-replace-requires
 replace-requires c κs =
     let s = c .before .before .before .before .before .before .before .before .before .before .before in
-    let r = c .before .before .before .before .before .spot-of .result in
-    (s .pre .ready .said .sized, c .before .before .before .before .before .spot-of .ensures .inside,
-    held-below (c .before .before .before .slot-at .result .now) (r .count) (r .place) (keyValue (c .before .before .before .before .before .before .before .key-at .result)) (sym (c .before .before .is-held .ensures) ∙ c .before .if1 .taken))
+    let r = c .before .before .before .before .before .spot-of .result in (
+      s .pre .ready .said .sized,
+      c .before .before .before .before .before .spot-of .ensures .inside,
+      held-below (c .before .before .before .slot-at .result .now) (r .count) (r .place) (keyValue (c .before .before .before .before .before .before .before .key-at .result)) (sym (c .before .before .is-held .ensures) ∙ c .before .if1 .taken),
+    )
 
 same-length : tie.Need-same-length
 same-length c = search needs
@@ -44,11 +45,11 @@ returns c =
     let n = s .args .name .now in
     let v = keyValue (c .before .before .before .before .before .before .before .before .before .before .key-at .result) in
     λ fs e g.
-        let q = key-whole n v g (c .before .before .before .before .before .before .before .before .before .before .key-at .ensures) in
-        let S = ready-sound (s .pre .ready) e in
-        let p = c .before .before .before .before .before .before .before .before .spot-of .ensures .right fs e n g q in
-        let h = test-held xs e S p (c .before .before .before .before .before .before .slot-at .result .now) (c .before .before .before .before .before .before .slot-at .ensures .0) v g q (sym (c .before .before .before .before .before .is-held .ensures) ∙ c .before .before .before .before .if1 .taken) in
-        c .before .before .replace .ensures fs e S n g p (h .1 .0) (h .1 .1)
+    let q = key-whole n v g (c .before .before .before .before .before .before .before .before .before .before .key-at .ensures) in
+    let S = ready-sound (s .pre .ready) e in
+    let p = c .before .before .before .before .before .before .before .before .spot-of .ensures .right fs e n g q in
+    let h = test-held xs e S p (c .before .before .before .before .before .before .slot-at .result .now) (c .before .before .before .before .before .before .slot-at .ensures .0) v g q (sym (c .before .before .before .before .before .is-held .ensures) ∙ c .before .before .before .before .if1 .taken) in
+    c .before .before .replace .ensures fs e S n g p (h .1 .0) (h .1 .1)
 
 sub-with-entry : tie.Need-sub-with-entry
 sub-with-entry c = search needs
@@ -79,12 +80,12 @@ returns-2 c =
     let n = s .args .name .now in
     let v = keyValue (c .before .before .before .before .before .before .before .before .before .before .before .before .before .before .before .key-at .result) in
     λ fs e g.
-        let q = key-whole n v g (c .before .before .before .before .before .before .before .before .before .before .before .before .before .before .before .key-at .ensures) in
-        let S = ready-sound (s .pre .ready) e in
-        let p = c .before .before .before .before .before .before .before .before .before .before .before .before .before .spot-of .ensures .right fs e n g q in
-        let f = test-lost xs e S p ys (c .before .before .before .before .before .before .before .before .before .before .before .slot-at .ensures .0) v g q (sym (c .before .before .before .before .before .before .before .before .before .before .is-held .ensures) ∙ c .before .before .before .before .before .before .before .before .before .if1 .left) in
-        let z = c .before .before .before .before .before .before .before .with-entry .ensures ∙ ap (λ (x : List ℕ). padded 544 (withEntry x (r .count) (r .place) n (s .args .value))) (rest 64 ys) in
-        c .before .before .add .ensures fs e S n (s .args .value) g p f (entries-new xs e S p ys (c .before .before .before .before .before .before .before .before .before .before .before .slot-at .ensures .0) (s .args .value) (c .before .before .before .before .before .before .before .with-entry .result) f z)
+    let q = key-whole n v g (c .before .before .before .before .before .before .before .before .before .before .before .before .before .before .before .key-at .ensures) in
+    let S = ready-sound (s .pre .ready) e in
+    let p = c .before .before .before .before .before .before .before .before .before .before .before .before .before .spot-of .ensures .right fs e n g q in
+    let f = test-lost xs e S p ys (c .before .before .before .before .before .before .before .before .before .before .before .slot-at .ensures .0) v g q (sym (c .before .before .before .before .before .before .before .before .before .before .is-held .ensures) ∙ c .before .before .before .before .before .before .before .before .before .if1 .left) in
+    let z = c .before .before .before .before .before .before .before .with-entry .ensures ∙ ap (λ (x : List ℕ). padded 544 (withEntry x (r .count) (r .place) n (s .args .value))) (rest 64 ys) in
+    c .before .before .add .ensures fs e S n (s .args .value) g p f (entries-new xs e S p ys (c .before .before .before .before .before .before .before .before .before .before .before .slot-at .ensures .0) (s .args .value) (c .before .before .before .before .before .before .before .with-entry .result) f z)
 
 split-requires : tie.Need-split-requires
 split-requires c κs = search needs
@@ -102,14 +103,14 @@ returns-3 c =
     let v = keyValue (c .before .before .before .before .before .before .before .before .before .before .before .before .before .before .before .key-at .result) in
     let told : SplitTold xs (c .before .before .split .last .0) (s .args .trie) (s .args .checked .size) (r .slot) (c .before .before .before .before .before .before .before .with-entry .result) (s .args .limit) (c .before .before .split .result) = ? in
     λ fs e g.
-        let q = key-whole n v g (c .before .before .before .before .before .before .before .before .before .before .before .before .before .before .before .key-at .ensures) in
-        let S = ready-sound (s .pre .ready) e in
-        let p = c .before .before .before .before .before .before .before .before .before .before .before .before .before .spot-of .ensures .right fs e n g q in
-        let f = test-lost xs e S p ys (c .before .before .before .before .before .before .before .before .before .before .before .slot-at .ensures .0) v g q (sym (c .before .before .before .before .before .before .before .before .before .before .is-held .ensures) ∙ c .before .before .before .before .before .before .before .before .before .if1 .left) in
-        let z = c .before .before .before .before .before .before .before .with-entry .ensures ∙ ap (λ (x : List ℕ). padded 544 (withEntry x (r .count) (r .place) n (s .args .value))) (rest 64 ys) in
-        let d : length (p .entries) ≡ s .args .checked .size .b = omega (arith, p .counted, c .before .before .before .before .before .before .before .before .before .before .before .before .before .spot-of .ensures .inside .count-most, c .before .before .before .before .before .if2 .left) in
-        told fs e n (s .args .value) g (p .low) (p .up) (p .entries) (p .is) (p .slot-is) (p .above) (p .within) f d
-        (entries-new xs e S p ys (c .before .before .before .before .before .before .before .before .before .before .before .slot-at .ensures .0) (s .args .value) (c .before .before .before .before .before .before .before .with-entry .result) f z)
+    let q = key-whole n v g (c .before .before .before .before .before .before .before .before .before .before .before .before .before .before .before .key-at .ensures) in
+    let S = ready-sound (s .pre .ready) e in
+    let p = c .before .before .before .before .before .before .before .before .before .before .before .before .before .spot-of .ensures .right fs e n g q in
+    let f = test-lost xs e S p ys (c .before .before .before .before .before .before .before .before .before .before .before .slot-at .ensures .0) v g q (sym (c .before .before .before .before .before .before .before .before .before .before .is-held .ensures) ∙ c .before .before .before .before .before .before .before .before .before .if1 .left) in
+    let z = c .before .before .before .before .before .before .before .with-entry .ensures ∙ ap (λ (x : List ℕ). padded 544 (withEntry x (r .count) (r .place) n (s .args .value))) (rest 64 ys) in
+    let d : length (p .entries) ≡ s .args .checked .size .b = omega (arith, p .counted, c .before .before .before .before .before .before .before .before .before .before .before .before .before .spot-of .ensures .inside .count-most, c .before .before .before .before .before .if2 .left) in
+    told fs e n (s .args .value) g (p .low) (p .up) (p .entries) (p .is) (p .slot-is) (p .above) (p .within) f d
+    (entries-new xs e S p ys (c .before .before .before .before .before .before .before .before .before .before .before .slot-at .ensures .0) (s .args .value) (c .before .before .before .before .before .before .before .with-entry .result) f z)
 
 pub put-checked-spec : {M : Type 1} → statement M
 put-checked-spec =

@@ -1,12 +1,9 @@
 -- `remove` meets its contract: what is refused, and what is made of a file that passed the checks.
-use mathlib.Core.Path.{_∙_, subst, sym}
+use mathlib.Core.Path.{_∙_, sym}
 use native.Mathlib.Omega.{arith}
-use Rattle.model.specs.Order.{Str}
 use Rattle.model.specs.Names.{filled}
 use Rattle.model.proofs.Names.{legalName-legal}
-use Rattle.keeper.specs.Splits.{PutTold}
 use Rattle.keeper.proofs.Laws.{fine-agreed, refused-looked}
-
 use Rattle.keeper.proofs.LookingUp.{filled-value, naming-illegal, naming-legal}
 use Rattle.keeper.proofs.Removing.{file-refused, limit-refused, name-refused, remove-fine}
 use borrow.Author.Needs.{needs}

@@ -1,6 +1,5 @@
 -- `remove_checked` meets its contract: one store, of the slot without the name; none where it is absent.
-use mathlib.Core.Bool.{false, true}
-use mathlib.Core.Path.{_∙_, _≡_, sym}
+use mathlib.Core.Path.{_∙_, sym}
 use native.Mathlib.Omega.{arith}
 use borrow.Author.Tests.{not-false, not-true}
 use Rattle.model.specs.Entries.{without}
@@ -31,8 +30,8 @@ returns c =
     let ys = c .before .before .slot-at .result .now in
     let t = sym (c .before .is-held .ensures) ∙ not-true (c .before .is-held .result) (c .if1 .taken) in
     λ fs e n g q.
-        let p = c .before .before .before .before .spot-of .ensures .right fs e n g q in
-        remove-absent xs (s .args .checked .size .b) (s .args .limit) p (test-lost xs e (ready-sound (s .pre) e) p ys (c .before .before .slot-at .ensures .0) (keyValue (s .args .name)) g q t)
+    let p = c .before .before .before .before .spot-of .ensures .right fs e n g q in
+    remove-absent xs (s .args .checked .size .b) (s .args .limit) p (test-lost xs e (ready-sound (s .pre) e) p ys (c .before .before .slot-at .ensures .0) (keyValue (s .args .name)) g q t)
 
 same-length-2 : tie.Need-same-length-2
 same-length-2 c = search needs
@@ -44,9 +43,9 @@ returns-2 c =
     let ys = c .before .before .before .slot-at .result .now in
     let t = sym (c .before .before .is-held .ensures) ∙ not-false (c .before .before .is-held .result) (c .before .if1 .left) in
     λ fs e n g q.
-        let p = c .before .before .before .before .before .spot-of .ensures .right fs e n g q in
-        let h = test-held xs e (ready-sound (s .pre) e) p ys (c .before .before .before .slot-at .ensures .0) (keyValue (s .args .name)) g q t in
-        remove-stopped xs (s .args .checked .size .b) (s .args .limit) p (h .1 .0) (h .1 .1) (omega (arith, c .if2 .taken))
+    let p = c .before .before .before .before .before .spot-of .ensures .right fs e n g q in
+    let h = test-held xs e (ready-sound (s .pre) e) p ys (c .before .before .before .slot-at .ensures .0) (keyValue (s .args .name)) g q t in
+    remove-stopped xs (s .args .checked .size .b) (s .args .limit) p (h .1 .0) (h .1 .1) (omega (arith, c .if2 .taken))
 
 lessened-requires : tie.Need-lessened-requires
 lessened-requires c κs =
@@ -71,12 +70,12 @@ returns-3 c =
     let i = c .before .before .before .before .before .before .before .before .before .slot-at .ensures .0 in
     let t = sym (c .before .before .before .before .before .before .before .before .is-held .ensures) ∙ not-false (c .before .before .before .before .before .before .before .before .is-held .result) (c .before .before .before .before .before .before .before .if1 .left) in
     λ fs e n g q.
-        let p = c .before .before .before .before .before .before .before .before .before .before .before .spot-of .ensures .right fs e n g q in
-        let S = ready-sound (s .pre) e in
-        let h = test-held xs e S p ys i (keyValue (s .args .name)) g q t in
-        let z = lessened-is xs e S p ys i (s .pre .said .sized .legal .b-most) zs (h .1 .0) (h .1 .1) (c .before .before .before .before .before .lessened .ensures) in
-        remove-done xs b (s .args .limit) p (h .1 .0) _ (h .1 .1) (omega (arith, c .before .before .before .before .before .before .if2 .left))
-        (c .before .before .store .ensures .1 ∙ store-is b (c .before .before .before .before .before .before .before .before .before .before .before .spot-of .result .slot) (used (p .low) (p .up) (without n (p .entries))) xs zs z)
+    let p = c .before .before .before .before .before .before .before .before .before .before .before .spot-of .ensures .right fs e n g q in
+    let S = ready-sound (s .pre) e in
+    let h = test-held xs e S p ys i (keyValue (s .args .name)) g q t in
+    let z = lessened-is xs e S p ys i (s .pre .said .sized .legal .b-most) zs (h .1 .0) (h .1 .1) (c .before .before .before .before .before .lessened .ensures) in
+    remove-done xs b (s .args .limit) p (h .1 .0) _ (h .1 .1) (omega (arith, c .before .before .before .before .before .before .if2 .left))
+    (c .before .before .store .ensures .1 ∙ store-is b (c .before .before .before .before .before .before .before .before .before .before .before .spot-of .result .slot) (used (p .low) (p .up) (without n (p .entries))) xs zs z)
 
 pub remove-checked-spec : {M : Type 1} → statement M
 remove-checked-spec =

@@ -1,17 +1,16 @@
 -- `replace` meets its contract: one store, of the slot with the value replaced.
-use mathlib.Core.Path.{_∙_, _≡_, ap, refl}
+use mathlib.Core.Path.{_∙_, _≡_, ap}
 use mathlib.Core.List.{List}
 use Prim.Native.Nat.{_*_, _+_, ℕ}
 use native.Mathlib.Omega.{arith}
-use lib.ListN.{drop, length, take}
+use lib.ListN.{drop, take}
 use Rattle.model.specs.declared.PutAnswer.the-variants.{Replaced}
 use Rattle.model.specs.Entries.{insert}
 use Rattle.model.specs.Files.{used}
 use Rattle.model.specs.Format.{valueOf}
-use Rattle.bucket.specs.Slots.{lowerAt, upperAt, writtenBytes}
 use Rattle.bucket.proofs.Forms.{rest}
-use Rattle.keeper.proofs.Spots.{added-is, held-fits, new-fits, old-value, part-is, replaced-is, store-is}
-use Rattle.keeper.proofs.Putting.{put-added, put-replaced, put-stopped}
+use Rattle.keeper.proofs.Spots.{held-fits, old-value, replaced-is, store-is}
+use Rattle.keeper.proofs.Putting.{put-replaced, put-stopped}
 use borrow.Author.Needs.{needs}
 use Rattle.keeper.proofs.changes.replace.Statement.{statement}
 use Rattle.keeper.proofs.changes.replace.Tie as tie
@@ -61,11 +60,11 @@ returns-2 c =
     let v = s .args .value in
     let k = s .args .spot .place in
     λ fs e S n g p w f.
-        let z = replaced-is xs e S p ys i (s .pre .0 .legal .b-most) (c .before .before .before .before .before .before .replaced .result) v w g f (c .before .before .before .before .before .before .replaced .ensures) in
-        let o : c .before .before .before .before .before .before .before .value-at .result ≡ w = c .before .before .before .before .before .before .before .value-at .ensures ∙ ap (λ (x : List ℕ). valueOf (take 8 (drop (32 * k + 24) x))) (rest 64 ys) ∙ old-value xs e S p ys i w f in
-        put-replaced xs (s .args .trie) (s .args .size .b) (s .args .limit) v p (held-fits xs e S p v w f) (c .given2 .result) w _ (omega (arith, c .before .before .before .before .before .before .before .before .before .before .before .if1 .left)) f
-        (c .before .before .before .store .ensures .1 ∙ store-is (s .args .size .b) (s .args .spot .slot) (used (p .low) (p .up) (insert n v (p .entries))) xs (c .before .before .before .before .before .before .replaced .result) z)
-        (c .given2 .ensures .0 ∙ ap Replaced o, c .given2 .ensures .1)
+    let z = replaced-is xs e S p ys i (s .pre .0 .legal .b-most) (c .before .before .before .before .before .before .replaced .result) v w g f (c .before .before .before .before .before .before .replaced .ensures) in
+    let o : c .before .before .before .before .before .before .before .value-at .result ≡ w = c .before .before .before .before .before .before .before .value-at .ensures ∙ ap (λ (x : List ℕ). valueOf (take 8 (drop (32 * k + 24) x))) (rest 64 ys) ∙ old-value xs e S p ys i w f in
+    put-replaced xs (s .args .trie) (s .args .size .b) (s .args .limit) v p (held-fits xs e S p v w f) (c .given2 .result) w _ (omega (arith, c .before .before .before .before .before .before .before .before .before .before .before .if1 .left)) f
+    (c .before .before .before .store .ensures .1 ∙ store-is (s .args .size .b) (s .args .spot .slot) (used (p .low) (p .up) (insert n v (p .entries))) xs (c .before .before .before .before .before .before .replaced .result) z)
+    (c .given2 .ensures .0 ∙ ap Replaced o, c .given2 .ensures .1)
 
 pub replace-spec : {M : Type 1} → statement M
 replace-spec =

@@ -1,10 +1,6 @@
 -- `store` meets its contract: the bytes are the beginning of the slot given.
-use mathlib.Core.Path.{_∙_, ap}
-use mathlib.Core.List.{List}
-use mathlib.Core.Path.{refl}
+use mathlib.Core.Path.{_∙_}
 use Prim.Native.Nat.{_*_, _+_}
-use lib.ListN.{take}
-use lib.Seq.{paste}
 use Rattle.keeper.proofs.Spots.{part-whole}
 use borrow.Author.Needs.{needs}
 use Rattle.keeper.proofs.changes.store.Statement.{statement}
