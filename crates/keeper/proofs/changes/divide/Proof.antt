@@ -1,4 +1,7 @@
 -- `divide` meets its contract: both stores keep the file's length, and slot numbers are below 64.
+use mathlib.Core.Path.{subst, sym}
+use Prim.Native.Nat.{ℕ}
+use Rattle.file.specs.Sizes.{Sized}
 use borrow.Author.Needs.{needs}
 use Rattle.keeper.proofs.changes.divide.Statement.{statement}
 use Rattle.keeper.proofs.changes.divide.Tie as tie
@@ -31,7 +34,9 @@ returns-2 : tie.Need-returns-2
 returns-2 c = search needs
 
 store-requires-2 : tie.Need-store-requires-2
-store-requires-2 c κs = search needs
+store-requires-2 c κs =
+    let s = c .before .before .before .before .before .before .before .before .before .before .before .before .before .before .before in
+    (subst (λ (m : ℕ). Sized m (s .args .checked .size)) (sym (c .before .before .before .before .before .store .ensures .0)) (s .pre .0 .ready .said .sized), s .pre .1)
 
 grown-requires : tie.Need-grown-requires
 grown-requires c κs =
