@@ -5,7 +5,10 @@
 // leaf stands past s, and no path is compared.
 ghost use mathlib.Core.Path.{_≡_};
 ghost use Prim.Native.Nat.{_≤_, _<_, _+_};
-ghost use lib.ListN.{length};
+ghost use lib.ListN.{length, take};
+ghost use Rattle.model.specs.Order.{diff};
+ghost use Rattle.growth.specs.Grows.{Grows};
+ghost use Rattle.growth.specs.Parts.{Appended, FirstPlace, Redirected, cell-turned, leaf-place, next-side, side-joined, side-turned, walk-joined};
 use digits::index;
 use model::Cell;
 use model::Side;
@@ -24,7 +27,7 @@ fn short(x: usize) -> u16
 // strings already, and all of them where s is a cell's string.
 pub fn shared_with(walk: Walk, s: &[u8]) -> usize
     requires { ⌜ walk .len ≤ 24 ⌝ }
-    ensures { λ r. ⌜ r ≤ length (now (s .entry)) ⌝ }
+    ensures { λ r. ⌜ (r ≤ length (now (s .entry))) × (r ≡ diff (now (s .entry)) (take (walk .len) (walk .path))) ⌝ }
 {
     let path = walk.path;
     shared_first(s, &path, walk.len)
@@ -32,14 +35,16 @@ pub fn shared_with(walk: Walk, s: &[u8]) -> usize
 
 fn shared_first(s: &[u8], path: &[u8; 24], len: usize) -> usize
     requires { ⌜ len ≤ 24 ⌝ }
-    ensures { λ r. ⌜ r ≤ length (now (s .entry)) ⌝ }
+    ensures { λ r. ⌜ (r ≤ length (now (s .entry))) × (r ≡ diff (now (s .entry)) (take len (now (path .entry)))) ⌝ }
 {
     let whole = &path[..];
     digits::shared(s, &whole[0..len])
 }
 
 // Where the leaf stands at which the walk ended: just left of the string with this place.
-fn leaf_place(walk: Walk, places: &[u16; 256]) -> usize {
+fn leaf_place(walk: Walk, places: &[u16; 256]) -> usize
+    ensures { λ r. ⌜ r ≡ leaf-place walk (now (places .entry)) ⌝ }
+{
     let cell = number(walk.cell);
     if 256 <= cell {
         return 0;
@@ -52,7 +57,9 @@ fn leaf_place(walk: Walk, places: &[u16; 256]) -> usize {
 }
 
 // The first place, from `from` on, of a string with so many digits.
-fn place_of(lens: &[u8; 256], from: usize, digits: usize) -> usize {
+fn place_of(lens: &[u8; 256], from: usize, digits: usize) -> usize
+    ensures { λ r. ⌜ FirstPlace (now (lens .entry)) from digits r ⌝ }
+{
     let mut i = from;
     while i < 256 {
         if index(lens[i]) == digits {
@@ -64,7 +71,9 @@ fn place_of(lens: &[u8; 256], from: usize, digits: usize) -> usize {
 }
 
 // A side that leads to A leads to N instead where its leaf stands past s.
-fn turned_side(side: Side, place: usize, last: usize, a: u16, n: u16) -> Side {
+fn turned_side(side: Side, place: usize, last: usize, a: u16, n: u16) -> Side
+    ensures { λ r. ⌜ r ≡ side-turned side place last a n ⌝ }
+{
     match side {
         Side::Slot(s) => {
             if s != a {
@@ -81,6 +90,7 @@ fn turned_side(side: Side, place: usize, last: usize, a: u16, n: u16) -> Side {
 
 fn turned_cell(cell: Cell, place: usize, last: usize, a: u16, n: u16) -> Cell
     requires { ⌜ place < 65536 ⌝ }
+    ensures { λ r. ⌜ r ≡ cell-turned cell place last a n ⌝ }
 {
     let left = cell.left;
     let right = cell.right;
@@ -95,6 +105,7 @@ fn turned_cell(cell: Cell, place: usize, last: usize, a: u16, n: u16) -> Cell
 // Each leaf that led to A and whose path is above s leads to N: those that stand past the place `last`.
 fn redirected(trie: Trie, places: &[u16; 256], count: usize, last: usize, a: u16, n: u16) -> Trie
     requires { ⌜ count ≤ 256 ⌝ }
+    ensures { λ r. ⌜ Redirected trie (now (places .entry)) count last a n r ⌝ }
 {
     let mut turned = trie;
     let mut i = 0;
@@ -108,7 +119,9 @@ fn redirected(trie: Trie, places: &[u16; 256], count: usize, last: usize, a: u16
 }
 
 // The cell with one side leading to a further cell.
-fn joined(cell: Cell, is_left: bool, to: u16) -> Cell {
+fn joined(cell: Cell, is_left: bool, to: u16) -> Cell
+    ensures { λ r. ⌜ r ≡ side-joined cell «is_left» to ⌝ }
+{
     let left = cell.left;
     let right = cell.right;
     if is_left {
@@ -130,6 +143,7 @@ fn joined(cell: Cell, is_left: bool, to: u16) -> Cell {
 // The left side of a new cell: the next one, or A where there is none.
 fn next_of(i: usize, end: usize, a: u16) -> Side
     requires { ⌜ (i < end) × (end ≤ 256) ⌝ }
+    ensures { λ r. ⌜ r ≡ next-side i end a ⌝ }
 {
     if i + 1 < end {
         return Side::Cell(short(i + 1));
@@ -141,6 +155,7 @@ fn next_of(i: usize, end: usize, a: u16) -> Side
 // one's left leading to A and all right sides to N.
 fn appended(trie: Trie, count: usize, s: &[u8], shared: usize, a: u16, n: u16) -> Trie
     requires { ⌜ (count + length (now s) ≤ 256 + shared) × (shared ≤ length (now s)) × (length (now s) ≤ 24) ⌝ }
+    ensures { λ r. ⌜ Appended trie count (now (s .entry)) shared a n r ⌝ }
 {
     let mut grown = trie;
     let end = count + (s.len() - shared);
@@ -166,6 +181,7 @@ fn appended(trie: Trie, count: usize, s: &[u8], shared: usize, a: u16, n: u16) -
 // The side by which the walk reached its leaf leads to the first new cell.
 fn grafted(trie: Trie, count: usize, walk: Walk) -> Trie
     requires { ⌜ count ≤ 256 ⌝ }
+    ensures { λ r. ⌜ r ≡ walk-joined trie count walk ⌝ }
 {
     let mut grown = trie;
     let k = number(walk.cell);
@@ -191,6 +207,7 @@ pub fn grown(
     n: u16,
 ) -> Trie
     requires { ⌜ (trie .count + length (now s) ≤ 256 + shared) × (shared ≤ length (now s)) × (length (now s) ≤ 24) ⌝ }
+    ensures { λ r. ⌜ Grows trie (now (places .entry)) (now (lens .entry)) walk (now (s .entry)) shared a n r ⌝ }
 {
     let count = number(trie.count);
     let place = leaf_place(walk, places);

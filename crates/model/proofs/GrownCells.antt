@@ -249,7 +249,7 @@ module _ (f : Str → ℕ → ℕ) where
       }
 
 -- Where s is a string already, the leaf that c reaches has a path that begins with s: nothing is put there.
-diff-begin : (s u : Str) → take (length s) u ≡ s → diff s u ≡ length s
+pub diff-begin : (s u : Str) → take (length s) u ≡ s → diff s u ≡ length s
 diff-begin [] u e = refl
 diff-begin (a ∷ s) [] e = cc
 diff-begin (a ∷ s) (b ∷ u) e = go (ℕ-discrete a b) (diff-begin s u)

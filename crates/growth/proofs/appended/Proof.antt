@@ -1,3 +1,6 @@
+-- `appended` meets its contract: new cells are written one by one.
+use Rattle.growth.specs.Parts.{Appended, Written, new-cell}
+use Rattle.growth.proofs.Laws.{write-next, write-none}
 use Prim.Native.Nat.{ℕ, _≤_, _-_, _<_, _+_, _*_}
 use native.Mathlib.Omega.{arith}
 use mathlib.Core.Path.{_≡_, refl, sym, _∙_}
@@ -11,7 +14,7 @@ use Rattle.growth.proofs.next_of.Reads as next-of-reads
 use Rattle.growth.proofs.short.Reads as short-reads
 
 abbrev Inv-loop : tie.InvT-loop
-Inv-loop count s shared a n grown₀ end i₀ at₀ grown i at = (shared ≤ at) × (at ≤ length s) × (i + (length s - at) ≡ end) × (end ≤ 256) × (length s ≤ 24)
+Inv-loop count s shared a n grown₀ end i₀ at₀ grown i at = (shared ≤ at) × (at ≤ length s) × (i + (length s - at) ≡ end) × (end ≤ 256) × (length s ≤ 24) × (count ≤ i) × (end ≡ count + (length s - shared)) × Written grown₀ count s shared a n i grown
 
 abbrev μ-loop : tie.MeasureT-loop
 μ-loop count s shared a n grown₀ end i₀ at₀ grown i at = length s - at
@@ -23,7 +26,7 @@ add-end : tie.Need-add-end Inv-loop μ-loop
 add-end c = search needs
 
 loop-holds : tie.Need-loop-holds Inv-loop μ-loop
-loop-holds c = search needs
+loop-holds c = (search needs, search needs, search needs, search needs, search needs, search needs, search needs, write-none _ _ _ _ _ _)
 
 next-of-requires : tie.Need-next-of-requires Inv-loop μ-loop
 next-of-requires c κs = search needs
@@ -50,13 +53,31 @@ loop-less : tie.Need-loop-less Inv-loop μ-loop
 loop-less c = search needs
 
 loop-again : tie.Need-loop-again Inv-loop μ-loop
-loop-again c = search needs
+unfolding new-cell
+loop-again c =
+    let l = c .before .before .before in (
+      search needs,
+      search needs,
+      search needs,
+      search needs,
+      search needs,
+      search needs,
+      search needs,
+      write-next (l .loop .inv .7) (l .loop .inv .5) (omega arith) (l .loop .inv .0) (rw (c .before .next-of .ensures)),
+    )
 
 short-requires : tie.Need-short-requires Inv-loop μ-loop
 short-requires c κs = search needs
 
 returns : tie.Need-returns Inv-loop μ-loop
-returns c = search needs
+returns c =
+    let l = c .before .before in
+    let W = l .loop .inv .7 in
+    record {
+      written = record { full = W .full; new = λ j h k. W .new j (omega arith) k; before = W .before; behind = λ i h. W .behind i (omega arith) };
+      count-is = c .short .ensures;
+      first-is = refl;
+    }
 
 pub appended-spec : {M : Type 1} → statement M
 appended-spec =

@@ -1,3 +1,6 @@
+-- `place_of` meets its contract: none before has so many digits.
+use borrow.Author.Count.{below-more}
+use Rattle.growth.specs.Parts.{FirstPlace}
 use Prim.Native.Nat.{ℕ, _≤_, _-_, _<_, _+_, _*_}
 use native.Mathlib.Omega.{arith}
 use mathlib.Core.Path.{_≡_, refl, sym, _∙_}
@@ -10,7 +13,7 @@ use Rattle.growth.proofs.place_of.Lts as lts
 use Rattle.digits.proofs.index.Reads as index-reads
 
 abbrev Inv-loop : tie.InvT-loop
-Inv-loop lens from digits i₀ i = 0 ≤ i
+Inv-loop lens from digits i₀ i = (from ≤ i) × ((j : ℕ) → j < i → from ≤ j → getD lens j 0 ≡ digits → ⊥)
 
 abbrev μ-loop : tie.MeasureT-loop
 μ-loop lens from digits i₀ i = 256 - i
@@ -25,7 +28,9 @@ index-requires : tie.Need-index-requires Inv-loop μ-loop
 index-requires c κs = search needs
 
 returns : tie.Need-returns Inv-loop μ-loop
-returns c = search needs
+returns c =
+    let l = c .before .before .before .before in
+    record { from-on = search needs; before = l .loop .inv .1; found = λ h. sym (c .before .index .ensures .0) ∙ c .if1 .taken }
 
 add-i : tie.Need-add-i Inv-loop μ-loop
 add-i c = search needs
@@ -34,10 +39,14 @@ loop-less : tie.Need-loop-less Inv-loop μ-loop
 loop-less c = search needs
 
 loop-again : tie.Need-loop-again Inv-loop μ-loop
-loop-again c = search needs
+loop-again c =
+    let l = c .before .before .before .before in
+    (search needs, below-more _ _ (l .loop .inv .1) (λ g e. c .if1 .left (c .before .index .ensures .0 ∙ e)))
 
 returns-2 : tie.Need-returns-2 Inv-loop μ-loop
-returns-2 c = search needs
+returns-2 c =
+    let l = c .before in
+    record { from-on = search needs; before = l .loop .inv .1; found = λ h. absurd (omega arith) }
 
 pub place-of-spec : {M : Type 1} → statement M
 place-of-spec =

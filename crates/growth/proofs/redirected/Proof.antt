@@ -1,3 +1,6 @@
+-- `redirected` meets its contract: cells are turned one by one.
+use Rattle.growth.specs.Parts.{Redirected}
+use Rattle.growth.proofs.Laws.{redirect-next, redirect-none}
 use Prim.Native.Nat.{ℕ, _≤_, _-_, _<_, _+_, _*_}
 use native.Mathlib.Omega.{arith}
 use mathlib.Core.Path.{_≡_, refl, sym, _∙_}
@@ -11,13 +14,13 @@ use Rattle.growth.proofs.turned_cell.Reads as turned-cell-reads
 use Rattle.trie.proofs.number.Reads as number-reads
 
 abbrev Inv-loop : tie.InvT-loop
-Inv-loop places count last a n turned₀ i₀ turned i = (i ≤ count) × (count ≤ 256)
+Inv-loop places count last a n turned₀ i₀ turned i = (i ≤ count) × (count ≤ 256) × Redirected turned₀ places i last a n turned
 
 abbrev μ-loop : tie.MeasureT-loop
 μ-loop places count last a n turned₀ i₀ turned i = count - i
 
 loop-holds : tie.Need-loop-holds Inv-loop μ-loop
-loop-holds c = search needs
+loop-holds c = (search needs, search needs, redirect-none _ _ _ _ _)
 
 mul-cell : tie.Need-mul-cell Inv-loop μ-loop
 mul-cell c = search needs
@@ -50,10 +53,15 @@ loop-less : tie.Need-loop-less Inv-loop μ-loop
 loop-less c = search needs
 
 loop-again : tie.Need-loop-again Inv-loop μ-loop
-loop-again c = search needs
+loop-again c =
+    let l = c .before .before .before .before .before in
+    (search needs, search needs, redirect-next (l .loop .inv .2) (rw (c .before .number .ensures .0) at (c .turned-cell .ensures)))
 
 returns : tie.Need-returns Inv-loop μ-loop
-returns c = search needs
+returns c =
+    let l = c .before in
+    let e : l .loop .i ≡ l .before .args .count = omega arith in
+    rw e at (l .loop .inv .2)
 
 pub redirected-spec : {M : Type 1} → statement M
 redirected-spec =
