@@ -1,4 +1,6 @@
 pub mod Ready
 pub mod Parts
 pub mod Spots
+pub mod Splits
+pub mod Divides
 pub mod Outcomes

@@ -1,7 +1,15 @@
--- `divide` meets its contract: both stores keep the file's length, and slot numbers are below 64.
+-- `divide` meets its contract.
 use borrow.Author.Needs.{needs}
 use Rattle.keeper.proofs.changes.divide.Statement.{statement}
 use Rattle.keeper.proofs.changes.divide.Tie as tie
+use Rattle.keeper.proofs.changes.divide.Reads as reads
+use Rattle.keeper.proofs.changes.divide.Lts as lts
+use Rattle.file.proofs.slot_at.Reads as slot-at-reads
+use Rattle.keeper.proofs.changes.given.Reads as given-reads
+use Rattle.keeper.proofs.changes.grown.Reads as grown-reads
+use Rattle.keeper.proofs.changes.new_slot.Reads as new-slot-reads
+use Rattle.keeper.proofs.changes.old_slot.Reads as old-slot-reads
+use Rattle.keeper.proofs.changes.store.Reads as store-reads
 
 given-requires : tie.Need-given-requires
 given-requires c κs = search needs
@@ -34,11 +42,7 @@ store-requires-2 : tie.Need-store-requires-2
 store-requires-2 c κs = search needs
 
 grown-requires : tie.Need-grown-requires
-grown-requires c κs =
-    let s = c .before .before .before .before .before .before .before .before .before .before .before .before .before .before .before .before .before .before in
-    let l = s .pre .0 .ready .said .sized .legal in
-    let p = s .pre .3 in
-    search needs
+grown-requires c κs = search needs
 
 given-requires-3 : tie.Need-given-requires-3
 given-requires-3 c κs = search needs

@@ -1,9 +1,14 @@
--- `split` meets its contract: the free slot is one of the file's, and the strings are not too many.
-use native.Mathlib.Omega.{arith}
-use Rattle.keeper.proofs.Laws.{room-inside}
+-- `split` meets its contract.
 use borrow.Author.Needs.{needs}
 use Rattle.keeper.proofs.changes.split.Statement.{statement}
 use Rattle.keeper.proofs.changes.split.Tie as tie
+use Rattle.keeper.proofs.changes.split.Reads as reads
+use Rattle.keeper.proofs.changes.split.Lts as lts
+use Rattle.file.proofs.lowest_free.Reads as lowest-free-reads
+use Rattle.keeper.proofs.changes.divide.Reads as divide-reads
+use Rattle.keeper.proofs.changes.refused.Reads as refused-reads
+use Rattle.keeper.proofs.splitting.split_of.Reads as split-of-reads
+use Rattle.trie.proofs.number.Reads as number-reads
 
 lowest-free-requires : tie.Need-lowest-free-requires
 lowest-free-requires c κs = search needs
@@ -45,10 +50,7 @@ returns-3 : tie.Need-returns-3
 returns-3 c = search needs
 
 divide-requires : tie.Need-divide-requires
-divide-requires c κs =
-    let s = c .before .before .before .before .before .before .before .before .before .before .before .before .before .before .before in
-    let h = room-inside (c .before .before .before .before .before .before .before .before .before .n .given .1) (c .before .before .before .before .before .before .before .before .before .before .before .lowest-free .ensures .inside) in
-    (s .pre .0, s .pre .1, h, c .before .before .before .before .before .before .before .split-of .ensures, omega arith)
+divide-requires c κs = search needs
 
 same-length : tie.Need-same-length
 same-length c = search needs
