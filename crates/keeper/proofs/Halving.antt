@@ -170,6 +170,13 @@ module _ {l : Low} {u : Str} {ws : List Entry} (R : Row l ws u) (b : ℕ) (two :
   s-length : length s ≡ suc (diff c z)
   s-length = ap length s-is ∙ length-take-le (suc (diff c z)) c (diff-lt-left c z before)
 
+  -- It is a beginning of the split key, with at least a digit.
+  pub split-some : 0 < length s
+  split-some = omega (arith, s-length)
+
+  pub split-begins : s ≡ take (length s) c
+  split-begins = s-is ∙ ap (λ (k : ℕ). take k c) (sym s-length)
+
   s-short : length s ≤ 24
   s-short = omega (arith, s-length, diff-lt-left c z before, c-length)
 

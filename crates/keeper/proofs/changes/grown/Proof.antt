@@ -29,6 +29,5 @@ returns c =
     (subst (λ (m : ℕ). Grows (a .trie) (a .checked .places) (a .checked .strings .lens) (a .split .walk) s (a .split .shared) m (c .before .short2 .result) r) (c .before .before .short .ensures)
     (c .grown-at .ensures))
 
-
 pub grown-spec : {M : Type 1} → statement M
 grown-spec = tie.close (tie.spec short-requires short-requires-2 grown-at-requires returns)

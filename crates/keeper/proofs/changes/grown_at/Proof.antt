@@ -29,7 +29,6 @@ returns c =
     subst (λ (z : List ℕ). Grows (a .trie) (a .places .now) (a .lens .now) (a .split .walk) z (a .split .shared) (a .a) (a .n) (c .grown .result))
     (front (a .len) (a .string .now)) (c .grown .ensures)
 
-
 pub grown-at-spec : {M : Type 1} → statement M
 grown-at-spec =
     tie.close (tie.spec sub-grown part-grown-start part-grown-end grown-requires returns)

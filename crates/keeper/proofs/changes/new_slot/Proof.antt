@@ -35,7 +35,6 @@ returns : tie.Need-returns
 returns c =
     rw (c .before .before .upper-of .ensures .0) at (c .written-above .ensures)
 
-
 pub new-slot-spec : {M : Type 1} → statement M
 new-slot-spec =
     tie.close

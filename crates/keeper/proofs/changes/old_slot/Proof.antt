@@ -31,7 +31,6 @@ returns c =
     let a = c .before .before .before .before .before .before .before .before .args in
     rw (c .before .before .before .lower-of .ensures .0, front _ (a .entries .now)) at (c .written-below .ensures)
 
-
 pub old-slot-spec : {M : Type 1} → statement M
 old-slot-spec =
     tie.close

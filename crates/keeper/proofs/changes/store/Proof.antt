@@ -34,7 +34,6 @@ returns c =
     let n = 64 + 32 * s .args .size .b in
     (search needs, c .before .before .store .ensures ∙ part-whole (s .args .file .now) (s .args .slot .now) (16 + s .args .k * n) (c .before .before .before .before .before .slot-size .result) n (c .before .before .before .before .before .slot-size .ensures))
 
-
 pub store-spec : {M : Type 1} → statement M
 store-spec =
     tie.close

@@ -28,7 +28,6 @@ returns c =
     let s = c .before .before .before .before .before in
     c .written .ensures ∙ ap (λ (z : List ℕ). writtenBytes z (s .args .upper .now) (s .args .entries .now)) (front (s .args .len) (s .args .string .now))
 
-
 pub written-above-spec : {M : Type 1} → statement M
 written-above-spec =
     tie.close (tie.spec sub-written part-written-start part-written-end written-requires returns)

@@ -28,7 +28,6 @@ returns c =
     let s = c .before .before .before .before .before in
     c .written .ensures ∙ ap (λ (z : List ℕ). writtenBytes (s .args .lower .now) z (s .args .entries .now)) (front (s .args .len) (s .args .string .now))
 
-
 pub written-below-spec : {M : Type 1} → statement M
 written-below-spec =
     tie.close (tie.spec sub-written part-written-start part-written-end written-requires returns)

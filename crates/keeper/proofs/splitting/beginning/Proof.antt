@@ -27,7 +27,6 @@ returns c =
     let s = c .before .before .before .before .before in
     string-copied (s .args .len) (s .args .name .now) _ (s .pre) (c .before .copy .ensures)
 
-
 pub beginning-spec : {M : Type 1} → statement M
 beginning-spec =
     tie.close

@@ -33,7 +33,6 @@ returns c =
     let full : length (s .args .entries .now) ≡ 544 = search needs in
     name-copied (s .args .at) (s .args .entries .now) _ full (s .pre) (c .before .copy .ensures)
 
-
 pub name-at-spec : {M : Type 1} → statement M
 name-at-spec =
     tie.close

@@ -40,7 +40,6 @@ returns c =
     let u = c .upto .ensures in
     (omega arith, omega (arith, u .0), stay-counted (a .b) (a .len) (a .entries .now) (a .string .now) (c .before .bound-key-at .ensures) (u .1))
 
-
 pub stay-of-spec : {M : Type 1} → statement M
 stay-of-spec =
     tie.close
