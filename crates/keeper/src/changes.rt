@@ -9,10 +9,12 @@ ghost use Rattle.model.specs.Calls.{putOf, removeOf};
 ghost use Rattle.bucket.specs.Entries.{changedValue, withoutEntry};
 ghost use Rattle.bucket.specs.Slots.{lowerAt, upperAt, writtenBytes};
 ghost use Rattle.file.specs.Sizes.{Sized, Below};
+ghost use Rattle.growth.specs.Grows.{Grows};
+ghost use Rattle.keeper.specs.Divides.{DivideTold};
 ghost use Rattle.keeper.specs.Outcomes.{put as putDone, removed as removeDone};
 ghost use Rattle.keeper.specs.Ready.{Agreed, Ready};
 ghost use Rattle.keeper.specs.Parts.{Parted};
-ghost use Rattle.keeper.specs.Splits.{AddTold, PutTold, RemoveTold, ReplaceTold};
+ghost use Rattle.keeper.specs.Splits.{AddTold, PutTold, RemoveTold, ReplaceTold, SplitTold};
 ghost use Rattle.keeper.specs.Spots.{SpotTold, Spotted, isHeld};
 use crate::checks::Checked;
 use crate::checks::Verdict;
@@ -145,6 +147,8 @@ fn add(
 // The new slot of a split: bounds s and A's upper, and the entries that move.
 fn new_slot(slot: &[u8], b: usize, entries: &[u8; 544], split: Split) -> [u8; 576]
     requires { ⌜ (length (now slot) ≡ 64 + 32 * b) × (b ≤ 16) × (Parted split b) ⌝ }
+    ensures { λ r. ⌜ r ≡ writtenBytes (take (split .len) (split .string)) (upperAt (now (slot .entry)))
+        (take (32 * (b + 1) - 32 * split .stay) (drop (32 * split .stay) (now (entries .entry)))) ⌝ }
 {
     let string = split.string;
     let len = split.len;
@@ -157,6 +161,8 @@ fn new_slot(slot: &[u8], b: usize, entries: &[u8; 544], split: Split) -> [u8; 57
 // The slot A of a split, cut down: its upper is now s.
 fn old_slot(slot: &[u8], b: usize, entries: &[u8; 544], split: Split) -> [u8; 576]
     requires { ⌜ (length (now slot) ≡ 64 + 32 * b) × (b ≤ 16) × (Parted split b) ⌝ }
+    ensures { λ r. ⌜ r ≡ writtenBytes (lowerAt (now (slot .entry))) (take (split .len) (split .string))
+        (take (32 * split .stay) (now (entries .entry))) ⌝ }
 {
     let string = split.string;
     let len = split.len;
@@ -167,6 +173,7 @@ fn old_slot(slot: &[u8], b: usize, entries: &[u8; 544], split: Split) -> [u8; 57
 
 fn written_above(string: &[u8; 24], len: usize, upper: &[u8], entries: &[u8]) -> [u8; 576]
     requires { ⌜ (len ≤ 24) × (length (now upper) ≤ 24) × (length (now entries) ≤ 512) ⌝ }
+    ensures { λ r. ⌜ r ≡ writtenBytes (take len (now (string .entry))) (now (upper .entry)) (now (entries .entry)) ⌝ }
 {
     let whole = &string[..];
     bucket::written(&whole[0..len], upper, entries)
@@ -174,6 +181,7 @@ fn written_above(string: &[u8; 24], len: usize, upper: &[u8], entries: &[u8]) ->
 
 fn written_below(lower: &[u8], string: &[u8; 24], len: usize, entries: &[u8]) -> [u8; 576]
     requires { ⌜ (len ≤ 24) × (length (now lower) ≤ 24) × (length (now entries) ≤ 512) ⌝ }
+    ensures { λ r. ⌜ r ≡ writtenBytes (now (lower .entry)) (take len (now (string .entry))) (now (entries .entry)) ⌝ }
 {
     let whole = &string[..];
     bucket::written(lower, &whole[0..len], entries)
@@ -189,6 +197,7 @@ fn short(x: usize) -> u16
 // The trie after a split.
 fn grown(checked: Checked, trie: Trie, split: Split, a: usize, n: usize) -> Trie
     requires { ⌜ (a < 64) × (n < 64) × (trie .count + split .len ≤ 256 + split .shared) × (split .shared ≤ split .len) × (split .len ≤ 24) ⌝ }
+    ensures { λ r. ⌜ Grows trie (checked .places) (checked .strings .lens) (split .walk) (take (split .len) (split .string)) (split .shared) a n r ⌝ }
 {
     let strings = checked.strings;
     let lens = strings.lens;
@@ -218,6 +227,7 @@ fn grown_at(
     n: u16,
 ) -> Trie
     requires { ⌜ (trie .count + len ≤ 256 + split .shared) × (split .shared ≤ len) × (len ≤ 24) ⌝ }
+    ensures { λ r. ⌜ Grows trie (now (places .entry)) (now (lens .entry)) (split .walk) (take len (now (string .entry))) (split .shared) a n r ⌝ }
 {
     let walk = split.walk;
     let whole = &string[..];
@@ -237,6 +247,7 @@ fn divide(
 ) -> PutGiven
     requires { ⌜ (Agreed checked (now file) trie) × (a < checked .size .slots) × (n < checked .size .slots) × (Parted split (checked .size .b))
         × (trie .count + split .len ≤ 256 + split .shared) ⌝ }
+    ensures { λ r. ⌜ DivideTold checked (now (file .entry)) (now (file .exit)) trie a n (now (entries .entry)) split limit r ⌝ }
 {
     if limit < 1 {
         return given(PutAnswer::Stopped(0), trie);
@@ -263,6 +274,7 @@ fn split(
     trie: Trie,
 ) -> PutGiven
     requires { ⌜ (Agreed checked (now file) trie) × (a < checked .size .slots) ⌝ }
+    ensures { λ r. ⌜ SplitTold (now (file .entry)) (now (file .exit)) trie (checked .size) a (now (entries .entry)) limit r ⌝ }
 {
     let size = checked.size;
     let survey = checked.survey;

@@ -8,7 +8,6 @@ use Rattle.model.specs.Format.{padded}
 use Rattle.digits.specs.Keys.{keyValue}
 use Rattle.bucket.specs.Entries.{withEntry}
 use Rattle.bucket.proofs.Forms.{rest}
-use Rattle.keeper.specs.Splits.{SplitTold}
 use Rattle.keeper.proofs.Spots.{entries-new, held-below, key-whole, ready-sound, test-held, test-lost}
 use borrow.Author.Needs.{needs}
 use Rattle.keeper.proofs.changes.put_checked.Statement.{statement}
@@ -101,7 +100,6 @@ returns-3 c =
     let r = c .before .before .before .before .before .before .before .before .before .before .before .before .before .spot-of .result in
     let n = s .args .name .now in
     let v = keyValue (c .before .before .before .before .before .before .before .before .before .before .before .before .before .before .before .key-at .result) in
-    let told : SplitTold xs (c .before .before .split .last .0) (s .args .trie) (s .args .checked .size) (r .slot) (c .before .before .before .before .before .before .before .with-entry .result) (s .args .limit) (c .before .before .split .result) = ? in
     λ fs e g.
     let q = key-whole n v g (c .before .before .before .before .before .before .before .before .before .before .before .before .before .before .before .key-at .ensures) in
     let S = ready-sound (s .pre .ready) e in
@@ -109,7 +107,7 @@ returns-3 c =
     let f = test-lost xs e S p ys (c .before .before .before .before .before .before .before .before .before .before .before .slot-at .ensures .0) v g q (sym (c .before .before .before .before .before .before .before .before .before .before .is-held .ensures) ∙ c .before .before .before .before .before .before .before .before .before .if1 .left) in
     let z = c .before .before .before .before .before .before .before .with-entry .ensures ∙ ap (λ (x : List ℕ). padded 544 (withEntry x (r .count) (r .place) n (s .args .value))) (rest 64 ys) in
     let d : length (p .entries) ≡ s .args .checked .size .b = omega (arith, p .counted, c .before .before .before .before .before .before .before .before .before .before .before .before .before .spot-of .ensures .inside .count-most, c .before .before .before .before .before .if2 .left) in
-    told fs e n (s .args .value) g (p .low) (p .up) (p .entries) (p .is) (p .slot-is) (p .above) (p .within) f d
+    c .before .before .split .ensures fs e n (s .args .value) g (p .low) (p .up) (p .entries) (p .is) (p .slot-is) (p .above) (p .within) f d
     (entries-new xs e S p ys (c .before .before .before .before .before .before .before .before .before .before .before .slot-at .ensures .0) (s .args .value) (c .before .before .before .before .before .before .before .with-entry .result) f z)
 
 pub put-checked-spec : {M : Type 1} → statement M
