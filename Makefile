@@ -1,5 +1,5 @@
-# The two commands of README, and the benchmark.
-.PHONY: run test library bench clean
+# The two commands of README, the longer trial of kills, and the benchmark.
+.PHONY: run test kill library bench clean
 
 # The main job: prove, build, and run the program on the names of NAMES, one a line.
 NAMES ?= crates/buckets/stdin
@@ -10,6 +10,11 @@ run:
 # All proofs, the layout of every file, all tests.
 test:
 	@scripts/test
+
+# Processes killed over a file on disk, for so many seconds.
+SECONDS ?= 60
+kill: library
+	@cd tests && PALHAVENTO_SECONDS=$(SECONDS) cargo test --release --offline --test killed -- --nocapture
 
 # The static library for C, Rust and whoever links it, in target/staticlib.
 library:

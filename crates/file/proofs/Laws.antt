@@ -1,5 +1,5 @@
 -- Laws of a file's sizes, and of lists of slot numbers.
-use mathlib.Core.Path.{_≡_, refl, sym, ap, subst, _∙_}
+use mathlib.Core.Path.{_≡_, refl, sym, ap, _∙_}
 use mathlib.Core.List.{List, [], _∷_}
 use Prim.Native.Nat.{ℕ, zero, suc, _+_, _-_, _*_, _≤_, _<_}
 use native.Mathlib.Nat.{suc-mul, mul-le-mul, le-of-eq, add-sub-cancel-left}
@@ -7,9 +7,7 @@ use native.Mathlib.Omega.{arith}
 use lib.ListN.{length, take, drop, set, replicate, length-take, length-drop}
 use lib.Seq.{paste}
 use Rattle.file.specs.declared.Size.{Size}
-use Rattle.file.specs.declared.survey.Survey.{Survey}
 use Rattle.file.specs.Sizes.{Sized, Below}
-use Rattle.file.specs.Surveys.{Surveyed}
 
 -- all the slots of a file together are small
 pub slots-fit : (k n : ℕ) → k ≤ 64 → n ≤ 576 → k * n ≤ 36864
@@ -62,13 +60,3 @@ some-slot len s z =
     let l = z .legal in
     let h = room len 0 (64 + 32 * s .b) s z (l .slots-least) refl in
     (l .slots-least, omega arith)
-
--- a survey made of its parts
-pub surveyed : (s : Survey) (xs : List ℕ) (size : Size) (count : ℕ) (order : List ℕ) (inner : ℕ) → (s .count ≡ count) × (s .order ≡ order) × (s .inner ≡ inner)
-    → Below order (size .slots) → count ≤ 64 → inner < size .slots → Surveyed s xs size
-surveyed s xs size count order inner e h p q =
-    record {
-      slots-inside = subst (λ (l : List ℕ). Below l (size .slots)) (sym (e .1)) h;
-      count-most = omega (arith, e .0);
-      inner-inside = omega (arith, e .2);
-    }

@@ -14,7 +14,7 @@ use Rattle.model.specs.Entries.{chosen}
 use Rattle.file.specs.declared.Room.the-variants.{At, Full}
 use Rattle.file.specs.Maps.{map-of, room-of}
 
-map-lt : (k : ℕ) (fs : List Slot) → length fs ≤ k → map-of fs < 2 ^ k
+pub map-lt : (k : ℕ) (fs : List Slot) → length fs ≤ k → map-of fs < 2 ^ k
 unfolding map-of
 map-lt k [] h = pow-pos k
 map-lt zero (x ∷ fs) h = absurd (omega arith)

@@ -2,3 +2,5 @@ pub mod Sizes
 pub mod Surveys
 pub mod Copies
 pub mod Maps
+pub mod Holders
+pub mod Orders

@@ -1,7 +1,10 @@
 -- What a look at a whole file finds: sound, cut or bad as check says, and of a sound file its range order and its map.
 use mathlib.Core.Path.{_≡_}
 use mathlib.Core.List.{List}
+use mathlib.Core.Option.{some}
 use Prim.Native.Nat.{_<_, _≤_, ℕ}
+use lib.ListN.{length, take}
+use Rattle.model.specs.Files as files
 use Rattle.model.specs.Checks.{Kind, is-bad, is-cut, is-sound}
 use Rattle.model.specs.Format.{checkRead, readSlots, sized}
 use Rattle.file.specs.declared.Size.{Size}
@@ -9,6 +12,7 @@ use Rattle.file.specs.declared.survey.Kind.{Kind as Found}
 use Rattle.file.specs.declared.survey.Kind.the-variants.{Bad, Cut, Sound}
 use Rattle.file.specs.declared.survey.Survey.{Survey}
 use Rattle.file.specs.Sizes.{Below}
+use Rattle.file.specs.Maps.{map-of}
 
 -- The code's word for check's, with the slot to free.
 abbrev pub verdict : Found → ℕ → Kind
@@ -24,3 +28,7 @@ pub record Surveyed (s : Survey) (xs : List ℕ) (size : Size) : Type 0 where
   pub slots-inside : Below (s .order) (size .slots)
   pub count-most : s .count ≤ 64
   pub inner-inside : s .inner < size .slots
+  pub kind-is : verdict (s .kind) (s .inner) ≡ checkSlots (size .b) (size .slots) xs
+  pub order-is : {fs : List files.Slot} → readSlots (size .b) (size .slots) 0 xs ≡ some fs → files.Sound (size .b) fs
+      → (s .count ≡ length (files.order-of fs)) × (take (s .count) (s .order) ≡ files.order-of fs)
+  pub used-is : {fs : List files.Slot} → readSlots (size .b) (size .slots) 0 xs ≡ some fs → files.Sound (size .b) fs → s .used ≡ map-of fs

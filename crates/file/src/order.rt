@@ -1,15 +1,22 @@
 // The used slots in range order: by upper bound, and where two are equal by lower bound.
 ghost use mathlib.Core.Path.{_≡_};
-ghost use Prim.Native.Nat.{ℕ, _≤_, _<_, _+_, _*_};
-ghost use lib.ListN.{length};
+ghost use mathlib.Core.List.{List, _++_, _∷_};
+ghost use Prim.Native.Nat.{ℕ, _≤_, _<_, _+_, _-_, _*_, suc};
+ghost use lib.ListN.{drop, length, take};
+ghost use Rattle.model.specs.Files.{Slot};
+ghost use Rattle.digits.specs.Keys.{keyValue};
 ghost use Rattle.file.specs.Sizes.{Sized, Below};
+ghost use Rattle.file.specs.Holders.{HolderTold};
+ghost use Rattle.file.specs.Orders.{Known, Listed, Placed, ahead};
 use crate::Size;
 use crate::slot_at;
 use digits::Key;
 use digits::index;
 
 // Whether the first range stands before the second.
-fn is_before(high: Key, low: Key, other_high: Key, other_low: Key) -> bool {
+fn is_before(high: Key, low: Key, other_high: Key, other_low: Key) -> bool
+    ensures { λ r. ⌜ r ≡ ahead (keyValue high) (keyValue low) (keyValue «other_high») (keyValue «other_low») ⌝ }
+{
     if digits::is_below(high, other_high) {
         return true;
     }
@@ -29,7 +36,9 @@ pub fn place_of(
     high: Key,
 ) -> usize
     requires { ⌜ (Sized (length (now file)) size) × (Below (now order) (size .slots)) × (count ≤ 64) ⌝ }
-    ensures { λ r. ⌜ r ≤ count ⌝ }
+    ensures { λ r. ⌜ (r ≤ count)
+        × ((fs : List Slot) → Known (size .b) (now (file .entry)) fs → Listed fs (now (order .entry)) count
+        → Placed fs (now (order .entry)) count (keyValue high) (keyValue low) r) ⌝ }
 {
     let mut least = 0;
     let mut most = count;
@@ -47,8 +56,10 @@ pub fn place_of(
 
 // Puts slot k at its place among the slots in order.
 pub fn insert(order: &mut [u8; 64], count: usize, place: usize, k: u8)
-    requires { ⌜ (count < 64) × (place ≤ count) ⌝ }
-    ensures { λ _. ⌜ ((n : ℕ) → Below (now (order .entry)) n → k < n → Below (now (order .exit)) n) ⌝ }
+    requires { ⌜ (count < 64) × (place ≤ count) × (length (now order) ≡ 64) ⌝ }
+    ensures { λ _. ⌜ ((n : ℕ) → Below (now (order .entry)) n → k < n → Below (now (order .exit)) n)
+        × (length (now (order .exit)) ≡ 64)
+        × (take (count + 1) (now (order .exit)) ≡ take place (now (order .entry)) ++ (k ∷ drop place (take count (now (order .entry))))) ⌝ }
 {
     let mut j = count;
     while place < j {
@@ -60,8 +71,10 @@ pub fn insert(order: &mut [u8; 64], count: usize, place: usize, k: u8)
 
 // Takes what stands at the place out of the slots in order.
 pub fn leave_out(order: &mut [u8; 64], count: usize, place: usize)
-    requires { ⌜ (count ≤ 64) × (place < count) ⌝ }
-    ensures { λ _. ⌜ ((n : ℕ) → Below (now (order .entry)) n → Below (now (order .exit)) n) ⌝ }
+    requires { ⌜ (count ≤ 64) × (place < count) × (length (now order) ≡ 64) ⌝ }
+    ensures { λ _. ⌜ ((n : ℕ) → Below (now (order .entry)) n → Below (now (order .exit)) n)
+        × (length (now (order .exit)) ≡ 64)
+        × (take (count - 1) (now (order .exit)) ≡ take place (now (order .entry)) ++ drop (suc place) (take count (now (order .entry)))) ⌝ }
 {
     let mut j = place + 1;
     while j < count {
@@ -73,7 +86,7 @@ pub fn leave_out(order: &mut [u8; 64], count: usize, place: usize)
 // The place of the bucket whose range holds the name, in a sound file: the first whose upper bound is not below it.
 pub fn holder(file: &[u8], size: Size, order: &[u8; 64], count: usize, name: Key) -> usize
     requires { ⌜ (Sized (length (now file)) size) × (Below (now order) (size .slots)) × (count ≤ 64) ⌝ }
-    ensures { λ r. ⌜ r < 64 ⌝ }
+    ensures { λ r. ⌜ HolderTold (now (file .entry)) size (now (order .entry)) count name r ⌝ }
 {
     if count == 0 {
         return 0;

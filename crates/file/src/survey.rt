@@ -1,10 +1,13 @@
 // Sound, cut or bad: one pass over the slots, their order, and whether they follow on each other.
 ghost use mathlib.Core.Path.{_≡_};
-ghost use Prim.Native.Nat.{_≤_, _<_, _+_, _*_};
-ghost use lib.ListN.{length};
+ghost use mathlib.Core.List.{List};
+ghost use Prim.Native.Nat.{_≤_, _<_, _+_, _*_, _^_};
+ghost use lib.ListN.{length, take};
+ghost use Rattle.model.specs.Files.{Slot, ranges};
 ghost use Rattle.file.specs.Sizes.{Sized, Below};
 ghost use Rattle.file.specs.Surveys.{Surveyed};
 ghost use Rattle.file.specs.Copies.{CopyTold};
+ghost use Rattle.file.specs.Orders.{Chained, Known, Laid, Listed, Twinned};
 use crate::Size;
 use crate::order;
 use crate::slot_at;
@@ -28,7 +31,7 @@ pub struct Survey {
 }
 
 fn found(kind: Kind, used: u64, count: usize, order: &[u8; 64], inner: usize) -> Survey
-    ensures { λ r. ⌜ (r .count ≡ count) × (r .order ≡ now (order .entry)) × (r .inner ≡ inner) ⌝ }
+    ensures { λ r. ⌜ (r .count ≡ count) × (r .order ≡ now (order .entry)) × (r .inner ≡ inner) × (r .kind ≡ kind) × (r .used ≡ used) ⌝ }
 {
     Survey {
         kind,
@@ -40,13 +43,17 @@ fn found(kind: Kind, used: u64, count: usize, order: &[u8; 64], inner: usize) ->
 }
 
 // The map with the next lower slot.
-fn with_next(used: u64, next: u64) -> u64 {
+fn with_next(used: u64, next: u64) -> u64
+    ensures { λ r. ⌜ (2 * used + next < 2 ^ 64 → r ≡ 2 * used + next) ⌝ }
+{
     std::num::wrapping_add_u64(std::num::wrapping_add_u64(used, used), next)
 }
 
 // Whether the first has no lower limit, the last no upper, and each lower equals the upper before it.
 fn is_chain(file: &[u8], size: Size, order: &[u8; 64], count: usize) -> bool
-    requires { ⌜ (Sized (length (now file)) size) × (Below (now order) (size .slots)) × (count ≤ 64) ⌝ }
+    requires { ⌜ (Sized (length (now file)) size) × (Below (now order) (size .slots)) × (count ≤ 64) × (length (now order) ≡ 64) ⌝ }
+    ensures { λ r. ⌜ ((fs : List Slot) → Known (size .b) (now (file .entry)) fs → Listed fs (now (order .entry)) count
+        → Chained r (ranges fs) (take count (now (order .entry)))) ⌝ }
 {
     let mut end = digits::no_limit();
     let mut j = 0;
@@ -63,8 +70,10 @@ fn is_chain(file: &[u8], size: Size, order: &[u8; 64], count: usize) -> bool
 
 // The first place whose slot has the upper bound of the one before it; the count where there is none.
 fn twin(file: &[u8], size: Size, order: &[u8; 64], count: usize) -> usize
-    requires { ⌜ (Sized (length (now file)) size) × (Below (now order) (size .slots)) × (count ≤ 64) ⌝ }
-    ensures { λ r. ⌜ (r < count → 1 ≤ r) ⌝ }
+    requires { ⌜ (Sized (length (now file)) size) × (Below (now order) (size .slots)) × (count ≤ 64) × (length (now order) ≡ 64) ⌝ }
+    ensures { λ r. ⌜ (r < count → 1 ≤ r)
+        × ((fs : List Slot) → Known (size .b) (now (file .entry)) fs → Listed fs (now (order .entry)) count
+        → Twinned fs (now (order .entry)) count r) ⌝ }
 {
     let mut j = 1;
     while j < count {
@@ -109,7 +118,9 @@ fn cut_of(
     place: usize,
     used: u64,
 ) -> Survey
-    requires { ⌜ (Sized (length (now file)) size) × (Below (now order) (size .slots)) × (count ≤ 64) × (place < count) × (1 ≤ place) ⌝ }
+    requires { ⌜ (Sized (length (now file)) size) × (Below (now order) (size .slots)) × (count ≤ 64) × (place < count) × (1 ≤ place)
+        × (Laid (now file) size 0 (now order) count used)
+        × ((fs : List Slot) → Known (size .b) (now file) fs → Listed fs (now order) count → Twinned fs (now order) count place) ⌝ }
     ensures { λ r. ⌜ Surveyed r (now (file .entry)) size ⌝ }
 {
     let inner = index(order[place]);
@@ -131,7 +142,8 @@ fn cut_of(
 
 // A file whose slots are each free or well formed, and in order.
 fn kind_of(file: &[u8], size: Size, order: &[u8; 64], count: usize, used: u64) -> Survey
-    requires { ⌜ (Sized (length (now file)) size) × (Below (now order) (size .slots)) × (count ≤ 64) ⌝ }
+    requires { ⌜ (Sized (length (now file)) size) × (Below (now order) (size .slots)) × (count ≤ 64)
+        × (Laid (now file) size 0 (now order) count used) ⌝ }
     ensures { λ r. ⌜ Surveyed r (now (file .entry)) size ⌝ }
 {
     let place = twin(file, size, order, count);

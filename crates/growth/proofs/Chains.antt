@@ -1,6 +1,6 @@
 -- The new cells in a row, and the paths that lead to them.
 use mathlib.Core.Path.{_∙_, _≡_, ap, refl, sym}
-use mathlib.Core.List.{List, [], _++_, _∷_, append-nil}
+use mathlib.Core.List.{List, [], _∷_, append-nil}
 use Prim.Native.Nat.{_+_, _-_, _<_, _≤_, suc, zero, ℕ}
 use native.Mathlib.Numerals.{add-one}
 use native.Mathlib.Omega.{arith}
@@ -11,12 +11,12 @@ use Rattle.model.specs.declared.Cell.{Cell}
 use Rattle.model.specs.declared.Side.{Side}
 use Rattle.model.specs.declared.Side.the-variants.{Cell as further, Slot as slot}
 use Rattle.model.specs.Order.{Str, _⊑_, diff, nil-not-le, tail-le}
-use Rattle.model.specs.Tries.{Reads, Tree, at-cell, cell, here, leaf, node, size, there, zero-cell}
+use Rattle.model.specs.Tries.{Reads, Tree, at-cell, cell, size, there, zero-cell}
 use Rattle.model.specs.Rebuilding.{lay, side-of}
 use Rattle.model.specs.Growth.{Spot, cell-of, chain-of, changed, grown, left, placed, right, root}
 use Rattle.model.proofs.Order.{take-diff}
 use Rattle.growth.specs.Parts.{new-cell, next-side}
-use Rattle.growth.proofs.Meeting.{Comes, Kept, Met, at-once, by-left, by-none, by-right, met-kept, met-left, met-right, on-left, on-right, string-of}
+use Rattle.growth.proofs.Meeting.{Comes, Kept, Met, at-once, by-left, by-none, by-right, met-kept, met-left, met-right, on-left, on-right}
 
 pub chain-size : (k : ℕ) (ds : Str) (A : ℕ) → size (chain-of k ds A) ≡ length ds
 chain-size k [] A = refl

@@ -18,7 +18,7 @@ use Rattle.model.specs.Order.{Str, _⊑_, diff, le?}
 use Rattle.model.specs.Tries.{Reads, Tree, at-cell, cell, first-leaf-of, leaf, occ, root-side, trie-of, walk, zero-cell}
 use Rattle.model.specs.Rebuilding.{lay, side-of}
 use Rattle.model.specs.Growth.{Spot, cell-of, cells-grown, cells-turned, changed, grow-cells, grown, grown-trie, left, new-cells, placed, right, root, root-grown, root-turned, turn, turn-cell, turn-cells, turn-side, turned}
-use Rattle.model.proofs.Order.{diff-le-right, le-refl}
+use Rattle.model.proofs.Order.{le-refl}
 use Rattle.model.proofs.Cells.{each-once, length-lay, visits-count}
 use Rattle.model.proofs.Passing.{height, reads-height}
 use Rattle.model.proofs.GrownCells.{Turned, grow-reads, replace, turn-reads}
@@ -26,8 +26,8 @@ use Rattle.trie.specs.declared.Walk.{Walk}
 use Rattle.trie.specs.Walks.{By}
 use Rattle.growth.specs.Grows.{Asked, live-cells, top-side}
 use Rattle.growth.specs.Parts.{Appended, FirstPlace, Redirected, cell-turned, leaf-place, new-cell, next-side, side-joined, side-turned, walk-joined}
-use Rattle.growth.proofs.Meeting.{Comes, Kept, Met, met-kept, met-left, string-of, turn-met, visited-met, walk-comes}
-use Rattle.growth.proofs.Standing.{Ends, Side-by, Stands, left-of, met-stands, no-cell, order-below, right-of}
+use Rattle.growth.proofs.Meeting.{Comes, Kept, Met, met-left, string-of, turn-met, visited-met, walk-comes}
+use Rattle.growth.proofs.Standing.{Side-by, Stands, left-of, met-stands, no-cell, order-below, right-of}
 use Rattle.growth.proofs.Parting.{C, Parted, above-leaf, below-leaf, ends, leaf-place-is, live, old-parted, order-count, os, path, path-above, path-is, shares, some-cells, sp, spot-is, ss, strings-count, visits, walk-is}
 use Rattle.growth.proofs.Chains.{chain-side, chain-size, graft-kept, graft-none, grown-at, met-first, met-old, next-further, next-slot, path-on, path-to, proper-above}
 
@@ -221,7 +221,7 @@ module _ {t : Trie} {places lens : List ℕ} {w : Walk} {c s : Str} {shared a : 
         past : (i : ℕ) → length T ≤ i → at-cell (r .cells) i ≡ zero-cell
         past i h = R .rest i (omega (arith, h, size)) ∙ K .agrees .past i (omega (arith, h, size, live K))
 
-  -- Cells are added. The slot reached is a.
+  -- Cells are added: X stands at the leaf that c reaches, whose slot is W; G are the cells with it, Q those turned.
   module _ (new : shared < length s) where
     abbrev W : ℕ
     W = walk c [] (C K .tree)

@@ -12,7 +12,7 @@ use Rattle.model.specs.declared.Side.the-variants.{Cell as further, Slot as slo
 use Rattle.model.specs.Order.{Str, _⊑_, le?}
 use Rattle.model.specs.Tries.{Reads, Tree, at-cell, cell, here, leaf, node, occ, one-if, there, walk, zero-cell}
 use Rattle.model.specs.Growth.{Spot, left, right, turn-cell, turn-cells}
-use Rattle.model.proofs.Cells.{not-visited, occ-append, one-if-equal, reads-agree, reads-set}
+use Rattle.model.proofs.Cells.{occ-append, one-if-equal, reads-agree, reads-set}
 use Rattle.model.proofs.Passing.{height}
 use Rattle.model.proofs.GrownCells.{Turned, path-at, spot, turn-reads}
 

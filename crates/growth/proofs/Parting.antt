@@ -2,8 +2,8 @@
 use mathlib.Core.Path.{_∙_, _≡_, ap, refl, subst, sym}
 use mathlib.Core.Logic.{_⊎_, inl, inr}
 use mathlib.Core.Bool.{false, true}
-use mathlib.Core.List.{List, List·Memᴰ, [], _++_, _∷_}
-use Prim.Native.Nat.{_+_, _<_, _≤_, suc, zero, ℕ}
+use mathlib.Core.List.{List, List·Memᴰ, [], _∷_}
+use Prim.Native.Nat.{_<_, _≤_, suc, zero, ℕ}
 use native.Mathlib.Decide.{decLt}
 use native.Mathlib.Numerals.{add-one}
 use native.Mathlib.Omega.{arith}
@@ -11,12 +11,11 @@ use borrow.Author.Tests.{lt-leb}
 use lib.ListN.{List·getD-eq-default, getD, length, length-take, take}
 use lib.Seq.{getD-take, length-take-le, take-all, take-length}
 use Rattle.model.specs.declared.Cell.{Cell}
-use Rattle.model.specs.declared.Side.{Side}
 use Rattle.model.specs.declared.Trie.{Trie}
-use Rattle.model.specs.Order.{Asc, Str, _≺_, _⊑_, diff, least, none, top}
-use Rattle.model.specs.Files.{all, bounds, ranges, strings-of}
-use Rattle.model.specs.Tries.{Leads, Spans, Tree, walk, walk-cells}
-use Rattle.model.specs.Growth.{Spot, left, path-cells, right, root, spot-cells}
+use Rattle.model.specs.Order.{Asc, Str, _⊑_, diff, least, none, top}
+use Rattle.model.specs.Files.{all, bounds, ranges}
+use Rattle.model.specs.Tries.{walk, walk-cells}
+use Rattle.model.specs.Growth.{Spot, left, path-cells, root, spot-cells}
 use Rattle.model.proofs.Order.{diff-le-right, le-refl, le-take, le-trans, lt-le, sandwich, take-diff}
 use Rattle.model.proofs.Strings.{all-closed, not-top, trie-asc}
 use Rattle.model.proofs.Tries.{cells-count}
@@ -25,7 +24,6 @@ use Rattle.model.proofs.Files.{strings-right}
 use Rattle.model.proofs.Agreement.{CellsAgree, agrees-cells}
 use Rattle.model.proofs.GrownCells.{diff-begin, path-at, path-reads, spot, spot-reads}
 use Rattle.trie.specs.declared.Walk.{Walk}
-use Rattle.trie.specs.Places.{InOrder}
 use Rattle.trie.specs.Strung.{lengths}
 use Rattle.trie.specs.Walks.{By}
 use Rattle.growth.specs.Grows.{Asked, live-cells, top-side}
@@ -50,9 +48,7 @@ abbrev pub Parted : Str → ℕ → Str → ℕ → Type 0
 Parted s last p j = (p ⊑ s → j ≤ last) × (j ≤ last → p ⊑ s)
 
 module _ {t : Trie} {places lens : List ℕ} {w : Walk} {c s : Str} {shared a : ℕ} (K : Asked t places lens w c s shared a) where
-  abbrev pub cs : List Cell
-  cs = live-cells t
-
+  -- The trie's cells agree with the file's strings, ss; os has the cells in the strings' order.
   pub C : CellsAgree (ranges (K .fs)) (K .sound .order) (live-cells t) (top-side t)
   C = agrees-cells (K .b) (K .sound) (K .agrees)
 
@@ -74,6 +70,7 @@ module _ {t : Trie} {places lens : List ℕ} {w : Walk} {c s : Str} {shared a : 
   pub order-count : length os ≡ t .count
   order-count = order-length (C .reads) (K .placed .in-order) ∙ sym (reads-size (C .reads)) ∙ visits ∙ live
 
+  -- The walk of c, in the tree: the leaf's path, the side by which it is reached, its slot and its place.
   abbrev pub path : Str
   path = path-at c [] (C .tree)
 
@@ -113,6 +110,7 @@ module _ {t : Trie} {places lens : List ℕ} {w : Walk} {c s : Str} {shared a : 
       go (left-of j i) b = leaf-on-left w places (getD os j 0) (b .0) (b .1) (below j i) ∙ K .placed .place-is j i
       go (right-of j i) b = leaf-on-right w places (getD os j 0) (b .0) (b .1) (below j i) ∙ ap suc (K .placed .place-is j i)
 
+  -- The lengths are those of the strings.
   lens-at : (j : ℕ) → j < length ss → getD lens j 0 ≡ length (getD ss j [])
   lens-at j h =
       let e : take (length ss) lens ≡ lengths ss = rw (strings-right (K .b) (K .sound)) at (K .lens-are) in

@@ -1,5 +1,5 @@
 -- Where cells, leaves and the walk's end stand among the strings.
-use mathlib.Core.Path.{_∙_, _≡_, ap, refl, sym}
+use mathlib.Core.Path.{_∙_, _≡_, refl, sym}
 use mathlib.Core.List.{List, List·Memᴰ, List·Memᴰ·head, List·Memᴰ·tail, [], _++_, _∷_}
 use Prim.Native.Nat.{_+_, _-_, _<_, _≤_, suc, zero, ℕ}
 use native.Mathlib.Decide.{decLt, ℕ-discrete}
@@ -8,9 +8,9 @@ use lib.ListN.{List·getD-eq-default, getD, length, length-append}
 use lib.Seq.{getD-append-add}
 use Rattle.model.specs.declared.Cell.{Cell}
 use Rattle.model.specs.declared.Side.{Side}
-use Rattle.model.specs.declared.Side.the-variants.{Cell as further, Slot as slot}
+use Rattle.model.specs.declared.Side.the-variants.{Slot as slot}
 use Rattle.model.specs.Order.{Asc, Low, Str, _≺_, _⊑_, _◁_, above, at, end, le?, over, step, top}
-use Rattle.model.specs.Tries.{Reads, Spans, Tree, at-cell, cell, cut, here, leaf, node, size, there, tip, walk}
+use Rattle.model.specs.Tries.{Reads, Spans, Tree, at-cell, cut, here, size, there, tip}
 use Rattle.model.specs.Growth.{Spot, left, right}
 use Rattle.model.proofs.Order.{le-refl, low-at, low-lower, lt-le, lt-trans}
 use Rattle.model.proofs.Strings.{trie-asc}

@@ -1,8 +1,9 @@
 // What put, remove and list check alike: the whole file and full agreement.
 ghost use mathlib.Core.Path.{_≡_};
 ghost use Prim.Native.Nat.{_≤_, _<_, _+_, _*_};
-ghost use lib.ListN.{length};
-ghost use Rattle.file.specs.Sizes.{Sized};
+ghost use Rattle.model.specs.Checks.{is-sound};
+ghost use Rattle.model.specs.Format.{checkFile};
+ghost use Rattle.file.specs.Sizes.{Said};
 ghost use Rattle.file.specs.Surveys.{Surveyed};
 ghost use Rattle.keeper.specs.Ready.{Passed};
 use file::Header;
@@ -54,7 +55,7 @@ fn refused(cause: Cause) -> Checked
 
 // The agreement of a sound file and a trie.
 fn agreed(file: &[u8], trie: Trie, size: Size, survey: Survey) -> Checked
-    requires { ⌜ (Sized (length (now file)) size) × (Surveyed survey (now file) size) ⌝ }
+    requires { ⌜ (Said size (now file)) × (Surveyed survey (now file) size) × (checkFile (now file) ≡ is-sound) ⌝ }
     ensures { λ r. ⌜ Passed r (now (file .entry)) trie ⌝ }
 {
     let order = survey.order;

@@ -2,6 +2,11 @@
 ghost use mathlib.Core.Path.{_≡_};
 ghost use Prim.Native.Nat.{_≤_, _<_, _+_, _*_};
 ghost use lib.ListN.{length};
+ghost use Rattle.model.specs.Order.{Str};
+ghost use Rattle.model.specs.Names.{Legal};
+ghost use Rattle.model.specs.Format.{readSlot};
+ghost use Rattle.model.specs.Calls.{lookUpOf, slotAnswer};
+ghost use Rattle.digits.specs.Keys.{keyValue, value};
 ghost use Rattle.file.specs.Sizes.{Sized, Below};
 ghost use Rattle.keeper.specs.Ready.{Ready};
 use crate::checks::Checked;
@@ -25,6 +30,7 @@ use trie::Arrival;
 // What one slot answers to a name.
 fn answer_of(slot: &[u8], b: usize, name: Key) -> LookUpAnswer
     requires { ⌜ (length (now slot) ≡ 64 + 32 * b) × (b ≤ 16) ⌝ }
+    ensures { λ r. ⌜ ((n : Str) → Legal n → keyValue name ≡ value n → r ≡ slotAnswer b n (readSlot b (now (slot .entry)))) ⌝ }
 {
     let Vacancy::Taken = bucket::vacancy_of(slot) else {
         return LookUpAnswer::Refused(Cause::StaleTrie);
@@ -42,7 +48,9 @@ fn answer_of(slot: &[u8], b: usize, name: Key) -> LookUpAnswer
 }
 
 // Look up reads one bucket and has its own order of refusals.
-pub fn look_up(file: &[u8], trie: Trie, name: &[u8]) -> LookUpAnswer {
+pub fn look_up(file: &[u8], trie: Trie, name: &[u8]) -> LookUpAnswer
+    ensures { λ r. ⌜ r ≡ lookUpOf (now (file .entry)) trie (now (name .entry)) ⌝ }
+{
     let Naming::Legal = digits::named(name) else {
         return LookUpAnswer::Refused(Cause::IllegalName);
     };

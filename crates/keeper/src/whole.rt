@@ -1,8 +1,9 @@
 // The calls on a whole file: create, check, recover, rebuild.
 ghost use mathlib.Core.Path.{_≡_};
 ghost use Prim.Native.Nat.{_≤_, _<_, _+_, _*_};
-ghost use Rattle.model.specs.Calls.{createOf, new-trie};
-ghost use Rattle.keeper.specs.Outcomes.{created};
+ghost use Rattle.model.specs.Calls.{createOf, new-trie, recoverOf};
+ghost use Rattle.model.specs.Format.{checkFile};
+ghost use Rattle.keeper.specs.Outcomes.{created, found, recovered};
 ghost use Rattle.keeper.specs.Parts.{Small};
 use file::Header;
 use file::Kind;
@@ -48,7 +49,9 @@ pub fn create(file: &mut [u8], version: u64, b: u64, slots: u64) -> TrieGiven
 }
 
 // Whether a file is sound, cut or bad.
-pub fn check(file: &[u8]) -> Kind {
+pub fn check(file: &[u8]) -> Kind
+    ensures { λ r. ⌜ r ≡ found (checkFile (now (file .entry))) ⌝ }
+{
     let Header::Right(size) = file::header_of(file) else {
         return Kind::Bad;
     };
@@ -58,7 +61,9 @@ pub fn check(file: &[u8]) -> Kind {
 }
 
 // Frees slot N of a cut file in one store and names it.
-pub fn recover(file: &mut [u8], limit: u64) -> RecoverAnswer {
+pub fn recover(file: &mut [u8], limit: u64) -> RecoverAnswer
+    ensures { λ r. ⌜ recovered r (now (file .exit)) ≡ recoverOf (now (file .entry)) limit ⌝ }
+{
     if 2 < limit {
         return RecoverAnswer::Refused(Cause::WrongSize);
     }

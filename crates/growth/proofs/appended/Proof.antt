@@ -1,17 +1,13 @@
 -- `appended` meets its contract: new cells are written one by one.
-use Rattle.growth.specs.Parts.{Appended, Written, new-cell}
+use Rattle.growth.specs.Parts.{Written, new-cell}
 use Rattle.growth.proofs.Laws.{write-next, write-none}
-use Prim.Native.Nat.{ℕ, _≤_, _-_, _<_, _+_, _*_}
+use Prim.Native.Nat.{_≤_, _-_, _+_}
 use native.Mathlib.Omega.{arith}
-use mathlib.Core.Path.{_≡_, refl, sym, _∙_}
-use lib.ListN.{length, take, drop, getD}
+use mathlib.Core.Path.{_≡_, refl}
+use lib.ListN.{length}
 use borrow.Author.Needs.{needs}
 use Rattle.growth.proofs.appended.Statement.{statement}
 use Rattle.growth.proofs.appended.Tie as tie
-use Rattle.growth.proofs.appended.Reads as reads
-use Rattle.growth.proofs.appended.Lts as lts
-use Rattle.growth.proofs.next_of.Reads as next-of-reads
-use Rattle.growth.proofs.short.Reads as short-reads
 
 abbrev Inv-loop : tie.InvT-loop
 Inv-loop count s shared a n grown₀ end i₀ at₀ grown i at = (shared ≤ at) × (at ≤ length s) × (i + (length s - at) ≡ end) × (end ≤ 256) × (length s ≤ 24) × (count ≤ i) × (end ≡ count + (length s - shared)) × Written grown₀ count s shared a n i grown

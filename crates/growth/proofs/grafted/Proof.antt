@@ -1,18 +1,9 @@
 -- `grafted` meets its contract.
 use borrow.Author.Tests.{le-leb, lt-leb}
 use Rattle.growth.specs.Parts.{walk-joined}
-use Prim.Native.Nat.{ℕ, _≤_, _-_, _<_, _+_, _*_}
-use native.Mathlib.Omega.{arith}
-use mathlib.Core.Path.{_≡_, refl, sym, _∙_}
-use lib.ListN.{length, take, drop, getD}
 use borrow.Author.Needs.{needs}
 use Rattle.growth.proofs.grafted.Statement.{statement}
 use Rattle.growth.proofs.grafted.Tie as tie
-use Rattle.growth.proofs.grafted.Reads as reads
-use Rattle.growth.proofs.grafted.Lts as lts
-use Rattle.growth.proofs.joined.Reads as joined-reads
-use Rattle.growth.proofs.short.Reads as short-reads
-use Rattle.trie.proofs.number.Reads as number-reads
 
 number-requires : tie.Need-number-requires
 number-requires c κs = search needs

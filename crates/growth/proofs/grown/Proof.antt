@@ -1,20 +1,9 @@
 -- `grown` meets its contract: where s is a string already, and where cells are added.
 use Rattle.growth.proofs.Growing.{grown-new, grown-string}
-use Prim.Native.Nat.{ℕ, _≤_, _-_, _<_, _+_, _*_}
 use native.Mathlib.Omega.{arith}
-use mathlib.Core.Path.{_≡_, refl, sym, _∙_}
-use lib.ListN.{length, take, drop, getD}
 use borrow.Author.Needs.{needs}
 use Rattle.growth.proofs.grown.Statement.{statement}
 use Rattle.growth.proofs.grown.Tie as tie
-use Rattle.growth.proofs.grown.Reads as reads
-use Rattle.growth.proofs.grown.Lts as lts
-use Rattle.growth.proofs.appended.Reads as appended-reads
-use Rattle.growth.proofs.grafted.Reads as grafted-reads
-use Rattle.growth.proofs.leaf_place.Reads as leaf-place-reads
-use Rattle.growth.proofs.place_of.Reads as place-of-reads
-use Rattle.growth.proofs.redirected.Reads as redirected-reads
-use Rattle.trie.proofs.number.Reads as number-reads
 
 number-requires : tie.Need-number-requires
 number-requires c κs = search needs

@@ -1,16 +1,9 @@
 -- `leaf_place` meets its contract.
 use borrow.Author.Tests.{le-leb, lt-leb}
 use Rattle.growth.specs.Parts.{leaf-place}
-use Prim.Native.Nat.{ℕ, _≤_, _-_, _<_, _+_, _*_}
-use native.Mathlib.Omega.{arith}
-use mathlib.Core.Path.{_≡_, refl, sym, _∙_}
-use lib.ListN.{length, take, drop, getD}
 use borrow.Author.Needs.{needs}
 use Rattle.growth.proofs.leaf_place.Statement.{statement}
 use Rattle.growth.proofs.leaf_place.Tie as tie
-use Rattle.growth.proofs.leaf_place.Reads as reads
-use Rattle.growth.proofs.leaf_place.Lts as lts
-use Rattle.trie.proofs.number.Reads as number-reads
 
 number-requires : tie.Need-number-requires
 number-requires c κs = search needs

@@ -1,16 +1,9 @@
 -- `next_of` meets its contract, by the test that led to each answer.
 use borrow.Author.Tests.{le-ltb, lt-ltb}
 use Rattle.growth.specs.Parts.{next-side}
-use Prim.Native.Nat.{ℕ, _≤_, _-_, _<_, _+_, _*_}
-use native.Mathlib.Omega.{arith}
-use mathlib.Core.Path.{_≡_, refl, sym, _∙_}
-use lib.ListN.{length, take, drop, getD}
 use borrow.Author.Needs.{needs}
 use Rattle.growth.proofs.next_of.Statement.{statement}
 use Rattle.growth.proofs.next_of.Tie as tie
-use Rattle.growth.proofs.next_of.Reads as reads
-use Rattle.growth.proofs.next_of.Lts as lts
-use Rattle.growth.proofs.short.Reads as short-reads
 
 add-if1 : tie.Need-add-if1
 add-if1 c = search needs

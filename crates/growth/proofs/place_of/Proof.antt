@@ -1,16 +1,12 @@
 -- `place_of` meets its contract: none before has so many digits.
 use borrow.Author.Count.{below-more}
-use Rattle.growth.specs.Parts.{FirstPlace}
-use Prim.Native.Nat.{ℕ, _≤_, _-_, _<_, _+_, _*_}
+use Prim.Native.Nat.{ℕ, _≤_, _-_, _<_}
 use native.Mathlib.Omega.{arith}
-use mathlib.Core.Path.{_≡_, refl, sym, _∙_}
-use lib.ListN.{length, take, drop, getD}
+use mathlib.Core.Path.{_≡_, sym, _∙_}
+use lib.ListN.{getD}
 use borrow.Author.Needs.{needs}
 use Rattle.growth.proofs.place_of.Statement.{statement}
 use Rattle.growth.proofs.place_of.Tie as tie
-use Rattle.growth.proofs.place_of.Reads as reads
-use Rattle.growth.proofs.place_of.Lts as lts
-use Rattle.digits.proofs.index.Reads as index-reads
 
 abbrev Inv-loop : tie.InvT-loop
 Inv-loop lens from digits i₀ i = (from ≤ i) × ((j : ℕ) → j < i → from ≤ j → getD lens j 0 ≡ digits → ⊥)

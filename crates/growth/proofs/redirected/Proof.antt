@@ -1,17 +1,12 @@
 -- `redirected` meets its contract: cells are turned one by one.
 use Rattle.growth.specs.Parts.{Redirected}
 use Rattle.growth.proofs.Laws.{redirect-next, redirect-none}
-use Prim.Native.Nat.{ℕ, _≤_, _-_, _<_, _+_, _*_}
+use Prim.Native.Nat.{_≤_, _-_}
 use native.Mathlib.Omega.{arith}
-use mathlib.Core.Path.{_≡_, refl, sym, _∙_}
-use lib.ListN.{length, take, drop, getD}
+use mathlib.Core.Path.{_≡_}
 use borrow.Author.Needs.{needs}
 use Rattle.growth.proofs.redirected.Statement.{statement}
 use Rattle.growth.proofs.redirected.Tie as tie
-use Rattle.growth.proofs.redirected.Reads as reads
-use Rattle.growth.proofs.redirected.Lts as lts
-use Rattle.growth.proofs.turned_cell.Reads as turned-cell-reads
-use Rattle.trie.proofs.number.Reads as number-reads
 
 abbrev Inv-loop : tie.InvT-loop
 Inv-loop places count last a n turned₀ i₀ turned i = (i ≤ count) × (count ≤ 256) × Redirected turned₀ places i last a n turned

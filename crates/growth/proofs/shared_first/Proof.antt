@@ -1,15 +1,8 @@
 -- `shared_first` meets its contract.
 use native.Mathlib.Nat.{sub-zero}
-use Prim.Native.Nat.{ℕ, _≤_, _-_, _<_, _+_, _*_}
-use native.Mathlib.Omega.{arith}
-use mathlib.Core.Path.{_≡_, refl, sym, _∙_}
-use lib.ListN.{length, take, drop, getD}
 use borrow.Author.Needs.{needs}
 use Rattle.growth.proofs.shared_first.Statement.{statement}
 use Rattle.growth.proofs.shared_first.Tie as tie
-use Rattle.growth.proofs.shared_first.Reads as reads
-use Rattle.growth.proofs.shared_first.Lts as lts
-use Rattle.digits.proofs.shared.Reads as shared-reads
 
 sub-shared : tie.Need-sub-shared
 sub-shared c = search needs

@@ -1,15 +1,8 @@
 -- `turned_cell` meets its contract.
 use Rattle.growth.specs.Parts.{cell-turned}
-use Prim.Native.Nat.{ℕ, _≤_, _-_, _<_, _+_, _*_}
-use native.Mathlib.Omega.{arith}
-use mathlib.Core.Path.{_≡_, refl, sym, _∙_}
-use lib.ListN.{length, take, drop, getD}
 use borrow.Author.Needs.{needs}
 use Rattle.growth.proofs.turned_cell.Statement.{statement}
 use Rattle.growth.proofs.turned_cell.Tie as tie
-use Rattle.growth.proofs.turned_cell.Reads as reads
-use Rattle.growth.proofs.turned_cell.Lts as lts
-use Rattle.growth.proofs.turned_side.Reads as turned-side-reads
 
 turned-side-requires : tie.Need-turned-side-requires
 turned-side-requires c κs = search needs

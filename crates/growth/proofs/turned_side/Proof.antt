@@ -1,14 +1,9 @@
 -- `turned_side` meets its contract, by the tests that led to each answer.
 use Rattle.growth.proofs.Laws.{turned-further, turned-goes, turned-other, turned-stays}
-use Prim.Native.Nat.{ℕ, _≤_, _-_, _<_, _+_, _*_}
-use native.Mathlib.Omega.{arith}
-use mathlib.Core.Path.{_≡_, refl, sym, _∙_}
-use lib.ListN.{length, take, drop, getD}
+use mathlib.Core.Path.{sym}
 use borrow.Author.Needs.{needs}
 use Rattle.growth.proofs.turned_side.Statement.{statement}
 use Rattle.growth.proofs.turned_side.Tie as tie
-use Rattle.growth.proofs.turned_side.Reads as reads
-use Rattle.growth.proofs.turned_side.Lts as lts
 
 enum-known-side : tie.Need-enum-known-side
 enum-known-side c = search needs

@@ -1,18 +1,29 @@
 -- `place_of` meets its contract: the halves close in on a place not above the count.
-use Prim.Native.Nat.{_≤_, _-_, _+_, _/_}
+use Prim.Native.Nat.{_<_, _≤_, _-_, _+_, _/_, suc, ℕ}
 use native.Mathlib.Omega.{arith}
+use mathlib.Core.Path.{_≡_, subst}
+use mathlib.Core.Bool.{false, true}
+use mathlib.Core.List.{List}
+use Rattle.model.specs.Files.{Slot}
+use Rattle.digits.specs.Keys.{keyValue}
+use Rattle.file.specs.Orders.{Known, Listed, placed, stands}
+use Rattle.file.proofs.Comparing.{place-high, place-low, stands-by}
 use borrow.Author.Needs.{needs}
 use Rattle.file.proofs.order.place_of.Statement.{statement}
 use Rattle.file.proofs.order.place_of.Tie as tie
 
 abbrev Inv-loop : tie.InvT-loop
-Inv-loop file size order count low high least₀ most₀ least most = (least ≤ most) × (most ≤ count)
+Inv-loop file size order count low high least₀ most₀ least most =
+    (least ≤ most) × (most ≤ count)
+    × ((fs : List Slot) → Known (size .b) file fs → Listed fs order count
+    → ((j : ℕ) → suc j ≡ least → stands (keyValue high) (keyValue low) (placed fs order j) ≡ false)
+    × (most < count → stands (keyValue high) (keyValue low) (placed fs order most) ≡ true))
 
 abbrev μ-loop : tie.MeasureT-loop
 μ-loop file size order count low high least₀ most₀ least most = most - least
 
 loop-holds : tie.Need-loop-holds Inv-loop μ-loop
-loop-holds c = search needs
+loop-holds c = (omega arith, omega arith, λ fs. λ K. λ L. (λ j. λ e. absurd (omega arith), λ h. absurd (omega arith)))
 
 sub-middle : tie.Need-sub-middle Inv-loop μ-loop
 sub-middle c = search needs
@@ -45,7 +56,21 @@ loop-less : tie.Need-loop-less Inv-loop μ-loop
 loop-less c = search needs
 
 loop-again : tie.Need-loop-again Inv-loop μ-loop
-loop-again c = search needs
+loop-again c =
+    let l = c .before .before .before .before .before .before .before .before .loop in
+    let s = c .before .before .before .before .before .before .before .before .before .before in
+    let m = l .least + (l .most - l .least) / 2 in
+    let told : (fs : List Slot) → Known (s .args .size .b) (s .args .file .now) fs → Listed fs (s .args .order .now) (s .args .count)
+    → stands (keyValue (s .args .high)) (keyValue (s .args .low)) (placed fs (s .args .order .now) m) ≡ true =
+    λ fs. λ K. λ L.
+    let k = c .before .before .before .before .before .index .ensures .0 in
+    let y = c .before .before .before .before .slot-at .ensures .0 in
+    stands-by (c .before .is-before .result) true (keyValue (s .args .high)) (keyValue (s .args .low)) (keyValue (c .before .before .before .high-of .result)) (keyValue (c .before .before .low-of .result)) (placed fs (s .args .order .now) m)
+    (c .before .is-before .ensures)
+    (place-high K (s .args .order .now) (s .args .count) L m (omega arith) _ k _ y _ (c .before .before .before .high-of .ensures))
+    (place-low K (s .args .order .now) (s .args .count) L m (omega arith) _ k _ y _ (c .before .before .low-of .ensures))
+    (c .if1 .taken) in
+    (omega arith, omega arith, λ fs. λ K. λ L. (l .inv .2 fs K L .0, λ h. told fs K L))
 
 add-least : tie.Need-add-least Inv-loop μ-loop
 add-least c = search needs
@@ -54,10 +79,32 @@ loop-less-2 : tie.Need-loop-less-2 Inv-loop μ-loop
 loop-less-2 c = search needs
 
 loop-again-2 : tie.Need-loop-again-2 Inv-loop μ-loop
-loop-again-2 c = search needs
+loop-again-2 c =
+    let l = c .before .before .before .before .before .before .before .before .loop in
+    let s = c .before .before .before .before .before .before .before .before .before .before in
+    let m = l .least + (l .most - l .least) / 2 in
+    let told : (fs : List Slot) → Known (s .args .size .b) (s .args .file .now) fs → Listed fs (s .args .order .now) (s .args .count)
+    → stands (keyValue (s .args .high)) (keyValue (s .args .low)) (placed fs (s .args .order .now) m) ≡ false =
+    λ fs. λ K. λ L.
+    let k = c .before .before .before .before .before .index .ensures .0 in
+    let y = c .before .before .before .before .slot-at .ensures .0 in
+    stands-by (c .before .is-before .result) false (keyValue (s .args .high)) (keyValue (s .args .low)) (keyValue (c .before .before .before .high-of .result)) (keyValue (c .before .before .low-of .result)) (placed fs (s .args .order .now) m)
+    (c .before .is-before .ensures)
+    (place-high K (s .args .order .now) (s .args .count) L m (omega arith) _ k _ y _ (c .before .before .before .high-of .ensures))
+    (place-low K (s .args .order .now) (s .args .count) L m (omega arith) _ k _ y _ (c .before .before .low-of .ensures))
+    (c .if1 .left) in
+    (omega arith, omega arith, λ fs. λ K. λ L. (λ j. λ e. subst (λ (n : ℕ). stands (keyValue (s .args .high)) (keyValue (s .args .low)) (placed fs (s .args .order .now) n) ≡ false) (omega arith) (told fs K L), l .inv .2 fs K L .1))
 
 returns : tie.Need-returns Inv-loop μ-loop
-returns c = search needs
+returns c =
+    let l = c .before .loop in
+    let s = c .before .before .before in (
+      omega arith,
+      λ fs. λ K. λ L. record {
+        left = l .inv .2 fs K L .0;
+        right = subst (λ (n : ℕ). n < s .args .count → stands (keyValue (s .args .high)) (keyValue (s .args .low)) (placed fs (s .args .order .now) n) ≡ true) (omega arith) (l .inv .2 fs K L .1);
+      },
+    )
 
 pub place-of-spec : {M : Type 1} → statement M
 place-of-spec =

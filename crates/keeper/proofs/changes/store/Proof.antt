@@ -1,14 +1,10 @@
--- `store` meets its contract.
+-- `store` meets its contract: the bytes are the beginning of the slot given.
 use mathlib.Core.Path.{_∙_}
 use Prim.Native.Nat.{_*_, _+_}
-use Rattle.keeper.proofs.Halving.{part-whole}
+use Rattle.keeper.proofs.Spots.{part-whole}
 use borrow.Author.Needs.{needs}
 use Rattle.keeper.proofs.changes.store.Statement.{statement}
 use Rattle.keeper.proofs.changes.store.Tie as tie
-use Rattle.keeper.proofs.changes.store.Reads as reads
-use Rattle.keeper.proofs.changes.store.Lts as lts
-use Rattle.file.proofs.slot_size.Reads as slot-size-reads
-use Rattle.file.proofs.store.Reads as store-reads
 
 slot-size-requires : tie.Need-slot-size-requires
 slot-size-requires c κs = search needs

@@ -1,5 +1,7 @@
--- `checks_of` meets its contract: each refusal stands alone, and agreement sees sizes and a survey of this file.
-use Rattle.keeper.proofs.Laws.{right-sized, refused-passed}
+-- `checks_of` meets its contract, refusal by refusal.
+use Rattle.keeper.proofs.Laws.{looked-refused, right-said, right-sized, wrong-said}
+use Rattle.keeper.proofs.Surveying.{no-header-bad, surveyed-is}
+use Rattle.keeper.proofs.Checking.{looked-bad, looked-cut}
 use borrow.Author.Needs.{needs}
 use Rattle.keeper.proofs.checks.checks_of.Statement.{statement}
 use Rattle.keeper.proofs.checks.checks_of.Tie as tie
@@ -17,7 +19,7 @@ refused-requires : tie.Need-refused-requires
 refused-requires c κs = search needs
 
 returns : tie.Need-returns
-returns c = refused-passed (c .refused .result) _ (c .refused .ensures)
+returns c = looked-refused (c .refused .result) _ _ (c .refused .ensures) (looked-bad _ _ (no-header-bad _ (wrong-said _ (c .before .enum-told .given .1) (c .before .before .before .header-of .ensures))))
 
 survey-of-requires : tie.Need-survey-of-requires
 survey-of-requires c κs = right-sized _ (c .before .size .given .1) (c .before .before .before .header-of .ensures)
@@ -38,13 +40,14 @@ enum-told-4 : tie.Need-enum-told-4
 enum-told-4 c = search needs
 
 agreed-requires : tie.Need-agreed-requires
-agreed-requires c κs = (right-sized _ (c .before .before .before .before .size .given .1) (c .before .before .before .before .before .before .header-of .ensures), c .before .before .survey-of .ensures)
+agreed-requires c κs =
+    ((right-said (c .before .before .before .before .size .given .1) (c .before .before .before .before .before .before .header-of .ensures)), c .before .before .survey-of .ensures, (surveyed-is (c .before .before .survey-of .result) (right-said (c .before .before .before .before .size .given .1) (c .before .before .before .before .before .before .header-of .ensures)) (c .before .before .survey-of .ensures) (c .enum-told4 .given .1)))
 
 returns-2 : tie.Need-returns-2
-returns-2 c = refused-passed (c .refused2 .result) _ (c .refused2 .ensures)
+returns-2 c = looked-refused (c .refused2 .result) _ _ (c .refused2 .ensures) (looked-bad _ _ (surveyed-is (c .before .before .before .survey-of .result) (right-said (c .before .before .before .before .before .size .given .1) (c .before .before .before .before .before .before .before .header-of .ensures)) (c .before .before .before .survey-of .ensures) (c .before .enum-told2 .given .1)))
 
 returns-3 : tie.Need-returns-3
-returns-3 c = refused-passed (c .refused3 .result) _ (c .refused3 .ensures)
+returns-3 c = looked-refused (c .refused3 .result) _ _ (c .refused3 .ensures) (looked-cut _ _ (surveyed-is (c .before .before .before .survey-of .result) (right-said (c .before .before .before .before .before .size .given .1) (c .before .before .before .before .before .before .before .header-of .ensures)) (c .before .before .before .survey-of .ensures) (c .before .enum-told3 .given .1)))
 
 returns-4 : tie.Need-returns-4
 returns-4 c = search needs

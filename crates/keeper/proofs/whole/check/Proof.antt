@@ -1,5 +1,6 @@
 -- `check` meets its contract: the survey is of a file whose sizes are right.
-use Rattle.keeper.proofs.Laws.{right-sized}
+use Rattle.keeper.proofs.Laws.{right-said, right-sized, wrong-said}
+use Rattle.keeper.proofs.Surveying.{bad-found, surveyed-found}
 use borrow.Author.Needs.{needs}
 use Rattle.keeper.proofs.whole.check.Statement.{statement}
 use Rattle.keeper.proofs.whole.check.Tie as tie
@@ -14,13 +15,13 @@ enum-told : tie.Need-enum-told
 enum-told c = search needs
 
 returns : tie.Need-returns
-returns c = search needs
+returns c = bad-found _ (wrong-said _ (c .enum-told .given .1) (c .before .before .header-of .ensures))
 
 survey-of-requires : tie.Need-survey-of-requires
 survey-of-requires c κs = right-sized _ (c .before .size .given .1) (c .before .before .before .header-of .ensures)
 
 returns-2 : tie.Need-returns-2
-returns-2 c = search needs
+returns-2 c = surveyed-found (c .survey-of .result) (right-said (c .before .before .size .given .1) (c .before .before .before .before .header-of .ensures)) (c .survey-of .ensures)
 
 pub check-spec : {M : Type 1} → statement M
 check-spec =

@@ -1,0 +1,153 @@
+-- Ranges compared as numbers are ranges in order.
+use mathlib.Core.Path.{_∙_, _≡_, ap, refl, sym}
+use mathlib.Core.Logic.{_⊎_, inl, inr}
+use mathlib.Core.Bool.{Bool, _&&_, _||_, false, not, true}
+use mathlib.Core.Option.{some}
+use mathlib.Core.List.{List}
+use Prim.Native.Nat.{_*_, _+_, _-_, _<_, _≤_, ℕ}
+use native.Mathlib.Omega.{arith}
+use lib.Dec.{eqb, ltb}
+use lib.ListN.{drop, getD, take}
+use borrow.Author.Tests.{eqb-false, eqb-true, le-leb, lt-ltb, ltb-false, ltb-true, not-true}
+use Rattle.model.specs.Order.{Low, Str, _≺_, _⊑_, _⊴_, at, below, least, none}
+use Rattle.model.specs.Names.{Bound, BoundLow, atMost, limit, unlimited}
+use Rattle.model.specs.Checks.{isAbove, legalLow}
+use Rattle.model.specs.Entries.{Entry}
+use Rattle.model.specs.Files.{IsUsed, Slot, Well, free, head, lower-of, slot-at, upper-of, used}
+use Rattle.model.specs.Format.{lowOf, readSlot, readUsed, slotAt, slotSize}
+use Rattle.model.proofs.Names.{atMost-le, atMost-lt, bound-legalBound}
+use Rattle.model.proofs.Files.{well-parts}
+use Rattle.digits.specs.Keys.{continued, isZero, value}
+use Rattle.digits.proofs.Keys.{bound-atMost, bound-below, bound-same, digits-under}
+use Rattle.bucket.specs.Forms.{lowValue}
+use Rattle.bucket.proofs.Reading.{low-above}
+use Rattle.bucket.proofs.Rows.{read-high, read-low, reads}
+use Rattle.file.specs.Orders.{Known, Listed, Sorts, ahead, placed, stands}
+use Rattle.file.proofs.Readings.{used-read}
+
+-- Bounds.
+module _ {p q : Str} (f : Bound p) (g : Bound q) where
+  high-less : value (continued p) < value (continued q) → p ≺ q
+  high-less h =
+      let e : not (atMost q p) ≡ true =
+      sym (bound-below p q (digits-under 0x20 p (f .digits)) (digits-under 0x20 q (g .digits)) (f .fits) (g .fits)) ∙ lt-ltb (value (continued p)) (value (continued q)) h in
+      atMost-lt q p (not-true (atMost q p) e)
+
+  pub high-same : value (continued p) ≡ value (continued q) → p ≡ q
+  high-same e = bound-same p q (digits-under 0x20 p (f .digits)) (digits-under 0x20 q (g .digits)) (f .fits) (g .fits) e
+
+  high-le : value (continued p) ≤ value (continued q) → p ⊑ q
+  high-le h = atMost-le p q (sym (bound-atMost p q (digits-under 0x20 p (f .digits)) (digits-under 0x20 q (g .digits)) (f .fits) (g .fits)) ∙ le-leb (value (continued p)) (value (continued q)) h)
+
+some-value : {u : Str} → Bound u → 0 < value (continued u)
+unfolding lowValue legalLow isAbove
+some-value {u} f = ltb-true 0 (value (continued u)) (low-above none u refl (bound-legalBound f))
+
+low-le : {l m : Low} → BoundLow l → BoundLow m → lowValue l ≤ lowValue m → l ⊴ m
+unfolding lowValue
+low-le unlimited c h = least
+low-le (limit f) unlimited h = absurd (omega (arith, some-value f))
+low-le (limit f) (limit g) h = below (high-le f g h)
+
+pub low-same : {l m : Low} → BoundLow l → BoundLow m → lowValue l ≡ lowValue m → l ≡ m
+unfolding lowValue
+low-same unlimited unlimited h = refl
+low-same unlimited (limit g) h = absurd (omega (arith, some-value g))
+low-same (limit f) unlimited h = absurd (omega (arith, some-value f))
+low-same (limit f) (limit g) h = ap at (high-same f g h)
+
+-- A range that stands before another, and one that does not.
+ahead-true : (h l p q : ℕ) → ahead h l p q ≡ true → (h < p) ⊎ ((h ≡ p) × (l < q))
+unfolding ahead
+ahead-true h l p q e = go (ltb h p) (eqb h p) (ltb l q) refl refl refl e
+  where
+    go : (a b c : Bool) → ltb h p ≡ a → eqb h p ≡ b → ltb l q ≡ c → (a || (b && c)) ≡ true → (h < p) ⊎ ((h ≡ p) × (l < q))
+    go true b c x y z e = inl (ltb-true h p x)
+    go false true true x y z e = inr (eqb-true h p y, ltb-true l q z)
+    go false true false x y z e = let n : _≡_ {A = ℕ} 0 1 = cc in absurd (omega arith)
+    go false false c x y z e = let n : _≡_ {A = ℕ} 0 1 = cc in absurd (omega arith)
+
+ahead-false : (h l p q : ℕ) → ahead h l p q ≡ false → (p < h) ⊎ ((p ≡ h) × (q ≤ l))
+unfolding ahead
+ahead-false h l p q e = go (ltb h p) (eqb h p) (ltb l q) refl refl refl e
+  where
+    go : (a b c : Bool) → ltb h p ≡ a → eqb h p ≡ b → ltb l q ≡ c → (a || (b && c)) ≡ false → (p < h) ⊎ ((p ≡ h) × (q ≤ l))
+    go true b c x y z e = let n : _≡_ {A = ℕ} 0 1 = cc in absurd (omega arith)
+    go false true true x y z e = let n : _≡_ {A = ℕ} 0 1 = cc in absurd (omega arith)
+    go false true false x y z e = inr (sym (eqb-true h p y), ltb-false l q z)
+    go false false c x y z e = let g : h ≡ p → ⊥ = eqb-false h p y in let k : p ≤ h = ltb-false h p x in inl (omega arith)
+
+module _ (b : ℕ) {l m : Low} {u v : Str} {es ns : List Entry} (w : Well b (used l u es)) (x : Well b (used m v ns)) where
+  pub stands-sorts : stands (value (continued u)) (lowValue l) (used m v ns) ≡ true → Sorts (used l u es) (used m v ns)
+  unfolding stands
+  stands-sorts e = elim (ahead-true (value (continued u)) (lowValue l) (value (continued v)) (lowValue m) e) [
+    | inl h ↦ inl (high-less (well-parts b w .1) (well-parts b x .1) h)
+    | inr h ↦ inr (high-same (well-parts b w .1) (well-parts b x .1) (h .0), low-le (well-parts b w .0) (well-parts b x .0) (omega (arith, h .1)))
+  ]
+
+  pub not-stands-sorts : stands (value (continued u)) (lowValue l) (used m v ns) ≡ false → Sorts (used m v ns) (used l u es)
+  unfolding stands
+  not-stands-sorts e = elim (ahead-false (value (continued u)) (lowValue l) (value (continued v)) (lowValue m) e) [
+    | inl h ↦ inl (high-less (well-parts b x .1) (well-parts b w .1) h)
+    | inr h ↦ inr (high-same (well-parts b x .1) (well-parts b w .1) (h .0), low-le (well-parts b x .0) (well-parts b w .0) (h .1))
+  ]
+
+-- The bytes of slot B, as the code takes them.
+abbrev pub bytesAt : ℕ → ℕ → List ℕ → List ℕ
+bytesAt b B xs = take (64 + 32 * b) (drop (16 + B * (64 + 32 * b)) xs)
+
+pub bytes-at : (b B : ℕ) (xs : List ℕ) → bytesAt b B xs ≡ slotAt b B xs
+unfolding slotAt slotSize
+bytes-at b B xs = refl
+
+module _ {b : ℕ} {xs : List ℕ} {fs : List Slot} (K : Known b xs fs) (B : ℕ) (ys : List ℕ) (e : ys ≡ bytesAt b B xs) (v : ℕ) where
+  known-read : IsUsed (head (slot-at fs B)) → readUsed b ys ≡ some (slot-at fs B)
+  known-read k = used-read b ys (slot-at fs B) k (ap (readSlot b) (e ∙ bytes-at b B xs) ∙ K .read B k)
+
+  pub known-high : IsUsed (head (slot-at fs B))
+      → (getD ys 3 0 ≤ 24 → isZero (take (24 - getD ys 3 0) (drop (32 + getD ys 3 0) ys)) ≡ true → v ≡ value (continued (take (getD ys 3 0) (drop 32 ys))))
+      → v ≡ value (continued (upper-of (head (slot-at fs B))))
+  known-high k f = go (slot-at fs B) k (K .well B) (known-read k)
+    where
+      go : (s : Slot) → IsUsed (head s) → Well b s → readUsed b ys ≡ some s → v ≡ value (continued (upper-of (head s)))
+      go free k w i = absurd k
+      go (used l u es) k w i = read-high b ys v (reads b ys i w) f
+
+  pub known-low : IsUsed (head (slot-at fs B))
+      → (getD ys 2 0 ≤ 24 → isZero (take (24 - getD ys 2 0) (drop (8 + getD ys 2 0) ys)) ≡ true → v ≡ lowValue (lowOf (take (getD ys 2 0) (drop 8 ys))))
+      → v ≡ lowValue (lower-of (head (slot-at fs B)))
+  known-low k f = go (slot-at fs B) k (K .well B) (known-read k)
+    where
+      go : (s : Slot) → IsUsed (head s) → Well b s → readUsed b ys ≡ some s → v ≡ lowValue (lower-of (head s))
+      go free k w i = absurd k
+      go (used l u es) k w i = read-low b ys v (reads b ys i w) f
+
+pub stands-by : (r t : Bool) (h l p q : ℕ) (s : Slot) → r ≡ ahead h l p q → p ≡ value (continued (upper-of (head s))) → q ≡ lowValue (lower-of (head s))
+    → r ≡ t → stands h l s ≡ t
+unfolding stands
+stands-by r t h l p q s e f g i = rw (← f, ← g) (sym e ∙ i)
+
+module _ {b : ℕ} {xs : List ℕ} {fs : List Slot} (K : Known b xs fs) (order : List ℕ) (count : ℕ) (L : Listed fs order count)
+    (j : ℕ) (i : j < count) (k : ℕ) (e : k ≡ getD order j 0) (ys : List ℕ) (f : ys ≡ bytesAt b k xs) (v : ℕ) where
+  -- The ends of the range of the slot at a place of the order.
+  pub place-high : (getD ys 3 0 ≤ 24 → isZero (take (24 - getD ys 3 0) (drop (32 + getD ys 3 0) ys)) ≡ true → v ≡ value (continued (take (getD ys 3 0) (drop 32 ys))))
+      → v ≡ value (continued (upper-of (head (placed fs order j))))
+  place-high g = known-high K (getD order j 0) ys (f ∙ ap (λ B. bytesAt b B xs) e) v (L j i) g
+
+  pub place-low : (getD ys 2 0 ≤ 24 → isZero (take (24 - getD ys 2 0) (drop (8 + getD ys 2 0) ys)) ≡ true → v ≡ lowValue (lowOf (take (getD ys 2 0) (drop 8 ys))))
+      → v ≡ lowValue (lower-of (head (placed fs order j)))
+  place-low g = known-low K (getD order j 0) ys (f ∙ ap (λ B. bytesAt b B xs) e) v (L j i) g
+
+-- What the code's comparisons say together.
+module _ (h l p q : ℕ) where
+  pub ahead-first : (r : Bool) → r ≡ ltb h p → r ≡ true → true ≡ ahead h l p q
+  unfolding ahead
+  ahead-first r e f = rw (sym e ∙ f)
+
+  pub ahead-not : (r s : Bool) → r ≡ ltb h p → r ≡ false → s ≡ eqb h p → s ≡ false → false ≡ ahead h l p q
+  unfolding ahead
+  ahead-not r s e f g i = rw (sym e ∙ f, sym g ∙ i)
+
+  pub ahead-last : (r s t : Bool) → r ≡ ltb h p → r ≡ false → s ≡ eqb h p → s ≡ true → t ≡ ltb l q → t ≡ ahead h l p q
+  unfolding ahead
+  ahead-last r s t e f g i k = rw (sym e ∙ f, sym g ∙ i) k

@@ -1,0 +1,116 @@
+-- The checks that put, remove and list make alike: what a sound file's survey, strings and agreement say together.
+use mathlib.Core.Path.{_∙_, _≡_, ap, refl, sym}
+use mathlib.Core.Bool.{Bool, cond, false, true}
+use mathlib.Core.Option.{Option, none as nothing, some}
+use mathlib.Core.List.{List}
+use Prim.Native.Nat.{_≤_, ℕ}
+use native.Mathlib.Omega.{arith}
+use lib.ListN.{length, take}
+use Rattle.model.specs.declared.Cause.the-variants.{BadFile, CutFile, StaleTrie}
+use Rattle.model.specs.declared.Trie.{Trie}
+use Rattle.model.specs.Order.{none}
+use Rattle.model.specs.Files.{Slot, Sound, order-of, strings-of}
+use Rattle.model.specs.Checks.{is-bad, is-cut, is-sound}
+use Rattle.model.specs.Agreeing.{isAgreeing, slotsBetween}
+use Rattle.model.specs.Format.{SoundFile, checkFile, readFile, readSlots, sized}
+use Rattle.model.specs.Calls.{fine, lookedBy, lookedOf, refusing}
+use Rattle.model.proofs.CheckedFiles.{CheckedFile, checkFile-right}
+use Rattle.model.proofs.Agreeing.{isAgreeing-agrees}
+use Rattle.file.specs.declared.Size.{Size}
+use Rattle.file.specs.declared.survey.Survey.{Survey}
+use Rattle.file.specs.Sizes.{Said}
+use Rattle.file.specs.Surveys.{Surveyed}
+use Rattle.trie.specs.declared.Strings.{Strings}
+use Rattle.trie.specs.Strung.{Strung}
+use Rattle.strings.specs.Arrays.{Listed}
+use Rattle.agreement.specs.declared.Agreement.{Agreement}
+use Rattle.agreement.specs.Decides.{Decided, Decides}
+use Rattle.agreement.proofs.Laws.{agreed-count}
+use Rattle.keeper.specs.declared.checks.Checked.{Checked}
+use Rattle.keeper.specs.Ready.{Agreed, Ready}
+use Rattle.keeper.proofs.Surveying.{said-read}
+
+-- A sound file, as it is read with its sizes.
+pub record Read (s : Size) (xs : List ℕ) : Type 0 where
+  pub slots : List Slot
+  pub listed : readSlots (s .b) (s .slots) 0 xs ≡ some slots
+  pub is : readFile xs ≡ some (s .b, slots)
+  pub sound : Sound (s .b) slots
+
+pub sound-read : (xs : List ℕ) (s : Size) → Said s xs → checkFile xs ≡ is-sound → Read s xs
+unfolding sized
+sound-read xs s h e = go (readSlots (s .b) (s .slots) 0 xs) refl
+  where
+    file : SoundFile xs
+    file = rw e at (checkFile-right xs)
+
+    go : (o : Option (List Slot)) → readSlots (s .b) (s .slots) 0 xs ≡ o → Read s xs
+    go nothing f =
+        let p : readFile xs ≡ nothing = said-read xs s h ∙ ap (sized (s .b)) f in
+        let q : readFile xs ≡ some (file .b, file .slots) = file .is in
+        let z : _≡_ {A = ℕ} 0 1 = cc in
+        absurd (omega arith)
+    go (some fs) f =
+        let p : readFile xs ≡ some (s .b, fs) = said-read xs s h ∙ ap (sized (s .b)) f in
+        let q : readFile xs ≡ some (file .b, file .slots) = file .is in
+        let r : _≡_ {A = ℕ × List Slot} (s .b, fs) (file .b, file .slots) = cc in
+        let i : s .b ≡ file .b = ap (λ (x : ℕ × List Slot). x .0) r in
+        let j : fs ≡ file .slots = ap (λ (x : ℕ × List Slot). x .1) r in
+        record { slots = fs; listed = f; is = p; sound = rw (i, j) (file .sound) }
+
+-- What is refused, in the order 2, 3, 4.
+pub looked-bad : (xs : List ℕ) (t : Trie) → checkFile xs ≡ is-bad → lookedOf xs t ≡ refusing BadFile
+unfolding lookedOf lookedBy
+looked-bad xs t e = rw e
+
+pub looked-cut : (xs : List ℕ) (t : Trie) {N : ℕ} → checkFile xs ≡ is-cut N → lookedOf xs t ≡ refusing CutFile
+unfolding lookedOf lookedBy
+looked-cut xs t e = rw e
+
+looked-by : (xs : List ℕ) (t : Trie) {b : ℕ} {fs : List Slot} → checkFile xs ≡ is-sound → readFile xs ≡ some (b, fs)
+    → lookedOf xs t ≡ cond (isAgreeing fs t) (fine b fs) (refusing StaleTrie)
+unfolding lookedOf lookedBy
+looked-by xs t e f = rw (e, f)
+
+-- The strings and the agreement of a sound file.
+module _ (xs : List ℕ) (t : Trie) (s : Size) (v : Survey) (g : Strings) (a : Agreement)
+    (h : Said s xs) (e : checkFile xs ≡ is-sound) (z : Surveyed v xs s) (l : Listed g xs s (v .order) (v .count)) (d : Decides t g a) where
+  R : Read s xs
+  R = sound-read xs s h e
+
+  counted : (v .count ≡ length (order-of (R .slots))) × (take (v .count) (v .order) ≡ order-of (R .slots))
+  counted = z .order-is (R .listed) (R .sound)
+
+  strung : Strung g (strings-of (R .slots)) (slotsBetween (R .slots) none (strings-of (R .slots)))
+  strung = l .strung (R .slots) (R .listed) (R .sound) (counted .0) (counted .1)
+
+  decided : Decided (R .slots) t a
+  decided = d (s .b) (R .slots) (R .sound) strung
+
+  pub agreed-not : a .agrees ≡ false → lookedOf xs t ≡ refusing StaleTrie
+  agreed-not f = looked-by xs t e (R .is) ∙ ap (λ (x : Bool). cond x (fine (s .b) (R .slots)) (refusing StaleTrie)) (sym (decided .agrees-is) ∙ f)
+
+  pub agreed-all : (c : Checked) → a .agrees ≡ true → c .size ≡ s → c .survey ≡ v → c .strings ≡ g → c .places ≡ a .places → Agreed c xs t
+  agreed-all c f p q r u =
+      let y : isAgreeing (R .slots) t ≡ true = sym (decided .agrees-is) ∙ f in
+      let A = isAgreeing-agrees (s .b) (R .sound) t y in
+      let few : length (strings-of (R .slots)) ≤ 256 = omega (arith, agreed-count (s .b) (R .sound) t A, A .few) in
+      record {
+        ready = record {
+          said = rw p h;
+          slots = R .slots;
+          is = rw p (R .is);
+          sound = rw p (R .sound);
+          slots-inside = rw (p, q) (z .slots-inside);
+          count-most = rw q (z .count-most);
+          count-is = rw q (counted .0);
+          order-is = rw q (counted .1);
+          used-is = rw q (z .used-is (R .listed) (R .sound));
+          strings-most = rw r (l .count-most);
+          few = few;
+          strings-held = rw r (strung .holds few);
+        };
+        agrees = A;
+        placed = rw u (decided .placed f);
+        looked = rw p (looked-by xs t e (R .is) ∙ ap (λ (x : Bool). cond x (fine (s .b) (R .slots)) (refusing StaleTrie)) y);
+      }

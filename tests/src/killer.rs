@@ -1,0 +1,346 @@
+//! Kills processes over a file on disk, and holds what they leave and what their successors find against a journal.
+//!
+//! The journal is kept here, outside the processes: a plain map of the requests that count. A request that was said to be
+//! made counts. The one in flight at a kill counts when its last store has reached the file, and not before; which stores
+//! have is seen by the bytes: the model says what the file holds after each of them.
+//!
+//! A SIGKILL leaves every finished `pwrite` whole, synced or not: only a machine that fails loses what is not yet on disk.
+//! Linux looks for the signal also between two pages of one `pwrite`, so a slot across the edge of a page may be left in
+//! part. Document 01 promises nothing of half a store; such a slot is put back as it was, and counted.
+
+use std::collections::BTreeMap;
+use std::io::BufReader;
+use std::os::unix::process::ExitStatusExt;
+use std::path::{Path, PathBuf};
+use std::process::{Command, Stdio};
+use std::time::{Duration, Instant};
+
+use crate::chance::Chance;
+use crate::door::{by_model, Call, Outcome, CALLS, IMAGE};
+use crate::library::{by_library, Grounds};
+use crate::lives::{call_for, Said, World, ABOUT_TO, MOMENTS, SIGKILL, STOPPED};
+use crate::model::file::file_length;
+
+/// How often each thing happened.
+#[derive(Default)]
+pub struct Tally {
+    pub kills: u64,
+    /// Kills between the two stores of a split: the file is left cut.
+    pub between: u64,
+    /// Kills after a last store, before its request was said to be made.
+    pub unsaid: u64,
+    /// Kills of a process that had still to recover a cut file.
+    pub recovering: u64,
+    /// Recoveries that freed a slot.
+    pub freed: u64,
+    pub requests: u64,
+    pub names: u64,
+    pub files: u64,
+    /// Slots left in part at the edge of a page.
+    pub torn: u64,
+}
+
+/// When a process is killed.
+enum Kill {
+    /// By itself, at this moment of its stores.
+    Moment(u64),
+    /// From outside, so long after its start.
+    Started(Duration),
+    /// From outside, so long after it has opened the file.
+    Opened(Duration),
+    /// Not at all: it opens the file and ends.
+    Never,
+}
+
+/// What a process was doing when it was killed.
+enum Flight {
+    Opening,
+    Request(u64),
+    Nothing,
+}
+
+/// One file on disk with its journal.
+struct Trial<'a> {
+    program: &'a Path,
+    path: PathBuf,
+    seed: u64,
+    world: World,
+    /// What the file holds, by the model.
+    file: Vec<u8>,
+    journal: BTreeMap<Vec<u8>, u64>,
+    /// The first request that does not count yet.
+    next: u64,
+    refused: u64,
+    tally: &'a mut Tally,
+}
+
+impl<'a> Trial<'a> {
+    fn new(program: &'a Path, seed: u64, tally: &'a mut Tally) -> Trial<'a> {
+        let world = World::new(seed);
+        let (b, slots) = (world.b as u64, world.slots as u64);
+        let file = vec![0xA5; file_length(world.b, world.slots)];
+        let create = Call::Create { file, version: 1, b, slots, trie: vec![0; IMAGE] };
+        let created = by_library(&create, &mut Grounds::default(), 0).expect("nothing beside is written");
+        assert!(created == by_model(&create), "create differs from the model");
+        let path = std::env::temp_dir().join(format!("palhavento-killed-{}-{seed}", std::process::id()));
+        std::fs::write(&path, &created.file).expect("the folder for temporary files can be written");
+        tally.files += 1;
+        Trial { program, path, seed, world, file: created.file, journal: BTreeMap::new(), next: 0, refused: 0, tally }
+    }
+
+    fn is_cut(&self) -> bool {
+        by_model(&Call::Check { file: self.file.clone() }).answer == 141
+    }
+
+    /// One process from start to end. True if the request in flight counts, or none was.
+    fn life(&mut self, kill: Kill) -> bool {
+        let (end, moment) = match kill {
+            // Long before the hundredth request there was a store to die at.
+            Kill::Moment(moment) => (self.next + 100, moment),
+            Kill::Never => (self.next, u64::MAX),
+            _ => (u64::MAX, u64::MAX),
+        };
+        let mut process = Command::new(self.program)
+            .arg(&self.path)
+            .args([self.seed, self.next, end, moment].map(|number| number.to_string()))
+            .stdin(Stdio::null())
+            .stdout(Stdio::piped())
+            .spawn()
+            .expect("the process can start");
+        let mut pipe = BufReader::new(process.stdout.take().expect("there is a pipe"));
+        let mut said: Vec<Said> = Vec::new();
+        let mut listen = |until: &str| {
+            while let Some(next) = Said::read(&mut pipe) {
+                said.push(next);
+                if CALLS[next.call as usize] == until {
+                    break;
+                }
+            }
+        };
+        match kill {
+            Kill::Moment(_) | Kill::Never => listen(""),
+            Kill::Started(after) | Kill::Opened(after) => {
+                // To list is the last step of opening.
+                if matches!(kill, Kill::Opened(_)) {
+                    listen("list");
+                }
+                std::thread::scope(|scope| {
+                    scope.spawn(|| listen(""));
+                    std::thread::sleep(after);
+                    process.kill().expect("the process can be killed");
+                });
+            }
+        }
+        let status = process.wait().expect("the process ends");
+        match kill {
+            Kill::Never => assert!(status.success(), "the process ended by {status}"),
+            _ => assert_eq!(status.signal(), Some(SIGKILL), "the process ended by {status}"),
+        }
+        self.tally.kills += !matches!(kill, Kill::Never) as u64;
+        let flight = self.hear(&said);
+        self.settle(flight)
+    }
+
+    /// Holds what a process said against model and journal. What it was doing at its end.
+    fn hear(&mut self, said: &[Said]) -> Flight {
+        let mut flight = Flight::Opening;
+        let mut trie = Vec::new();
+        for said in said {
+            let (answer, file) = (said.answer, self.file.clone());
+            match CALLS[said.call as usize] {
+                "check" => assert_eq!(answer, by_model(&Call::Check { file }).answer, "check"),
+                "recover" => {
+                    let outcome = by_model(&Call::Recover { file, limit: 1 });
+                    assert_eq!((answer, said.word), (outcome.answer, outcome.out[0]), "recover");
+                    self.tally.freed += (answer == 130) as u64;
+                    self.file = outcome.file;
+                    flight = Flight::Nothing;
+                }
+                "rebuild" => {
+                    let outcome = by_model(&Call::Rebuild { file, trie: vec![0; IMAGE] });
+                    assert_eq!((answer, outcome.answer), (151, 151), "rebuild");
+                    trie = outcome.trie;
+                }
+                "lookup" => {
+                    let name = &self.world.names[said.number as usize];
+                    let found = (answer == 100).then_some(said.word);
+                    assert!(answer == 100 || answer == 101, "look up refused {answer}");
+                    assert_eq!(found, self.journal.get(name).copied(), "{name:?} against the journal");
+                    self.tally.names += 1;
+                }
+                "list" => assert_eq!((answer, said.word), (152, self.journal.len() as u64), "list"),
+                "put" | "remove" if answer == ABOUT_TO => {
+                    assert_eq!(said.number, self.next, "requests come in order");
+                    flight = Flight::Request(said.number);
+                }
+                "put" | "remove" => {
+                    let outcome = by_model(&call_for(&self.world.request(said.number), &file, &trie, 2));
+                    assert_eq!((answer, said.word), (outcome.answer, outcome.out[0]), "request {}", said.number);
+                    self.count(&outcome);
+                    trie = outcome.trie;
+                    flight = Flight::Nothing;
+                }
+                other => panic!("a process said {other}"),
+            }
+        }
+        flight
+    }
+
+    /// The next request counts, with what it leaves behind.
+    fn count(&mut self, outcome: &Outcome) {
+        let request = self.world.request(self.next);
+        let old = match request.value {
+            _ if outcome.answer < 100 => self.journal.get(request.name).copied(),
+            Some(value) => self.journal.insert(request.name.to_vec(), value),
+            None => self.journal.remove(request.name),
+        };
+        match outcome.answer {
+            // Only a put of a new name splits, and only a split is refused here.
+            5 | 6 => assert!(request.value.is_some() && old.is_none()),
+            110 | 101 => assert_eq!(old, None),
+            111 => assert_eq!(old, Some(outcome.out[0])),
+            120 => assert!(old.is_some()),
+            other => panic!("request {} was answered by {other}", self.next),
+        }
+        self.refused += (outcome.answer < 100) as u64;
+        self.tally.requests += 1;
+        self.next += 1;
+        self.file.clone_from(&outcome.file);
+    }
+
+    /// Finds which stores of what was in flight have reached the file. True if it counts, or nothing was.
+    fn settle(&mut self, flight: Flight) -> bool {
+        let was_cut = self.is_cut();
+        let file = self.file.clone();
+        let trie = by_model(&Call::Rebuild { file: file.clone(), trie: vec![0; IMAGE] }).trie;
+        // What the call leaves behind after none of its stores, after one, and so on to the last.
+        let mut states: Vec<Outcome> = Vec::new();
+        loop {
+            let limit = states.len() as u64;
+            let call = match flight {
+                Flight::Request(number) => call_for(&self.world.request(number), &file, &trie, limit),
+                Flight::Opening => Call::Recover { file: file.clone(), limit },
+                Flight::Nothing => Call::Check { file: file.clone() },
+            };
+            states.push(by_model(&call));
+            if states.last().is_some_and(|state| state.answer != STOPPED) {
+                break;
+            }
+        }
+        let left = std::fs::read(&self.path).expect("the file is there");
+        let reached = states.iter().position(|state| state.file == left);
+        let reached = reached.unwrap_or_else(|| self.put_back(&states, &left));
+        let whole = reached == states.len() - 1;
+        self.file.clone_from(&states[reached].file);
+        match flight {
+            Flight::Request(_) if whole => {
+                self.tally.unsaid += (reached > 0) as u64;
+                self.count(&states[reached]);
+            }
+            Flight::Request(_) => self.tally.between += (reached > 0) as u64,
+            Flight::Opening => self.tally.recovering += was_cut as u64,
+            Flight::Nothing => {}
+        }
+        whole
+    }
+
+    /// A store that the kill left in part, its first pages new and the rest old, is put back. The stores before it.
+    fn put_back(&mut self, states: &[Outcome], left: &[u8]) -> usize {
+        const PAGE: usize = 4096;
+        let is_torn = |pair: &[Outcome], edge: usize| {
+            left[..edge] == pair[1].file[..edge] && left[edge..] == pair[0].file[edge..]
+        };
+        let torn = |pair: &[Outcome]| (PAGE..left.len()).step_by(PAGE).any(|edge| is_torn(pair, edge));
+        let before = states.windows(2).position(torn).expect("the file is what some of the stores leave behind");
+        std::fs::write(&self.path, &states[before].file).expect("the file can be written");
+        self.tally.torn += 1;
+        before
+    }
+
+    /// Kills before the first store of each call of the history, between any two, and after the last, up to this request.
+    /// A request that does not count is made again, and comes further.
+    fn at_every_moment(&mut self, requests: u64) {
+        let mut moment = 0;
+        while self.next < requests {
+            // A cut file is recovered first, and that is a store too.
+            let recovery = MOMENTS * self.is_cut() as u64;
+            let counts = self.life(Kill::Moment(recovery + moment));
+            // The recovery is killed as well, at each of its moments in turn.
+            if self.is_cut() {
+                self.life(Kill::Moment(self.tally.recovering % MOMENTS));
+            }
+            moment = match moment % MOMENTS {
+                _ if counts => 0,
+                // A last store is made only once, so the moments before and after `fdatasync` take turns.
+                0 => moment + 1 + self.next % 2,
+                step => moment + MOMENTS - step,
+            };
+        }
+    }
+
+    /// Kills at random moments, from microseconds to milliseconds, until the file is full or the time is over.
+    fn at_random(&mut self, chance: &mut Chance, end: Instant) {
+        while self.refused < 5 && Instant::now() < end {
+            let most = 1 << chance.between(0, 14);
+            let after = Duration::from_micros(chance.between(0, most) as u64);
+            self.life(if chance.percent(25) { Kill::Started(after) } else { Kill::Opened(after) });
+        }
+    }
+}
+
+/// The file is removed, or told where to find if it shows a fault.
+impl Drop for Trial<'_> {
+    fn drop(&mut self) {
+        if std::thread::panicking() {
+            println!("world {}, request {}, the file: {}", self.seed, self.next, self.path.display());
+        } else {
+            std::fs::remove_file(&self.path).expect("the file can be removed");
+        }
+    }
+}
+
+/// How a trial chooses its moments.
+#[derive(Clone, Copy, PartialEq, Eq)]
+pub enum Moments {
+    Every,
+    Random,
+}
+
+/// Tries one file after another until the time is over, and at least three: so each size of bucket is tried.
+pub fn try_files(program: &Path, moments: Moments, time: Duration) -> Tally {
+    let end = Instant::now() + time;
+    let first = if moments == Moments::Every { 0 } else { 900_000 };
+    let mut tally = Tally::default();
+    for seed in first.. {
+        if seed - first >= 3 && Instant::now() >= end {
+            break;
+        }
+        let mut trial = Trial::new(program, seed, &mut tally);
+        match moments {
+            Moments::Every => trial.at_every_moment(8 * trial.world.b as u64),
+            Moments::Random => trial.at_random(&mut Chance::new(seed), end.min(Instant::now() + time / 3)),
+        }
+        // The last kill, too, is followed by a process that finds every name.
+        trial.life(Kill::Never);
+    }
+    tally
+}
+
+impl std::fmt::Display for Tally {
+    fn fmt(&self, to: &mut std::fmt::Formatter) -> std::fmt::Result {
+        write!(
+            to,
+            "{} kills, {} between the two stores of a split, {} after a last store, {} in a recovery; {} recoveries \
+             freed a slot; {} names compared, {} requests, {} files; {} torn slots put back",
+            self.kills,
+            self.between,
+            self.unsaid,
+            self.recovering,
+            self.freed,
+            self.names,
+            self.requests,
+            self.files,
+            self.torn
+        )
+    }
+}

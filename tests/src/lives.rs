@@ -1,0 +1,230 @@
+//! The process that is killed: opens a file on disk, tells what it finds there, and makes requests until it is killed.
+//!
+//! Each store is one `pwrite` of exactly the slot's bytes, then `fdatasync`; nothing else of the file is ever written. The
+//! library works on copies in memory; what it would store, and in which order, is seen by making the call with the limits
+//! 0, 1 and 2. So every call, recovery too, is first stopped and then made again.
+
+use std::fs::{File, OpenOptions};
+use std::io::{Read, Write};
+use std::os::fd::AsFd;
+use std::os::unix::fs::FileExt;
+use std::path::Path;
+
+use crate::chance::Chance;
+use crate::door::{Call, Outcome, IMAGE};
+use crate::library::{by_library, Grounds};
+use crate::make;
+use crate::model::file::{slot_length, HEADER};
+
+/// The answer of a call that its limit stopped.
+pub const STOPPED: u64 = 112;
+
+/// A size of file, the names that are asked for, and a history of requests without end: all from one number.
+pub struct World {
+    pub b: usize,
+    pub slots: usize,
+    pub names: Vec<Vec<u8>>,
+    seed: u64,
+}
+
+/// A put of the value, or a remove.
+pub struct Request<'a> {
+    pub name: &'a [u8],
+    pub value: Option<u64>,
+}
+
+impl World {
+    pub fn new(seed: u64) -> World {
+        // Small buckets split often; with more names than the file can hold, most puts are of new ones.
+        let (b, slots, names) = [(2, 64, 250), (3, 64, 350), (16, 24, 500)][(seed % 3) as usize];
+        let mut chance = Chance::new(seed);
+        let style = make::STYLES[(seed / 3) as usize % make::STYLES.len()];
+        World { b, slots, names: make::names(&mut chance, style, names), seed }
+    }
+
+    /// The request of a number. Its value is no other request's, so that every store changes a byte.
+    pub fn request(&self, number: u64) -> Request<'_> {
+        let mut chance = Chance::new(self.seed ^ ((number + 1) << 32));
+        let name = chance.pick(&self.names);
+        Request { name, value: chance.percent(85).then_some(number + 1) }
+    }
+}
+
+/// The call that makes a request.
+pub fn call_for(request: &Request, file: &[u8], trie: &[u8], limit: u64) -> Call {
+    let (file, trie, name) = (file.to_vec(), trie.to_vec(), request.name.to_vec());
+    match request.value {
+        Some(value) => Call::Put { file, trie, name, value, run: 0, limit },
+        None => Call::Remove { file, trie, name, limit },
+    }
+}
+
+/// What a process says of a call: which one, for which request or name, its answer, and word 0 of `out`.
+#[derive(Clone, Copy, Debug)]
+pub struct Said {
+    /// The place in `door::CALLS`.
+    pub call: u64,
+    pub number: u64,
+    /// `ABOUT_TO` before the call is made.
+    pub answer: u64,
+    pub word: u64,
+}
+
+/// No call answers this.
+pub const ABOUT_TO: u64 = 0;
+
+impl Said {
+    pub fn write(&self, to: &mut impl Write) {
+        let words = [self.call, self.number, self.answer, self.word].map(u64::to_le_bytes);
+        to.write_all(&words.concat()).expect("somebody listens");
+    }
+
+    /// None at the end. What was said in part was not said.
+    pub fn read(from: &mut impl Read) -> Option<Said> {
+        let mut bytes = [0; 32];
+        from.read_exact(&mut bytes).ok()?;
+        let word = |place: usize| u64::from_le_bytes(bytes[8 * place..][..8].try_into().unwrap());
+        Some(Said { call: word(0), number: word(1), answer: word(2), word: word(3) })
+    }
+}
+
+extern "C" {
+    fn kill(process: i32, signal: i32) -> i32;
+    fn alarm(seconds: u32) -> u32;
+}
+
+/// SIGKILL's number.
+pub const SIGKILL: i32 = 9;
+
+/// A store has three moments to be killed at: before its `pwrite`, between that and `fdatasync`, and after it.
+pub const MOMENTS: u64 = 3;
+
+/// One process, from opening the file to its end.
+struct Life {
+    disk: File,
+    listener: File,
+    file: Vec<u8>,
+    trie: Vec<u8>,
+    slot_length: usize,
+    /// How many moments are left before the one to die at.
+    moments: u64,
+    grounds: Grounds,
+    turn: usize,
+}
+
+/// Opens the file and makes the requests from `first` to `end`, not included; dies at the moment of this number, counted
+/// over all its stores.
+pub fn live(path: &Path, seed: u64, first: u64, end: u64, moment: u64) {
+    // A call that hangs ends the process too, by another signal.
+    unsafe { alarm(60) };
+    let world = World::new(seed);
+    let disk = OpenOptions::new().read(true).write(true).open(path).expect("the file is there");
+    // Past the buffer of Rust's standard output: what is said is out before the next step.
+    let listener = File::from(std::io::stdout().as_fd().try_clone_to_owned().expect("there is an output"));
+    let mut life = Life {
+        disk,
+        listener,
+        file: Vec::new(),
+        trie: Vec::new(),
+        slot_length: slot_length(world.b),
+        moments: moment,
+        grounds: Grounds::default(),
+        turn: first as usize,
+    };
+    life.open(&world);
+    for number in first..end {
+        life.ask(number, &world.request(number));
+    }
+}
+
+impl Life {
+    /// What the library leaves behind.
+    fn call(&mut self, call: &Call) -> Outcome {
+        self.turn += 1;
+        by_library(call, &mut self.grounds, self.turn).unwrap_or_else(|touched| panic!("{touched}"))
+    }
+
+    fn say(&mut self, call: &Call, number: u64, outcome: &Outcome) {
+        let said = Said { call: call.number() as u64, number, answer: outcome.answer, word: outcome.out[0] };
+        said.write(&mut self.listener);
+    }
+
+    /// Checks, recovers and rebuilds, then looks up every name and lists them all.
+    fn open(&mut self, world: &World) {
+        self.disk.read_to_end(&mut self.file).expect("the file can be read");
+        let check = Call::Check { file: self.file.clone() };
+        let outcome = self.call(&check);
+        self.say(&check, 0, &outcome);
+        self.change(0, |life, limit| Call::Recover { file: life.file.clone(), limit });
+        let rebuild = Call::Rebuild { file: self.file.clone(), trie: vec![0xA5; IMAGE] };
+        let outcome = self.call(&rebuild);
+        self.say(&rebuild, 0, &outcome);
+        self.trie = outcome.trie;
+        for (number, name) in world.names.iter().enumerate() {
+            let look_up = Call::Lookup { file: self.file.clone(), trie: self.trie.clone(), name: name.clone() };
+            let outcome = self.call(&look_up);
+            self.say(&look_up, number as u64, &outcome);
+        }
+        let (first, second) = (vec![0x21], vec![0x7D; 24]);
+        let output = vec![0; self.file.len()];
+        let list = Call::List { file: self.file.clone(), trie: self.trie.clone(), first, second, output };
+        let outcome = self.call(&list);
+        self.say(&list, 0, &outcome);
+    }
+
+    /// Makes a request, and says so before and after.
+    fn ask(&mut self, number: u64, request: &Request) {
+        let call = call_for(request, &self.file, &self.trie, 0);
+        let about = Said { call: call.number() as u64, number, answer: ABOUT_TO, word: 0 };
+        about.write(&mut self.listener);
+        self.change(number, |life, limit| call_for(request, &life.file, &life.trie, limit));
+    }
+
+    /// Makes a call that changes the file: each store on disk, then the whole in memory. Says so afterwards.
+    fn change(&mut self, number: u64, call: impl Fn(&Life, u64) -> Call) {
+        let mut stored = self.file.clone();
+        for limit in 0.. {
+            let made = call(self, limit);
+            let outcome = self.call(&made);
+            // With a limit of 0 nothing is stored; each further store changes one slot more.
+            let slots: Vec<usize> = (0..stored.len())
+                .filter(|place| stored[*place] != outcome.file[*place])
+                .map(|place| (place - HEADER) / self.slot_length)
+                .collect();
+            assert!(slots.first() == slots.last() && slots.is_empty() == (limit == 0), "not one slot: {slots:?}");
+            if let Some(slot) = slots.first() {
+                self.store(*slot, &outcome.file);
+            }
+            if outcome.answer == STOPPED {
+                assert!(outcome.out[0] == limit && outcome.trie == self.trie, "stopped otherwise than asked");
+                stored = outcome.file;
+                continue;
+            }
+            self.say(&made, number, &outcome);
+            self.file = outcome.file;
+            self.trie = outcome.trie;
+            return;
+        }
+    }
+
+    /// A store on disk: one `pwrite` of the slot's bytes, then `fdatasync`.
+    fn store(&mut self, slot: usize, file: &[u8]) {
+        let start = HEADER + slot * self.slot_length;
+        let bytes = &file[start..][..self.slot_length];
+        self.moment();
+        let written = self.disk.write_at(bytes, start as u64).expect("the file can be written");
+        assert_eq!(written, bytes.len());
+        self.moment();
+        self.disk.sync_data().expect("the file can be synced");
+        self.moment();
+    }
+
+    /// A moment between two steps of a store: perhaps the last one.
+    fn moment(&mut self) {
+        if self.moments == 0 {
+            // Nothing is unwound or flushed: the process is gone before the call returns.
+            unsafe { kill(std::process::id() as i32, SIGKILL) };
+        }
+        self.moments -= 1;
+    }
+}
