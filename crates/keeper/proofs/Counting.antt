@@ -2,7 +2,7 @@
 -- split key's leaf shares with it, however many they are then.
 use mathlib.Core.Path.{_∙_, _≡_, ap, refl, sym}
 use mathlib.Core.List.{List, []}
-use Prim.Native.Nat.{_+_, _-_, _<_, _≤_, suc, zero, ℕ}
+use Prim.Native.Nat.{_+_, _-_, _<_, suc, zero, ℕ}
 use native.Mathlib.Omega.{arith}
 use lib.ListN.{drop, length, length-append, length-drop, length-set, set, take}
 use lib.Seq.{length-take-le}
@@ -13,7 +13,7 @@ use Rattle.model.specs.declared.Trie.{Trie}
 use Rattle.model.specs.Order.{Low, Str, _⊑_, _◁_, diff}
 use Rattle.model.specs.Names.{Legal}
 use Rattle.model.specs.Entries.{Entry, insert, name-at}
-use Rattle.model.specs.Files.{Ranges, Slot, Sound, all, bounds, ranges, slot-at, string-count, used}
+use Rattle.model.specs.Files.{Ranges, Slot, Sound, all, bounds, slot-at, string-count, used}
 use Rattle.model.specs.Tries.{Agrees, at-cell, cell, root-side, walk-cells}
 use Rattle.model.specs.Rebuilding.{lay, side-of}
 use Rattle.model.specs.Growth.{cell-of, cells-grown, cells-turned, changed, new-cells, path-cells, root, root-grown, spot-cells, turn, turn-cell, turn-cells}
@@ -57,13 +57,6 @@ module _ (b : ℕ) (fs : List Slot) (S : Sound b fs) {t : Trie} (G : Agrees fs t
 
   abbrev top : Side
   top = root-side (t .count) (t .first)
-
-  live-count : length (all (bounds (ranges fs) (S .order))) ≡ length live
-  live-count = cells-length (agrees-cells b S G)
-
-  -- A trie that agrees has as many cells as the file has strings.
-  pub trie-count : t .count ≡ string-count fs
-  trie-count = sym (count-right b S ∙ live-count ∙ length-take-le (t .count) (t .cells) (omega (arith, G .few, G .whole)))
 
   pub split-count : (A : ℕ) (l : Low) (u : Str) (es : List Entry) (is : slot-at fs A ≡ used l u es) (n : Str) (v : ℕ) (legal : Legal n) (lo : l ◁ n) (up : n ⊑ u)
       (big : b < length (insert n v es)) (i : ℕ) (i-lt : i < b) (N : ℕ) (lowest : Lowest fs N)

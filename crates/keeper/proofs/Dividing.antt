@@ -1,12 +1,11 @@
 -- Put into a full bucket: what refuses the split, and what its two stores leave.
-use mathlib.Core.Path.{_∙_, _≡_, ap, ap₂, refl, subst, sym}
-use mathlib.Core.Bool.{Bool, cond, false, not, true}
-use mathlib.Core.Option.{Option, none as nothing, some}
-use mathlib.Core.List.{List, [], _∷_}
+use mathlib.Core.Path.{_∙_, _≡_, ap, ap₂, subst, sym}
+use mathlib.Core.Bool.{false, not, true}
+use mathlib.Core.Option.{Option, some}
+use mathlib.Core.List.{List, []}
 use Prim.Native.Nat.{_*_, _+_, _-_, _/_, _<_, _≤_, suc, ℕ}
 use native.Mathlib.Decide.{decLe, decLt}
 use native.Mathlib.Omega.{arith}
-use lib.Dec.{ltb}
 use lib.ListN.{drop, length, take}
 use lib.Seq.{paste}
 use borrow.Author.Tests.{le-ltb, lt-ltb}
@@ -17,19 +16,18 @@ use Rattle.model.specs.declared.Trie.{Trie}
 use Rattle.model.specs.Order.{Low, Str, _⊑_, _◁_, diff}
 use Rattle.model.specs.Names.{Legal}
 use Rattle.model.specs.Entries.{Entry, Row, chosen, insert, name-at}
-use Rattle.model.specs.Files.{In, Slot, Sound, first, free, head, slot-at, string-count, strings-of, used}
+use Rattle.model.specs.Files.{In, Slot, Sound, first, head, slot-at, string-count, strings-of, used}
 use Rattle.model.specs.Tries.{Agrees, walk-trie}
 use Rattle.model.specs.Growth.{grown-trie, path-cells, root, spot-cells}
-use Rattle.model.specs.Changes.{Lowest, Result, call, free?, halves, holds?, new-half, old-half, put as asked, put-in, refuse, split-of, stored, stores}
-use Rattle.model.specs.Checks.{sameStr}
-use Rattle.model.specs.Format.{headerOf, readFile, readSlot, readUsed, slotAt, slotBytes, slotSize, storeBytes}
+use Rattle.model.specs.Changes.{Lowest, Result, call, free?, halves, new-half, old-half, put as asked, put-in, refuse, split-of, stored, stores}
+use Rattle.model.specs.Format.{headerOf, readFile, storeBytes}
 use Rattle.model.specs.Calls.{PutDone, putMade, refusalOf, storesBytes, trieAfter}
 use Rattle.model.proofs.Entries.{chosen-no, chosen-yes, row-at, row-insert}
 use Rattle.model.proofs.Names.{legal-length}
-use Rattle.model.proofs.Files.{first-before, first-passes, used-inside}
-use Rattle.model.proofs.Format.{headed-headerOf, readFile-read, readSlot-readFile}
+use Rattle.model.proofs.Files.{first-before, first-passes}
+use Rattle.model.proofs.Format.{headed-headerOf, readFile-read}
 use Rattle.bucket.specs.Slots.{lowerAt, upperAt, writtenBytes}
-use Rattle.bucket.proofs.Rows.{Reads, reads}
+use Rattle.bucket.proofs.Rows.{Reads}
 use Rattle.bucket.proofs.Changing.{length-new}
 use Rattle.file.specs.declared.Room.{Room}
 use Rattle.file.specs.declared.Room.the-variants.{At, Full as NoRoom}
@@ -37,7 +35,7 @@ use Rattle.file.specs.Maps.{RoomTold, map-of, room-of}
 use Rattle.trie.specs.declared.Walked.{Walked}
 use Rattle.trie.specs.Places.{Placed}
 use Rattle.trie.specs.Strung.{lengths}
-use Rattle.trie.specs.Walks.{Ended, Walks, walkOf}
+use Rattle.trie.specs.Walks.{Ended}
 use Rattle.trie.proofs.Agreed.{agreed-walk}
 use Rattle.growth.specs.Grows.{Grows, live-cells, top-side}
 use Rattle.growth.proofs.Asking.{asked as grown-asked}
@@ -49,6 +47,7 @@ use Rattle.keeper.specs.Ready.{Agreed}
 use Rattle.keeper.specs.Parts.{Parted}
 use Rattle.keeper.specs.Splits.{SplitTold}
 use Rattle.keeper.proofs.Halving.{new-slot-is, old-slot-is, split-begins, split-some, string-front}
+use Rattle.keeper.proofs.Spots.{slot-reads, store-is}
 use Rattle.keeper.proofs.Counting.{split-count}
 
 -- What the checks found, said of the slots that are read.
@@ -72,27 +71,6 @@ slots-are xs {b} {slots} {fs} e h =
     let p : _≡_ {A = ℕ × ℕ} (b, length fs) (b, slots) = cc in
     ap (λ (x : ℕ × ℕ). x .1) p
 
--- The bytes of slot A, read.
-used-read : (b : ℕ) (xs : List ℕ) {l : Low} {u : Str} {es : List Entry} → readSlot b xs ≡ some (used l u es) → readUsed b xs ≡ some (used l u es)
-unfolding readSlot
-used-read b xs {l} {u} {es} = go (sameStr xs (slotBytes b free))
-  where
-    go : (t : Bool) → cond t (some free) (readUsed b xs) ≡ some (used l u es) → readUsed b xs ≡ some (used l u es)
-    go true h = let z : _≡_ {A = ℕ} 0 1 = cc in absurd (omega arith)
-    go false h = h
-
-slot-read : (xs : List ℕ) {b : ℕ} {fs : List Slot} → readFile xs ≡ some (b, fs) → Sound b fs → (k : ℕ) {l : Low} {u : Str} {es : List Entry} → slot-at fs k ≡ used l u es
-    → Reads b (take (64 + 32 * b) (drop (16 + k * (64 + 32 * b)) xs)) l u es
-unfolding slotAt slotSize
-slot-read xs {b} {fs} e S k i =
-    reads b (take (64 + 32 * b) (drop (16 + k * (64 + 32 * b)) xs)) (used-read b (slotAt b k xs) (readSlot-readFile xs e k (used-inside fs k (rw i tt)) ∙ ap some i)) (rw i at (S .well k))
-
--- One store.
-stored-is : (b k : ℕ) (s : Slot) (xs zs : List ℕ) → take (slotSize b) zs ≡ slotBytes b s
-    → paste xs (16 + k * (64 + 32 * b)) (take (64 + 32 * b) zs) (64 + 32 * b) ≡ storeBytes b k s xs
-unfolding storeBytes slotSize
-stored-is b k s xs zs h = ap (λ (z : List ℕ). paste xs (16 + k * (64 + 32 * b)) z (64 + 32 * b)) h
-
 -- A new name of a full bucket, in a file whose slots are fs.
 module _ (b : ℕ) (two : 2 ≤ b) (few : b ≤ 16) (xs : List ℕ) {fs : List Slot} (e : readFile xs ≡ some (b, fs)) (S : Sound b fs) (t : Trie)
     {A : ℕ} {n : Str} {v : ℕ} {l : Low} {u : Str} {es : List Entry} {entries : List ℕ} (F : Full b fs A n v l u es entries) where
@@ -100,7 +78,7 @@ module _ (b : ℕ) (two : 2 ≤ b) (few : b ≤ 16) (xs : List ℕ) {fs : List S
   ws = insert n v es
 
   at-a : Reads b (take (64 + 32 * b) (drop (16 + A * (64 + 32 * b)) xs)) l u es
-  at-a = slot-read xs e S A (F .is)
+  at-a = slot-reads xs e S A (F .is)
 
   pub row-all : Row l ws u
   row-all = row-insert n v (F .legal) (F .above) (F .within) (at-a .row)
@@ -125,7 +103,7 @@ module _ (b : ℕ) (two : 2 ≤ b) (few : b ≤ 16) (xs : List ℕ) {fs : List S
 
       first-is : ys ≡ storeBytes b N (new-half b ws u) xs
       first-is =
-          first-made ∙ stored-is b N (new-half b ws u) xs new
+          first-made ∙ store-is b N (new-half b ws u) xs new
           (new-slot-is row-all b two few length-all entries (F .entries-are) slot at-slot (s .string) (s .len) (s .stay) (D .string-is) (D .len-is) (D .stay-is) new new-is)
 
       pub one-stored : 1 ≤ limit → limit < 2 → (r .answer ≡ Stopped 1) × (r .trie ≡ t) → put r ys ≡ made
@@ -138,7 +116,7 @@ module _ (b : ℕ) (two : 2 ≤ b) (few : b ≤ 16) (xs : List ℕ) {fs : List S
       unfolding putMade storesBytes trieAfter
       two-stored zs old old-is second-made h g =
           let q : zs ≡ storeBytes b A (old-half b ws l) ys =
-          second-made ∙ stored-is b A (old-half b ws l) ys old
+          second-made ∙ store-is b A (old-half b ws l) ys old
           (old-slot-is row-all b two few length-all entries (F .entries-are) slot at-slot (s .string) (s .len) (s .stay) (D .string-is) (D .len-is) (D .stay-is) old old-is) in
           rw (le-ltb limit 2 h, ← F .slot-is, F .is, F .new, q, first-is, g .0, g .1)
 

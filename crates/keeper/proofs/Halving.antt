@@ -4,7 +4,6 @@ use mathlib.Core.Bool.{Bool, cond, false, true}
 use mathlib.Core.List.{List, [], _++_, _∷_}
 use Prim.Native.Nat.{_*_, _+_, _-_, _/_, _<_, _≤_, suc, zero, ℕ}
 use native.Mathlib.Decide.{ℕ-discrete}
-use native.Mathlib.Numerals.{add-one}
 use native.Mathlib.Omega.{arith}
 use lib.Dec.{ltb}
 use lib.ListN.{drop, length, length-drop, length-replicate, length-take, replicate, take}
@@ -54,9 +53,6 @@ pub string-copied : (len : ℕ) (xs r : List ℕ) → len ≤ 24
     → r ≡ paste (replicate 24 0) 0 (take (len - 0) (drop 0 xs)) (length (take (len - 0) (drop 0 xs))) → r ≡ padded 24 (take len xs)
 string-copied len xs r h q =
     copied-front 24 (take len xs) r (omega (arith, length-take len xs)) (q ∙ ap (λ (z : List ℕ). paste (replicate 24 0) 0 z (length z)) (front len xs))
-
-pub part-whole : (xs zs : List ℕ) (j m n : ℕ) → m ≡ n → paste xs j (take (m - 0) (drop 0 zs)) n ≡ paste xs j (take n zs) n
-part-whole xs zs j m n e = ap (λ (z : List ℕ). paste xs j z n) (front m zs ∙ ap (λ (k : ℕ). take k zs) e)
 
 -- How many stay, as the code counts them: all but the first, up to the last.
 pub stay-counted : (b len : ℕ) (xs string : List ℕ) {k n : ℕ}

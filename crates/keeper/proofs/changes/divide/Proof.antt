@@ -4,14 +4,6 @@ use Rattle.keeper.proofs.Dividing.{none-told, one-told, two-told}
 use borrow.Author.Needs.{needs}
 use Rattle.keeper.proofs.changes.divide.Statement.{statement}
 use Rattle.keeper.proofs.changes.divide.Tie as tie
-use Rattle.keeper.proofs.changes.divide.Reads as reads
-use Rattle.keeper.proofs.changes.divide.Lts as lts
-use Rattle.file.proofs.slot_at.Reads as slot-at-reads
-use Rattle.keeper.proofs.changes.given.Reads as given-reads
-use Rattle.keeper.proofs.changes.grown.Reads as grown-reads
-use Rattle.keeper.proofs.changes.new_slot.Reads as new-slot-reads
-use Rattle.keeper.proofs.changes.old_slot.Reads as old-slot-reads
-use Rattle.keeper.proofs.changes.store.Reads as store-reads
 
 given-requires : tie.Need-given-requires
 given-requires c κs = search needs

@@ -6,10 +6,6 @@ use Rattle.growth.specs.Grows.{Grows}
 use borrow.Author.Needs.{needs}
 use Rattle.keeper.proofs.changes.grown.Statement.{statement}
 use Rattle.keeper.proofs.changes.grown.Tie as tie
-use Rattle.keeper.proofs.changes.grown.Reads as reads
-use Rattle.keeper.proofs.changes.grown.Lts as lts
-use Rattle.keeper.proofs.changes.grown_at.Reads as grown-at-reads
-use Rattle.keeper.proofs.changes.short.Reads as short-reads
 
 short-requires : tie.Need-short-requires
 short-requires c κs = search needs

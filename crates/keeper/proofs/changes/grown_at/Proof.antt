@@ -7,9 +7,6 @@ use Rattle.keeper.proofs.Halving.{front}
 use borrow.Author.Needs.{needs}
 use Rattle.keeper.proofs.changes.grown_at.Statement.{statement}
 use Rattle.keeper.proofs.changes.grown_at.Tie as tie
-use Rattle.keeper.proofs.changes.grown_at.Reads as reads
-use Rattle.keeper.proofs.changes.grown_at.Lts as lts
-use Rattle.growth.proofs.grown.Reads as grown-reads
 
 sub-grown : tie.Need-sub-grown
 sub-grown c = search needs

@@ -2,10 +2,6 @@
 use borrow.Author.Needs.{needs}
 use Rattle.keeper.proofs.changes.new_slot.Statement.{statement}
 use Rattle.keeper.proofs.changes.new_slot.Tie as tie
-use Rattle.keeper.proofs.changes.new_slot.Reads as reads
-use Rattle.keeper.proofs.changes.new_slot.Lts as lts
-use Rattle.bucket.proofs.upper_of.Reads as upper-of-reads
-use Rattle.keeper.proofs.changes.written_above.Reads as written-above-reads
 
 mul-at : tie.Need-mul-at
 mul-at c = search needs

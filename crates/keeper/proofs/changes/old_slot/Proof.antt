@@ -3,10 +3,6 @@ use Rattle.keeper.proofs.Halving.{front}
 use borrow.Author.Needs.{needs}
 use Rattle.keeper.proofs.changes.old_slot.Statement.{statement}
 use Rattle.keeper.proofs.changes.old_slot.Tie as tie
-use Rattle.keeper.proofs.changes.old_slot.Reads as reads
-use Rattle.keeper.proofs.changes.old_slot.Lts as lts
-use Rattle.bucket.proofs.lower_of.Reads as lower-of-reads
-use Rattle.keeper.proofs.changes.written_below.Reads as written-below-reads
 
 mul-end : tie.Need-mul-end
 mul-end c = search needs

@@ -5,13 +5,6 @@ use Rattle.keeper.proofs.Dividing.{full-told, many-told, split-told, st
 use borrow.Author.Needs.{needs}
 use Rattle.keeper.proofs.changes.split.Statement.{statement}
 use Rattle.keeper.proofs.changes.split.Tie as tie
-use Rattle.keeper.proofs.changes.split.Reads as reads
-use Rattle.keeper.proofs.changes.split.Lts as lts
-use Rattle.file.proofs.lowest_free.Reads as lowest-free-reads
-use Rattle.keeper.proofs.changes.divide.Reads as divide-reads
-use Rattle.keeper.proofs.changes.refused.Reads as refused-reads
-use Rattle.keeper.proofs.splitting.split_of.Reads as split-of-reads
-use Rattle.trie.proofs.number.Reads as number-reads
 
 lowest-free-requires : tie.Need-lowest-free-requires
 lowest-free-requires c κs = search needs

@@ -7,9 +7,6 @@ use Rattle.keeper.proofs.Halving.{front}
 use borrow.Author.Needs.{needs}
 use Rattle.keeper.proofs.changes.written_above.Statement.{statement}
 use Rattle.keeper.proofs.changes.written_above.Tie as tie
-use Rattle.keeper.proofs.changes.written_above.Reads as reads
-use Rattle.keeper.proofs.changes.written_above.Lts as lts
-use Rattle.bucket.proofs.written.Reads as written-reads
 
 sub-written : tie.Need-sub-written
 sub-written c = search needs

@@ -7,9 +7,6 @@ use Rattle.keeper.proofs.Halving.{front}
 use borrow.Author.Needs.{needs}
 use Rattle.keeper.proofs.changes.written_below.Statement.{statement}
 use Rattle.keeper.proofs.changes.written_below.Tie as tie
-use Rattle.keeper.proofs.changes.written_below.Reads as reads
-use Rattle.keeper.proofs.changes.written_below.Lts as lts
-use Rattle.bucket.proofs.written.Reads as written-reads
 
 sub-written : tie.Need-sub-written
 sub-written c = search needs

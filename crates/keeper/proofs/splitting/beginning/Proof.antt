@@ -3,9 +3,6 @@ use Rattle.keeper.proofs.Halving.{string-copied}
 use borrow.Author.Needs.{needs}
 use Rattle.keeper.proofs.splitting.beginning.Statement.{statement}
 use Rattle.keeper.proofs.splitting.beginning.Tie as tie
-use Rattle.keeper.proofs.splitting.beginning.Reads as reads
-use Rattle.keeper.proofs.splitting.beginning.Lts as lts
-use Rattle.bucket.proofs.copy.Reads as copy-reads
 
 slice-aggregate-copy : tie.Need-slice-aggregate-copy
 slice-aggregate-copy c = search needs

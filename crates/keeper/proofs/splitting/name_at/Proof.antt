@@ -5,9 +5,6 @@ use Rattle.keeper.proofs.Halving.{name-copied}
 use borrow.Author.Needs.{needs}
 use Rattle.keeper.proofs.splitting.name_at.Statement.{statement}
 use Rattle.keeper.proofs.splitting.name_at.Tie as tie
-use Rattle.keeper.proofs.splitting.name_at.Reads as reads
-use Rattle.keeper.proofs.splitting.name_at.Lts as lts
-use Rattle.bucket.proofs.copy.Reads as copy-reads
 
 add-end : tie.Need-add-end
 add-end c = search needs

@@ -3,14 +3,6 @@ use Rattle.keeper.proofs.Halving.{divides}
 use borrow.Author.Needs.{needs}
 use Rattle.keeper.proofs.splitting.split_of.Statement.{statement}
 use Rattle.keeper.proofs.splitting.split_of.Tie as tie
-use Rattle.keeper.proofs.splitting.split_of.Reads as reads
-use Rattle.keeper.proofs.splitting.split_of.Lts as lts
-use Rattle.growth.proofs.shared_with.Reads as shared-with-reads
-use Rattle.keeper.proofs.splitting.beginning.Reads as beginning-reads
-use Rattle.keeper.proofs.splitting.name_at.Reads as name-at-reads
-use Rattle.keeper.proofs.splitting.stay_of.Reads as stay-of-reads
-use Rattle.keeper.proofs.splitting.string_length.Reads as string-length-reads
-use Rattle.trie.proofs.walk_of.Reads as walk-of-reads
 
 mul-name-at : tie.Need-mul-name-at
 mul-name-at c = search needs

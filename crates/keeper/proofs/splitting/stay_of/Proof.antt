@@ -1,15 +1,9 @@
 -- `stay_of` meets its contract.
-use mathlib.Core.Path.{_≡_}
 use native.Mathlib.Omega.{arith}
-use lib.ListN.{length}
 use Rattle.keeper.proofs.Halving.{stay-counted}
 use borrow.Author.Needs.{needs}
 use Rattle.keeper.proofs.splitting.stay_of.Statement.{statement}
 use Rattle.keeper.proofs.splitting.stay_of.Tie as tie
-use Rattle.keeper.proofs.splitting.stay_of.Reads as reads
-use Rattle.keeper.proofs.splitting.stay_of.Lts as lts
-use Rattle.bucket.proofs.upto.Reads as upto-reads
-use Rattle.digits.proofs.bound_key_at.Reads as bound-key-at-reads
 
 sub-upto : tie.Need-sub-upto
 sub-upto c = search needs
