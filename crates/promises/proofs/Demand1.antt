@@ -35,8 +35,9 @@ use Rattle.model.proofs.Agreeing.{agrees-isAgreeing}
 use Rattle.model.proofs.Calls.{Answered, denied-not-made, denied-one, is-denied, is-made, put-right, remove-right}
 use Rattle.model.proofs.CheckedFiles.{CheckedFile, checkFile-right, sound-not-cut}
 use Rattle.model.proofs.Format.{legalSizes-sizes, readSlot-slotBytes, sizes-legalSizes, slotBytes-readSlot}
-use Rattle.promises.specs.Demand1.{Creatable, Demand1, Ends, IsCut, IsElsewhere, IsMalformed, IsZero, LegalName, Lost, Many, PutDenied, RightHeader, Short, Stale, Strays, Table, b-of, create-table, list-table, look-up-table, put-table, rebuild-table, recover-table, remove-table, slots-of}
+use Rattle.promises.specs.Demand1.{Creatable, Demand1, Ends, IsCut, IsElsewhere, IsMalformed, IsZero, LegalName, Listing, Lost, Many, PutDenied, RightHeader, Short, Stale, Strays, Table, b-of, create-table, list-table, look-up-table, put-table, rebuild-table, recover-table, remove-table, slots-of}
 use Rattle.promises.proofs.Leading.{Passed, looked-passed}
+use Rattle.promises.proofs.Listings.{listed-right, listings-same}
 use Rattle.promises.proofs.Tables.{Verdict, exactly, pass, skip, stop}
 use Rattle.promises.proofs.Walking.{arrives-walked, clash, strays-walked, walked, walked-right}
 
@@ -376,11 +377,22 @@ module _ (xs : List ℕ) (t : Trie) (low high out : List ℕ) where
   unfolding listEntries
   list-made b fs p = go (ltb (length out) (entrySize * length (listed fs))) refl
     where
+      right : Listing fs (filled low) (filled high) (listed fs)
+      right = listed-right b (p .sound) (filled low) (filled high)
+
       go : (s : Bool) → ltb (length out) (entrySize * length (listed fs)) ≡ s
           → Verdict ListRefused ((short-output, Short xs low high out) ∷ []) (list-short (listed fs) s .answer)
-      go true e = stop ListRefused (record { file = record { b = b; slots = fs; is = p .is; sound = p .sound }; short = ltb-true (length out) (entrySize * length (listed fs)) e })
+      go true e =
+          stop ListRefused (record {
+            file = record { b = b; slots = fs; is = p .is; sound = p .sound };
+            listed = listed fs;
+            listing = right;
+            short = ltb-true (length out) (entrySize * length (listed fs)) e;
+          })
       go false e =
-          skip ListRefused (λ S. let h : length out < entrySize * length (listed fs) = rw (same-slots (p .is) (S .file)) at (S .short) in
+          skip ListRefused (λ S.
+          let same : S .listed ≡ listed fs = listings-same (rw (same-slots (p .is) (S .file)) at (S .listing)) right in
+          let h : length out < entrySize * length (listed fs) = rw same at (S .short) in
           clash (ltb (length out) (entrySize * length (listed fs))) (lt-ltb (length out) (entrySize * length (listed fs)) h) e)
           (pass ListRefused (λ c q. let z : _≡_ {A = ℕ} 0 1 = cc in absurd (omega arith)))
 

@@ -3,7 +3,7 @@ use mathlib.Core.Path.{_≡_}
 use mathlib.Core.Logic.{_⊎_}
 use mathlib.Core.Bool.{false, true}
 use mathlib.Core.Option.{some}
-use mathlib.Core.List.{List, [], _∷_}
+use mathlib.Core.List.{List, List·Memᴰ, [], _∷_}
 use Prim.Native.Nat.{_*_, _<_, _≤_, suc, zero, ℕ}
 use lib.ListN.{getD, length, replicate, take}
 use Rattle.model.specs.declared.Cause.{Cause}
@@ -17,14 +17,15 @@ use Rattle.model.specs.declared.Side.{Side}
 use Rattle.model.specs.declared.Side.the-variants.{Cell as further, Slot as slot}
 use Rattle.model.specs.declared.Trie.{Trie}
 use Rattle.model.specs.declared.TrieAnswer.the-variants.{Refused as TrieRefused}
-use Rattle.model.specs.Order.{Str}
+use Rattle.model.specs.Order.{Str, _⊑_, none}
 use Rattle.model.specs.Names.{Digits, filled, within}
-use Rattle.model.specs.Files.{In, Slot, Well, head, order-of, string-count}
+use Rattle.model.specs.Entries.{Entry, Row}
+use Rattle.model.specs.Files.{In, Slot, Well, entries-of, head, slot-at, string-count}
 use Rattle.model.specs.Tries.{Agrees, at-cell, cell, root-side}
 use Rattle.model.specs.Changes.{Denied, put}
 use Rattle.model.specs.Format.{BadFile, CutFile, Sizes, SoundFile, entrySize, fileSize, headerBytes, readSlot, slotAt, slotSize, version}
 use Rattle.model.specs.Answers.{number}
-use Rattle.model.specs.Calls.{between, createOf, entriesIn, listOf, lookUpOf, new-trie, putOf, rebuildOf, recoverOf, removeOf}
+use Rattle.model.specs.Calls.{createOf, listOf, lookUpOf, new-trie, putOf, rebuildOf, recoverOf, removeOf}
 
 -- A call's causes in their stated order, each with what must be so of the call's inputs for it to hold.
 abbrev pub Table : Type 1
@@ -70,10 +71,18 @@ pub record Many (xs : List ℕ) : Type 0 where
   pub file : SoundFile xs
   pub many : 256 < string-count (file .slots)
 
--- 7, "list output shorter than 32 bytes times the entries to be listed".
+-- 7, "list output shorter than 32 bytes times the entries to be listed": the "entries, ascending, whose names lie from the
+-- first to the second name, both included".
+pub record Listing (fs : List Slot) (low high : Str) (es : List Entry) : Type 0 where
+  pub ascending : Row none es []
+  pub only : (e : Entry) → List·Memᴰ e es → ((B : ℕ) × List·Memᴰ e (entries-of (slot-at fs B))) × (low ⊑ e .0) × (e .0 ⊑ high)
+  pub every : (e : Entry) (B : ℕ) → List·Memᴰ e (entries-of (slot-at fs B)) → low ⊑ e .0 → e .0 ⊑ high → List·Memᴰ e es
+
 pub record Short (xs low high out : List ℕ) : Type 0 where
   pub file : SoundFile xs
-  pub short : length out < entrySize * length (between (filled low) (filled high) (entriesIn (file .slots) (order-of (file .slots))))
+  pub listed : List Entry
+  pub listing : Listing (file .slots) (filled low) (filled high) listed
+  pub short : length out < entrySize * length listed
 
 -- 8, "create with b, slots or length not as above".
 pub record Creatable (xs : List ℕ) (v b slots : ℕ) : Type 0 where
