@@ -1,18 +1,13 @@
 """The pictures: well formed, with as many buckets, cells and leaves as there are, and every path in its place."""
 
 import random
-import sys
 import unittest
-from collections import namedtuple
-from pathlib import Path
 from xml.etree import ElementTree
 
-sys.path.insert(0, str(Path(__file__).resolve().parent.parent))
-from palhavento.drawing import buckets_svg, trie_svg  # noqa: E402  the package is not installed
+import support  # noqa: F401  (gives the package's place)
 
-Bucket = namedtuple("Bucket", "slot lower upper entries")
-Cell = namedtuple("Cell", "digit number left right")
-Trie = namedtuple("Trie", "count first cells")
+from palhavento import Bucket, Cell, Trie
+from palhavento.drawing import buckets_svg, trie_svg
 
 SVG = "{http://www.w3.org/2000/svg}"
 NINE_BUCKETS = [Bucket(0, "", "i ", 3), Bucket(3, "i ", "i", 2), Bucket(2, "i", "o", 1), Bucket(1, "o", "", 3)]
