@@ -40,8 +40,9 @@ exit status:
   64   bad arguments
   74   the file cannot be read or written
   101  the name is absent
+  130  interrupted
   254  another process has the file open for writing
-On any status but 0 nothing was changed, but for an import, which says how far it came.
+What is refused has changed nothing; an import says how far it came.
 docs/OPERATIONS.md says what to do for each."""
 
 PURPOSE = "An ordered file of names, each with a 64-bit value, which a kill between two stores never spoils."

@@ -32,7 +32,7 @@ def explained(file: bytes) -> Iterator[str]:
         _, count, lower, upper = file[at:at + 4]
         yield ""
         low, high = bound(file[at + 8:at + 8 + lower]), bound(file[at + 32:at + 32 + upper])
-        yield line(at, f"slot {slot}: used, entries {count}, lower length {lower}, upper length {upper}; zero; lower {low}")
+        yield line(at, f"slot {slot}: used, entries {count}, lengths {lower} and {upper}; zero; lower {low}")
         yield line(at + 16, "  lower goes on")
         yield line(at + 32, f"  upper {high}")
         yield line(at + 48, "  upper goes on; zero")
