@@ -252,6 +252,11 @@ class CommandLine(InFolder):
         os.close(theirs)
         self.assertEqual(ended.stderr, b"")
 
+    def test_the_script(self):
+        self.nine_words()
+        printed = subprocess.check_output([PACKAGE / "bin" / "palhavento", "get", self.store, "that"], text=True)
+        self.assertEqual(printed, "7\n")
+
     def test_help(self):
         self.assertIn("examples:", self.done("--help"))
         for command in COMMANDS:

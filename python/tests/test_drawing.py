@@ -4,8 +4,9 @@ import random
 import unittest
 from xml.etree import ElementTree
 
-import support  # noqa: F401  (gives the package's place)
+from support import InFolder
 
+import palhavento
 from palhavento import Bucket, Cell, Trie
 from palhavento.drawing import buckets_svg, trie_svg
 
@@ -13,6 +14,12 @@ SVG = "{http://www.w3.org/2000/svg}"
 NINE_BUCKETS = [Bucket(0, "", "i ", 3), Bucket(3, "i ", "i", 2), Bucket(2, "i", "o", 1), Bucket(1, "o", "", 3)]
 NINE_TRIE = Trie(3, 0, [Cell("i", 0, ("cell", 1), ("cell", 2)), Cell(" ", 1, ("slot", 0), ("slot", 3)),
                         Cell("o", 0, ("slot", 2), ("slot", 1))])
+
+
+# Fig 1 of document 000: the insertions, and the leaves from left to right.
+FIG_1 = ("the of and to a in that is i it for as with was his he be not by but have you which are on or her had at from "
+         "this").split()
+FIG_1_LEAVES = [0, 9, 4, 10, 7, 8, 6, 3, 2, 1, 5]
 
 
 def things(picture: str, kind: str) -> list[ElementTree.Element]:
@@ -114,6 +121,16 @@ class Tries(unittest.TestCase):
         for side in (("cell", 0), ("cell", 1), ("cell", -1)):
             with self.assertRaises(ValueError):
                 trie_svg(Trie(1, 0, [Cell("a", 0, side, ("slot", 0))]))
+
+
+class InANotebook(InFolder):
+    def test_fig_1_of_document_000(self):
+        with palhavento.open(self.path, b=4, slots=16, sync=False) as store:
+            store.update({name: 0 for name in FIG_1})
+            trie, buckets = store.trie_svg(), store._repr_html_()
+        self.assertEqual([int(texts(leaf)[0]) for leaf in things(trie, "leaf")], FIG_1_LEAVES)
+        self.assertEqual([texts(bucket)[0] for bucket in things(buckets, "bucket")],
+                         [f"slot {slot}" for slot in FIG_1_LEAVES])
 
 
 if __name__ == "__main__":
