@@ -6,6 +6,7 @@ The exit status is the refusal number where a call was refused; see STATUSES for
 from __future__ import annotations
 
 import argparse
+import contextlib
 import dataclasses
 import json
 import logging
@@ -234,9 +235,9 @@ def import_(arguments: argparse.Namespace) -> Report:
 
 
 def bytes_of(arguments: argparse.Namespace) -> bytes:
-    """The bytes as they are: to open a store would recover it."""
-    with open(arguments.store, "rb") as file:
-        return file.read(library.LARGEST_FILE + 1)
+    """The bytes as they are, and no half of a store that is under way: to open the store would recover it."""
+    with contextlib.closing(disk.Disk(arguments.store, readonly=True, sync=False)) as file:
+        return file.read()
 
 
 def check(arguments: argparse.Namespace) -> Report:
@@ -302,7 +303,7 @@ def parser() -> Parser:
     lines.add_argument("lines", metavar="LINES", help="the file of lines; - is standard input")
     lines.add_argument("--no-sync", dest="sync", action="store_false",
                        help="faster: do not wait for the disk at each store; a power loss may then leave a bad file")
-    command("check", check, "say whether a file is sound, cut or bad", "rates.tkf")
+    command("check", check, "say whether a file is sound, cut (also while its writer is in a split) or bad", "rates.tkf")
     command("recover", recover, "free what a stopped split left behind", "rates.tkf")
     command("stats", stats, "count slots, names and strings", "rates.tkf")
     picture = command("draw", draw, "draw the store as an SVG", "rates.tkf rates.svg --trie")

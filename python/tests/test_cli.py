@@ -230,6 +230,10 @@ class CommandLine(InFolder):
                           ["draw", path, self.folder / "new.svg"]):
                 self.assertIn(str(path), self.refused(74, *words))
         self.refused(74, "put", self.store / "none.tkf", "a", 1)
+        # A pipe that nobody writes to is told at once.
+        os.mkfifo(self.folder / "pipe")
+        self.refused(74, "check", self.folder / "pipe")
+        self.refused(74, "get", self.folder / "pipe", "a")
         for path in (self.store, self.folder, self.folder / "none" / "none.tkf"):
             self.assertIn(str(path), self.refused(74, "create", path))
 
