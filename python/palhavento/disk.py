@@ -4,9 +4,10 @@ A store is one `pwrite` of a slot's bytes, then `fdatasync`; the stores of a cal
 
 What a kill can do. A finished `pwrite` stays, synced or not; only a machine that fails loses what is not yet on disk.
 But Linux looks for a deadly signal also between two pages of one `pwrite`. A slot that lies across the edge of a page
-(a multiple of 4,096 bytes in the file) can so be left in part, and the file is then bad: about one in 1,600 kills that
-were aimed at the stores. The format has no place for a copy of such a slot, so this is not mended here. A file of at
-most 4,096 bytes has no such slot. A power loss can do the same to a slot across the edge of a sector.
+(a multiple of 4,096 bytes in the file) can so be left in part: about one in 1,600 kills that were aimed at the stores.
+The file is then bad, or for some b, rarely, sound and wrong. The format has no place for a copy of such a slot, so this
+is not mended here. A file of at most 4,096 bytes has no such slot. A power loss can do the same to a slot across the
+edge of a sector.
 
 Two locks keep processes apart, both kept by the kernel and gone with the process. The writer holds `flock` for as long
 as it has the file open. Around each store it holds a lock on the file's bytes as well, and a reader holds the same one,
@@ -36,11 +37,12 @@ def create(path: Path, content: bytes) -> None:
     >>> create("new.tkf", b"other")
     Traceback (most recent call last):
     FileExistsError: [Errno 17] File exists: ...
-    >>> os.listdir(), open("new.tkf", "rb").read()
-    (['new.tkf'], b'TKF')
+    >>> os.listdir(), os.path.getsize("new.tkf")
+    (['new.tkf'], 3)
     """
     folder, name = os.path.split(os.path.abspath(os.fsdecode(path)))
-    beside = os.path.join(folder, f".{name}.{secrets.token_hex(8)}")
+    # A kill may leave this one behind. It is nobody's.
+    beside = os.path.join(folder, f".palhavento-{secrets.token_hex(8)}")
     new = os.open(beside, os.O_WRONLY | os.O_CREAT | os.O_EXCL, 0o666)
     try:
         with open(new, "wb") as file:
@@ -117,8 +119,8 @@ class Disk:
         # The writer needs no lock to read: nobody else writes.
         if not self.readonly:
             return os.pread(self._file, LARGEST_FILE + 1, 0)
-        self._lock(fcntl.F_RDLCK)
         try:
+            self._lock(fcntl.F_RDLCK)
             return os.pread(self._file, LARGEST_FILE + 1, 0)
         finally:
             self._lock(fcntl.F_UNLCK)
@@ -126,8 +128,9 @@ class Disk:
     def store(self, offset: int, slot: bytes) -> None:
         """Replace one slot whole, and wait until it is on disk."""
         self._begin()
-        self._lock(fcntl.F_WRLCK)
+        # Within the try, so that no interrupt leaves the lock behind; to unlock what is not locked does nothing.
         try:
+            self._lock(fcntl.F_WRLCK)
             written = os.pwrite(self._file, slot, offset)
         finally:
             self._lock(fcntl.F_UNLCK)

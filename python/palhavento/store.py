@@ -263,7 +263,8 @@ class Store(MutableMapping[str, int]):
         >>> palhavento.open("checked.tkf").check()
         'sound'
         """
-        return _STATES[library.check(self._disk.read())]
+        with self._alone:
+            return _STATES[library.check(self._disk.read())]
 
     def recover(self) -> int | None:
         """Make a cut file sound and give the slot that was freed; None where there was nothing to do.
