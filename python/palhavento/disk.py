@@ -20,7 +20,6 @@ from __future__ import annotations
 import errno
 import fcntl
 import os
-import secrets
 import struct
 from typing import Union
 
@@ -42,7 +41,7 @@ def create(path: Path, content: bytes) -> None:
     """
     folder, name = os.path.split(os.path.abspath(os.fsdecode(path)))
     # A kill may leave this one behind. It is nobody's.
-    beside = os.path.join(folder, f".palhavento-{secrets.token_hex(8)}")
+    beside = os.path.join(folder, f".palhavento-{os.urandom(8).hex()}")
     new = os.open(beside, os.O_WRONLY | os.O_CREAT | os.O_EXCL, 0o666)
     try:
         with open(new, "wb") as file:
@@ -102,20 +101,19 @@ class Disk:
     # A store that nobody has in hand any more must not keep others from writing.
     __del__ = close
 
-    def _begin(self) -> None:
-        """What every use of the file asks first."""
-        if self.closed:
-            raise ValueError(f"{self.path}: the store is closed")
-        if os.getpid() != self._process:
-            raise refusal(254, f"{self.path}: opened before this process was forked, so open it again here")
-
     def _lock(self, kind: int) -> None:
         """Lock or unlock all bytes, for this open file alone; waits for one store or read at most."""
         fcntl.fcntl(self._file, fcntl.F_OFD_SETLKW, struct.pack("hhqqi4x", kind, os.SEEK_SET, 0, 0, 0))
 
     def read(self) -> bytes:
         """The bytes as they are now; of a file too long for the format, only the beginning."""
-        self._begin()
+        if self.closed:
+            raise ValueError(f"{self.path}: the store is closed")
+        if os.getpid() != self._process:
+            raise refusal(254, f"{self.path}: opened before this process was forked, so open it again here")
+        # What is put into a file without a name would be lost without a word.
+        if os.fstat(self._file).st_nlink == 0:
+            raise FileNotFoundError(errno.ENOENT, "removed or replaced since it was opened", self.path)
         # The writer needs no lock to read: nobody else writes.
         if not self.readonly:
             return os.pread(self._file, LARGEST_FILE + 1, 0)
@@ -126,8 +124,7 @@ class Disk:
             self._lock(fcntl.F_UNLCK)
 
     def store(self, offset: int, slot: bytes) -> None:
-        """Replace one slot whole, and wait until it is on disk."""
-        self._begin()
+        """Replace one slot whole, as the bytes just read ask for, and wait until it is on disk."""
         # Within the try, so that no interrupt leaves the lock behind; to unlock what is not locked does nothing.
         try:
             self._lock(fcntl.F_WRLCK)

@@ -309,11 +309,11 @@ class Store(MutableMapping[str, int]):
         """The trie in hand, which depends on the order of the puts; after `rebuild`, on the bounds alone."""
         return layout.trie(self._agreed()[1])
 
-    def _repr_html_(self) -> str:
-        """The buckets as a notebook shows them."""
+    def _repr_html_(self) -> str | None:
+        """The buckets as a notebook shows them; a closed store has no picture, only its repr."""
         from palhavento import drawing
 
-        return drawing.buckets_svg(self.buckets(), self.b)
+        return None if self._disk.closed else drawing.buckets_svg(self.buckets(), self.b)
 
     def trie_svg(self) -> str:
         """The trie as an SVG, with its logical paths."""

@@ -115,6 +115,16 @@ class Opening(InFolder):
             with palhavento.open(path, sync=False) as store:
                 self.assertEqual(store.path, str(self.path))
 
+    def test_a_file_removed_or_replaced_while_it_is_open(self) -> None:
+        for away in (os.unlink, lambda path: os.replace(self.folder / "other", path)):
+            self.path.write_bytes(sound_file(["a"], b=2, slots=2))
+            (self.folder / "other").write_bytes(sound_file(["b"], b=2, slots=2))
+            with palhavento.open(self.path) as writer, palhavento.open(self.path, readonly=True) as reader:
+                away(self.path)
+                for call in (lambda: writer.__setitem__("a", 2), lambda: writer.get("a"), lambda: reader.get("a")):
+                    with self.assertRaisesRegex(FileNotFoundError, "removed or replaced"):
+                        call()
+
     def test_a_store_let_go_ends_its_lock(self) -> None:
         palhavento.open(self.path)["a"] = 1
         with palhavento.open(self.path) as store:

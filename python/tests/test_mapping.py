@@ -156,6 +156,11 @@ class ForTheMaintainer(InFolder):
         drawing.buckets_svg.assert_called_once_with(self.store.buckets(), 4)
         drawing.trie_svg.assert_called_once_with(self.store.trie())
 
+    def test_a_closed_store_has_no_picture(self) -> None:
+        self.store.close()
+        with mock.patch.object(palhavento, "drawing", mock.Mock(), create=True):
+            self.assertIsNone(self.store._repr_html_())
+
     def test_a_store_shows_itself(self) -> None:
         self.assertEqual((self.store.path, self.store.b, self.store.slots), (str(self.path), 4, 8))
         self.store.close()

@@ -12,6 +12,7 @@ import time
 import unittest
 from collections.abc import Callable
 from pathlib import Path
+from unittest import mock
 
 from support import InFolder, cut_file
 
@@ -251,8 +252,10 @@ class Together(InFolder):
             Path(self.path).write_bytes(whole)
 
         child, listen = forked(finish)
-        with palhavento.open(self.path, readonly=True) as store:
-            self.assertEqual(dict(store), {})
+        # More patience than a user has, for a machine that is busy.
+        with mock.patch("palhavento.store._PAUSES", [0.01] * 500):
+            with palhavento.open(self.path, readonly=True) as store:
+                self.assertEqual(dict(store), {})
         self.ends(child)
         os.close(listen)
 
