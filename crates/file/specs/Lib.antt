@@ -3,3 +3,4 @@ pub mod Surveys
 pub mod Copies
 pub mod Maps
 pub mod Orders
+pub mod Holders

@@ -7,6 +7,7 @@ ghost use Rattle.model.specs.Files.{Slot};
 ghost use Rattle.digits.specs.Keys.{keyValue};
 ghost use Rattle.file.specs.Sizes.{Sized, Below};
 ghost use Rattle.file.specs.Orders.{Known, Listed, Placed, ahead};
+ghost use Rattle.file.specs.Holders.{HolderTold};
 use crate::Size;
 use crate::slot_at;
 use digits::Key;
@@ -85,7 +86,7 @@ pub fn leave_out(order: &mut [u8; 64], count: usize, place: usize)
 // The place of the bucket whose range holds the name, in a sound file: the first whose upper bound is not below it.
 pub fn holder(file: &[u8], size: Size, order: &[u8; 64], count: usize, name: Key) -> usize
     requires { ⌜ (Sized (length (now file)) size) × (Below (now order) (size .slots)) × (count ≤ 64) ⌝ }
-    ensures { λ r. ⌜ r < 64 ⌝ }
+    ensures { λ r. ⌜ HolderTold (now (file .entry)) size (now (order .entry)) count name r ⌝ }
 {
     if count == 0 {
         return 0;

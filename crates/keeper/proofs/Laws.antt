@@ -6,6 +6,10 @@ use mathlib.Core.List.{List}
 use lib.Dec.{eqb}
 use lib.ListN.{length}
 use Prim.Native.Nat.{ℕ, _<_}
+use Rattle.bucket.specs.declared.Bucket.{Bucket}
+use Rattle.bucket.specs.declared.Form.{Form}
+use Rattle.bucket.specs.declared.Form.the-variants.{Ill, Well}
+use Rattle.bucket.specs.Forms.{Formed, WellRead}
 use Rattle.file.specs.declared.Size.{Size}
 use Rattle.file.specs.declared.Header.{Header}
 use Rattle.file.specs.declared.Header.the-variants.{Right, Wrong}
@@ -58,3 +62,10 @@ fitting-right {h} {s} {n} {b} {slots} e t = subst (λ (x : Header). Fitting x n 
 
 pub fitting-wrong : {h : Header} (n b slots : ℕ) → h ≡ Wrong → Fitting h n b slots → (legalSizes b slots && eqb n (fileSize b slots)) ≡ false
 fitting-wrong {h} n b slots e t = subst (λ (x : Header). Fitting x n b slots) e t
+
+-- a slot that is well formed is read, and one that is not is none that is
+pub well-formed : {f : Form} {k : Bucket} (b : ℕ) (xs : List ℕ) → f ≡ Well k → Formed b xs f → WellRead b xs k
+well-formed {f} {k} b xs e t = subst (λ (x : Form). Formed b xs x) e t
+
+pub ill-formed : {f : Form} (b : ℕ) (xs : List ℕ) → f ≡ Ill → Formed b xs f → Formed b xs Ill
+ill-formed {f} b xs e t = subst (λ (x : Form). Formed b xs x) e t

@@ -1,4 +1,5 @@
 pub mod Ready
 pub mod Parts
 pub mod Spots
+pub mod Listings
 pub mod Outcomes

@@ -1,9 +1,17 @@
 // The calls that change nothing: look up and list.
 ghost use mathlib.Core.Path.{_≡_};
-ghost use Prim.Native.Nat.{_≤_, _<_, _+_, _*_};
+ghost use Prim.Native.Nat.{_≤_, _<_, _+_, _-_, _*_};
 ghost use lib.ListN.{length};
+ghost use Rattle.model.specs.Order.{Str};
+ghost use Rattle.model.specs.Names.{Legal};
+ghost use Rattle.model.specs.Format.{readSlot};
+ghost use Rattle.model.specs.Files.{order-of};
+ghost use Rattle.model.specs.Calls.{between, entriesIn, listEntries, listOf, lookUpOf, slotAnswer};
+ghost use Rattle.digits.specs.Keys.{keyValue, value};
 ghost use Rattle.file.specs.Sizes.{Sized, Below};
 ghost use Rattle.keeper.specs.Ready.{Ready};
+ghost use Rattle.keeper.specs.Outcomes.{listed};
+ghost use Rattle.keeper.specs.Listings.{Written, parts};
 use crate::checks::Checked;
 use crate::checks::Verdict;
 use crate::checks::checks_of;
@@ -25,6 +33,7 @@ use trie::Arrival;
 // What one slot answers to a name.
 fn answer_of(slot: &[u8], b: usize, name: Key) -> LookUpAnswer
     requires { ⌜ (length (now slot) ≡ 64 + 32 * b) × (b ≤ 16) ⌝ }
+    ensures { λ r. ⌜ ((n : Str) → Legal n → keyValue name ≡ value n → r ≡ slotAnswer b n (readSlot b (now (slot .entry)))) ⌝ }
 {
     let Vacancy::Taken = bucket::vacancy_of(slot) else {
         return LookUpAnswer::Refused(Cause::StaleTrie);
@@ -42,7 +51,9 @@ fn answer_of(slot: &[u8], b: usize, name: Key) -> LookUpAnswer
 }
 
 // Look up reads one bucket and has its own order of refusals.
-pub fn look_up(file: &[u8], trie: Trie, name: &[u8]) -> LookUpAnswer {
+pub fn look_up(file: &[u8], trie: Trie, name: &[u8]) -> LookUpAnswer
+    ensures { λ r. ⌜ r ≡ lookUpOf (now (file .entry)) trie (now (name .entry)) ⌝ }
+{
     let Naming::Legal = digits::named(name) else {
         return LookUpAnswer::Refused(Cause::IllegalName);
     };
@@ -71,7 +82,8 @@ fn bytes_between(
     second: Key,
 ) -> usize
     requires { ⌜ (Sized (length (now file)) size) × (Below (now order) (size .slots)) × (to < 64) ⌝ }
-    ensures { λ r. ⌜ r ≤ 32768 ⌝ }
+    ensures { λ r. ⌜ (r ≤ 32768)
+        × (r ≡ length (parts (to + 1 - from) (now (file .entry)) size (now (order .entry)) (keyValue first) (keyValue second) from)) ⌝ }
 {
     let mut bytes = 0usize;
     let mut j = from;
@@ -95,16 +107,16 @@ fn write_between(
     second: Key,
     output: &mut [u8],
 )
-    requires { ⌜ (Sized (length (now file)) size) × (Below (now order) (size .slots)) × (to < 64) ⌝ }
+    requires { ⌜ (Sized (length (now file)) size) × (Below (now order) (size .slots)) × (to < 64)
+        × (length (parts (to + 1 - from) (now file) size (now order) (keyValue first) (keyValue second) from) ≤ length (now output)) ⌝ }
+    ensures { λ _. ⌜ Written (parts (to + 1 - from) (now (file .entry)) size (now (order .entry)) (keyValue first) (keyValue second) from)
+        (now (output .entry)) (now (output .exit)) ⌝ }
 {
     let mut at = 0usize;
     let mut j = from;
     while j <= to {
         let slot = file::slot_at(file, size, index(order[j]));
         let part = bucket::part_between(slot, size.b, first, second);
-        if output.len() - at < part.len() {
-            return;
-        }
         bucket::copy(output, at, part);
         at += part.len();
         j += 1;
@@ -120,6 +132,8 @@ fn list_checked(
     output: &mut [u8],
 ) -> ListAnswer
     requires { ⌜ Ready checked (now file) ⌝ }
+    ensures { λ r. ⌜ ((R : Ready checked (now (file .entry))) → (n m : Str) → Legal n → Legal m → keyValue first ≡ value n → keyValue second ≡ value m
+        → listed r (now (output .exit)) ≡ listEntries (between n m (entriesIn (R .slots) (order-of (R .slots)))) (now (output .entry))) ⌝ }
 {
     let size = checked.size;
     let survey = checked.survey;
@@ -136,7 +150,10 @@ fn list_checked(
 
 // Writes the entries, ascending, whose names lie from the first to the second name, both included, and nothing behind
 // them, and gives their number.
-pub fn list(file: &[u8], trie: Trie, first: &[u8], second: &[u8], output: &mut [u8]) -> ListAnswer {
+pub fn list(file: &[u8], trie: Trie, first: &[u8], second: &[u8], output: &mut [u8]) -> ListAnswer
+    ensures { λ r.
+        ⌜ listed r (now (output .exit)) ≡ listOf (now (file .entry)) trie (now (first .entry)) (now (second .entry)) (now (output .entry)) ⌝ }
+{
     let Naming::Legal = digits::named(first) else {
         return ListAnswer::Refused(Cause::IllegalName);
     };

@@ -1,0 +1,147 @@
+-- The search for the bucket that holds a name: what each probe says, and how the halves close in.
+use mathlib.Core.Path.{_∙_, _≡_, ap, refl, sym}
+use mathlib.Core.Bool.{Bool, cond, false, not, true}
+use mathlib.Core.Option.{some}
+use mathlib.Core.List.{List, [], _∷_}
+use Prim.Native.Nat.{_*_, _+_, _-_, _<_, _≤_, suc, zero, ℕ}
+use native.Mathlib.Decide.{decLt}
+use native.Mathlib.Omega.{arith}
+use lib.Dec.{ltb}
+use lib.ListN.{drop, getD, length, take}
+use lib.Seq.{getD-take}
+use borrow.Author.Tests.{not-false, not-true}
+use Rattle.model.specs.Order.{Low, Str, _≺_, _⊑_, _⊴_, _◁_, above, at, least as unlimited, none, over, top}
+use Rattle.model.specs.Names.{Legal, atMost}
+use Rattle.model.specs.Entries.{Entry}
+use Rattle.model.specs.Files.{Chain, IsUsed, Ranges, Slot, Well, entries-of, free, head, last, lower-of, next, order-of, ranges, slot-at, upper-of, used}
+use Rattle.model.specs.Checks.{sameStr}
+use Rattle.model.specs.Format.{readSlot, readUsed, slotAt, slotBytes, slotSize}
+use Rattle.model.proofs.Order.{low-lower, lt-le, le-refl, le-trans}
+use Rattle.model.proofs.Names.{atMost-le, atMost-lt}
+use Rattle.model.proofs.Strings.{mem-at}
+use Rattle.model.proofs.Ranges.{chain-above, chain-some, chain-used}
+use Rattle.model.proofs.Files.{order-right, used-inside, well-head}
+use Rattle.model.proofs.Format.{readSlot-readFile}
+use Rattle.digits.specs.Keys.{continued, isZero, value}
+use Rattle.bucket.proofs.Rows.{Reads, name-over, read-high, reads}
+use Rattle.file.specs.declared.Size.{Size}
+use Rattle.file.specs.Holders.{Holder, Ordered, placed, upper-at}
+
+-- Slots in range order, by their places.
+module _ (F : Ranges) where
+  chain-first : {l : Low} {Bs : List ℕ} → Chain F l Bs → F .lower (getD Bs 0 0) ≡ l
+  chain-first (last u e f) = e
+  chain-first (next u e a b c) = e
+
+  chain-step : {l : Low} {Bs : List ℕ} → Chain F l Bs → (i : ℕ) → suc i < length Bs → F .lower (getD Bs (suc i) 0) ≡ at (F .upper (getD Bs i 0))
+  chain-step (last u e f) i h = absurd (omega arith)
+  chain-step (next u e a b c) zero h = chain-first c
+  chain-step (next u e a b c) (suc i) h = chain-step c i (omega arith)
+
+  chain-apart : {l : Low} {Bs : List ℕ} → Chain F l Bs → (i j : ℕ) → i < j → j < length Bs → at (F .upper (getD Bs i 0)) ⊴ F .lower (getD Bs j 0)
+  chain-apart (last u e f) i j g h = absurd (omega arith)
+  chain-apart (next u e a b c) i zero g h = absurd (omega arith)
+  chain-apart (next {Bs = Bs} u e a b c) zero (suc j) g h = chain-above F c (getD Bs j 0) (mem-at 0 Bs j (omega arith))
+  chain-apart (next u e a b c) (suc i) (suc j) g h = chain-apart c i j (omega arith) (omega arith)
+
+  chain-end : {l : Low} {Bs : List ℕ} → Chain F l Bs → (i : ℕ) → suc i ≡ length Bs → F .upper (getD Bs i 0) ≡ []
+  chain-end (last u e f) zero h = f
+  chain-end (last u e f) (suc i) h = absurd (omega arith)
+  chain-end (next {Bs = []} u e a b c) i h = absurd (chain-some F c)
+  chain-end (next {Bs = C ∷ Bs} u e a b c) zero h = absurd (omega arith)
+  chain-end (next {Bs = C ∷ Bs} u e a b c) (suc i) h = chain-end c i (omega arith)
+
+used-read : (b : ℕ) (ys : List ℕ) (s : Slot) → IsUsed (head s) → readSlot b ys ≡ some s → readUsed b ys ≡ some s
+unfolding readSlot
+used-read b ys free u e = absurd u
+used-read b ys (used l v es) u e = go (sameStr ys (slotBytes b free)) e
+  where
+    go : (t : Bool) → cond t (some free) (readUsed b ys) ≡ some (used l v es) → readUsed b ys ≡ some (used l v es)
+    go true e = let z : _≡_ {A = ℕ} 0 1 = cc in absurd (omega arith)
+    go false e = e
+
+module _ {xs : List ℕ} {s : Size} {order : List ℕ} {count : ℕ} {fs : List Slot} (O : Ordered xs s order count fs) where
+  ordered-chain : Chain (ranges fs) none (order-of fs)
+  ordered-chain = rw (order-right (s .b) (O .sound)) (O .sound .chain)
+
+  pub ordered-some : count ≡ 0 → ⊥
+  ordered-some e = go (order-of fs) ordered-chain (sym (O .count-is) ∙ e)
+    where
+      go : (Bs : List ℕ) → Chain (ranges fs) none Bs → length Bs ≡ 0 → ⊥
+      go [] c z = chain-some (ranges fs) c
+      go (B ∷ Bs) c z = omega arith
+
+  pub place-used : (i : ℕ) → i < count → IsUsed (head (placed fs i))
+  place-used i h = chain-used (ranges fs) ordered-chain (getD (order-of fs) i 0) (mem-at 0 (order-of fs) i (omega (arith, O .count-is)))
+
+  pub place-number : (i : ℕ) → i < count → getD order i 0 ≡ getD (order-of fs) i 0
+  place-number i h = sym (getD-take count order i 0 h) ∙ ap (λ (x : List ℕ). getD x i 0) (O .order-is)
+
+  -- The bytes of the slot at a place read as that slot.
+  pub place-reads : (i k : ℕ) (ys : List ℕ) → i < count → k ≡ getD order i 0 → ys ≡ take (64 + 32 * s .b) (drop (16 + k * (64 + 32 * s .b)) xs)
+      → Reads (s .b) ys (lower-of (head (placed fs i))) (upper-at fs i) (entries-of (placed fs i))
+  unfolding slotAt slotSize
+  place-reads i k ys h e f =
+      let B = getD (order-of fs) i 0 in
+      let p : k ≡ B = e ∙ place-number i h in
+      let u = place-used i h in
+      let r : readSlot (s .b) ys ≡ some (slot-at fs B) = rw (f, p) (readSlot-readFile xs (O .is) B (used-inside fs B u)) in
+      go (slot-at fs B) u (O .sound .well B) (used-read (s .b) ys (slot-at fs B) u r)
+    where
+      go : (x : Slot) → IsUsed (head x) → Well (s .b) x → readUsed (s .b) ys ≡ some x → Reads (s .b) ys (lower-of (head x)) (upper-of (head x)) (entries-of x)
+      go free u w q = absurd u
+      go (used l v es) u w q = reads (s .b) ys q w
+
+  -- Places ascend with their bounds.
+  pub places-apart : (i j : ℕ) → i < j → j < count → at (upper-at fs i) ⊴ lower-of (head (placed fs j))
+  places-apart i j g h = chain-apart (ranges fs) ordered-chain i j g (omega (arith, O .count-is))
+
+  uppers-rise : (i j : ℕ) → i ≤ j → j < count → upper-at fs i ⊑ upper-at fs j
+  uppers-rise i j g h = elim (decLt i j) [
+    | yes k ↦ lt-le (over (low-lower (places-apart i j k h) (well-head (s .b) (O .sound .well (getD (order-of fs) j 0)) (place-used j h))))
+    | no k ↦ let e : i ≡ j = omega arith in rw e (le-refl (upper-at fs j))
+  ]
+
+  -- A probe: whether the name is above the upper bound at a place.
+  module _ (n : Str) (g : Legal n) (v w : ℕ) (q : w ≡ value n) (i k : ℕ) (ys : List ℕ) (h : i < count) (e : k ≡ getD order i 0)
+      (f : ys ≡ take (64 + 32 * s .b) (drop (16 + k * (64 + 32 * s .b)) xs))
+      (high : getD ys 3 0 ≤ 24 → isZero (take (24 - getD ys 3 0) (drop (32 + getD ys 3 0) ys)) ≡ true → v ≡ value (continued (take (getD ys 3 0) (drop 32 ys)))) where
+    probe : (t : Bool) → t ≡ ltb v w → t ≡ not (atMost n (upper-at fs i))
+    probe t r =
+        let R = place-reads i k ys h e f in
+        r ∙ ap (λ (x : ℕ). ltb x w) (read-high (s .b) ys v R high) ∙ ap (ltb (value (continued (upper-at fs i)))) q ∙ name-over (upper-at fs i) n (R .high) g
+
+    pub probe-below : {t : Bool} → t ≡ ltb v w → t ≡ true → upper-at fs i ≺ n
+    probe-below {t} r d = atMost-lt n (upper-at fs i) (not-true (atMost n (upper-at fs i)) (sym (probe t r) ∙ d))
+
+    pub probe-upto : {t : Bool} → t ≡ ltb v w → t ≡ false → n ⊑ upper-at fs i
+    probe-upto {t} r d = atMost-le n (upper-at fs i) (not-false (atMost n (upper-at fs i)) (sym (probe t r) ∙ d))
+
+-- The place lies from the least to the most.
+pub record Closing (fs : List Slot) (n : Str) (least most : ℕ) : Type 0 where
+  pub before : (j : ℕ) → j < least → upper-at fs j ≺ n
+  pub there : n ⊑ upper-at fs most
+
+module _ {xs : List ℕ} {s : Size} {order : List ℕ} {count : ℕ} {fs : List Slot} (O : Ordered xs s order count fs) (n : Str) where
+  pub closing-start : (most : ℕ) → suc most ≡ count → Closing fs n 0 most
+  closing-start most e =
+      record { before = λ j h. absurd (omega arith); there = rw (chain-end (ranges fs) (ordered-chain O) most (e ∙ O .count-is)) top }
+
+  pub closing-up : {least most : ℕ} (middle : ℕ) → middle < count → upper-at fs middle ≺ n → Closing fs n least most → Closing fs n (middle + 1) most
+  closing-up middle h p C =
+      record { before = λ j i. λ q. p (le-trans q (uppers-rise O j middle (omega arith) h)); there = C .there }
+
+  pub closing-down : {least most : ℕ} (middle : ℕ) → n ⊑ upper-at fs middle → Closing fs n least most → Closing fs n least middle
+  closing-down middle p C = record { before = C .before; there = p }
+
+  pub closing-end : {least most : ℕ} → least ≡ most → most < count → Closing fs n least most → Holder fs n least
+  closing-end {least} {most} e h C =
+      record {
+        inside = omega (arith, O .count-is);
+        before = C .before;
+        range = (place-used O least (omega arith), low least (omega arith) (C .before), rw e (C .there));
+      }
+    where
+      low : (r : ℕ) → r < count → ((j : ℕ) → j < r → upper-at fs j ≺ n) → lower-of (head (placed fs r)) ◁ n
+      low zero i f = rw (chain-first (ranges fs) (ordered-chain O)) unlimited
+      low (suc r) i f = rw (chain-step (ranges fs) (ordered-chain O) r (omega (arith, O .count-is))) (above (f r (omega arith)))

@@ -1,0 +1,141 @@
+-- Look up, put together from its stages: each refusal, and what one slot answers to a name.
+use mathlib.Core.Path.{_∙_, _≡_, ap, refl, sym}
+use mathlib.Core.Bool.{Bool, _&&_, cond, false, not, true}
+use mathlib.Core.Option.{Option, none as nothing, some}
+use mathlib.Core.List.{List, []}
+use Prim.Native.Nat.{_*_, _+_, _<_, _≤_, ℕ}
+use native.Mathlib.Omega.{arith}
+use lib.Dec.{leb, ltb}
+use lib.ListN.{drop, getD, length, take}
+use lib.Seq.{take-all}
+use Rattle.model.specs.declared.Cause.the-variants.{BadFile, IllegalName, StaleTrie}
+use Rattle.model.specs.declared.LookUpAnswer.{LookUpAnswer}
+use Rattle.model.specs.declared.LookUpAnswer.the-variants.{Absent as NotFound, Found, Refused}
+use Rattle.model.specs.declared.Trie.{Trie}
+use Rattle.model.specs.Order.{Str}
+use Rattle.model.specs.Names.{Legal, filled, legalName}
+use Rattle.model.specs.Entries.{find}
+use Rattle.model.specs.Files.{Slot, free, used}
+use Rattle.model.specs.Tries.{root-side}
+use Rattle.model.specs.Format.{headerOf, readSlot, slotAt, slotSize}
+use Rattle.model.specs.Calls.{arrive, arrivedAnswer, headedAnswer, heldAnswer, lookUpOf, slotAnswer}
+use Rattle.model.proofs.Names.{length-filled}
+use Rattle.digits.specs.declared.Naming.the-variants.{Illegal, Legal as LegalName}
+use Rattle.digits.specs.Keys.{isZero, keyValue, naming, value}
+use Rattle.bucket.specs.declared.Bucket.{Bucket}
+use Rattle.bucket.specs.declared.Form.the-variants.{Ill}
+use Rattle.bucket.specs.declared.Held.{Held}
+use Rattle.bucket.specs.declared.Held.the-variants.{Absent, Value}
+use Rattle.bucket.specs.declared.Range.the-variants.{Holds, Lacks}
+use Rattle.bucket.specs.Forms.{Formed, WellRead, heldUnder, holding}
+use Rattle.bucket.specs.Slots.{countAt}
+use Rattle.bucket.proofs.Rows.{read-used, read-values}
+use Rattle.bucket.proofs.Finding.{count-is, free-zero, held, held-find, ill-read, range-holds, well-reads, zero-free}
+use Rattle.trie.specs.declared.Arrival.{Arrival}
+use Rattle.trie.specs.declared.Arrival.the-variants.{At, Stale}
+use Rattle.trie.specs.Walks.{arrival, arrivalOf}
+
+-- Which way a test went, by the answer that it gave.
+pub naming-legal : (t : Bool) → LegalName ≡ naming t → t ≡ true
+naming-legal true e = refl
+naming-legal false e = let z : _≡_ {A = ℕ} 0 1 = cc in absurd (omega arith)
+
+pub naming-illegal : (t : Bool) → Illegal ≡ naming t → t ≡ false
+naming-illegal true e = let z : _≡_ {A = ℕ} 0 1 = cc in absurd (omega arith)
+naming-illegal false e = refl
+
+pub holding-holds : (t : Bool) → Holds ≡ holding t → t ≡ true
+holding-holds true e = refl
+holding-holds false e = let z : _≡_ {A = ℕ} 0 1 = cc in absurd (omega arith)
+
+pub holding-lacks : (t : Bool) → Lacks ≡ holding t → t ≡ false
+holding-lacks true e = let z : _≡_ {A = ℕ} 0 1 = cc in absurd (omega arith)
+holding-lacks false e = refl
+
+-- The key of a filled name.
+pub filled-value : (name : List ℕ) (xs : List ℕ) (v : ℕ) → xs ≡ filled name → v ≡ value (take 24 (drop 0 xs)) → v ≡ value (filled name)
+filled-value name xs v e h = h ∙ ap (λ (x : List ℕ). value (take 24 x)) e ∙ ap value (take-all 24 (filled name) (omega (arith, length-filled name)))
+
+-- "4 if the slot is free (all zero); 2 if it is not well formed; 4 if its range lacks the name. Only then found with value,
+-- or absent."
+module _ (b : ℕ) (xs : List ℕ) (n : Str) where
+  pub answer-free : length xs ≡ 64 + 32 * b → isZero xs ≡ true → Refused StaleTrie ≡ slotAnswer b n (readSlot b xs)
+  unfolding slotAnswer slotSize
+  answer-free h e = rw (zero-free b xs h e)
+
+  pub answer-ill : length xs ≡ 64 + 32 * b → isZero xs ≡ false → Formed b xs Ill → Refused BadFile ≡ slotAnswer b n (readSlot b xs)
+  unfolding slotAnswer slotSize
+  answer-ill h e f = go (readSlot b xs) refl
+    where
+      go : (o : Option Slot) → readSlot b xs ≡ o → Refused BadFile ≡ slotAnswer b n o
+      go nothing r = refl
+      go (some free) r =
+          let y : true ≡ false = sym (free-zero b xs r) ∙ e in
+          let z : _≡_ {A = ℕ} 0 1 = cc in absurd (omega arith)
+      go (some (used l u es)) r = rw (ill-read b xs h e f (used l u es) r)
+
+  module _ {k : Bucket} (W : WellRead b xs k) (v : ℕ) (g : Legal n) (e : v ≡ value n) where
+    abbrev ranged : Bool
+    ranged = ltb (keyValue (k .low)) v && not (ltb (keyValue (k .high)) v)
+
+    pub answer-lacks : ranged ≡ false → Refused StaleTrie ≡ slotAnswer b n (readSlot b xs)
+    unfolding slotAnswer
+    answer-lacks h = rw (read-used b xs (W .is), W .well, sym (range-holds W (W .is) n v g e) ∙ h)
+
+    answer-held : (h : Held) (a : LookUpAnswer) → ((i : ℕ) → getD xs i 0 < 256) → ranged ≡ true → h ≡ heldUnder (drop 64 xs) (countAt b xs) v
+        → ((o : Option ℕ) → h ≡ held o → a ≡ heldAnswer o) → a ≡ slotAnswer b n (readSlot b xs)
+    unfolding slotAnswer
+    answer-held h a bytes r f go =
+        let R = well-reads W in
+        let w = f ∙ ap (λ (c : ℕ). heldUnder (drop 64 xs) c v) (count-is R) ∙ held-find R n v g e (read-values b xs bytes (W .is)) in
+        rw (read-used b xs (W .is), W .well, sym (range-holds W (W .is) n v g e) ∙ r) (go (find n (W .entries)) w)
+
+    pub answer-absent : {h : Held} → ((i : ℕ) → getD xs i 0 < 256) → ranged ≡ true → h ≡ heldUnder (drop 64 xs) (countAt b xs) v → h ≡ Absent
+        → NotFound ≡ slotAnswer b n (readSlot b xs)
+    answer-absent {h} bytes r f s = answer-held h NotFound bytes r f go
+      where
+        go : (o : Option ℕ) → h ≡ held o → NotFound ≡ heldAnswer o
+        go nothing q = refl
+        go (some x) q = let z : _≡_ {A = ℕ} 0 1 = cc in absurd (omega arith)
+
+    pub answer-found : {h : Held} {x : ℕ} → ((i : ℕ) → getD xs i 0 < 256) → ranged ≡ true → h ≡ heldUnder (drop 64 xs) (countAt b xs) v → h ≡ Value x
+        → Found x ≡ slotAnswer b n (readSlot b xs)
+    answer-found {h} {x} bytes r f s = answer-held h (Found x) bytes r f go
+      where
+        go : (o : Option ℕ) → h ≡ held o → Found x ≡ heldAnswer o
+        go nothing q = let z : _≡_ {A = ℕ} 0 1 = cc in absurd (omega arith)
+        go (some y) q = cc
+
+-- "1; 2 if length or header is wrong; 4 if .. the walk ..": then what the slot answers.
+module _ (xs : List ℕ) (t : Trie) (name : List ℕ) where
+  pub illegal-looked : legalName name ≡ false → Refused IllegalName ≡ lookUpOf xs t name
+  unfolding lookUpOf
+  illegal-looked e = rw e
+
+  pub headless-looked : legalName name ≡ true → headerOf xs ≡ nothing → Refused BadFile ≡ lookUpOf xs t name
+  unfolding lookUpOf headedAnswer
+  headless-looked e h = rw (e, h)
+
+  module _ {b slots : ℕ} (e : legalName name ≡ true) (h : headerOf xs ≡ some (b, slots)) where
+    abbrev arrived : Option ℕ
+    arrived = arrive (t .count) slots (t .count) (t .cells) (filled name) [] (root-side (t .count) (t .first))
+
+    pub stale-looked : {n : Str} {a : Arrival} → n ≡ filled name → a ≡ arrivalOf t n slots → a ≡ Stale → Refused StaleTrie ≡ lookUpOf xs t name
+    unfolding lookUpOf headedAnswer arrivalOf arrivedAnswer
+    stale-looked f g s = rw (e, h) (go (leb (t .count) 256) arrived (sym s ∙ g ∙ rw f))
+      where
+        go : (c : Bool) (o : Option ℕ) → Stale ≡ cond c (arrival o) Stale → Refused StaleTrie ≡ cond c (arrivedAnswer xs b (filled name) o) (Refused StaleTrie)
+        go false o q = refl
+        go true nothing q = refl
+        go true (some k) q = let z : _≡_ {A = ℕ} 0 1 = cc in absurd (omega arith)
+
+    pub arrived-looked : {n ys : List ℕ} {a : Arrival} {k : ℕ} (r : LookUpAnswer) → n ≡ filled name → a ≡ arrivalOf t n slots → a ≡ At k
+        → ys ≡ take (64 + 32 * b) (drop (16 + k * (64 + 32 * b)) xs) → r ≡ slotAnswer b (filled name) (readSlot b ys) → r ≡ lookUpOf xs t name
+    unfolding lookUpOf headedAnswer arrivalOf arrivedAnswer slotAt slotSize
+    arrived-looked {k = k} r f g s i q = q ∙ rw (e, h, i) (go (leb (t .count) 256) arrived (sym s ∙ g ∙ rw f))
+      where
+        go : (c : Bool) (o : Option ℕ) → At k ≡ cond c (arrival o) Stale
+            → slotAnswer b (filled name) (readSlot b (slotAt b k xs)) ≡ cond c (arrivedAnswer xs b (filled name) o) (Refused StaleTrie)
+        go false o q = let z : _≡_ {A = ℕ} 0 1 = cc in absurd (omega arith)
+        go true nothing q = let z : _≡_ {A = ℕ} 0 1 = cc in absurd (omega arith)
+        go true (some j) q = let i : k ≡ j = cc in rw i

@@ -1,0 +1,47 @@
+-- A table's first cause is one only, so an answer that was decided row by row is given exactly then.
+use mathlib.Core.Path.{_∙_, _≡_, ap, refl, sym}
+use mathlib.Core.Logic.{inl, inr}
+use mathlib.Core.List.{[], _∷_}
+use Rattle.model.specs.declared.Cause.{Cause}
+use Rattle.promises.specs.Demand1.{Exactly, First, Table}
+
+-- No cause of the table holds.
+abbrev pub None : Table → Type 0
+None [] = Unit {0}
+None (r ∷ rs) = (¬ r .1) × None rs
+
+first-one : (rs : Table) (c d : Cause) → First c rs → First d rs → c ≡ d
+first-one [] c d f g = absurd f
+first-one (r ∷ rs) c d (inl p) (inl q) = sym (p .0) ∙ q .0
+first-one (r ∷ rs) c d (inl p) (inr q) = absurd (q .0 (p .1))
+first-one (r ∷ rs) c d (inr p) (inl q) = absurd (p .0 (q .1))
+first-one (r ∷ rs) c d (inr p) (inr q) = first-one rs c d (p .1) (q .1)
+
+first-none : (rs : Table) (c : Cause) → First c rs → None rs → ⊥
+first-none [] c f n = absurd f
+first-none (r ∷ rs) c (inl p) n = n .0 (p .1)
+first-none (r ∷ rs) c (inr p) n = first-none rs c (p .1) (n .1)
+
+module _ {A : Type 0} (Refused : Cause → A) where
+  -- The answer refuses with the first cause that holds, or is no refusal and none holds.
+  pub data Verdict (rs : Table) (a : A) : Type 0 where
+    refused : (c : Cause) → a ≡ Refused c → First c rs → Verdict rs a
+    passed : ((c : Cause) → ¬ (a ≡ Refused c)) → None rs → Verdict rs a
+
+  -- Row by row: this cause holds;
+  pub stop : {rs : Table} {c : Cause} {P : Type 0} → P → Verdict ((c, P) ∷ rs) (Refused c)
+  stop {c = c} h = refused c refl (inl (refl, h))
+
+  -- it does not;
+  pub skip : {rs : Table} {c : Cause} {P : Type 0} {a : A} → ¬ P → Verdict rs a → Verdict ((c, P) ∷ rs) a
+  skip n (refused d e f) = refused d e (inr (n, f))
+  skip n (passed o f) = passed o (n, f)
+
+  -- none is left.
+  pub pass : {a : A} → ((c : Cause) → ¬ (a ≡ Refused c)) → Verdict [] a
+  pass o = passed o tt
+
+  pub exactly : ((c d : Cause) → Refused c ≡ Refused d → c ≡ d) → (rs : Table) {a : A} → Verdict rs a → Exactly Refused a rs
+  exactly one rs (refused c e f) d =
+      (λ q. let s : c ≡ d = one c d (sym e ∙ q) in rw s at f, λ g. e ∙ ap Refused (first-one rs c d f g))
+  exactly one rs (passed o f) d = (λ q. absurd (o d q), λ g. absurd (first-none rs d g f))

@@ -1,0 +1,206 @@
+-- Demand 1, in words: for each public call the causes that refuse it, in document 01's order, and what a refusal leaves.
+use mathlib.Core.Path.{_≡_}
+use mathlib.Core.Logic.{_⊎_}
+use mathlib.Core.Bool.{false, true}
+use mathlib.Core.Option.{some}
+use mathlib.Core.List.{List, [], _∷_}
+use Prim.Native.Nat.{_*_, _<_, _≤_, suc, zero, ℕ}
+use lib.ListN.{getD, length, replicate, take}
+use Rattle.model.specs.declared.Cause.{Cause}
+use Rattle.model.specs.declared.Cause.the-variants.{BadFile as bad-file, CutFile as cut-file, IllegalName as illegal-name, ManyStrings as many-strings, NoFreeSlot as no-free-slot, ShortOutput as short-output, StaleTrie as stale-trie, WrongSize as wrong-size}
+use Rattle.model.specs.declared.ListAnswer.the-variants.{Refused as ListRefused}
+use Rattle.model.specs.declared.LookUpAnswer.the-variants.{Refused as LookUpRefused}
+use Rattle.model.specs.declared.PutAnswer.the-variants.{Refused as PutRefused}
+use Rattle.model.specs.declared.RecoverAnswer.the-variants.{Refused as RecoverRefused}
+use Rattle.model.specs.declared.RemoveAnswer.the-variants.{Refused as RemoveRefused}
+use Rattle.model.specs.declared.Side.{Side}
+use Rattle.model.specs.declared.Side.the-variants.{Cell as further, Slot as slot}
+use Rattle.model.specs.declared.Trie.{Trie}
+use Rattle.model.specs.declared.TrieAnswer.the-variants.{Refused as TrieRefused}
+use Rattle.model.specs.Order.{Str}
+use Rattle.model.specs.Names.{Digits, filled, within}
+use Rattle.model.specs.Files.{In, Slot, Well, head, order-of, string-count}
+use Rattle.model.specs.Tries.{Agrees, at-cell, cell, root-side}
+use Rattle.model.specs.Changes.{Denied, put}
+use Rattle.model.specs.Format.{BadFile, CutFile, Sizes, SoundFile, entrySize, fileSize, headerBytes, readSlot, slotAt, slotSize, version}
+use Rattle.model.specs.Answers.{number}
+use Rattle.model.specs.Calls.{between, createOf, entriesIn, listOf, lookUpOf, new-trie, putOf, rebuildOf, recoverOf, removeOf}
+
+-- A call's causes in their stated order, each with what must be so of the call's inputs for it to hold.
+abbrev pub Table : Type 1
+Table = List (Cause × Type 0)
+
+-- "the number of the first cause that holds in the table's stated order"
+abbrev pub First : Cause → Table → Type 0
+First c [] = ⊥
+First c (r ∷ rs) = ((r .0 ≡ c) × r .1) ⊎ ((¬ r .1) × First c rs)
+
+-- "A refusal carries the number of the first cause that holds .., is given exactly then": the answer is a refusal with that
+-- cause where some cause holds, and no refusal where none does.
+abbrev pub Exactly : {A : Type 0} → (Cause → A) → A → Table → Type 0
+Exactly Refused a table = (c : Cause) → (a ≡ Refused c → First c table) × (First c table → a ≡ Refused c)
+
+-- The numbers of a table, in its order.
+abbrev pub numbers : Table → List ℕ
+numbers [] = []
+numbers (r ∷ rs) = number (r .0) ∷ numbers rs
+
+-- 1, illegal name. "A name has 1 to 24 bytes, each 0x21 to 0x7D."
+pub record LegalName (name : List ℕ) : Type 0 where
+  pub least : 1 ≤ length name
+  pub most : length name ≤ 24
+  pub digits : Digits 0x21 name
+
+-- 3, cut file.
+abbrev pub IsCut : List ℕ → Type 0
+IsCut xs = (N : ℕ) × CutFile xs N
+
+-- 4, trie stale: the file is sound, and the trie does not agree with it.
+pub record Stale (xs : List ℕ) (t : Trie) : Type 0 where
+  pub file : SoundFile xs
+  pub differs : ¬ Agrees (file .slots) t
+
+-- 5, "split needed, no free slot", and 6, "the bounds and their beginnings, after the change, exceed 256 strings".
+pub record PutDenied (xs name : List ℕ) (v why : ℕ) : Type 0 where
+  pub file : SoundFile xs
+  pub denied : Denied (file .b) (file .slots) (put (filled name) v) why
+
+-- 6 of rebuild: the strings as they are exceed 256.
+pub record Many (xs : List ℕ) : Type 0 where
+  pub file : SoundFile xs
+  pub many : 256 < string-count (file .slots)
+
+-- 7, "list output shorter than 32 bytes times the entries to be listed".
+pub record Short (xs low high out : List ℕ) : Type 0 where
+  pub file : SoundFile xs
+  pub short : length out < entrySize * length (between (filled low) (filled high) (entriesIn (file .slots) (order-of (file .slots))))
+
+-- 8, "create with b, slots or length not as above".
+pub record Creatable (xs : List ℕ) (v b slots : ℕ) : Type 0 where
+  pub is-version : v ≡ version
+  pub sizes : Sizes b slots
+  pub whole : length xs ≡ fileSize b slots
+
+-- Look up's own. "2 if length or header is wrong": b is the header's byte 5 and slots its byte 6.
+abbrev pub b-of : List ℕ → ℕ
+b-of xs = getD xs 5 0
+
+abbrev pub slots-of : List ℕ → ℕ
+slots-of xs = getD xs 6 0
+
+pub record RightHeader (xs : List ℕ) : Type 0 where
+  pub sizes : Sizes (b-of xs) (slots-of xs)
+  pub whole : length xs ≡ fileSize (b-of xs) (slots-of xs)
+  pub header : take 16 xs ≡ headerBytes (b-of xs) (slots-of xs)
+
+module _ (slots : ℕ) (t : Trie) (n : Str) where
+  -- "4 if .. the walk meets a cell number not below the count, more cells than the count, a digit number above the path's
+  -- length or 23, or a slot number not below slots": the walk stands at a side, with a path; the first number is how many
+  -- cells it may still meet.
+  pub data Strays : ℕ → Str → Side → Type 0 where
+    no-cell : {f m : ℕ} {p : Str} → t .count ≤ m → Strays f p (further m)
+    more-cells : {m : ℕ} {p : Str} → Strays zero p (further m)
+    past-path : {f m : ℕ} {p : Str} → length p < at-cell (t .cells) m .number → Strays f p (further m)
+    past-23 : {f m : ℕ} {p : Str} → 23 < at-cell (t .cells) m .number → Strays f p (further m)
+    no-slot : {f s : ℕ} {p : Str} → slots ≤ s → Strays f p (slot s)
+    left-of : {f m : ℕ} {p : Str} → within n (cell (at-cell (t .cells) m .digit) (at-cell (t .cells) m .number) p) ≡ true
+        → Strays f (cell (at-cell (t .cells) m .digit) (at-cell (t .cells) m .number) p) (at-cell (t .cells) m .left)
+        → Strays (suc f) p (further m)
+    right-of : {f m : ℕ} {p : Str} → within n (cell (at-cell (t .cells) m .digit) (at-cell (t .cells) m .number) p) ≡ false
+        → Strays f p (at-cell (t .cells) m .right) → Strays (suc f) p (further m)
+
+  -- Otherwise it ends at a slot.
+  pub data Arrives : ℕ → Str → Side → ℕ → Type 0 where
+    here : {f s : ℕ} {p : Str} → s < slots → Arrives f p (slot s) s
+    left-of : {f m k : ℕ} {p : Str} → m < t .count → at-cell (t .cells) m .number ≤ length p → at-cell (t .cells) m .number ≤ 23
+        → within n (cell (at-cell (t .cells) m .digit) (at-cell (t .cells) m .number) p) ≡ true
+        → Arrives f (cell (at-cell (t .cells) m .digit) (at-cell (t .cells) m .number) p) (at-cell (t .cells) m .left) k
+        → Arrives (suc f) p (further m) k
+    right-of : {f m k : ℕ} {p : Str} → m < t .count → at-cell (t .cells) m .number ≤ length p → at-cell (t .cells) m .number ≤ 23
+        → within n (cell (at-cell (t .cells) m .digit) (at-cell (t .cells) m .number) p) ≡ false
+        → Arrives f p (at-cell (t .cells) m .right) k → Arrives (suc f) p (further m) k
+
+-- "4 if the count is above 256, or the walk meets .."
+abbrev pub Lost : List ℕ → Trie → Str → Type 0
+Lost xs t n = (256 < t .count) ⊎ Strays (slots-of xs) t n (t .count) [] (root-side (t .count) (t .first))
+
+-- The walk ends at a slot of which this is so.
+pub record Ends (xs : List ℕ) (t : Trie) (n : Str) (P : List ℕ → Type 0) : Type 0 where
+  pub k : ℕ
+  pub arrives : Arrives (slots-of xs) t n (t .count) [] (root-side (t .count) (t .first)) k
+  pub so : P (slotAt (b-of xs) k xs)
+
+-- "4 if the slot is free (all zero); 2 if it is not well formed; 4 if its range lacks the name", of the slot's bytes.
+abbrev pub IsZero : ℕ → List ℕ → Type 0
+IsZero b ys = ys ≡ replicate (slotSize b) 0
+
+abbrev pub IsMalformed : ℕ → List ℕ → Type 0
+IsMalformed b ys = (s : Slot) → readSlot b ys ≡ some s → ¬ Well b s
+
+abbrev pub IsElsewhere : ℕ → Str → List ℕ → Type 0
+IsElsewhere b n ys = (s : Slot) × (readSlot b ys ≡ some s) × (¬ In (head s) n)
+
+-- The tables.
+abbrev pub create-table : List ℕ → ℕ → ℕ → ℕ → Table
+create-table xs v b slots = (wrong-size, ¬ Creatable xs v b slots) ∷ []
+
+abbrev pub recover-table : List ℕ → ℕ → Table
+recover-table xs limit = (wrong-size, 2 < limit) ∷ (bad-file, BadFile xs) ∷ []
+
+abbrev pub rebuild-table : List ℕ → Table
+rebuild-table xs = (bad-file, BadFile xs) ∷ (cut-file, IsCut xs) ∷ (many-strings, Many xs) ∷ []
+
+abbrev pub look-up-table : List ℕ → Trie → List ℕ → Table
+look-up-table xs t name =
+    (illegal-name, ¬ LegalName name) ∷ (bad-file, ¬ RightHeader xs) ∷ (stale-trie, Lost xs t (filled name))
+    ∷ (stale-trie, Ends xs t (filled name) (IsZero (b-of xs))) ∷ (bad-file, Ends xs t (filled name) (IsMalformed (b-of xs)))
+    ∷ (stale-trie, Ends xs t (filled name) (IsElsewhere (b-of xs) (filled name))) ∷ []
+
+abbrev pub put-table : List ℕ → Trie → List ℕ → ℕ → ℕ → Table
+put-table xs t name v limit =
+    (wrong-size, 2 < limit) ∷ (illegal-name, ¬ LegalName name) ∷ (bad-file, BadFile xs) ∷ (cut-file, IsCut xs)
+    ∷ (stale-trie, Stale xs t) ∷ (no-free-slot, PutDenied xs name v 5) ∷ (many-strings, PutDenied xs name v 6) ∷ []
+
+abbrev pub remove-table : List ℕ → Trie → List ℕ → ℕ → Table
+remove-table xs t name limit =
+    (wrong-size, 2 < limit) ∷ (illegal-name, ¬ LegalName name) ∷ (bad-file, BadFile xs) ∷ (cut-file, IsCut xs)
+    ∷ (stale-trie, Stale xs t) ∷ []
+
+abbrev pub list-table : List ℕ → Trie → List ℕ → List ℕ → List ℕ → Table
+list-table xs t low high out =
+    (illegal-name, ¬ (LegalName low × LegalName high)) ∷ (bad-file, BadFile xs) ∷ (cut-file, IsCut xs) ∷ (stale-trie, Stale xs t)
+    ∷ (short-output, Short xs low high out) ∷ []
+
+-- Demand 1 of the calls. Check refuses nothing; it, look up and rebuild are lent the file to read only, and so are look up
+-- and list the trie.
+pub record Demand1 : Type 0 where
+  pub create : (xs : List ℕ) (v b slots : ℕ) → Exactly TrieRefused (createOf xs v b slots .answer) (create-table xs v b slots)
+  pub recover : (xs : List ℕ) (limit : ℕ) → Exactly RecoverRefused (recoverOf xs limit .answer) (recover-table xs limit)
+  pub rebuild : (xs : List ℕ) → Exactly TrieRefused (rebuildOf xs .answer) (rebuild-table xs)
+  pub look-up : (xs : List ℕ) (t : Trie) (name : List ℕ) → Exactly LookUpRefused (lookUpOf xs t name) (look-up-table xs t name)
+  pub put : (xs : List ℕ) (t : Trie) (name : List ℕ) (v limit : ℕ)
+      → Exactly PutRefused (putOf xs t name v limit .answer) (put-table xs t name v limit)
+  pub remove : (xs : List ℕ) (t : Trie) (name : List ℕ) (limit : ℕ)
+      → Exactly RemoveRefused (removeOf xs t name limit .answer) (remove-table xs t name limit)
+  pub list : (xs : List ℕ) (t : Trie) (low high out : List ℕ)
+      → Exactly ListRefused (listOf xs t low high out .answer) (list-table xs t low high out)
+  -- "and changes no file, trie or output"; "rebuild and create, which give a trie, then give beside the number one with
+  -- count 0 and first leaf 0"
+  pub create-leaves : (xs : List ℕ) (v b slots : ℕ) (c : Cause) → createOf xs v b slots .answer ≡ TrieRefused c
+      → (createOf xs v b slots .file ≡ xs) × (createOf xs v b slots .trie ≡ new-trie)
+  pub recover-leaves : (xs : List ℕ) (limit : ℕ) (c : Cause) → recoverOf xs limit .answer ≡ RecoverRefused c → recoverOf xs limit .file ≡ xs
+  pub rebuild-leaves : (xs : List ℕ) (c : Cause) → rebuildOf xs .answer ≡ TrieRefused c → rebuildOf xs .trie ≡ new-trie
+  pub put-leaves : (xs : List ℕ) (t : Trie) (name : List ℕ) (v limit : ℕ) (c : Cause) → putOf xs t name v limit .answer ≡ PutRefused c
+      → (putOf xs t name v limit .file ≡ xs) × (putOf xs t name v limit .trie ≡ t)
+  pub remove-leaves : (xs : List ℕ) (t : Trie) (name : List ℕ) (limit : ℕ) (c : Cause) → removeOf xs t name limit .answer ≡ RemoveRefused c
+      → removeOf xs t name limit .file ≡ xs
+  pub list-leaves : (xs : List ℕ) (t : Trie) (low high out : List ℕ) (c : Cause) → listOf xs t low high out .answer ≡ ListRefused c
+      → listOf xs t low high out .output ≡ out
+  -- "Order: 8, 1, 2, 3, 4, 5, 6, 7", as far as a call has the causes; look up has its own.
+  pub create-order : (xs : List ℕ) (v b slots : ℕ) → numbers (create-table xs v b slots) ≡ 8 ∷ []
+  pub recover-order : (xs : List ℕ) (limit : ℕ) → numbers (recover-table xs limit) ≡ 8 ∷ 2 ∷ []
+  pub rebuild-order : (xs : List ℕ) → numbers (rebuild-table xs) ≡ 2 ∷ 3 ∷ 6 ∷ []
+  pub look-up-order : (xs : List ℕ) (t : Trie) (name : List ℕ) → numbers (look-up-table xs t name) ≡ 1 ∷ 2 ∷ 4 ∷ 4 ∷ 2 ∷ 4 ∷ []
+  pub put-order : (xs : List ℕ) (t : Trie) (name : List ℕ) (v limit : ℕ) → numbers (put-table xs t name v limit) ≡ 8 ∷ 1 ∷ 2 ∷ 3 ∷ 4 ∷ 5 ∷ 6 ∷ []
+  pub remove-order : (xs : List ℕ) (t : Trie) (name : List ℕ) (limit : ℕ) → numbers (remove-table xs t name limit) ≡ 8 ∷ 1 ∷ 2 ∷ 3 ∷ 4 ∷ []
+  pub list-order : (xs : List ℕ) (t : Trie) (low high out : List ℕ) → numbers (list-table xs t low high out) ≡ 1 ∷ 2 ∷ 3 ∷ 4 ∷ 7 ∷ []

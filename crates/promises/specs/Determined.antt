@@ -1,0 +1,24 @@
+-- Each public statement determines its outcome: any two outcomes that it allows are equal.
+use mathlib.Core.Path.{_≡_}
+use mathlib.Core.List.{List}
+use Prim.Native.Nat.{ℕ}
+use Rattle.model.specs.declared.LookUpAnswer.{LookUpAnswer}
+use Rattle.model.specs.declared.Trie.{Trie}
+use Rattle.model.specs.Checks.{Kind}
+use Rattle.model.specs.Format.{checkFile}
+use Rattle.model.specs.Calls.{Created, ListDone, PutDone, Rebuilt, Recovered, RemoveDone, createOf, listOf, lookUpOf, putOf, rebuildOf, recoverOf, removeOf}
+
+abbrev pub Determines : {O : Type 0} → (O → Type 0) → Type 0
+Determines {O} Allowed = (o p : O) → Allowed o → Allowed p → o ≡ p
+
+-- "Each statement determines the answer, the trie and all bytes lent, for every input, refused ones too." An outcome holds
+-- the answer, the trie that is given and the lent bytes that may change; the statement of a call is an equation for it.
+pub record Determined : Type 0 where
+  pub create : (xs : List ℕ) (v b slots : ℕ) → Determines (λ (o : Created). o ≡ createOf xs v b slots)
+  pub check : (xs : List ℕ) → Determines (λ (o : Kind). o ≡ checkFile xs)
+  pub recover : (xs : List ℕ) (limit : ℕ) → Determines (λ (o : Recovered). o ≡ recoverOf xs limit)
+  pub rebuild : (xs : List ℕ) → Determines (λ (o : Rebuilt). o ≡ rebuildOf xs)
+  pub look-up : (xs : List ℕ) (t : Trie) (name : List ℕ) → Determines (λ (o : LookUpAnswer). o ≡ lookUpOf xs t name)
+  pub put : (xs : List ℕ) (t : Trie) (name : List ℕ) (v limit : ℕ) → Determines (λ (o : PutDone). o ≡ putOf xs t name v limit)
+  pub remove : (xs : List ℕ) (t : Trie) (name : List ℕ) (limit : ℕ) → Determines (λ (o : RemoveDone). o ≡ removeOf xs t name limit)
+  pub list : (xs : List ℕ) (t : Trie) (low high out : List ℕ) → Determines (λ (o : ListDone). o ≡ listOf xs t low high out)
