@@ -10,6 +10,7 @@ use Rattle.model.specs.declared.PutAnswer.{PutAnswer}
 use Rattle.model.specs.declared.PutGiven.{PutGiven}
 use Rattle.model.specs.declared.RecoverAnswer.{RecoverAnswer}
 use Rattle.model.specs.declared.RemoveAnswer.{RemoveAnswer}
+use Rattle.model.specs.declared.Trie.{Trie}
 use Rattle.model.specs.declared.TrieAnswer.{TrieAnswer}
 use Rattle.model.specs.declared.TrieGiven.{TrieGiven}
 use Rattle.model.specs.Answers.{checkSays, createSays, listSays, lookUpSays, putSays, rebuildSays, recoverSays, removeSays}
@@ -60,30 +61,30 @@ module _ (image : List ℕ) (well : length image ≡ imageSize) where
   unfolding palRebuildOf
   rebuild-said file g t e z s = rw (eq-eqb (length image) imageSize well, ← e, z, s, t)
 
-  pub lookUp-said : (file name out : List ℕ) {x a : LookUpAnswer} {ws : List ℕ} {n : ℕ} → x ≡ a → x ≡ lookUpOf file (trieBelow image) name
+  pub lookUp-said : (file name out : List ℕ) {t : Trie} {x a : LookUpAnswer} {ws : List ℕ} {n : ℕ} → t ≡ trieBelow image → x ≡ a → x ≡ lookUpOf file t name
       → n ≡ lookUpSays a .0 → ws ≡ outAfter (lookUpSays a) out → palLookUpOf file image name out ≡ (n, ws)
   unfolding palLookUpOf
-  lookUp-said file name out t e s w =
-      let f = sym t ∙ e ∙ lookUp-below file image name in
+  lookUp-said file name out d t e s w =
+      let f = sym t ∙ e ∙ ap (λ (u : Trie). lookUpOf file u name) d ∙ lookUp-below file image name in
       rw (eq-eqb (length image) imageSize well, ← f, s, w)
 
-  pub put-said : (file name : List ℕ) (value limit : ℕ) (out : List ℕ) (g : PutGiven) {a : PutAnswer} {ys zs ws : List ℕ} {n : ℕ}
-      → g .answer ≡ a → put g ys ≡ putOf file (trieOf image) name value limit → n ≡ putSays a .0 → zs ≡ imageAfter a (g .trie) image
+  pub put-said : (file name : List ℕ) (value limit : ℕ) (out : List ℕ) (g : PutGiven) {t : Trie} {a : PutAnswer} {ys zs ws : List ℕ} {n : ℕ}
+      → t ≡ trieOf image → g .answer ≡ a → put g ys ≡ putOf file t name value limit → n ≡ putSays a .0 → zs ≡ imageAfter a (g .trie) image
       → ws ≡ outAfter (putSays a) out → palPutOf file image name value limit out ≡ (n, ys, zs, ws)
   unfolding palPutOf
-  put-said file name value limit out g t e s z w = rw (eq-eqb (length image) imageSize well, ← e, s, z, w, t)
+  put-said file name value limit out g d t e s z w = rw (eq-eqb (length image) imageSize well, ← d, ← e, s, z, w, t)
 
-  pub remove-said : (file name : List ℕ) (limit : ℕ) (out : List ℕ) {x a : RemoveAnswer} {ys ws : List ℕ} {n : ℕ}
-      → x ≡ a → removed x ys ≡ removeOf file (trieOf image) name limit → n ≡ removeSays a .0
+  pub remove-said : (file name : List ℕ) (limit : ℕ) (out : List ℕ) {t : Trie} {x a : RemoveAnswer} {ys ws : List ℕ} {n : ℕ}
+      → t ≡ trieOf image → x ≡ a → removed x ys ≡ removeOf file t name limit → n ≡ removeSays a .0
       → ws ≡ outAfter (removeSays a) out → palRemoveOf file image name limit out ≡ (n, ys, image, ws)
   unfolding palRemoveOf
-  remove-said file name limit out t e s w = rw (eq-eqb (length image) imageSize well, ← e, s, w, t)
+  remove-said file name limit out d t e s w = rw (eq-eqb (length image) imageSize well, ← d, ← e, s, w, t)
 
-  pub list-said : (file first second output out : List ℕ) {x a : ListAnswer} {ys ws : List ℕ} {n : ℕ}
-      → x ≡ a → listed x ys ≡ listOf file (trieOf image) first second output → n ≡ listSays a .0
+  pub list-said : (file first second output out : List ℕ) {t : Trie} {x a : ListAnswer} {ys ws : List ℕ} {n : ℕ}
+      → t ≡ trieOf image → x ≡ a → listed x ys ≡ listOf file t first second output → n ≡ listSays a .0
       → ws ≡ outAfter (listSays a) out → palListOf file image first second output out ≡ (n, ys, ws)
   unfolding palListOf
-  list-said file first second output out t e s w = rw (eq-eqb (length image) imageSize well, ← e, s, w, t)
+  list-said file first second output out d t e s w = rw (eq-eqb (length image) imageSize well, ← d, ← e, s, w, t)
 
 pub recover-said : (file : List ℕ) (limit : ℕ) (out : List ℕ) {x a : RecoverAnswer} {ys ws : List ℕ} {n : ℕ}
     → x ≡ a → recovered x ys ≡ recoverOf file limit → n ≡ recoverSays a .0

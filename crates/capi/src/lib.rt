@@ -2,7 +2,7 @@
 //
 // 1 to 99 is a refusal with document 01's number; 100 and up says what was done; 255 is an image that has not 1,540 bytes.
 ghost use mathlib.Core.Path.{_≡_};
-ghost use Rattle.capi.specs.Doors.{palCheckOf, palCreateOf, palRebuildOf, palRecoverOf};
+ghost use Rattle.capi.specs.Doors.{palCheckOf, palCreateOf, palListOf, palLookUpOf, palRebuildOf, palRecoverOf};
 use file::Kind;
 use keeper::cause_number;
 use model::ListAnswer;
@@ -93,7 +93,10 @@ pub extern "C" fn pal_rebuild(file: &[u8], trie: &mut [u8]) -> u64
 }
 
 #[no_mangle]
-pub extern "C" fn pal_lookup(file: &[u8], trie: &[u8], name: &[u8], out: &mut [u64; 4]) -> u64 {
+pub extern "C" fn pal_lookup(file: &[u8], trie: &[u8], name: &[u8], out: &mut [u64; 4]) -> u64
+    ensures { λ r.
+        ⌜ palLookUpOf (now (file .entry)) (now (trie .entry)) (now (name .entry)) (now (out .entry)) ≡ (r, now (out .exit)) ⌝ }
+{
     if trie.len() != 1540 {
         return MALFORMED;
     }
@@ -174,7 +177,11 @@ pub extern "C" fn pal_list(
     second: &[u8],
     output: &mut [u8],
     out: &mut [u64; 4],
-) -> u64 {
+) -> u64
+    ensures { λ r.
+        ⌜ palListOf (now (file .entry)) (now (trie .entry)) (now (first .entry)) (now (second .entry)) (now (output .entry)) (now (out .entry))
+        ≡ (r, now (output .exit), now (out .exit)) ⌝ }
+{
     if trie.len() != 1540 {
         return MALFORMED;
     }

@@ -1,11 +1,9 @@
-use mathlib.Core.Path.{ap, refl, sym}
-use Rattle.capi.proofs.Doors.{check-said, foundNumber}
+-- `pal_check` says what check finds.
+use mathlib.Core.Path.{refl}
+use Rattle.capi.proofs.Doors.{check-said}
 use borrow.Author.Needs.{needs}
 use Rattle.capi.proofs.pal_check.Statement.{statement}
 use Rattle.capi.proofs.pal_check.Tie as tie
-use Rattle.capi.proofs.pal_check.Reads as reads
-use Rattle.capi.proofs.pal_check.Lts as lts
-use Rattle.keeper.proofs.check.Reads as check-reads
 
 check-requires : tie.Need-check-requires
 check-requires c κs = search needs

@@ -1,13 +1,9 @@
+-- `pal_create` meets its contract.
 use mathlib.Core.Path.{refl}
 use Rattle.capi.proofs.Doors.{create-malformed, create-said}
 use borrow.Author.Needs.{needs}
 use Rattle.capi.proofs.pal_create.Statement.{statement}
 use Rattle.capi.proofs.pal_create.Tie as tie
-use Rattle.capi.proofs.pal_create.Reads as reads
-use Rattle.capi.proofs.pal_create.Lts as lts
-use Rattle.capi.proofs.image.encode.Reads as encode-reads
-use Rattle.keeper.proofs.cause_number.Reads as cause-number-reads
-use Rattle.keeper.proofs.create.Reads as create-reads
 
 returns : tie.Need-returns
 returns c =

@@ -1,13 +1,9 @@
+-- `pal_rebuild` meets its contract.
 use mathlib.Core.Path.{refl}
 use Rattle.capi.proofs.Doors.{rebuild-malformed, rebuild-said}
 use borrow.Author.Needs.{needs}
 use Rattle.capi.proofs.pal_rebuild.Statement.{statement}
 use Rattle.capi.proofs.pal_rebuild.Tie as tie
-use Rattle.capi.proofs.pal_rebuild.Reads as reads
-use Rattle.capi.proofs.pal_rebuild.Lts as lts
-use Rattle.capi.proofs.image.encode.Reads as encode-reads
-use Rattle.keeper.proofs.cause_number.Reads as cause-number-reads
-use Rattle.keeper.proofs.rebuild.Reads as rebuild-reads
 
 returns : tie.Need-returns
 returns c =

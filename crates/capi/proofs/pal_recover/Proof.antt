@@ -1,13 +1,9 @@
+-- `pal_recover` meets its contract.
 use mathlib.Core.Path.{refl}
 use Rattle.capi.proofs.Doors.{recover-said}
 use borrow.Author.Needs.{needs}
 use Rattle.capi.proofs.pal_recover.Statement.{statement}
 use Rattle.capi.proofs.pal_recover.Tie as tie
-use Rattle.capi.proofs.pal_recover.Reads as reads
-use Rattle.capi.proofs.pal_recover.Lts as lts
-use Rattle.capi.proofs.wide.Reads as wide-reads
-use Rattle.keeper.proofs.cause_number.Reads as cause-number-reads
-use Rattle.keeper.proofs.recover.Reads as recover-reads
 
 recover-requires : tie.Need-recover-requires
 recover-requires c κs = search needs

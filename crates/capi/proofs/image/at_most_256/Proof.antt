@@ -1,9 +1,8 @@
+-- `at_most_256` meets its contract.
 use native.Mathlib.Omega.{arith}
 use Rattle.capi.proofs.Coding.{few-most, few-same}
 use Rattle.capi.proofs.image.at_most_256.Statement.{statement}
 use Rattle.capi.proofs.image.at_most_256.Tie as tie
-use Rattle.capi.proofs.image.at_most_256.Reads as reads
-use Rattle.capi.proofs.image.at_most_256.Lts as lts
 
 returns : tie.Need-returns
 returns c = (omega arith, few-most (c .before .args .x) (c .if1 .taken))

@@ -1,10 +1,7 @@
+-- `cell_at` is the reader's cell.
 use borrow.Author.Needs.{needs}
 use Rattle.capi.proofs.image.cell_at.Statement.{statement}
 use Rattle.capi.proofs.image.cell_at.Tie as tie
-use Rattle.capi.proofs.image.cell_at.Reads as reads
-use Rattle.capi.proofs.image.cell_at.Lts as lts
-use Rattle.capi.proofs.image.pair.Reads as pair-reads
-use Rattle.capi.proofs.image.side_of.Reads as side-of-reads
 
 mul-at : tie.Need-mul-at
 mul-at c = search needs

@@ -1,15 +1,10 @@
+-- `decoded_below_count` meets its contract.
 use mathlib.Core.Path.{_∙_, ap}
 use Prim.Native.Nat.{ℕ}
 use Rattle.capi.specs.Images.{few, trieWith}
 use borrow.Author.Needs.{needs}
 use Rattle.capi.proofs.image.decoded_below_count.Statement.{statement}
 use Rattle.capi.proofs.image.decoded_below_count.Tie as tie
-use Rattle.capi.proofs.image.decoded_below_count.Reads as reads
-use Rattle.capi.proofs.image.decoded_below_count.Lts as lts
-use Rattle.capi.proofs.image.at_most_256.Reads as at-most-256-reads
-use Rattle.capi.proofs.image.pair.Reads as pair-reads
-use Rattle.capi.proofs.image.with_cells.Reads as with-cells-reads
-use Rattle.trie.proofs.number.Reads as number-reads
 
 shared-slice-read-pair : tie.Need-shared-slice-read-pair
 shared-slice-read-pair c = search needs

@@ -1,17 +1,12 @@
+-- `encode` writes the image: after i cells the first 4 + 6 × i bytes are right.
 use Prim.Native.Nat.{_*_, _+_, _-_, _≤_}
 use native.Mathlib.Omega.{arith}
-use mathlib.Core.Path.{_≡_, refl, sym, _∙_}
+use mathlib.Core.Path.{_≡_}
 use borrow.Author.Needs.{needs}
 use lib.ListN.{length, length-set, take}
-use Rattle.capi.specs.Images.{trieWith}
-use Rattle.capi.proofs.Coding.{read-first, read-next, written, written-all, written-first, written-next, written-size}
+use Rattle.capi.proofs.Coding.{written, written-all, written-first, written-next, written-size}
 use Rattle.capi.proofs.image.encode.Statement.{statement}
 use Rattle.capi.proofs.image.encode.Tie as tie
-use Rattle.capi.proofs.image.encode.Reads as reads
-use Rattle.capi.proofs.image.encode.Lts as lts
-use Rattle.capi.proofs.image.high.Reads as high-reads
-use Rattle.capi.proofs.image.low.Reads as low-reads
-use Rattle.capi.proofs.image.write_cell.Reads as write-cell-reads
 
 abbrev Inv-loop : tie.InvT-loop
 Inv-loop image₀ trie i₀ image i = (i ≤ 256) × (length image ≡ 1540) × (take (4 + 6 * i) image ≡ written trie i)

@@ -1,11 +1,10 @@
+-- `number_of` is the writer's number of a side.
 use mathlib.Core.Path.{_∙_, ap, sym}
 use Rattle.capi.specs.Images.{sideNumber}
 use Rattle.capi.proofs.Coding.{number-cell, number-root, number-slot}
 use borrow.Author.Needs.{needs}
 use Rattle.capi.proofs.image.number_of.Statement.{statement}
 use Rattle.capi.proofs.image.number_of.Tie as tie
-use Rattle.capi.proofs.image.number_of.Reads as reads
-use Rattle.capi.proofs.image.number_of.Lts as lts
 
 enum-known-side : tie.Need-enum-known-side
 enum-known-side c = search needs

@@ -1,10 +1,9 @@
+-- `side_of` is the reader's side of a number.
 use native.Mathlib.Omega.{arith}
 use Rattle.capi.proofs.Coding.{side-cell, side-slot}
 use borrow.Author.Needs.{needs}
 use Rattle.capi.proofs.image.side_of.Statement.{statement}
 use Rattle.capi.proofs.image.side_of.Tie as tie
-use Rattle.capi.proofs.image.side_of.Reads as reads
-use Rattle.capi.proofs.image.side_of.Lts as lts
 
 returns : tie.Need-returns
 returns c = side-slot _ (c .if1 .taken)

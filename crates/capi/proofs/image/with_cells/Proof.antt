@@ -1,17 +1,12 @@
-use Prim.Native.Nat.{_*_, _+_, _-_, _≤_, ℕ}
+-- `with_cells` reads the image: after i cells it has the trie of the first i.
+use Prim.Native.Nat.{_-_, _≤_, ℕ}
 use native.Mathlib.Omega.{arith}
 use mathlib.Core.Path.{_∙_, _≡_, ap}
 use borrow.Author.Needs.{needs}
-use lib.ListN.{length, length-set, take}
 use Rattle.capi.specs.Images.{trieWith}
-use Rattle.capi.proofs.Coding.{read-first, read-next, written, written-all, written-first, written-next, written-size}
+use Rattle.capi.proofs.Coding.{read-first, read-next}
 use Rattle.capi.proofs.image.with_cells.Statement.{statement}
 use Rattle.capi.proofs.image.with_cells.Tie as tie
-use Rattle.capi.proofs.image.with_cells.Reads as reads
-use Rattle.capi.proofs.image.with_cells.Lts as lts
-use Rattle.capi.proofs.image.cell_at.Reads as cell-at-reads
-use Rattle.capi.proofs.image.pair.Reads as pair-reads
-use Rattle.trie.proofs.lone.Reads as lone-reads
 
 abbrev Inv-loop : tie.InvT-loop
 Inv-loop image cells trie₀ i₀ trie i = (i ≤ cells) × (cells ≤ 256) × (trie ≡ trieWith i image)

@@ -1,3 +1,4 @@
+-- `write_cell` makes the six stores of a cell.
 use Prim.Native.Nat.{_*_, _+_}
 use native.Mathlib.Omega.{arith}
 use lib.ListN.{length-set}
@@ -5,11 +6,6 @@ use Rattle.capi.proofs.Coding.{cell-written}
 use borrow.Author.Needs.{needs}
 use Rattle.capi.proofs.image.write_cell.Statement.{statement}
 use Rattle.capi.proofs.image.write_cell.Tie as tie
-use Rattle.capi.proofs.image.write_cell.Reads as reads
-use Rattle.capi.proofs.image.write_cell.Lts as lts
-use Rattle.capi.proofs.image.high.Reads as high-reads
-use Rattle.capi.proofs.image.low.Reads as low-reads
-use Rattle.capi.proofs.image.number_of.Reads as number-of-reads
 
 number-of-requires : tie.Need-number-of-requires
 number-of-requires c κs = search needs
