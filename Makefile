@@ -1,5 +1,5 @@
-# The two commands of README, the longer trial of kills, and the benchmark.
-.PHONY: run test kill library bench clean
+# The two commands of README, the libraries, the longer trial of kills, and the benchmark.
+.PHONY: run test kill library python bench clean
 
 # The main job: prove, build, and run the program on the names of NAMES, one a line.
 NAMES ?= crates/buckets/stdin
@@ -20,8 +20,12 @@ kill: library
 library:
 	@rt staticlib capi
 
+# The same as a shared library, in the Python package.
+python: library
+	@gcc -shared -Wl,--whole-archive target/staticlib/libcapi.a -Wl,--no-whole-archive -o python/palhavento/libpalhavento.so
+
 bench: library
 	@bench/run.sh
 
 clean:
-	rm -rf target build
+	rm -rf target build python/palhavento/libpalhavento.so

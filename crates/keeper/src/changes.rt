@@ -1,11 +1,21 @@
 // The calls that change a file: put and remove.
 ghost use mathlib.Core.Path.{_≡_};
-ghost use Prim.Native.Nat.{_≤_, _<_, _+_, _*_};
-ghost use lib.ListN.{length};
+ghost use Prim.Native.Nat.{_≤_, _<_, _+_, _-_, _*_};
+ghost use lib.ListN.{drop, length, take};
+ghost use lib.Seq.{paste};
+ghost use Rattle.model.specs.Format.{padded};
+ghost use Rattle.digits.specs.Keys.{keyValue};
+ghost use Rattle.model.specs.Calls.{putOf, removeOf};
+ghost use Rattle.bucket.specs.Entries.{changedValue, withoutEntry};
+ghost use Rattle.bucket.specs.Slots.{lowerAt, upperAt, writtenBytes};
 ghost use Rattle.file.specs.Sizes.{Sized, Below};
+ghost use Rattle.growth.specs.Grows.{Grows};
+ghost use Rattle.keeper.specs.Divides.{DivideTold};
+ghost use Rattle.keeper.specs.Outcomes.{put as putDone, removed as removeDone};
 ghost use Rattle.keeper.specs.Ready.{Agreed, Ready};
 ghost use Rattle.keeper.specs.Parts.{Parted};
-ghost use Rattle.keeper.specs.Spots.{Spotted};
+ghost use Rattle.keeper.specs.Splits.{AddTold, PutTold, RemoveTold, ReplaceTold, SplitTold};
+ghost use Rattle.keeper.specs.Spots.{SpotTold, Spotted, isHeld};
 use crate::checks::Checked;
 use crate::checks::Verdict;
 use crate::checks::checks_of;
@@ -22,18 +32,23 @@ use model::PutGiven;
 use model::RemoveAnswer;
 use model::Trie;
 
-fn given(answer: PutAnswer, trie: Trie) -> PutGiven {
+fn given(answer: PutAnswer, trie: Trie) -> PutGiven
+    ensures { λ r. ⌜ (r .answer ≡ answer) × (r .trie ≡ trie) ⌝ }
+{
     PutGiven { answer, trie }
 }
 
-fn refused(cause: Cause, trie: Trie) -> PutGiven {
+fn refused(cause: Cause, trie: Trie) -> PutGiven
+    ensures { λ r. ⌜ (r .answer ≡ PutAnswer.Refused cause) × (r .trie ≡ trie) ⌝ }
+{
     given(PutAnswer::Refused(cause), trie)
 }
 
 // One whole-slot store: the slot k with the bytes that it is to have.
 fn store(file: &mut [u8], size: Size, k: usize, slot: &[u8; 576])
     requires { ⌜ (Sized (length (now file)) size) × (k < size .slots) ⌝ }
-    ensures { λ _. ⌜ length (now (file .exit)) ≡ length (now (file .entry)) ⌝ }
+    ensures { λ _. ⌜ (length (now (file .exit)) ≡ length (now (file .entry)))
+        × (now (file .exit) ≡ paste (now (file .entry)) (16 + k * (64 + 32 * size .b)) (take (64 + 32 * size .b) (now (slot .entry))) (64 + 32 * size .b)) ⌝ }
 {
     let whole = &slot[..];
     let n = file::slot_size(size);
@@ -50,7 +65,7 @@ pub struct Spot {
 // The place of a name in a file that passed the checks.
 fn spot_of(file: &[u8], checked: Checked, name: Key) -> Spot
     requires { ⌜ Ready checked (now file) ⌝ }
-    ensures { λ r. ⌜ Spotted r (checked .size) ⌝ }
+    ensures { λ r. ⌜ SpotTold r (checked .size) (now (file .entry)) name ⌝ }
 {
     let size = checked.size;
     let survey = checked.survey;
@@ -66,9 +81,23 @@ fn spot_of(file: &[u8], checked: Checked, name: Key) -> Spot
     }
 }
 
+// Whether the slot holds the name: it stands at its place.
+fn is_held(slot: &[u8], spot: Spot, name: Key) -> bool
+    requires { ⌜ (64 + 32 * spot .count ≤ length (now slot)) × (spot .count ≤ 16) ⌝ }
+    ensures { λ r. ⌜ r ≡ isHeld (now (slot .entry)) (spot .count) (spot .place) (keyValue name) ⌝ }
+{
+    let place = spot.place;
+    if spot.count <= place {
+        return false;
+    }
+    digits::is_same(digits::key_at(slot, 64 + 32 * place), name)
+}
+
 // The slot with its entry at the place replaced.
 fn replaced(slot: &[u8], b: usize, spot: Spot, value: u64) -> [u8; 576]
     requires { ⌜ (length (now slot) ≡ 64 + 32 * b) × (b ≤ 16) × (spot .count ≤ b) × (spot .place < spot .count) ⌝ }
+    ensures { λ r. ⌜ r ≡ writtenBytes (lowerAt (now (slot .entry))) (upperAt (now (slot .entry)))
+        (take (32 * spot .count) (padded 544 (changedValue (drop 64 (now (slot .entry))) (spot .count) (spot .place) value))) ⌝ }
 {
     let count = spot.count;
     let entries = bucket::changed_value(&slot[64..], count, spot.place, value);
@@ -79,6 +108,7 @@ fn replaced(slot: &[u8], b: usize, spot: Spot, value: u64) -> [u8; 576]
 // Put on a held name replaces the value, one store.
 fn replace(file: &mut [u8], size: Size, spot: Spot, value: u64, limit: u64, trie: Trie) -> PutGiven
     requires { ⌜ (Sized (length (now file)) size) × (Spotted spot size) × (spot .place < spot .count) ⌝ }
+    ensures { λ r. ⌜ ReplaceTold (now (file .entry)) (now (file .exit)) trie size spot value limit r ⌝ }
 {
     if limit < 1 {
         return given(PutAnswer::Stopped(0), trie);
@@ -101,6 +131,7 @@ fn add(
     trie: Trie,
 ) -> PutGiven
     requires { ⌜ (Sized (length (now file)) size) × (Spotted spot size) × (spot .count < size .b) ⌝ }
+    ensures { λ r. ⌜ AddTold (now (file .entry)) (now (file .exit)) trie size spot (now (entries .entry)) limit r ⌝ }
 {
     if limit < 1 {
         return given(PutAnswer::Stopped(0), trie);
@@ -116,6 +147,8 @@ fn add(
 // The new slot of a split: bounds s and A's upper, and the entries that move.
 fn new_slot(slot: &[u8], b: usize, entries: &[u8; 544], split: Split) -> [u8; 576]
     requires { ⌜ (length (now slot) ≡ 64 + 32 * b) × (b ≤ 16) × (Parted split b) ⌝ }
+    ensures { λ r. ⌜ r ≡ writtenBytes (take (split .len) (split .string)) (upperAt (now (slot .entry)))
+        (take (32 * (b + 1) - 32 * split .stay) (drop (32 * split .stay) (now (entries .entry)))) ⌝ }
 {
     let string = split.string;
     let len = split.len;
@@ -128,6 +161,8 @@ fn new_slot(slot: &[u8], b: usize, entries: &[u8; 544], split: Split) -> [u8; 57
 // The slot A of a split, cut down: its upper is now s.
 fn old_slot(slot: &[u8], b: usize, entries: &[u8; 544], split: Split) -> [u8; 576]
     requires { ⌜ (length (now slot) ≡ 64 + 32 * b) × (b ≤ 16) × (Parted split b) ⌝ }
+    ensures { λ r. ⌜ r ≡ writtenBytes (lowerAt (now (slot .entry))) (take (split .len) (split .string))
+        (take (32 * split .stay) (now (entries .entry))) ⌝ }
 {
     let string = split.string;
     let len = split.len;
@@ -138,6 +173,7 @@ fn old_slot(slot: &[u8], b: usize, entries: &[u8; 544], split: Split) -> [u8; 57
 
 fn written_above(string: &[u8; 24], len: usize, upper: &[u8], entries: &[u8]) -> [u8; 576]
     requires { ⌜ (len ≤ 24) × (length (now upper) ≤ 24) × (length (now entries) ≤ 512) ⌝ }
+    ensures { λ r. ⌜ r ≡ writtenBytes (take len (now (string .entry))) (now (upper .entry)) (now (entries .entry)) ⌝ }
 {
     let whole = &string[..];
     bucket::written(&whole[0..len], upper, entries)
@@ -145,6 +181,7 @@ fn written_above(string: &[u8; 24], len: usize, upper: &[u8], entries: &[u8]) ->
 
 fn written_below(lower: &[u8], string: &[u8; 24], len: usize, entries: &[u8]) -> [u8; 576]
     requires { ⌜ (len ≤ 24) × (length (now lower) ≤ 24) × (length (now entries) ≤ 512) ⌝ }
+    ensures { λ r. ⌜ r ≡ writtenBytes (now (lower .entry)) (take len (now (string .entry))) (now (entries .entry)) ⌝ }
 {
     let whole = &string[..];
     bucket::written(lower, &whole[0..len], entries)
@@ -160,6 +197,7 @@ fn short(x: usize) -> u16
 // The trie after a split.
 fn grown(checked: Checked, trie: Trie, split: Split, a: usize, n: usize) -> Trie
     requires { ⌜ (a < 64) × (n < 64) × (trie .count + split .len ≤ 256 + split .shared) × (split .shared ≤ split .len) × (split .len ≤ 24) ⌝ }
+    ensures { λ r. ⌜ Grows trie (checked .places) (checked .strings .lens) (split .walk) (take (split .len) (split .string)) (split .shared) a n r ⌝ }
 {
     let strings = checked.strings;
     let lens = strings.lens;
@@ -189,6 +227,7 @@ fn grown_at(
     n: u16,
 ) -> Trie
     requires { ⌜ (trie .count + len ≤ 256 + split .shared) × (split .shared ≤ len) × (len ≤ 24) ⌝ }
+    ensures { λ r. ⌜ Grows trie (now (places .entry)) (now (lens .entry)) (split .walk) (take len (now (string .entry))) (split .shared) a n r ⌝ }
 {
     let walk = split.walk;
     let whole = &string[..];
@@ -208,6 +247,7 @@ fn divide(
 ) -> PutGiven
     requires { ⌜ (Agreed checked (now file) trie) × (a < checked .size .slots) × (n < checked .size .slots) × (Parted split (checked .size .b))
         × (trie .count + split .len ≤ 256 + split .shared) ⌝ }
+    ensures { λ r. ⌜ DivideTold checked (now (file .entry)) (now (file .exit)) trie a n (now (entries .entry)) split limit r ⌝ }
 {
     if limit < 1 {
         return given(PutAnswer::Stopped(0), trie);
@@ -234,6 +274,7 @@ fn split(
     trie: Trie,
 ) -> PutGiven
     requires { ⌜ (Agreed checked (now file) trie) × (a < checked .size .slots) ⌝ }
+    ensures { λ r. ⌜ SplitTold (now (file .entry)) (now (file .exit)) trie (checked .size) a (now (entries .entry)) limit r ⌝ }
 {
     let size = checked.size;
     let survey = checked.survey;
@@ -260,19 +301,17 @@ fn put_checked(
     trie: Trie,
 ) -> PutGiven
     requires { ⌜ Agreed checked (now file) trie ⌝ }
+    ensures { λ r. ⌜ PutTold (now (file .entry)) (now (file .exit)) trie (checked .size) (now (name .entry)) value limit r ⌝ }
 {
     let size = checked.size;
     let key = digits::key_at(name, 0);
     let spot = spot_of(file, checked, key);
-    let place = spot.place;
     let count = spot.count;
     let slot = file::slot_at(file, size, spot.slot);
-    if place < count {
-        if digits::is_same(digits::key_at(slot, 64 + 32 * place), key) {
-            return replace(file, size, spot, value, limit, trie);
-        }
+    if is_held(slot, spot, key) {
+        return replace(file, size, spot, value, limit, trie);
     }
-    let entries = bucket::with_entry(&slot[64..], count, place, name, value);
+    let entries = bucket::with_entry(&slot[64..], count, spot.place, name, value);
     if count < size.b {
         return add(file, size, spot, &entries, limit, trie);
     }
@@ -280,7 +319,9 @@ fn put_checked(
 }
 
 // Puts a name with its value.
-pub fn put(file: &mut [u8], trie: Trie, name: &[u8], value: u64, limit: u64) -> PutGiven {
+pub fn put(file: &mut [u8], trie: Trie, name: &[u8], value: u64, limit: u64) -> PutGiven
+    ensures { λ r. ⌜ putDone r (now (file .exit)) ≡ putOf (now (file .entry)) trie (now (name .entry)) value limit ⌝ }
+{
     if 2 < limit {
         return refused(Cause::WrongSize, trie);
     }
@@ -301,6 +342,8 @@ pub fn put(file: &mut [u8], trie: Trie, name: &[u8], value: u64, limit: u64) -> 
 // The slot without its entry at the place.
 fn lessened(slot: &[u8], b: usize, spot: Spot) -> [u8; 576]
     requires { ⌜ (length (now slot) ≡ 64 + 32 * b) × (b ≤ 16) × (spot .count ≤ b) × (spot .place < spot .count) ⌝ }
+    ensures { λ r. ⌜ r ≡ writtenBytes (lowerAt (now (slot .entry))) (upperAt (now (slot .entry)))
+        (take (32 * (spot .count - 1)) (padded 544 (withoutEntry (drop 64 (now (slot .entry))) (spot .count) (spot .place)))) ⌝ }
 {
     let count = spot.count;
     let entries = bucket::without_entry(&slot[64..], count, spot.place);
@@ -311,16 +354,13 @@ fn lessened(slot: &[u8], b: usize, spot: Spot) -> [u8; 576]
 // Remove from a file that passed the checks. An emptied bucket keeps its range.
 fn remove_checked(file: &mut [u8], checked: Checked, name: Key, limit: u64) -> RemoveAnswer
     requires { ⌜ Ready checked (now file) ⌝ }
+    ensures { λ r. ⌜ RemoveTold (now (file .entry)) (now (file .exit)) (checked .size) name limit r ⌝ }
 {
     let size = checked.size;
     let spot = spot_of(file, checked, name);
     let k = spot.slot;
-    let place = spot.place;
     let slot = file::slot_at(file, size, k);
-    if spot.count <= place {
-        return RemoveAnswer::Absent;
-    }
-    if !digits::is_same(digits::key_at(slot, 64 + 32 * place), name) {
+    if !is_held(slot, spot, name) {
         return RemoveAnswer::Absent;
     }
     if limit < 1 {
@@ -332,7 +372,9 @@ fn remove_checked(file: &mut [u8], checked: Checked, name: Key, limit: u64) -> R
 }
 
 // Removes a name, one store; a name that is absent needs none.
-pub fn remove(file: &mut [u8], trie: Trie, name: &[u8], limit: u64) -> RemoveAnswer {
+pub fn remove(file: &mut [u8], trie: Trie, name: &[u8], limit: u64) -> RemoveAnswer
+    ensures { λ r. ⌜ removeDone r (now (file .exit)) ≡ removeOf (now (file .entry)) trie (now (name .entry)) limit ⌝ }
+{
     if 2 < limit {
         return RemoveAnswer::Refused(Cause::WrongSize);
     }

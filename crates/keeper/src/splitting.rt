@@ -1,7 +1,13 @@
 // The split of a bucket of b + 1 entries: the split string, what stays and what moves, and the cells to be added.
+ghost use mathlib.Core.Bool.{true};
 ghost use mathlib.Core.Path.{_≡_};
-ghost use Prim.Native.Nat.{_≤_, _<_, _+_, _*_};
-ghost use lib.ListN.{length};
+ghost use Prim.Native.Nat.{_≤_, _<_, _+_, _-_, _*_};
+ghost use lib.ListN.{drop, length, take};
+ghost use Rattle.model.specs.Order.{diff};
+ghost use Rattle.model.specs.Format.{padded};
+ghost use Rattle.digits.specs.Keys.{continued, isZero, value};
+ghost use Rattle.bucket.specs.Forms.{notAbove, values};
+ghost use Rattle.keeper.specs.Divides.{Found};
 ghost use Rattle.keeper.specs.Parts.{Parted};
 use model::Trie;
 use trie::Walk;
@@ -20,6 +26,7 @@ pub struct Split {
 // The 24 digits from `at` on.
 fn name_at(entries: &[u8; 544], at: usize) -> [u8; 24]
     requires { ⌜ at + 24 ≤ 544 ⌝ }
+    ensures { λ r. ⌜ r ≡ take 24 (drop at (now (entries .entry))) ⌝ }
 {
     let whole = &entries[..];
     let end = at + 24;
@@ -31,7 +38,7 @@ fn name_at(entries: &[u8; 544], at: usize) -> [u8; 24]
 // The split string's digits: the shortest beginning of the split key that is smaller than as many digits of the last name.
 // The two differ, so if they share 23 digits the last digit decides.
 fn string_length(key: &[u8; 24], last: &[u8; 24]) -> usize
-    ensures { λ r. ⌜ (1 ≤ r) × (r ≤ 24) ⌝ }
+    ensures { λ r. ⌜ (1 ≤ r) × (r ≤ 24) × (r ≡ diff (take 23 (now (key .entry))) (now (last .entry)) + 1) ⌝ }
 {
     let whole = &key[..];
     digits::shared(&whole[0..23], last) + 1
@@ -40,6 +47,7 @@ fn string_length(key: &[u8; 24], last: &[u8; 24]) -> usize
 // The first digits, and zero behind them.
 fn beginning(name: &[u8; 24], len: usize) -> [u8; 24]
     requires { ⌜ len ≤ 24 ⌝ }
+    ensures { λ r. ⌜ r ≡ padded 24 (take len (now (name .entry))) ⌝ }
 {
     let whole = &name[..];
     let mut string = [0u8; 24];
@@ -50,7 +58,9 @@ fn beginning(name: &[u8; 24], len: usize) -> [u8; 24]
 // Names within the string stay. The first always does and the last never.
 fn stay_of(entries: &[u8; 544], b: usize, string: &[u8; 24], len: usize) -> usize
     requires { ⌜ (2 ≤ b) × (b ≤ 16) ⌝ }
-    ensures { λ r. ⌜ (1 ≤ r) × (r ≤ b) ⌝ }
+    ensures { λ r. ⌜ (1 ≤ r) × (r ≤ b)
+        × (len ≤ 24 → isZero (take (24 - len) (drop (0 + len) (now (string .entry)))) ≡ true
+        → r ≡ 1 + notAbove (value (continued (take len (now (string .entry))))) (values (b - 1) (drop 32 (now (entries .entry))))) ⌝ }
 {
     let whole = &entries[..];
     1 + bucket::upto(&whole[32..], b - 1, digits::bound_key_at(string, 0, len))
@@ -59,7 +69,7 @@ fn stay_of(entries: &[u8; 544], b: usize, string: &[u8; 24], len: usize) -> usiz
 // The split of b + 1 entries, sorted. The split key is at position b/2 + 1, counted from 1.
 pub fn split_of(entries: &[u8; 544], b: usize, trie: Trie) -> Split
     requires { ⌜ (2 ≤ b) × (b ≤ 16) ⌝ }
-    ensures { λ r. ⌜ Parted r b ⌝ }
+    ensures { λ r. ⌜ (Parted r b) × (Found r b trie (now (entries .entry))) ⌝ }
 {
     let key = name_at(entries, 32 * (b / 2));
     let last = name_at(entries, 32 * b);

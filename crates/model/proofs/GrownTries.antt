@@ -62,7 +62,7 @@ module _ (b : ℕ) where
       abbrev s : Str
       s = split-string i b (insert n v es)
 
-      grown-agree : CellsAgree (ranges fs) (S .order) cs a
+      pub grown-agree : CellsAgree (ranges fs) (S .order) cs a
           → CellsAgree (ranges gs) (second-sound b fs S A l u es is n v legal lo up big i i-lt N lowest .order) (cells-turned cs a c s A N) (root-turned cs a c s A N)
       unfolding second-sound
       grown-agree = go (mem-parts (S .listed A (rw is tt)))

@@ -4,6 +4,7 @@ pub mod Leading
 pub mod Demand3
 pub mod Tables
 pub mod Walking
+pub mod Listings
 pub mod Demand1
 pub mod Determined
 pub mod Strength

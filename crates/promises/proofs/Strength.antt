@@ -6,27 +6,28 @@ use mathlib.Core.List.{List, [], _∷_}
 use Prim.Native.Nat.{_+_, _/_, ℕ}
 use native.Mathlib.Decide.{decLe, decLt, ℕ-discrete}
 use native.Mathlib.Omega.{arith}
-use borrow.Author.Tests.{ltb-true}
+use borrow.Author.Tests.{le-ltb, ltb-true}
 use lib.Dec.{ltb}
-use lib.ListN.{length, take}
+use lib.ListN.{getD, length, take}
 use Rattle.model.specs.declared.Cause.the-variants.{IllegalName, WrongSize}
 use Rattle.model.specs.declared.LookUpAnswer.the-variants.{Absent as NotFound, Refused as LookUpRefused}
 use Rattle.model.specs.declared.PutAnswer.the-variants.{Added, Refused as PutRefused, Stopped as PutStopped}
-use Rattle.model.specs.declared.RecoverAnswer.the-variants.{Freed}
+use Rattle.model.specs.declared.RecoverAnswer.the-variants.{Freed, Refused as RecoverRefused, Stopped as RecoverStopped}
+use Rattle.model.specs.declared.RemoveAnswer.the-variants.{Refused as RemoveRefused, Removed, Stopped as RemoveStopped}
 use Rattle.model.specs.declared.Side.the-variants.{Slot as slot}
 use Rattle.model.specs.declared.Trie.{Trie}
 use Rattle.model.specs.Order.{Str, le?, low?, str?}
 use Rattle.model.specs.Names.{areDigits, atMost, blankEnded, blanks, filled, legalBound, legalFilled, legalName, notGreater, smaller, splitFrom, splitString, within}
 use Rattle.model.specs.Entries.{chosen, find, insert, keep, not?}
 use Rattle.model.specs.Files.{Slot, entries-of, first, free, low-same?, order-from, slot-at, starts?, string-count}
-use Rattle.model.specs.Changes.{Result, call, free?, holds?, put, put-in, remove-in, split-of, split-string, stores-if}
-use Rattle.model.specs.Checks.{allWell, check, cutBelow, hasTwin, is-bad, isAbove, isChain, isCopied, isCutBy, isIn, isListed, isRow, isSound, isTwin, isUsed, isWell, legalLow, oneMore, sameEntries, sameLow, sameStr}
+use Rattle.model.specs.Changes.{Result, absent, call, free?, holds?, put, put-in, remove, remove-in, removes, split-of, split-string, stores-if}
+use Rattle.model.specs.Checks.{Kind, allWell, check, cutBelow, hasTwin, is-bad, is-cut, is-sound, isAbove, isChain, isCopied, isCutBy, isIn, isListed, isRow, isSound, isTwin, isUsed, isWell, legalLow, oneMore, sameEntries, sameLow, sameStr}
 use Rattle.model.specs.Agreeing.{areNumbers, areZeroCells, eachOnce, isAgreeing, isTrieOf, joinTrees, readTree, sameSide, sameStrs, slotsBetween, times}
 use Rattle.model.specs.Format.{checkFile, checkRead, entriesBytes, entriesOf, entryBytes, fileBytes, fileSize, headerBytes, headerOf, joined, legalSizes, littleEndian, lowDigits, lowOf, padded, readBy, readFile, readSlot, readSlots, readUsed, rightHeader, sized, slotAt, slotBytes, slotSize, slotsBytes, storeBytes, usedOf, valueBytes, valueOf}
-use Rattle.model.specs.Calls.{Looked, PutDone, Recovered, arrive, arrivedAnswer, between, createOf, entriesIn, fine, headedAnswer, listEntries, listLooked, listOf, lookUpOf, lookedBy, lookedOf, new-trie, putAnswer, putLooked, putMade, putOf, rebuildBy, rebuildOf, recoverBy, recoverOf, refusalOf, refusing, removeLooked, removeMade, removeOf, slotAnswer, storesBytes, trieAfter}
+use Rattle.model.specs.Calls.{Looked, PutDone, Recovered, RemoveDone, arrive, arrivedAnswer, between, createOf, entriesIn, fine, headedAnswer, listEntries, listLooked, listOf, lookUpOf, lookedBy, lookedOf, new-trie, putAnswer, putLooked, putMade, putOf, rebuildBy, rebuildOf, recoverBy, recoverOf, refusalOf, refusing, removeLooked, removeMade, removeOf, slotAnswer, storesBytes, trieAfter}
 use Rattle.model.proofs.Names.{legalName-legal}
 use Rattle.model.proofs.Checks.{sameStr-self}
-use Rattle.model.proofs.Calls.{Answered, is-denied, is-made, put-right}
+use Rattle.model.proofs.Calls.{Answered, is-denied, is-made, put-right, remove-right}
 use Rattle.promises.specs.Texts.{bytes}
 use Rattle.promises.specs.Growing.{of-cells}
 use Rattle.promises.specs.Situations.{a-cell, entries, names, rates-slots, rz-slots}
@@ -176,6 +177,58 @@ module _ (xs : List ℕ) (t : Trie) (name : List ℕ) (v limit made : ℕ) where
       go false false e q = let z : _≡_ {A = ℕ} 0 1 = cc in absurd (omega arith)
       go false true e q = after-looked (lookedOf xs t) refl e q
 
+-- Remove and recover, stopped, made no store.
+module _ (xs : List ℕ) (t : Trie) (name : List ℕ) (limit made : ℕ) where
+  abbrev RemoveNone : RemoveDone → Type 0
+  RemoveNone d = d .answer ≡ RemoveStopped made → (made ≡ 0) × (d .file ≡ xs)
+
+  remove-none : (b : ℕ) (fs : List Slot) {r : Result} → Answered b fs (remove (filled name)) r → RemoveNone (removeMade xs b limit r)
+  unfolding removeMade storesBytes
+  remove-none b fs (is-denied d) = λ e. let z : _≡_ {A = ℕ} 0 1 = cc in absurd (omega arith)
+  remove-none b fs (is-made (absent A is lo up q)) = rw (le-ltb limit 0 (omega arith)) (λ e. let z : _≡_ {A = ℕ} 0 1 = cc in absurd (omega arith))
+  remove-none b fs (is-made {ss = ss} (removes is lo up q)) = go (ltb limit 1) refl
+    where
+      go : (s : Bool) → ltb limit 1 ≡ s
+          → RemoveNone (cond s (record { answer = RemoveStopped limit; file = storesBytes b (take limit ss) xs }) (record { answer = Removed; file = storesBytes b ss xs }))
+      go true h e =
+          let z : limit ≡ 0 = omega (arith, ltb-true limit 1 h) in
+          let q : limit ≡ made = cc in
+          (sym q ∙ z, rw z)
+      go false h e = let z : _≡_ {A = ℕ} 0 1 = cc in absurd (omega arith)
+
+  remove-looked : (l : Looked) → lookedOf xs t ≡ l → RemoveNone (removeLooked xs (filled name) limit l)
+  unfolding removeLooked
+  remove-looked (refusing c) e q = let z : _≡_ {A = ℕ} 0 1 = cc in absurd (omega arith)
+  remove-looked (fine b fs) e q = remove-none b fs (remove-right b fs (looked-passed xs t b fs e .sound) (filled name)) q
+
+  none-removed : RemoveNone (removeOf xs t name limit)
+  unfolding removeOf
+  none-removed = go (ltb 2 limit) (legalName name)
+    where
+      go : (l g : Bool)
+          → RemoveNone (cond l (record { answer = RemoveRefused WrongSize; file = xs }) (cond g (removeLooked xs (filled name) limit (lookedOf xs t)) (record { answer = RemoveRefused IllegalName; file = xs })))
+      go true g e = let z : _≡_ {A = ℕ} 0 1 = cc in absurd (omega arith)
+      go false false e = let z : _≡_ {A = ℕ} 0 1 = cc in absurd (omega arith)
+      go false true e = remove-looked (lookedOf xs t) refl e
+
+module _ (xs : List ℕ) (limit made : ℕ) where
+  abbrev RecoverNone : Recovered → Type 0
+  RecoverNone d = d .answer ≡ RecoverStopped made → (made ≡ 0) × (d .file ≡ xs)
+
+  none-freed : RecoverNone (recoverOf xs limit)
+  unfolding recoverOf recoverBy
+  none-freed = go (ltb 2 limit) (checkFile xs)
+    where
+      freed : (N : ℕ) (c : Bool) → RecoverNone (cond c (record { answer = RecoverStopped 0; file = xs }) (record { answer = Freed N; file = storeBytes (getD xs 5 0) N free xs }))
+      freed N true e = let q : 0 ≡ made = cc in (sym q, refl)
+      freed N false e = let z : _≡_ {A = ℕ} 0 1 = cc in absurd (omega arith)
+
+      go : (l : Bool) (k : Kind) → RecoverNone (cond l (record { answer = RecoverRefused WrongSize; file = xs }) (recoverBy xs limit k))
+      go true k e = let z : _≡_ {A = ℕ} 0 1 = cc in absurd (omega arith)
+      go false is-bad e = let z : _≡_ {A = ℕ} 0 1 = cc in absurd (omega arith)
+      go false is-sound e = let z : _≡_ {A = ℕ} 0 1 = cc in absurd (omega arith)
+      go false (is-cut N) e = freed N (ltb limit 1) e
+
 pub strength : Strength
 strength = record {
   answers = computed .answers;
@@ -185,6 +238,8 @@ strength = record {
   both-at-once = not-both;
   cuts-first = not-cut-first;
   stopped-after = λ f m xs t name v limit made. subst (After xs t name v limit made) (sym (m xs t name v limit)) (after-put xs t name v limit made);
+  remove-stopped = none-removed;
+  recover-stopped = none-freed;
   stopped-0 = computed .stopped-0;
   stopped-1 = computed .stopped-1;
   made-2 = computed .made-2;

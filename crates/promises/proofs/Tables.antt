@@ -22,26 +22,30 @@ first-none [] c f n = absurd f
 first-none (r ∷ rs) c (inl p) n = n .0 (p .1)
 first-none (r ∷ rs) c (inr p) n = first-none rs c (p .1) (n .1)
 
-module _ {A : Type 0} (Refused : Cause → A) where
-  -- The answer refuses with the first cause that holds, or is no refusal and none holds.
-  pub data Verdict (rs : Table) (a : A) : Type 0 where
-    refused : (c : Cause) → a ≡ Refused c → First c rs → Verdict rs a
-    passed : ((c : Cause) → ¬ (a ≡ Refused c)) → None rs → Verdict rs a
+-- What a call leaves refuses with the first cause that holds, and is kept then; or it is no refusal and none holds.
+pub data Verdict {A D : Type 0} (Refused : Cause → A) (answer : D → A) (Kept : D → Type 0) (rs : Table) (d : D) : Type 0 where
+  refused : (c : Cause) → answer d ≡ Refused c → Kept d → First c rs → Verdict Refused answer Kept rs d
+  passed : ((c : Cause) → ¬ (answer d ≡ Refused c)) → None rs → Verdict Refused answer Kept rs d
 
+module _ {A D : Type 0} {Refused : Cause → A} {answer : D → A} {Kept : D → Type 0} where
   -- Row by row: this cause holds;
-  pub stop : {rs : Table} {c : Cause} {P : Type 0} → P → Verdict ((c, P) ∷ rs) (Refused c)
-  stop {c = c} h = refused c refl (inl (refl, h))
+  pub stop : {rs : Table} {c : Cause} {P : Type 0} {d : D} → answer d ≡ Refused c → Kept d → P → Verdict Refused answer Kept ((c, P) ∷ rs) d
+  stop {c = c} e k h = refused c e k (inl (refl, h))
 
   -- it does not;
-  pub skip : {rs : Table} {c : Cause} {P : Type 0} {a : A} → ¬ P → Verdict rs a → Verdict ((c, P) ∷ rs) a
-  skip n (refused d e f) = refused d e (inr (n, f))
+  pub skip : {rs : Table} {c : Cause} {P : Type 0} {d : D} → ¬ P → Verdict Refused answer Kept rs d → Verdict Refused answer Kept ((c, P) ∷ rs) d
+  skip n (refused c e k f) = refused c e k (inr (n, f))
   skip n (passed o f) = passed o (n, f)
 
   -- none is left.
-  pub pass : {a : A} → ((c : Cause) → ¬ (a ≡ Refused c)) → Verdict [] a
+  pub pass : {d : D} → ((c : Cause) → ¬ (answer d ≡ Refused c)) → Verdict Refused answer Kept [] d
   pass o = passed o tt
 
-  pub exactly : ((c d : Cause) → Refused c ≡ Refused d → c ≡ d) → (rs : Table) {a : A} → Verdict rs a → Exactly Refused a rs
-  exactly one rs (refused c e f) d =
+  pub exactly : ((c d : Cause) → Refused c ≡ Refused d → c ≡ d) → (rs : Table) {d : D} → Verdict Refused answer Kept rs d → Exactly Refused (answer d) rs
+  exactly one rs (refused c e k f) d =
       (λ q. let s : c ≡ d = one c d (sym e ∙ q) in rw s at f, λ g. e ∙ ap Refused (first-one rs c d f g))
   exactly one rs (passed o f) d = (λ q. absurd (o d q), λ g. absurd (first-none rs d g f))
+
+  pub leaves : {rs : Table} {d : D} → Verdict Refused answer Kept rs d → (c : Cause) → answer d ≡ Refused c → Kept d
+  leaves (refused c e k f) d q = k
+  leaves (passed o f) d q = absurd (o d q)

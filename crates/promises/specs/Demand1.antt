@@ -3,7 +3,7 @@ use mathlib.Core.Path.{_≡_}
 use mathlib.Core.Logic.{_⊎_}
 use mathlib.Core.Bool.{false, true}
 use mathlib.Core.Option.{some}
-use mathlib.Core.List.{List, [], _∷_}
+use mathlib.Core.List.{List, List·Memᴰ, [], _∷_}
 use Prim.Native.Nat.{_*_, _<_, _≤_, suc, zero, ℕ}
 use lib.ListN.{getD, length, replicate, take}
 use Rattle.model.specs.declared.Cause.{Cause}
@@ -17,14 +17,15 @@ use Rattle.model.specs.declared.Side.{Side}
 use Rattle.model.specs.declared.Side.the-variants.{Cell as further, Slot as slot}
 use Rattle.model.specs.declared.Trie.{Trie}
 use Rattle.model.specs.declared.TrieAnswer.the-variants.{Refused as TrieRefused}
-use Rattle.model.specs.Order.{Str}
+use Rattle.model.specs.Order.{Str, _⊑_, none}
 use Rattle.model.specs.Names.{Digits, filled, within}
-use Rattle.model.specs.Files.{In, Slot, Well, head, order-of, string-count}
+use Rattle.model.specs.Entries.{Entry, Row}
+use Rattle.model.specs.Files.{In, Slot, Well, entries-of, head, slot-at, string-count}
 use Rattle.model.specs.Tries.{Agrees, at-cell, cell, root-side}
 use Rattle.model.specs.Changes.{Denied, put}
 use Rattle.model.specs.Format.{BadFile, CutFile, Sizes, SoundFile, entrySize, fileSize, headerBytes, readSlot, slotAt, slotSize, version}
 use Rattle.model.specs.Answers.{number}
-use Rattle.model.specs.Calls.{between, createOf, entriesIn, listOf, lookUpOf, new-trie, putOf, rebuildOf, recoverOf, removeOf}
+use Rattle.model.specs.Calls.{createOf, listOf, lookUpOf, new-trie, putOf, rebuildOf, recoverOf, removeOf}
 
 -- A call's causes in their stated order, each with what must be so of the call's inputs for it to hold.
 abbrev pub Table : Type 1
@@ -70,10 +71,18 @@ pub record Many (xs : List ℕ) : Type 0 where
   pub file : SoundFile xs
   pub many : 256 < string-count (file .slots)
 
--- 7, "list output shorter than 32 bytes times the entries to be listed".
+-- 7, "list output shorter than 32 bytes times the entries to be listed": the "entries, ascending, whose names lie from the
+-- first to the second name, both included".
+pub record Listing (fs : List Slot) (low high : Str) (es : List Entry) : Type 0 where
+  pub ascending : Row none es []
+  pub only : (e : Entry) → List·Memᴰ e es → ((B : ℕ) × List·Memᴰ e (entries-of (slot-at fs B))) × (low ⊑ e .0) × (e .0 ⊑ high)
+  pub every : (e : Entry) (B : ℕ) → List·Memᴰ e (entries-of (slot-at fs B)) → low ⊑ e .0 → e .0 ⊑ high → List·Memᴰ e es
+
 pub record Short (xs low high out : List ℕ) : Type 0 where
   pub file : SoundFile xs
-  pub short : length out < entrySize * length (between (filled low) (filled high) (entriesIn (file .slots) (order-of (file .slots))))
+  pub listed : List Entry
+  pub listing : Listing (file .slots) (filled low) (filled high) listed
+  pub short : length out < entrySize * length listed
 
 -- 8, "create with b, slots or length not as above".
 pub record Creatable (xs : List ℕ) (v b slots : ℕ) : Type 0 where
@@ -93,6 +102,13 @@ pub record RightHeader (xs : List ℕ) : Type 0 where
   pub whole : length xs ≡ fileSize (b-of xs) (slots-of xs)
   pub header : take 16 xs ≡ headerBytes (b-of xs) (slots-of xs)
 
+-- The digit number of a trie's cell, and its string at a path.
+abbrev pub number-of : Trie → ℕ → ℕ
+number-of t m = at-cell (t .cells) m .number
+
+abbrev pub string-of : Trie → ℕ → Str → Str
+string-of t m p = cell (at-cell (t .cells) m .digit) (number-of t m) p
+
 module _ (slots : ℕ) (t : Trie) (n : Str) where
   -- "4 if .. the walk meets a cell number not below the count, more cells than the count, a digit number above the path's
   -- length or 23, or a slot number not below slots": the walk stands at a side, with a path; the first number is how many
@@ -100,24 +116,24 @@ module _ (slots : ℕ) (t : Trie) (n : Str) where
   pub data Strays : ℕ → Str → Side → Type 0 where
     no-cell : {f m : ℕ} {p : Str} → t .count ≤ m → Strays f p (further m)
     more-cells : {m : ℕ} {p : Str} → Strays zero p (further m)
-    past-path : {f m : ℕ} {p : Str} → length p < at-cell (t .cells) m .number → Strays f p (further m)
-    past-23 : {f m : ℕ} {p : Str} → 23 < at-cell (t .cells) m .number → Strays f p (further m)
+    past-path : {f m : ℕ} {p : Str} → length p < number-of t m → Strays f p (further m)
+    past-23 : {f m : ℕ} {p : Str} → 23 < number-of t m → Strays f p (further m)
     no-slot : {f s : ℕ} {p : Str} → slots ≤ s → Strays f p (slot s)
-    left-of : {f m : ℕ} {p : Str} → within n (cell (at-cell (t .cells) m .digit) (at-cell (t .cells) m .number) p) ≡ true
-        → Strays f (cell (at-cell (t .cells) m .digit) (at-cell (t .cells) m .number) p) (at-cell (t .cells) m .left)
+    left-of : {f m : ℕ} {p : Str} → within n (string-of t m p) ≡ true
+        → Strays f (string-of t m p) (at-cell (t .cells) m .left)
         → Strays (suc f) p (further m)
-    right-of : {f m : ℕ} {p : Str} → within n (cell (at-cell (t .cells) m .digit) (at-cell (t .cells) m .number) p) ≡ false
+    right-of : {f m : ℕ} {p : Str} → within n (string-of t m p) ≡ false
         → Strays f p (at-cell (t .cells) m .right) → Strays (suc f) p (further m)
 
   -- Otherwise it ends at a slot.
   pub data Arrives : ℕ → Str → Side → ℕ → Type 0 where
     here : {f s : ℕ} {p : Str} → s < slots → Arrives f p (slot s) s
-    left-of : {f m k : ℕ} {p : Str} → m < t .count → at-cell (t .cells) m .number ≤ length p → at-cell (t .cells) m .number ≤ 23
-        → within n (cell (at-cell (t .cells) m .digit) (at-cell (t .cells) m .number) p) ≡ true
-        → Arrives f (cell (at-cell (t .cells) m .digit) (at-cell (t .cells) m .number) p) (at-cell (t .cells) m .left) k
+    left-of : {f m k : ℕ} {p : Str} → m < t .count → number-of t m ≤ length p → number-of t m ≤ 23
+        → within n (string-of t m p) ≡ true
+        → Arrives f (string-of t m p) (at-cell (t .cells) m .left) k
         → Arrives (suc f) p (further m) k
-    right-of : {f m k : ℕ} {p : Str} → m < t .count → at-cell (t .cells) m .number ≤ length p → at-cell (t .cells) m .number ≤ 23
-        → within n (cell (at-cell (t .cells) m .digit) (at-cell (t .cells) m .number) p) ≡ false
+    right-of : {f m k : ℕ} {p : Str} → m < t .count → number-of t m ≤ length p → number-of t m ≤ 23
+        → within n (string-of t m p) ≡ false
         → Arrives f p (at-cell (t .cells) m .right) k → Arrives (suc f) p (further m) k
 
 -- "4 if the count is above 256, or the walk meets .."
@@ -171,8 +187,8 @@ list-table xs t low high out =
     (illegal-name, ¬ (LegalName low × LegalName high)) ∷ (bad-file, BadFile xs) ∷ (cut-file, IsCut xs) ∷ (stale-trie, Stale xs t)
     ∷ (short-output, Short xs low high out) ∷ []
 
--- Demand 1 of the calls. Check refuses nothing; it, look up and rebuild are lent the file to read only, and so are look up
--- and list the trie.
+-- Demand 1 of the calls. Check refuses nothing. What a call may only read it cannot change: the file of check, rebuild, look
+-- up and list, and the trie of look up, remove and list.
 pub record Demand1 : Type 0 where
   pub create : (xs : List ℕ) (v b slots : ℕ) → Exactly TrieRefused (createOf xs v b slots .answer) (create-table xs v b slots)
   pub recover : (xs : List ℕ) (limit : ℕ) → Exactly RecoverRefused (recoverOf xs limit .answer) (recover-table xs limit)

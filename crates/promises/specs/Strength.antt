@@ -10,8 +10,8 @@ use Rattle.model.specs.declared.ListAnswer.the-variants.{Listed}
 use Rattle.model.specs.declared.LookUpAnswer.{LookUpAnswer}
 use Rattle.model.specs.declared.LookUpAnswer.the-variants.{Absent as NotFound}
 use Rattle.model.specs.declared.PutAnswer.the-variants.{Added, Refused as PutRefused, Stopped as PutStopped}
-use Rattle.model.specs.declared.RecoverAnswer.the-variants.{Freed, Nothing}
-use Rattle.model.specs.declared.RemoveAnswer.the-variants.{Absent as NotHeld}
+use Rattle.model.specs.declared.RecoverAnswer.the-variants.{Freed, Nothing, Stopped as RecoverStopped}
+use Rattle.model.specs.declared.RemoveAnswer.the-variants.{Absent as NotHeld, Stopped as RemoveStopped}
 use Rattle.model.specs.declared.Side.the-variants.{Cell as further, Slot as slot}
 use Rattle.model.specs.declared.Trie.{Trie}
 use Rattle.model.specs.declared.TrieAnswer.the-variants.{Given}
@@ -137,6 +137,11 @@ pub record Strength : Type 0 where
   pub cuts-first : (f : Put) → PutMeets f → ¬ CutsFirst f
   pub stopped-after : (f : Put) → PutMeets f → (xs : List ℕ) (t : Trie) (name : List ℕ) (v limit made : ℕ)
       → f xs t name v limit .answer ≡ PutStopped made → StoppedAfter xs name v made (f xs t name v limit .file)
+  -- Remove and recover need one store at most: stopped, they made none.
+  pub remove-stopped : (xs : List ℕ) (t : Trie) (name : List ℕ) (limit made : ℕ) → removeOf xs t name limit .answer ≡ RemoveStopped made
+      → (made ≡ 0) × (removeOf xs t name limit .file ≡ xs)
+  pub recover-stopped : (xs : List ℕ) (limit made : ℕ) → recoverOf xs limit .answer ≡ RecoverStopped made
+      → (made ≡ 0) × (recoverOf xs limit .file ≡ xs)
   -- In numbers: of a put of c that needs two stores, none, one and two were made.
   pub stopped-0 : putOf full-file new-trie (bytes "c") 3 0 ≡ record { answer = PutStopped 0; file = full-file; trie = new-trie }
   pub stopped-1 : putOf full-file new-trie (bytes "c") 3 1 ≡ record { answer = PutStopped 1; file = stopped-file; trie = new-trie }

@@ -1,1 +1,1 @@
-// Document 01's situations, proved of the definitions: one table, one statement.
+// Document 01's situations and the maintainer's demands, proved of the definitions.

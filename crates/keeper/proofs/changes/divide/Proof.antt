@@ -1,4 +1,6 @@
--- `divide` meets its contract: both stores keep the file's length, and slot numbers are below 64.
+-- `divide` meets its contract.
+use mathlib.Core.Path.{_∙_}
+use Rattle.keeper.proofs.Dividing.{none-told, one-told, two-told}
 use borrow.Author.Needs.{needs}
 use Rattle.keeper.proofs.changes.divide.Statement.{statement}
 use Rattle.keeper.proofs.changes.divide.Tie as tie
@@ -7,7 +9,9 @@ given-requires : tie.Need-given-requires
 given-requires c κs = search needs
 
 returns : tie.Need-returns
-returns c = search needs
+returns c =
+    let s = c .before .before .before in
+    none-told (s .pre .0) (s .args .a) (s .args .entries .now) (s .args .limit) (s .args .n) _ (c .before .if1 .taken) (c .given .ensures)
 
 slot-at-requires : tie.Need-slot-at-requires
 slot-at-requires c κs = search needs
@@ -28,10 +32,15 @@ same-length : tie.Need-same-length
 same-length c = search needs
 
 returns-2 : tie.Need-returns-2
-returns-2 c = search needs
+returns-2 c =
+    let s = c .before .before .before .before .before .before .before .before .before .before .before .before .before .before in
+    one-told (s .pre .0) (s .args .a) (s .args .entries .now) (s .args .limit) (s .args .n) _ (c .before .before .before .before .before .before .before .before .before .slot-at .ensures .0) (c .before .before .before .before .before .before .before .before .new-slot .ensures) (c .before .before .before .before .store .ensures .1) (c .before .before .before .before .before .before .before .before .before .before .before .before .if1 .left) (c .before .if2 .taken) (c .given2 .ensures)
 
 store-requires-2 : tie.Need-store-requires-2
-store-requires-2 c κs = search needs
+store-requires-2 c κs =
+    let s = c .before .before .before .before .before .before .before .before .before .before .before .before .before .before .before in
+    let z = s .pre .0 .ready .said .sized in
+    (record { legal = z .legal; whole = c .before .before .before .before .before .store .ensures .0 ∙ z .whole }, s .pre .1)
 
 grown-requires : tie.Need-grown-requires
 grown-requires c κs =
@@ -47,7 +56,10 @@ same-length-2 : tie.Need-same-length-2
 same-length-2 c = search needs
 
 returns-3 : tie.Need-returns-3
-returns-3 c = search needs
+returns-3 c =
+    let s = c .before .before .before .before .before .before .before .before .before .before .before .before .before .before .before .before .before .before .before .before in
+    two-told (s .pre .0) (s .args .a) (s .args .entries .now) (s .args .limit) (s .args .n) _ (c .before .before .before .before .before .before .before .before .before .before .before .before .before .before .before .slot-at .ensures .0) (c .before .before .before .before .before .before .before .before .before .before .before .before .before .before .new-slot .ensures) (c .before .before .before .before .before .before .before .before .before .before .store .ensures .1)
+    (c .before .before .before .before .before .before .before .before .before .before .before .before .before .old-slot .ensures) (c .before .before .before .before .store2 .ensures .1) (c .before .before .before .before .before .before .before .if2 .left) (c .before .grown .ensures) (c .given3 .ensures)
 
 pub divide-spec : {M : Type 1} → statement M
 divide-spec =

@@ -1,6 +1,7 @@
--- `split` meets its contract: the free slot is one of the file's, and the strings are not too many.
+-- `split` meets its contract.
 use native.Mathlib.Omega.{arith}
 use Rattle.keeper.proofs.Laws.{room-inside}
+use Rattle.keeper.proofs.Dividing.{full-told, many-told, split-told, stale-told}
 use borrow.Author.Needs.{needs}
 use Rattle.keeper.proofs.changes.split.Statement.{statement}
 use Rattle.keeper.proofs.changes.split.Tie as tie
@@ -18,7 +19,9 @@ refused-requires : tie.Need-refused-requires
 refused-requires c κs = search needs
 
 returns : tie.Need-returns
-returns c = search needs
+returns c =
+    let s = c .before .before .before .before .before .before .before in
+    full-told (s .pre .0) (s .args .a) (s .args .entries .now) (s .args .limit) (c .before .before .before .lowest-free .ensures) (c .before .enum-told .given .1) _ (c .refused .ensures)
 
 split-of-requires : tie.Need-split-of-requires
 split-of-requires c κs = search needs
@@ -27,7 +30,10 @@ refused-requires-2 : tie.Need-refused-requires-2
 refused-requires-2 c κs = search needs
 
 returns-2 : tie.Need-returns-2
-returns-2 c = search needs
+returns-2 c =
+    let s = c .before .before .before .before .before .before .before .before .before .before .before in
+    let p = c .before .before .before .split-of .ensures in
+    stale-told (s .pre .0) (s .args .a) (s .args .entries .now) (s .args .limit) (c .before .before .before .before .before .before .before .lowest-free .ensures) (c .before .before .before .before .before .n .given .1) (p .0) (p .1) _ (c .before .if1 .taken)
 
 add-if2 : tie.Need-add-if2
 add-if2 c = search needs
@@ -42,19 +48,26 @@ refused-requires-3 : tie.Need-refused-requires-3
 refused-requires-3 c κs = search needs
 
 returns-3 : tie.Need-returns-3
-returns-3 c = search needs
+returns-3 c =
+    let s = c .before .before .before .before .before .before .before .before .before .before .before .before .before .before .before in
+    let p = c .before .before .before .before .before .before .before .split-of .ensures in
+    many-told (s .pre .0) (s .args .a) (s .args .entries .now) (s .args .limit) (c .before .before .before .before .before .before .before .before .before .before .before .lowest-free .ensures) (c .before .before .before .before .before .before .before .before .before .n .given .1) (p .0) (p .1) _ (omega (arith, c .before .if2 .taken, c .before .before .before .number .ensures)) (c .refused3 .ensures)
 
 divide-requires : tie.Need-divide-requires
 divide-requires c κs =
     let s = c .before .before .before .before .before .before .before .before .before .before .before .before .before .before .before in
     let h = room-inside (c .before .before .before .before .before .before .before .before .before .n .given .1) (c .before .before .before .before .before .before .before .before .before .before .before .lowest-free .ensures .inside) in
-    (s .pre .0, s .pre .1, h, c .before .before .before .before .before .before .before .split-of .ensures, omega arith)
+    (s .pre .0, s .pre .1, h, c .before .before .before .before .before .before .before .split-of .ensures .0, omega (arith, c .before .if2 .left, c .before .before .before .number .ensures))
 
 same-length : tie.Need-same-length
 same-length c = search needs
 
 returns-4 : tie.Need-returns-4
-returns-4 c = search needs
+returns-4 c =
+    let s = c .before .before .before .before .before .before .before .before .before .before .before .before .before .before .before .before .before .before in
+    let p = c .before .before .before .before .before .before .before .before .before .before .split-of .ensures in
+    split-told (s .pre .0) (s .args .a) (s .args .entries .now) (s .args .limit) (c .before .before .before .before .before .before .before .before .before .before .before .before .before .before .lowest-free .ensures) (c .before .before .before .before .before .before .before .before .before .before .before .before .n .given .1) (p .0) (p .1) _
+    (omega (arith, c .before .before .before .before .if2 .left, c .before .before .before .before .before .before .number .ensures)) (c .before .before .divide .ensures)
 
 pub split-spec : {M : Type 1} → statement M
 split-spec =

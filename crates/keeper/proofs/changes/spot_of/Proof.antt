@@ -1,5 +1,12 @@
--- `spot_of` meets its contract: the slot is one of the order, and so of the file.
+-- `spot_of` meets its contract: the slot is the one whose range holds the name.
+use mathlib.Core.Path.{_∙_, ap}
+use mathlib.Core.List.{List}
+use Prim.Native.Nat.{ℕ}
 use native.Mathlib.Omega.{arith}
+use Rattle.digits.specs.Keys.{keyValue}
+use Rattle.bucket.specs.Forms.{below, values}
+use Rattle.bucket.proofs.Forms.{rest}
+use Rattle.keeper.proofs.Spots.{holder-slot, ready-ordered, ready-sound, spot-right}
 use borrow.Author.Needs.{needs}
 use Rattle.keeper.proofs.changes.spot_of.Statement.{statement}
 use Rattle.keeper.proofs.changes.spot_of.Tie as tie
@@ -36,11 +43,19 @@ rank-requires c κs = search needs
 returns : tie.Need-returns
 returns c =
     let s = c .before .before .before .before .before .before .before .before .before .before .before in
-    let i = c .before .before .before .before .index .ensures .0 in
+    let xs = s .args .file .now in
     record {
-      slot-inside = omega (arith, s .pre .slots-inside (c .before .before .before .before .before .holder .result));
-      count-most = c .before .before .count-of .ensures .1;
-      place-most = c .rank .ensures .0;
+      inside = record {
+        slot-inside = omega (arith, c .before .before .before .before .index .ensures .0, s .pre .slots-inside (c .before .before .before .before .before .holder .result));
+        count-most = c .before .before .count-of .ensures .1;
+        place-most = c .rank .ensures .0;
+      };
+      right = λ fs e n g q.
+          let S = ready-sound (s .pre) e in
+          let h = holder-slot (s .pre) e (c .before .before .before .before .before .holder .result) _ (c .before .before .before .before .before .holder .ensures .found fs (ready-ordered (s .pre) e) n g q) (c .before .before .before .before .index .ensures .0) in
+          let ys = c .before .before .before .slot-at .result .now in
+          spot-right xs e S _ ys (keyValue (s .args .name)) n g q h (c .before .before .before .slot-at .ensures .0) (c .before .before .count-of .ensures .0)
+          (c .rank .ensures .1 ∙ ap (λ (z : List ℕ). below (keyValue (s .args .name)) (values (c .before .before .count-of .result) z)) (rest 64 ys));
     }
 
 pub spot-of-spec : {M : Type 1} → statement M

@@ -1,0 +1,78 @@
+"""Palhavento: an ordered file of names on disk, each with a 64-bit integer, believed after a kill at any moment.
+
+    >>> import palhavento
+    >>> store = palhavento.open("gdp.tkf")
+    >>> store["gdp.de.2024"] = 4_329
+    >>> store["gdp.at.2024"] = 482
+    >>> list(store.items())
+    [('gdp.at.2024', 482), ('gdp.de.2024', 4329)]
+    >>> store.close()
+"""
+
+from __future__ import annotations
+
+import contextlib
+import os
+
+from palhavento import disk, library
+from palhavento.errors import (
+    BadFile,
+    CutFile,
+    FileFull,
+    IllegalName,
+    Locked,
+    Malformed,
+    PalhaventoError,
+    ShortOutput,
+    StaleTrie,
+    TrieFull,
+    WrongSize,
+)
+from palhavento.layout import Bucket, Cell, Stats, Trie
+from palhavento.store import Store
+
+__all__ = [
+    "BadFile",
+    "Bucket",
+    "Cell",
+    "CutFile",
+    "FileFull",
+    "IllegalName",
+    "Locked",
+    "Malformed",
+    "PalhaventoError",
+    "ShortOutput",
+    "StaleTrie",
+    "Stats",
+    "Store",
+    "Trie",
+    "TrieFull",
+    "WrongSize",
+    "open",
+]
+
+
+def open(
+    path: disk.Path, b: int = 16, slots: int = 64, create: bool = True, sync: bool = True, readonly: bool = False
+) -> Store:
+    """Open a file, or create it where there is none; a file that is there keeps its own b and slots.
+
+    A store has one writer at a time, and any number of readers beside it (`readonly=True`), which create nothing. With
+    `sync=False` a change is not waited for until it is on disk: a kill still loses nothing, a machine that fails may.
+
+    >>> with open("prices.tkf", b=4, slots=8) as store:
+    ...     store["oil"] = 71
+    ...     open("prices.tkf")
+    Traceback (most recent call last):
+    palhavento.errors.Locked: prices.tkf: The file has one writer at a time, and it is open for writing already, ...
+    >>> open("prices.tkf", readonly=True)["oil"]
+    71
+    >>> open("missing.tkf", create=False)
+    Traceback (most recent call last):
+    FileNotFoundError: [Errno 2] No such file or directory: 'missing.tkf'
+    """
+    if create and not readonly and not os.path.exists(path):
+        # Another process may be first to create it; then its file is opened.
+        with contextlib.suppress(FileExistsError):
+            disk.create(path, library.create(b, slots)[0])
+    return Store(path, readonly, sync)

@@ -1,0 +1,213 @@
+"""The proved calls, each on a copy of the bytes it is lent.
+
+Nothing here touches a file on disk, and nothing is decided here: a call's refusal is raised, its answer given back.
+
+    >>> from palhavento import library
+    >>> file, trie = library.create(b=4, slots=8)
+    >>> put = library.put(file, trie, b"gdp.de", 42, limit=2)
+    >>> put.answer == library.ADDED
+    True
+    >>> library.look_up(put.file, put.trie, b"gdp.de")
+    42
+    >>> library.look_up(file, trie, b"gdp.de") is None
+    True
+"""
+
+from __future__ import annotations
+
+import ctypes
+from ctypes import c_char_p, c_size_t, c_uint64
+from pathlib import Path
+from typing import NamedTuple
+
+from palhavento.errors import refusal
+
+TRIE_BYTES = 1540
+ENTRY_BYTES = 32
+HEADER_BYTES = 16
+
+# Answers, as include/palhavento.h has them.
+FOUND = 100
+ABSENT = 101
+ADDED = 110
+REPLACED = 111
+STOPPED = 112
+REMOVED = 120
+FREED = 130
+NOTHING_TO_DO = 131
+SOUND = 140
+CUT = 141
+BAD = 142
+
+
+class Outcome(NamedTuple):
+    """What a call that may change the file leaves behind: its answer, the bytes, the trie image, the first word."""
+
+    answer: int
+    file: bytes
+    trie: bytes
+    word: int
+
+
+def slot_bytes(b: int) -> int:
+    """The bytes of a slot.
+
+    >>> slot_bytes(4)
+    192
+    """
+    return 64 + ENTRY_BYTES * b
+
+
+def file_bytes(b: int, slots: int) -> int:
+    """The bytes of a file.
+
+    >>> file_bytes(16, 64)
+    36880
+    """
+    return HEADER_BYTES + slots * slot_bytes(b)
+
+
+LARGEST_FILE = file_bytes(16, 64)
+MOST_ENTRIES = 16 * 64
+
+_Words = c_uint64 * 4
+_SLICE = [c_char_p, c_size_t]
+_PARAMETERS = {
+    "pal_create": [*_SLICE, c_uint64, c_uint64, c_uint64, *_SLICE],
+    "pal_check": _SLICE,
+    "pal_recover": [*_SLICE, c_uint64, _Words],
+    "pal_rebuild": [*_SLICE, *_SLICE],
+    "pal_lookup": [*_SLICE, *_SLICE, *_SLICE, _Words],
+    "pal_put": [*_SLICE, *_SLICE, *_SLICE, c_uint64, c_uint64, c_uint64, _Words],
+    "pal_remove": [*_SLICE, *_SLICE, *_SLICE, c_uint64, _Words],
+    "pal_list": [*_SLICE, *_SLICE, *_SLICE, *_SLICE, *_SLICE, _Words],
+}
+
+
+def _load(path: Path) -> ctypes.CDLL:
+    """The shared library, each call with its parameters.
+
+    >>> _load(Path("nowhere.so"))
+    Traceback (most recent call last):
+    ImportError: nowhere.so cannot be loaded: run `make python` in the repository
+    """
+    try:
+        loaded = ctypes.CDLL(str(path))
+    except OSError as error:
+        raise ImportError(f"{path} cannot be loaded: run `make python` in the repository") from error
+    for name, parameters in _PARAMETERS.items():
+        call = getattr(loaded, name)
+        call.argtypes = parameters
+        call.restype = c_uint64
+    return loaded
+
+
+_LIBRARY = _load(Path(__file__).with_name("libpalhavento.so"))
+
+
+def _lend(buffer: bytearray) -> ctypes.Array[ctypes.c_char]:
+    """A buffer, for a call that may write to it."""
+    return (ctypes.c_char * len(buffer)).from_buffer(buffer)
+
+
+def _shown(name: bytes) -> str:
+    """A name as a refusal shows it."""
+    return repr(name)[1:]
+
+
+def _answer(answer: int, about: str = "") -> int:
+    """An answer that is no refusal; else the refusal is raised."""
+    if answer < 100 or answer == 255:
+        raise refusal(answer, about)
+    return answer
+
+
+def create(b: int, slots: int) -> tuple[bytes, bytes]:
+    """A new file without names, and its trie.
+
+    >>> file, trie = create(b=2, slots=1)
+    >>> file[:7], len(file), trie == bytes(TRIE_BYTES)
+    (b'TKF\\x01\\x00\\x02\\x01', 144, True)
+    >>> create(b=17, slots=1)
+    Traceback (most recent call last):
+    palhavento.errors.WrongSize: b = 17, slots = 1: No file has that size: b is 2 to 16, and slots is 1 to 64.
+    """
+    about = f"b = {b}, slots = {slots}"
+    # A number outside 64 bits would wrap on its way into the call, and a large one would ask for memory first.
+    if not (0 <= b < 256 and 0 <= slots < 256):
+        raise refusal(8, about)
+    file, trie = bytearray(file_bytes(b, slots)), bytearray(TRIE_BYTES)
+    _answer(_LIBRARY.pal_create(_lend(file), len(file), 1, b, slots, _lend(trie), len(trie)), about)
+    return bytes(file), bytes(trie)
+
+
+def check(file: bytes) -> int:
+    """SOUND, CUT or BAD.
+
+    >>> check(create(b=2, slots=1)[0]) == SOUND, check(b"TKF") == BAD
+    (True, True)
+    """
+    return _LIBRARY.pal_check(file, len(file))
+
+
+def recover(file: bytes, limit: int) -> Outcome:
+    """FREED with the slot, NOTHING_TO_DO or STOPPED; there is no trie in it."""
+    changed, words = bytearray(file), _Words()
+    answer = _answer(_LIBRARY.pal_recover(_lend(changed), len(changed), limit, words))
+    return Outcome(answer, bytes(changed), b"", words[0])
+
+
+def rebuild(file: bytes) -> bytes:
+    """The trie of a sound file, from its bounds alone.
+
+    >>> rebuild(b"TKF")
+    Traceback (most recent call last):
+    palhavento.errors.BadFile: The file is neither sound nor cut; nothing was changed.
+    """
+    trie = bytearray(TRIE_BYTES)
+    _answer(_LIBRARY.pal_rebuild(file, len(file), _lend(trie), len(trie)))
+    return bytes(trie)
+
+
+def look_up(file: bytes, trie: bytes, name: bytes) -> int | None:
+    """The value of a name, or None where it is absent."""
+    words = _Words()
+    answer = _LIBRARY.pal_lookup(file, len(file), trie, len(trie), name, len(name), words)
+    return words[0] if _answer(answer, _shown(name)) == FOUND else None
+
+
+def put(file: bytes, trie: bytes, name: bytes, value: int, limit: int) -> Outcome:
+    """ADDED, REPLACED with the old value, or STOPPED with the stores made."""
+    changed, grown, words = bytearray(file), bytearray(trie), _Words()
+    answer = _LIBRARY.pal_put(
+        _lend(changed), len(changed), _lend(grown), len(grown), name, len(name), value, 0, limit, words
+    )
+    return Outcome(_answer(answer, _shown(name)), bytes(changed), bytes(grown), words[0])
+
+
+def remove(file: bytes, trie: bytes, name: bytes, limit: int) -> Outcome:
+    """REMOVED, ABSENT, or STOPPED with the stores made."""
+    changed, same, words = bytearray(file), bytearray(trie), _Words()
+    answer = _LIBRARY.pal_remove(
+        _lend(changed), len(changed), _lend(same), len(same), name, len(name), limit, words
+    )
+    return Outcome(_answer(answer, _shown(name)), bytes(changed), bytes(same), words[0])
+
+
+def entries(file: bytes, trie: bytes, first: bytes, second: bytes, room: int) -> bytes:
+    """The entries from the first name to the second, both included, where there is room for them.
+
+    >>> file, trie = create(b=2, slots=1)
+    >>> put_ = put(file, trie, b"m1", 7, limit=1)
+    >>> entries(put_.file, put_.trie, b"a", b"z", room=1)
+    b'm1                      \\x07\\x00\\x00\\x00\\x00\\x00\\x00\\x00'
+    >>> entries(put_.file, put_.trie, b"a", b"z", room=0)
+    Traceback (most recent call last):
+    palhavento.errors.ShortOutput: 'a' to 'z': The output is shorter than 32 bytes times the entries to be listed.
+    """
+    output, words = bytearray(ENTRY_BYTES * room), _Words()
+    answer = _LIBRARY.pal_list(
+        file, len(file), trie, len(trie), first, len(first), second, len(second), _lend(output), len(output), words
+    )
+    _answer(answer, f"{_shown(first)} to {_shown(second)}")
+    return bytes(output[: ENTRY_BYTES * words[0]])

@@ -1,0 +1,38 @@
+"""What the tests share: the package's place, a folder for each test, and files to order."""
+
+from __future__ import annotations
+
+import sys
+import tempfile
+import unittest
+from pathlib import Path
+
+sys.path.insert(0, str(Path(__file__).resolve().parent.parent))
+
+from palhavento import library  # noqa: E402  (the path above comes first)
+
+WORDS = "the of and to a in that is i".split()
+
+
+class InFolder(unittest.TestCase):
+    """A test with an empty folder of its own."""
+
+    def setUp(self) -> None:
+        folder = tempfile.TemporaryDirectory(prefix="palhavento-")
+        self.addCleanup(folder.cleanup)
+        self.folder = Path(folder.name)
+        self.path = self.folder / "store.tkf"
+
+
+def sound_file(names: list[str], b: int, slots: int) -> bytes:
+    """A file with these names, each with its place, from 1, as its value."""
+    file, trie = library.create(b, slots)
+    for place, name in enumerate(names, start=1):
+        _, file, trie, _ = library.put(file, trie, name.encode(), place, 2)
+    return file
+
+
+def cut_file() -> bytes:
+    """A file of b = 2 with rate1 and rate2, cut in the put of rate3; its new slot is 1."""
+    file = sound_file(["rate1", "rate2"], b=2, slots=3)
+    return library.put(file, library.rebuild(file), b"rate3", 3, 1).file

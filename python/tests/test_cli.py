@@ -1,0 +1,273 @@
+"""The command line, by subprocess: what it prints, its exit status, and that a refused command changes nothing."""
+
+import json
+import os
+import pty
+import subprocess
+import sys
+import unittest
+from pathlib import Path
+
+from support import WORDS, InFolder, cut_file, sound_file
+
+import palhavento
+
+PACKAGE = Path(__file__).resolve().parent.parent
+COMMANDS = ("create", "put", "get", "rm", "ls", "import", "check", "recover", "stats", "draw")
+
+
+class CommandLine(InFolder):
+    def setUp(self):
+        super().setUp()
+        self.store = self.path
+
+    def run_(self, *words, before=(), **how):
+        environment = {**os.environ, "PYTHONPATH": str(PACKAGE)}
+        return subprocess.run([*before, sys.executable, "-m", "palhavento", *map(str, words)], capture_output=True,
+                              text=True, cwd=self.folder, env=environment, timeout=60, **how)
+
+    def done(self, *words, **how) -> str:
+        """What a command prints that must succeed and say nothing else."""
+        ended = self.run_(*words, **how)
+        self.assertEqual((ended.returncode, ended.stderr), (0, ""))
+        return ended.stdout
+
+    def refused(self, status: int, *words, **how) -> str:
+        """The one line that a command says that must fail with this status and change nothing."""
+        before = self.everything()
+        ended = self.run_(*words, **how)
+        self.assertEqual(ended.returncode, status, ended.stderr)
+        self.assertEqual(ended.stdout, "")
+        self.assertEqual(ended.stderr.count("\n"), 1, ended.stderr)
+        self.assertTrue(ended.stderr.startswith("palhavento"), ended.stderr)
+        self.assertEqual(self.everything(), before)
+        return ended.stderr
+
+    def everything(self) -> dict[str, bytes]:
+        return {str(path): path.read_bytes() for path in self.folder.rglob("*") if path.is_file()}
+
+    def nine_words(self):
+        self.store.write_bytes(sound_file(WORDS, b=4, slots=8))
+
+    # What each command does.
+
+    def test_a_day_in_a_stores_life(self):
+        self.assertIn("8 slots of up to 4 names", self.done("create", self.store, "--b", 4, "--slots", 8))
+        self.assertEqual(self.done("put", self.store, "oil", 71), "added\n")
+        self.assertEqual(self.done("put", self.store, "oil", 2**64 - 1), "replaced 71\n")
+        self.assertEqual(self.done("get", self.store, "oil"), f"{2**64 - 1}\n")
+        self.assertEqual(self.done("put", self.store, "gas", 0), "added\n")
+        self.assertEqual(self.done("ls", self.store), f"gas 0\noil {2**64 - 1}\n")
+        self.assertEqual(self.done("rm", self.store, "oil"), "removed\n")
+        self.assertEqual(self.done("ls", self.store), "gas 0\n")
+        self.assertEqual(self.done("check", self.store), "sound\n")
+        self.assertEqual(self.done("recover", self.store), "nothing to do\n")
+
+    def test_ranges(self):
+        self.nine_words()
+        self.assertEqual(self.done("ls", self.store, "i", "of"), "i 9\nin 6\nis 8\nof 2\n")
+        self.assertEqual(self.done("ls", self.store, "z", "a"), "")
+        self.refused(64, "ls", self.store, "i")
+        self.refused(64, "ls", self.store, "i", "j", "k")
+
+    def test_names_like_options(self):
+        self.done("create", self.store)
+        self.done("put", self.store, "--", "--json", 1)
+        self.assertEqual(self.done("get", self.store, "--", "--json"), "1\n")
+
+    def test_json(self):
+        def said(*words):
+            ended = self.run_(words[0], "--json", *words[1:])
+            return ended.returncode, json.loads(ended.stdout)
+
+        self.assertEqual(said("create", self.store), (0, {"created": str(self.store), "b": 16, "slots": 64}))
+        self.assertEqual(said("put", self.store, "oil", 71), (0, {"name": "oil", "value": 71, "old": None}))
+        self.assertEqual(said("put", self.store, "oil", 72), (0, {"name": "oil", "value": 72, "old": 71}))
+        self.assertEqual(said("get", self.store, "oil"), (0, {"name": "oil", "value": 72}))
+        self.assertEqual(said("ls", self.store), (0, {"entries": [["oil", 72]]}))
+        self.assertEqual(said("check", self.store), (0, {"check": "sound"}))
+        self.assertEqual(said("recover", self.store), (0, {"freed": None}))
+        status, figures = said("stats", self.store)
+        self.assertEqual((status, figures["entries"], figures["used"], figures["bytes"]), (0, 1, 1, 36880))
+        self.assertEqual(said("rm", self.store, "oil"), (0, {"removed": "oil"}))
+        status, error = said("get", self.store, "oil")
+        self.assertEqual((status, error["status"]), (101, 101))
+
+    def test_import(self):
+        self.done("create", self.store)
+        lines = "".join(f"{name} {value}\n" for value, name in enumerate(WORDS))
+        self.assertEqual(self.done("import", self.store, "-", input=lines), "imported 9\n")
+        listed = self.done("ls", self.store)
+        copy, text = self.folder / "copy.tkf", self.folder / "lines.txt"
+        text.write_text(listed)
+        self.done("create", copy)
+        self.assertEqual(self.done("import", copy, text, "--no-sync"), "imported 9\n")
+        self.assertEqual(self.done("ls", copy), listed)
+
+    def test_import_refuses_before_it_begins(self):
+        self.done("create", self.store)
+        for text, status in (("a 1\nb\n", 64), ("a 1\nb two\n", 64), ("a 1\nb -1\n", 64), ("a 1\n\nb 2\n", 64),
+                             (f"a 1\nb {2**64}\n", 64), ("a 1\n~ 2\n", 1), (f"a 1\n{'x' * 25} 2\n", 1)):
+            self.assertIn("standard input:2: ", self.refused(status, "import", self.store, "-", input=text))
+        self.refused(74, "import", self.store, self.folder / "none.txt")
+
+    def test_import_says_how_far_it_came(self):
+        self.done("create", self.store, "--b", 2, "--slots", 1)
+        ended = self.run_("import", self.store, "-", input="a 1\nb 2\nc 3\n")
+        self.assertEqual(ended.returncode, 5)
+        self.assertIn("standard input:3: ", ended.stderr)
+        self.assertIn("The 2 lines before it are in the store.", ended.stderr)
+        self.assertEqual(self.done("ls", self.store), "a 1\nb 2\n")
+
+    def test_a_bar_where_somebody_looks(self):
+        self.done("create", self.store)
+        lines = self.folder / "lines.txt"
+        lines.write_text("".join(f"name{number % 500} {number}\n" for number in range(8000)))
+        ours, theirs = pty.openpty()
+        self.addCleanup(os.close, ours)
+        command = [sys.executable, "-m", "palhavento", "import", "--no-sync", str(self.store), str(lines)]
+        ended = subprocess.run(command, stdout=subprocess.PIPE, stderr=theirs, text=True, timeout=120,
+                               env={**os.environ, "PYTHONPATH": str(PACKAGE)})
+        os.close(theirs)
+        self.assertEqual((ended.returncode, ended.stdout), (0, "imported 8000\n"))
+        self.assertIn(b" of 8000", os.read(ours, 1 << 16))
+
+    def test_draw(self):
+        self.nine_words()
+        picture = self.folder / "words.svg"
+        self.done("draw", self.store, picture)
+        self.assertEqual(picture.read_text(encoding="utf-8").count('class="bucket"'), 4)
+        self.done("draw", "--trie", self.store, picture)
+        self.assertEqual(picture.read_text(encoding="utf-8").count('class="leaf"'), 4)
+        self.refused(64, "draw", self.store, self.store)
+        self.refused(64, "draw", self.store, self.folder / "words.png")
+        self.refused(74, "draw", self.store, self.folder / "nowhere" / "words.svg")
+        renamed = self.store.rename(self.folder / "store.svg")
+        self.refused(64, "draw", renamed, renamed)
+
+    # What each status says.
+
+    def test_absent(self):
+        self.nine_words()
+        self.assertEqual(self.refused(101, "get", self.store, "oil"), "palhavento: oil: absent\n")
+        self.refused(101, "rm", self.store, "oil")
+
+    def test_illegal_names(self):
+        self.nine_words()
+        for name in ("a b", "", "x" * 25, "~", "preço", "a\nb"):
+            self.refused(1, "put", self.store, name, 1)
+        for words in (["get", self.store, "a b"], ["rm", self.store, "a b"], ["ls", self.store, "a b", "z"]):
+            self.refused(1, *words)
+
+    def test_bad_files(self):
+        self.nine_words()
+        sound = self.store.read_bytes()
+        flipped = bytearray(sound)
+        flipped[16 + 4] = 1
+        text = self.folder / "lines.txt"
+        text.write_text("a 1\n")
+        for damaged in (b"", sound[:-1], sound + b"\0", bytes(flipped), b"\xff" * 100_000):
+            self.store.write_bytes(damaged)
+            self.refused(2, "put", self.store, "a", 1)
+            ended = self.run_("check", self.store)
+            self.assertEqual((ended.returncode, ended.stdout, ended.stderr), (2, "bad\n", ""))
+        for words in (["get", self.store, "a"], ["rm", self.store, "a"], ["ls", self.store], ["import", self.store, text],
+                      ["recover", self.store], ["stats", self.store], ["draw", self.store, self.folder / "words.svg"]):
+            self.refused(2, *words)
+
+    def test_a_cut_file(self):
+        before = cut_file()
+        self.store.write_bytes(before)
+        ended = self.run_("check", self.store)
+        self.assertEqual((ended.returncode, ended.stdout), (3, "cut\n"))
+        self.assertEqual(self.run_("ls", self.store).stdout, "rate1 1\nrate2 2\n")
+        self.assertEqual(self.store.read_bytes(), before)
+        ended = self.run_("recover", self.store)
+        self.assertEqual((ended.returncode, ended.stdout), (0, "freed slot 1\n"))
+        self.assertEqual(self.done("check", self.store), "sound\n")
+
+    def test_full(self):
+        self.done("create", self.store, "--b", 2, "--slots", 1)
+        for name in "ab":
+            self.done("put", self.store, name, 1)
+        self.refused(5, "put", self.store, "c", 1)
+        self.store.unlink()
+        with palhavento.open(self.store, b=2, slots=64, sync=False) as store:
+            # Three names that differ in their last digit alone give a bound of 24 digits, so 24 strings.
+            for digit in "zyxwvutsrq":
+                store.update({digit * 23 + last: 0 for last in "abc"})
+            store.update({"p" * 23 + last: 0 for last in "ab"})
+        self.refused(6, "put", self.store, "p" * 23 + "c", 0)
+
+    def test_sizes(self):
+        for size in (["--b", 1], ["--b", 17], ["--slots", 0], ["--slots", 65], ["--b", -1], ["--slots", 10**30]):
+            self.refused(8, "create", self.store, *size)
+
+    def test_locked(self):
+        self.nine_words()
+        with palhavento.open(self.store):
+            self.refused(254, "put", self.store, "oil", 1)
+            self.refused(254, "rm", self.store, "the")
+            self.assertEqual(self.done("get", self.store, "the"), "1\n")
+
+    # Bad arguments, and files that are not to be had.
+
+    def test_bad_arguments(self):
+        self.nine_words()
+        for words in ([], ["grow"], ["put", self.store], ["put", self.store, "oil"], ["put", self.store, "oil", "much"],
+                      ["put", self.store, "oil", "-1"], ["put", self.store, "oil", 2**64], ["get", self.store],
+                      ["put", self.store, "oil", "9" * 5000], ["get", self.store, "a", "b"], ["check"],
+                      ["create", self.folder / "new.tkf", "--b", "four"], ["ls", self.store, "--xml"]):
+            self.refused(64, *words)
+
+    def test_missing_files_and_folders(self):
+        self.nine_words()
+        text = self.folder / "lines.txt"
+        text.write_text("a 1\n")
+        for path in (self.folder / "none.tkf", self.folder):
+            for words in (["put", path, "a", 1], ["get", path, "a"], ["rm", path, "a"], ["ls", path], ["check", path],
+                          ["import", path, text], ["recover", path], ["stats", path],
+                          ["draw", path, self.folder / "new.svg"]):
+                self.assertIn(str(path), self.refused(74, *words))
+        self.refused(74, "put", self.store / "none.tkf", "a", 1)
+        # A pipe that nobody writes to is told at once.
+        os.mkfifo(self.folder / "pipe")
+        self.refused(74, "check", self.folder / "pipe")
+        self.refused(74, "get", self.folder / "pipe", "a")
+        for path in (self.store, self.folder, self.folder / "none" / "none.tkf"):
+            self.assertIn(str(path), self.refused(74, "create", path))
+
+    def test_files_that_may_only_be_read(self):
+        self.nine_words()
+        self.store.chmod(0o444)
+        # The superuser may write any file, so it gives that right up.
+        before = ["setpriv", "--bounding-set=-dac_override"] if os.geteuid() == 0 else []
+        for words in (["put", self.store, "a", 1], ["rm", self.store, "the"], ["recover", self.store]):
+            self.assertIn("Permission denied", self.refused(74, *words, before=before))
+        self.assertEqual(self.done("get", self.store, "the", before=before), "1\n")
+        self.assertEqual(self.done("check", self.store, before=before), "sound\n")
+
+    def test_a_reader_that_has_seen_enough(self):
+        self.nine_words()
+        ours, theirs = os.pipe()
+        os.close(ours)
+        ended = subprocess.run([sys.executable, "-m", "palhavento", "ls", str(self.store)], stdout=theirs,
+                               stderr=subprocess.PIPE, env={**os.environ, "PYTHONPATH": str(PACKAGE)}, timeout=60)
+        os.close(theirs)
+        self.assertEqual(ended.stderr, b"")
+
+    def test_the_script(self):
+        self.nine_words()
+        printed = subprocess.check_output([PACKAGE / "bin" / "palhavento", "get", self.store, "that"], text=True)
+        self.assertEqual(printed, "7\n")
+
+    def test_help(self):
+        self.assertIn("examples:", self.done("--help"))
+        for command in COMMANDS:
+            said = self.done(command, "--help")
+            self.assertIn(f"example:\n  palhavento {command} ", said)
+            self.assertIn("exit status:", said)
+
+
+if __name__ == "__main__":
+    unittest.main()

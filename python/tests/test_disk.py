@@ -1,0 +1,167 @@
+"""Stores reach the disk in order, each by one write of one slot; files appear whole; damage is refused."""
+
+from __future__ import annotations
+
+import os
+import unittest
+from unittest import mock
+
+from support import WORDS, InFolder, cut_file, sound_file
+
+import palhavento
+from palhavento import errors, library
+
+
+class Stores(InFolder):
+    def setUp(self) -> None:
+        super().setUp()
+        self.path.write_bytes(sound_file(["rate1", "rate2"], b=2, slots=3))
+
+    def stores_of(self, store: palhavento.Store, name: str, value: int | None) -> list[object]:
+        """What a put, or a remove where there is no value, asks of the system to be written, in order."""
+        asked: list[object] = []
+
+        def pwrite(file: int, content: bytes, offset: int) -> int:
+            asked.append((offset, len(content)))
+            return os_pwrite(file, content, offset)
+
+        os_pwrite = os.pwrite
+        synced = mock.patch("os.fdatasync", lambda file: asked.append("synced"))
+        with mock.patch("os.pwrite", pwrite), synced:
+            if value is None:
+                del store[name]
+            else:
+                store[name] = value
+        return asked
+
+    def test_a_call_is_one_slot_and_a_split_two_the_new_slot_first(self) -> None:
+        with palhavento.open(self.path) as store:
+            self.assertEqual(self.stores_of(store, "rate2", 5), [(16, 128), "synced"])
+            self.assertEqual(self.stores_of(store, "rate3", 3), [(144, 128), "synced", (16, 128), "synced"])
+            self.assertEqual(self.stores_of(store, "rate3", None), [(144, 128), "synced"])
+            self.assertEqual(dict(store), {"rate1": 1, "rate2": 5})
+
+    def test_a_slot_that_stays_as_it_was_is_not_written(self) -> None:
+        with palhavento.open(self.path) as store:
+            self.assertEqual(self.stores_of(store, "rate2", 2), [])
+
+    def test_the_sync_can_be_turned_off(self) -> None:
+        with palhavento.open(self.path, sync=False) as store:
+            self.assertEqual(self.stores_of(store, "rate3", 3), [(144, 128), (16, 128)])
+
+    def test_the_file_after_each_store_is_the_one_a_stop_leaves(self) -> None:
+        before = self.path.read_bytes()
+        states = [library.put(before, library.rebuild(before), b"rate3", 3, limit).file for limit in (1, 2)]
+        seen = []
+        with palhavento.open(self.path) as store:
+            with mock.patch("os.fdatasync", lambda file: seen.append(self.path.read_bytes())):
+                store["rate3"] = 3
+        self.assertEqual(seen, states)
+
+    def test_a_call_that_fails_between_its_stores_counts_as_never_made(self) -> None:
+        for fault in (OSError("the disk fails"), KeyboardInterrupt()):
+            with self.subTest(fault=fault), palhavento.open(self.path) as store:
+                with mock.patch("os.fdatasync", side_effect=fault), self.assertRaises(type(fault)):
+                    store["rate3"] = 3
+                self.assertEqual(store.check(), "cut")
+                self.assertEqual((store["rate2"], store.get("rate3")), (2, None))
+                with self.assertLogs("palhavento", "WARNING") as logged:
+                    self.assertEqual(dict(store), {"rate1": 1, "rate2": 2})
+                self.assertIn("recovered by freeing slot 1", logged.output[0])
+                self.assertEqual(store.check(), "sound")
+
+    def test_a_store_written_in_part_is_told(self) -> None:
+        with palhavento.open(self.path) as store:
+            with mock.patch("os.pwrite", return_value=100), self.assertRaisesRegex(OSError, "in part"):
+                store["rate2"] = 5
+            self.assertEqual(store["rate2"], 2)
+
+
+class Opening(InFolder):
+    def test_a_new_file_appears_whole_and_alone(self) -> None:
+        palhavento.open(self.path, b=4, slots=8).close()
+        self.assertEqual(os.listdir(self.folder), [self.path.name])
+        self.assertEqual(self.path.read_bytes(), library.create(4, 8)[0])
+        umask = os.umask(0)
+        os.umask(umask)
+        self.assertEqual(self.path.stat().st_mode & 0o777, 0o666 & ~umask)
+
+    def test_nothing_appears_when_creating_fails(self) -> None:
+        with mock.patch("os.fsync", side_effect=OSError("the disk fails")), self.assertRaises(OSError):
+            palhavento.open(self.path)
+        self.assertEqual(os.listdir(self.folder), [])
+
+    def test_a_file_that_another_process_was_first_to_create_is_opened(self) -> None:
+        self.path.write_bytes(sound_file(["a"], b=2, slots=2))
+        with mock.patch("os.path.exists", return_value=False), palhavento.open(self.path) as store:
+            self.assertEqual((dict(store), store.b, store.slots), ({"a": 1}, 2, 2))
+        self.assertEqual(os.listdir(self.folder), [self.path.name])
+
+    def test_a_cut_file_is_recovered_and_said_so(self) -> None:
+        self.path.write_bytes(cut_file())
+        with self.assertLogs("palhavento", "WARNING") as logged, palhavento.open(self.path) as store:
+            self.assertEqual(dict(store), {"rate1": 1, "rate2": 2})
+        self.assertIn("recovered by freeing slot 1", logged.output[0])
+        self.assertEqual(library.check(self.path.read_bytes()), library.SOUND)
+
+    def test_a_reader_leaves_a_cut_file_as_it_is(self) -> None:
+        self.path.write_bytes(cut_file())
+        with self.assertLogs("palhavento", "INFO"), palhavento.open(self.path, readonly=True) as store:
+            self.assertEqual((dict(store), store.check()), ({"rate1": 1, "rate2": 2}, "cut"))
+        self.assertEqual(self.path.read_bytes(), cut_file())
+
+    def test_paths_of_every_kind(self) -> None:
+        for path in (self.path, str(self.path), os.fsencode(self.path)):
+            with palhavento.open(path, sync=False) as store:
+                self.assertEqual(store.path, str(self.path))
+
+    def test_a_store_let_go_ends_its_lock(self) -> None:
+        palhavento.open(self.path)["a"] = 1
+        with palhavento.open(self.path) as store:
+            self.assertEqual(store["a"], 1)
+
+
+class Damage(InFolder):
+    def behaves(self, content: bytes) -> bool:
+        """Whether a file opens; then names, order and lookups must fit, and else nothing may be changed."""
+        # Written over what is there: some file systems wait for the disk when a file is cut to nothing first.
+        with open(self.path, "r+b" if self.path.exists() else "wb") as file:
+            file.write(content)
+            file.truncate()
+        try:
+            store = palhavento.open(self.path, sync=False)
+        except errors.BadFile:
+            self.assertEqual(self.path.read_bytes(), content)
+            return False
+        with store:
+            entries = store.range()
+            names = [name for name, _ in entries]
+            self.assertEqual(names, sorted(set(names)))
+            self.assertEqual([(name, store[name]) for name in names], entries)
+            store["z"] = 1
+            self.assertEqual((store.pop("z"), store.check()), (1, "sound"))
+        return True
+
+    def test_every_bit_of_small_files(self) -> None:
+        opened = 0
+        with self.assertLogs("palhavento", "WARNING"):
+            for file in (sound_file(WORDS[:4], b=2, slots=4), cut_file()):
+                for place in range(len(file) * 8):
+                    changed = bytearray(file)
+                    changed[place // 8] ^= 1 << place % 8
+                    opened += self.behaves(bytes(changed))
+        # Values and some digits of names may be any; everything else is noticed.
+        self.assertGreater(opened, 6 * 64)
+        self.assertLess(opened, 1000)
+
+    def test_every_length(self) -> None:
+        file = sound_file(WORDS[:4], b=2, slots=4)
+        for length in range(len(file)):
+            self.assertFalse(self.behaves(file[:length]))
+        for more in (1, 128, 40_000):
+            self.assertFalse(self.behaves(file + bytes(more)))
+        self.assertTrue(self.behaves(file))
+
+
+if __name__ == "__main__":
+    unittest.main()

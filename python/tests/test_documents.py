@@ -1,0 +1,79 @@
+"""What the documents show is what the library gives: bytes, pictures, and the program for a bad file."""
+
+import re
+import subprocess
+import sys
+import unittest
+from collections.abc import Iterator
+from pathlib import Path
+
+from support import WORDS, InFolder, sound_file
+
+import palhavento
+from palhavento.drawing import buckets_svg
+
+PROJECT = Path(__file__).resolve().parent.parent.parent
+
+
+def bound(digits: bytes) -> str:
+    return f'"{digits.decode()}"' if digits else "no limit"
+
+
+def explained(file: bytes) -> Iterator[str]:
+    """The bytes of a file with b = 4, sixteen a line, and what each line is."""
+
+    def line(at: int, says: str) -> str:
+        return f"{at:04x}  {file[at:at + 16].hex(' ')}  {says}".rstrip()
+
+    yield line(0, f'"TKF", version 1, b = {file[5]}, {file[6]} slots; the rest of the header is zero')
+    last_used = max(slot for slot in range(file[6]) if file[16 + 192 * slot])
+    for slot in range(last_used + 1):
+        at = 16 + 192 * slot
+        _, count, lower, upper = file[at:at + 4]
+        yield ""
+        low, high = bound(file[at + 8:at + 8 + lower]), bound(file[at + 32:at + 32 + upper])
+        yield line(at, f"slot {slot}: used, entries {count}, lengths {lower} and {upper}; zero; lower {low}")
+        yield line(at + 16, "  lower goes on")
+        yield line(at + 32, f"  upper {high}")
+        yield line(at + 48, "  upper goes on; zero")
+        for entry in range(4):
+            place = at + 64 + 32 * entry
+            name, value = file[place:place + 24].decode().rstrip(), int.from_bytes(file[place + 24:place + 32], "little")
+            if entry < count:
+                yield line(place, f"  entry {entry}: {name}")
+                yield line(place + 16, f"    name goes on; value {value}")
+            else:
+                yield line(place, f"  entry {entry}: unused")
+                yield line(place + 16, "")
+    free = 16 + 192 * (last_used + 1)
+    yield ""
+    yield f"{free:04x} to {len(file) - 1:04x} are zero: slots {last_used + 1} to {file[6] - 1} are free"
+
+
+class Documents(InFolder):
+    def setUp(self) -> None:
+        super().setUp()
+        self.path.write_bytes(sound_file(WORDS, b=4, slots=8))
+
+    def test_the_bytes_of_the_nine_words(self):
+        shown = (PROJECT / "docs/FORMAT.md").read_text(encoding="utf-8")
+        self.assertIn("\n".join(explained(self.path.read_bytes())), shown)
+
+    def test_the_pictures(self):
+        with palhavento.open(self.path, readonly=True) as store:
+            drawn = {"store.svg": buckets_svg(store.buckets(), store.b), "trie.svg": store.trie_svg()}
+        for name, picture in drawn.items():
+            self.assertEqual((PROJECT / "docs" / name).read_text(encoding="utf-8"), picture)
+
+    def test_what_is_left_of_a_bad_file(self):
+        operations = (PROJECT / "docs/OPERATIONS.md").read_text(encoding="utf-8")
+        program = re.search(r"```python\n(.*?)```", operations, re.DOTALL)
+        file = bytearray(self.path.read_bytes())
+        file[16 + 192 * 2 + 4] = 1
+        self.path.write_bytes(file)
+        printed = subprocess.check_output([sys.executable, "-c", program[1], str(self.path)], text=True)
+        self.assertEqual(sorted(printed.split()[::2]), sorted(WORDS))
+
+
+if __name__ == "__main__":
+    unittest.main()
