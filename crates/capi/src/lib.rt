@@ -2,7 +2,7 @@
 //
 // 1 to 99 is a refusal with document 01's number; 100 and up says what was done; 255 is an image that has not 1,540 bytes.
 ghost use mathlib.Core.Path.{_≡_};
-ghost use Rattle.capi.specs.Doors.{palCheckOf, palCreateOf, palListOf, palLookUpOf, palRebuildOf, palRecoverOf};
+ghost use Rattle.capi.specs.Doors.{palCheckOf, palCreateOf, palListOf, palLookUpOf, palPutOf, palRebuildOf, palRecoverOf, palRemoveOf};
 use file::Kind;
 use keeper::cause_number;
 use model::ListAnswer;
@@ -122,7 +122,11 @@ pub extern "C" fn pal_put(
     run: u64,
     limit: u64,
     out: &mut [u64; 4],
-) -> u64 {
+) -> u64
+    ensures { λ r.
+        ⌜ palPutOf (now (file .entry)) (now (trie .entry)) (now (name .entry)) value limit (now (out .entry))
+        ≡ (r, now (file .exit), now (trie .exit), now (out .exit)) ⌝ }
+{
     if trie.len() != 1540 {
         return MALFORMED;
     }
@@ -153,7 +157,11 @@ pub extern "C" fn pal_remove(
     name: &[u8],
     limit: u64,
     out: &mut [u64; 4],
-) -> u64 {
+) -> u64
+    ensures { λ r.
+        ⌜ palRemoveOf (now (file .entry)) (now (trie .entry)) (now (name .entry)) limit (now (out .entry))
+        ≡ (r, now (file .exit), now (trie .exit), now (out .exit)) ⌝ }
+{
     if trie.len() != 1540 {
         return MALFORMED;
     }
