@@ -4,8 +4,10 @@
 // side. A side is a signed 16-bit little-endian number: 0 and above is that slot, below 0 is the cell of that number's
 // negative.
 ghost use mathlib.Core.Path.{_≡_};
-ghost use Prim.Native.Nat.{_≤_, _<_, _+_, _*_};
+ghost use Prim.Native.Nat.{_≤_, _<_, _+_, _*_, _%_, _/_};
 ghost use lib.ListN.{length};
+ghost use lib.Seq.{sets};
+ghost use Rattle.capi.specs.Images.{cellBytes, cellFrom, few, imageOf, pairOf, sideNumber, sideOf, trieBelow, trieOf, trieWith};
 use model::Cell;
 use model::Side;
 use model::Trie;
@@ -18,11 +20,15 @@ fn wide(x: u8) -> u16
 }
 
 // Two bytes, little-endian.
-fn pair(low: u8, high: u8) -> u16 {
+fn pair(low: u8, high: u8) -> u16
+    ensures { λ r. ⌜ r ≡ pairOf low high ⌝ }
+{
     wide(low) + 256 * wide(high)
 }
 
-fn side_of(x: u16) -> Side {
+fn side_of(x: u16) -> Side
+    ensures { λ r. ⌜ r ≡ sideOf x ⌝ }
+{
     if x < 32768 {
         return Side::Slot(x);
     }
@@ -31,6 +37,7 @@ fn side_of(x: u16) -> Side {
 
 fn cell_at(image: &[u8], i: usize) -> Cell
     requires { ⌜ (i < 256) × (length (now image) ≡ 1540) ⌝ }
+    ensures { λ r. ⌜ r ≡ cellFrom (now (image .entry)) (4 + 6 * i) ⌝ }
 {
     let at = 4 + 6 * i;
     Cell {
@@ -44,6 +51,7 @@ fn cell_at(image: &[u8], i: usize) -> Cell
 // The first cells of the image, and no cell past them.
 fn with_cells(image: &[u8], cells: usize) -> Trie
     requires { ⌜ (cells ≤ 256) × (length (now image) ≡ 1540) ⌝ }
+    ensures { λ r. ⌜ r ≡ trieWith cells (now (image .entry)) ⌝ }
 {
     let mut trie = trie::lone(pair(image[2], image[3]));
     trie.count = pair(image[0], image[1]);
@@ -59,12 +67,13 @@ fn with_cells(image: &[u8], cells: usize) -> Trie
 // The trie of an image.
 pub fn decoded(image: &[u8]) -> Trie
     requires { ⌜ length (now image) ≡ 1540 ⌝ }
+    ensures { λ r. ⌜ r ≡ trieOf (now (image .entry)) ⌝ }
 {
     with_cells(image, 256)
 }
 
 fn at_most_256(x: usize) -> usize
-    ensures { λ r. ⌜ r ≤ 256 ⌝ }
+    ensures { λ r. ⌜ (r ≤ 256) × (r ≡ few x) ⌝ }
 {
     if 256 < x {
         return 256;
@@ -75,19 +84,26 @@ fn at_most_256(x: usize) -> usize
 // The trie of an image without the cells past its count, which no walk meets.
 pub fn decoded_below_count(image: &[u8]) -> Trie
     requires { ⌜ length (now image) ≡ 1540 ⌝ }
+    ensures { λ r. ⌜ r ≡ trieBelow (now (image .entry)) ⌝ }
 {
     with_cells(image, at_most_256(number(pair(image[0], image[1]))))
 }
 
-fn low(x: u16) -> u8 {
+fn low(x: u16) -> u8
+    ensures { λ r. ⌜ r ≡ x % 256 ⌝ }
+{
     (x % 256) as u8
 }
 
-fn high(x: u16) -> u8 {
+fn high(x: u16) -> u8
+    ensures { λ r. ⌜ r ≡ x / 256 ⌝ }
+{
     (x / 256) as u8
 }
 
-fn number_of(side: Side) -> u16 {
+fn number_of(side: Side) -> u16
+    ensures { λ r. ⌜ r ≡ sideNumber side ⌝ }
+{
     match side {
         Side::Slot(s) => s,
         Side::Cell(i) => {
@@ -101,7 +117,7 @@ fn number_of(side: Side) -> u16 {
 
 fn write_cell(image: &mut [u8], i: usize, cell: Cell)
     requires { ⌜ (i < 256) × (length (now image) ≡ 1540) ⌝ }
-    ensures { λ _. ⌜ length (now (image .exit)) ≡ 1540 ⌝ }
+    ensures { λ _. ⌜ now (image .exit) ≡ sets (now (image .entry)) (4 + 6 * i) (cellBytes cell) ⌝ }
 {
     let left = cell.left;
     let right = cell.right;
@@ -119,6 +135,7 @@ fn write_cell(image: &mut [u8], i: usize, cell: Cell)
 // Writes the image of a trie.
 pub fn encode(image: &mut [u8], trie: Trie)
     requires { ⌜ length (now image) ≡ 1540 ⌝ }
+    ensures { λ _. ⌜ now (image .exit) ≡ imageOf trie ⌝ }
 {
     image[0] = low(trie.count);
     image[1] = high(trie.count);

@@ -1,7 +1,8 @@
 // The C interface: the eight calls over a trie image, their answers as numbers. It decides nothing.
 //
 // 1 to 99 is a refusal with document 01's number; 100 and up says what was done; 255 is an image that has not 1,540 bytes.
-ghost use Prim.Native.Nat.{_≤_, _<_, _+_, _*_};
+ghost use mathlib.Core.Path.{_≡_};
+ghost use Rattle.capi.specs.Doors.{palCheckOf, palCreateOf, palListOf, palLookUpOf, palPutOf, palRebuildOf, palRecoverOf, palRemoveOf};
 use file::Kind;
 use keeper::cause_number;
 use model::ListAnswer;
@@ -16,7 +17,9 @@ mod image;
 // What refuses a trie image of another length, before everything else.
 const MALFORMED: u64 = 255;
 
-fn wide(x: usize) -> u64 {
+fn wide(x: usize) -> u64
+    ensures { λ r. ⌜ r ≡ x ⌝ }
+{
     x as u64
 }
 
@@ -27,7 +30,9 @@ pub extern "C" fn pal_create(
     b: u64,
     slots: u64,
     trie: &mut [u8],
-) -> u64 {
+) -> u64
+    ensures { λ r. ⌜ palCreateOf (now (file .entry)) version b slots (now (trie .entry)) ≡ (r, now (file .exit), now (trie .exit)) ⌝ }
+{
     if trie.len() != 1540 {
         return MALFORMED;
     }
@@ -41,7 +46,9 @@ pub extern "C" fn pal_create(
 }
 
 #[no_mangle]
-pub extern "C" fn pal_check(file: &[u8]) -> u64 {
+pub extern "C" fn pal_check(file: &[u8]) -> u64
+    ensures { λ r. ⌜ r ≡ palCheckOf (now (file .entry)) ⌝ }
+{
     let kind = keeper::check(file);
     match kind {
         Kind::Sound => 140,
@@ -51,7 +58,9 @@ pub extern "C" fn pal_check(file: &[u8]) -> u64 {
 }
 
 #[no_mangle]
-pub extern "C" fn pal_recover(file: &mut [u8], limit: u64, out: &mut [u64; 4]) -> u64 {
+pub extern "C" fn pal_recover(file: &mut [u8], limit: u64, out: &mut [u64; 4]) -> u64
+    ensures { λ r. ⌜ palRecoverOf (now (file .entry)) limit (now (out .entry)) ≡ (r, now (file .exit), now (out .exit)) ⌝ }
+{
     let answer = keeper::recover(file, limit);
     match answer {
         RecoverAnswer::Freed(slot) => {
@@ -68,7 +77,9 @@ pub extern "C" fn pal_recover(file: &mut [u8], limit: u64, out: &mut [u64; 4]) -
 }
 
 #[no_mangle]
-pub extern "C" fn pal_rebuild(file: &[u8], trie: &mut [u8]) -> u64 {
+pub extern "C" fn pal_rebuild(file: &[u8], trie: &mut [u8]) -> u64
+    ensures { λ r. ⌜ palRebuildOf (now (file .entry)) (now (trie .entry)) ≡ (r, now (trie .exit)) ⌝ }
+{
     if trie.len() != 1540 {
         return MALFORMED;
     }
@@ -82,7 +93,10 @@ pub extern "C" fn pal_rebuild(file: &[u8], trie: &mut [u8]) -> u64 {
 }
 
 #[no_mangle]
-pub extern "C" fn pal_lookup(file: &[u8], trie: &[u8], name: &[u8], out: &mut [u64; 4]) -> u64 {
+pub extern "C" fn pal_lookup(file: &[u8], trie: &[u8], name: &[u8], out: &mut [u64; 4]) -> u64
+    ensures { λ r.
+        ⌜ palLookUpOf (now (file .entry)) (now (trie .entry)) (now (name .entry)) (now (out .entry)) ≡ (r, now (out .exit)) ⌝ }
+{
     if trie.len() != 1540 {
         return MALFORMED;
     }
@@ -108,7 +122,11 @@ pub extern "C" fn pal_put(
     run: u64,
     limit: u64,
     out: &mut [u64; 4],
-) -> u64 {
+) -> u64
+    ensures { λ r.
+        ⌜ palPutOf (now (file .entry)) (now (trie .entry)) (now (name .entry)) value limit (now (out .entry))
+        ≡ (r, now (file .exit), now (trie .exit), now (out .exit)) ⌝ }
+{
     if trie.len() != 1540 {
         return MALFORMED;
     }
@@ -139,7 +157,11 @@ pub extern "C" fn pal_remove(
     name: &[u8],
     limit: u64,
     out: &mut [u64; 4],
-) -> u64 {
+) -> u64
+    ensures { λ r.
+        ⌜ palRemoveOf (now (file .entry)) (now (trie .entry)) (now (name .entry)) limit (now (out .entry))
+        ≡ (r, now (file .exit), now (trie .exit), now (out .exit)) ⌝ }
+{
     if trie.len() != 1540 {
         return MALFORMED;
     }
@@ -163,7 +185,11 @@ pub extern "C" fn pal_list(
     second: &[u8],
     output: &mut [u8],
     out: &mut [u64; 4],
-) -> u64 {
+) -> u64
+    ensures { λ r.
+        ⌜ palListOf (now (file .entry)) (now (trie .entry)) (now (first .entry)) (now (second .entry)) (now (output .entry)) (now (out .entry))
+        ≡ (r, now (output .exit), now (out .exit)) ⌝ }
+{
     if trie.len() != 1540 {
         return MALFORMED;
     }

@@ -1,7 +1,11 @@
 // Document 01's number of each refusal.
+ghost use mathlib.Core.Path.{_≡_};
+ghost use Rattle.model.specs.Answers.{number};
 use model::Cause;
 
-pub fn cause_number(cause: Cause) -> u64 {
+pub fn cause_number(cause: Cause) -> u64
+    ensures { λ r. ⌜ r ≡ number cause ⌝ }
+{
     match cause {
         Cause::IllegalName => 1,
         Cause::BadFile => 2,

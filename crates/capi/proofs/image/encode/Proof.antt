@@ -1,18 +1,15 @@
-use Prim.Native.Nat.{ℕ, _≤_, _-_, _<_, _+_, _*_}
+-- `encode` writes the image: after i cells the first 4 + 6 × i bytes are right.
+use Prim.Native.Nat.{_*_, _+_, _-_, _≤_}
 use native.Mathlib.Omega.{arith}
-use mathlib.Core.Path.{_≡_, refl, sym, _∙_}
-use lib.ListN.{length, take, drop, getD, length-set}
+use mathlib.Core.Path.{_≡_}
 use borrow.Author.Needs.{needs}
+use lib.ListN.{length, length-set, take}
+use Rattle.capi.proofs.Coding.{written, written-all, written-first, written-next, written-size}
 use Rattle.capi.proofs.image.encode.Statement.{statement}
 use Rattle.capi.proofs.image.encode.Tie as tie
-use Rattle.capi.proofs.image.encode.Reads as reads
-use Rattle.capi.proofs.image.encode.Lts as lts
-use Rattle.capi.proofs.image.high.Reads as high-reads
-use Rattle.capi.proofs.image.low.Reads as low-reads
-use Rattle.capi.proofs.image.write_cell.Reads as write-cell-reads
 
 abbrev Inv-loop : tie.InvT-loop
-Inv-loop image₀ trie i₀ image i = (i ≤ 256) × (length image ≡ 1540)
+Inv-loop image₀ trie i₀ image i = (i ≤ 256) × (length image ≡ 1540) × (take (4 + 6 * i) image ≡ written trie i)
 
 abbrev μ-loop : tie.MeasureT-loop
 μ-loop image₀ trie i₀ image i = 256 - i
@@ -42,7 +39,8 @@ slice-write-image-4 : tie.Need-slice-write-image-4 Inv-loop μ-loop
 slice-write-image-4 c = simp length-set (omega arith)
 
 loop-holds : tie.Need-loop-holds Inv-loop μ-loop
-loop-holds c = search needs
+loop-holds c =
+    (omega arith, simp length-set (c .before .before .before .before .before .pre), written-first (c .before .before .before .before .before .args .t2) (c .before .before .before .before .before .args .image .now) _ _ _ _ (c .before .before .before .before .before .pre) (rw (c .before .before .before .low .ensures, c .before .before .high .ensures, c .before .low2 .ensures, c .high2 .ensures)))
 
 mul-cell : tie.Need-mul-cell Inv-loop μ-loop
 mul-cell c = search needs
@@ -60,13 +58,21 @@ loop-less : tie.Need-loop-less Inv-loop μ-loop
 loop-less c = search needs
 
 loop-again : tie.Need-loop-again Inv-loop μ-loop
-loop-again c = search needs
+loop-again c =
+    let v = c .before .before .before .before .before .before .loop .inv in
+    let w = c .before .before .write-cell .ensures in
+    let t = c .before .before .before .before .before .before .before .before .before .before .before .before .args .t2 in
+    let i = c .before .before .before .before .before .before .loop .i in
+    let xs = c .before .before .before .before .before .before .loop .image in
+    (omega arith, written-size t i xs _ (v .1) w, written-next t i xs _ (v .1) (omega arith) (v .2) w)
 
 same-length : tie.Need-same-length Inv-loop μ-loop
 same-length c = search needs
 
 returns : tie.Need-returns Inv-loop μ-loop
-returns c = search needs
+returns c =
+    let v = c .before .loop .inv in
+    written-all (c .before .before .before .before .before .before .before .args .t2) (c .before .loop .i) _ (v .1) (omega arith) (v .2)
 
 pub encode-spec : {M : Type 1} → statement M
 encode-spec =

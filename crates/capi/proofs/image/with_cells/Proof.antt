@@ -1,18 +1,15 @@
-use Prim.Native.Nat.{ℕ, _≤_, _-_, _<_, _+_, _*_}
+-- `with_cells` reads the image: after i cells it has the trie of the first i.
+use Prim.Native.Nat.{_-_, _≤_, ℕ}
 use native.Mathlib.Omega.{arith}
-use mathlib.Core.Path.{_≡_, refl, sym, _∙_}
-use lib.ListN.{length, take, drop, getD}
+use mathlib.Core.Path.{_∙_, _≡_, ap}
 use borrow.Author.Needs.{needs}
+use Rattle.capi.specs.Images.{trieWith}
+use Rattle.capi.proofs.Coding.{read-first, read-next}
 use Rattle.capi.proofs.image.with_cells.Statement.{statement}
 use Rattle.capi.proofs.image.with_cells.Tie as tie
-use Rattle.capi.proofs.image.with_cells.Reads as reads
-use Rattle.capi.proofs.image.with_cells.Lts as lts
-use Rattle.capi.proofs.image.cell_at.Reads as cell-at-reads
-use Rattle.capi.proofs.image.pair.Reads as pair-reads
-use Rattle.trie.proofs.lone.Reads as lone-reads
 
 abbrev Inv-loop : tie.InvT-loop
-Inv-loop image cells trie₀ i₀ trie i = (i ≤ cells) × (cells ≤ 256)
+Inv-loop image cells trie₀ i₀ trie i = (i ≤ cells) × (cells ≤ 256) × (trie ≡ trieWith i image)
 
 abbrev μ-loop : tie.MeasureT-loop
 μ-loop image cells trie₀ i₀ trie i = cells - i
@@ -39,7 +36,8 @@ pair-requires-2 : tie.Need-pair-requires-2 Inv-loop μ-loop
 pair-requires-2 c κs = search needs
 
 loop-holds : tie.Need-loop-holds Inv-loop μ-loop
-loop-holds c = search needs
+loop-holds c =
+    (omega arith, c .before .before .before .before .before .before .before .before .pre .0, read-first _ (c .before .before .before .before .before .before .before .before .args .image .now) (c .before .before .before .lone .ensures) (c .before .before .before .before .pair .ensures) (c .pair2 .ensures))
 
 cell-at-requires : tie.Need-cell-at-requires Inv-loop μ-loop
 cell-at-requires c κs = search needs
@@ -57,10 +55,15 @@ loop-less : tie.Need-loop-less Inv-loop μ-loop
 loop-less c = search needs
 
 loop-again : tie.Need-loop-again Inv-loop μ-loop
-loop-again c = search needs
+loop-again c =
+    let v = c .before .before .loop .inv in
+    (omega arith, v .1, read-next (c .before .before .loop .trie) (c .before .before .loop .i) (c .before .before .before .before .before .before .before .before .before .before .before .args .image .now) (v .2) (omega arith) (c .cell-at .ensures))
 
 returns : tie.Need-returns Inv-loop μ-loop
-returns c = search needs
+returns c =
+    let v = c .before .loop .inv in
+    let e : c .before .loop .i ≡ c .before .before .before .before .before .before .before .before .before .before .args .cells = omega arith in
+    v .2 ∙ ap (λ (k : ℕ). trieWith k (c .before .before .before .before .before .before .before .before .before .before .args .image .now)) e
 
 pub with-cells-spec : {M : Type 1} → statement M
 with-cells-spec =

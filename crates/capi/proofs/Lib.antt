@@ -1,0 +1,4 @@
+pub mod Coding
+pub mod Images
+pub mod Agreeing
+pub mod Doors
