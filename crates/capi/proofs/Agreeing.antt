@@ -1,19 +1,19 @@
 -- A trie that agrees with a file has an image of its own: its sides lead to the file's slots and to cells that are not the root.
 use mathlib.Core.Path.{_≡_, refl}
-use mathlib.Core.List.{List, List·Memᴰ, List·Memᴰ·head, List·Memᴰ·tail, Memᴰ·append-left, Memᴰ·append-right, [], _++_, _∷_}
+use mathlib.Core.List.{List, List·Memᴰ, List·Memᴰ·head, Memᴰ·append-left, Memᴰ·append-right, [], _++_, _∷_}
 use mathlib.Core.List.{List·Memᴰ·cases-cons, List·Memᴰ·not-nil}
 use mathlib.Core.Logic.{⊎-elim}
 use Prim.Native.Nat.{_+_, _<_, _≤_, suc, zero, ℕ}
 use native.Mathlib.Decide.{decLt, ℕ-discrete}
 use native.Mathlib.Omega.{arith}
 use lib.ListN.{length, length-take, take}
-use lib.Seq.{getD-take, length-take-le}
+use lib.Seq.{getD-take}
 use Rattle.model.specs.declared.Cell.{Cell}
 use Rattle.model.specs.declared.Side.{Side}
 use Rattle.model.specs.declared.Side.the-variants.{Cell as further, Slot as slot}
 use Rattle.model.specs.declared.Trie.{Trie}
-use Rattle.model.specs.Order.{Low, Str, none}
-use Rattle.model.specs.Files.{Ranges, Slot, ranges}
+use Rattle.model.specs.Order.{Low, Str}
+use Rattle.model.specs.Files.{Ranges, Slot}
 use Rattle.model.specs.Tries.{Agrees, Leads, Leaves, Reads, Tree, at-cell, here, leaf-last, leaf-next, leaves, occ, one-if, root-side, there, zero-cell}
 use Rattle.model.proofs.Cells.{occ-append}
 use Rattle.model.proofs.Files.{used-inside}

@@ -1,6 +1,6 @@
 -- Reading back the image that was written, and the converse: 1,540 bytes and the tries with an image are one to one.
 use mathlib.Core.Path.{_∙_, _≡_, ap, refl, sym}
-use mathlib.Core.Bool.{Bool, cond, false, true}
+use mathlib.Core.Bool.{cond}
 use mathlib.Core.List.{List, [], _++_, _∷_, append-assoc, append-nil}
 use mathlib.Core.Option.{Option, none as nothing, some}
 use Prim.Native.Nat.{_%_, _*_, _+_, _-_, _/_, _<_, _≤_, suc, zero, ℕ}
@@ -10,9 +10,8 @@ use native.Mathlib.Omega.{arith}
 use lib.Dec.{ltb}
 use borrow.Author.Tests.{le-leb, le-ltb, lt-leb, lt-ltb}
 use lib.ListN.{List·getD-append, drop, getD, length, length-append, length-drop, replicate, take}
-use lib.Seq.{getD-append-add, getD-append-seam, getD-drop, take-add, take-all, take-append-le, take-at, take-suc}
+use lib.Seq.{getD-append-add, getD-append-seam, getD-drop, take-add, take-all, take-append-le, take-suc}
 use Rattle.model.specs.declared.Cell.{Cell}
-use Rattle.model.specs.declared.LookUpAnswer.{LookUpAnswer}
 use Rattle.model.specs.declared.Side.{Side}
 use Rattle.model.specs.declared.Side.the-variants.{Cell as further, Slot as slot}
 use Rattle.model.specs.declared.Trie.{Trie}
@@ -25,7 +24,7 @@ use Rattle.model.specs.Format.{headerOf}
 use Rattle.trie.specs.Walks.{walkRun}
 use Rattle.trie.proofs.Agreed.{run-live}
 use Rattle.trie.proofs.Laws.{arrive-run, landed}
-use Rattle.capi.specs.Images.{cellBytes, cellFrom, cellsBytes, cellsOf, few, headBytes, imageOf, imageSize, pairBytes, pairOf, sideNumber, sideOf, trieBelow, trieOf, trieWith}
+use Rattle.capi.specs.Images.{cellBytes, cellFrom, cellsBytes, cellsOf, few, headBytes, imageOf, imageSize, pairOf, sideNumber, sideOf, trieBelow, trieOf, trieWith}
 use Rattle.capi.proofs.Coding.{few-same, length-cellsOf, written}
 
 -- The sides that 16 bits with a sign hold: slots below 32,768, and cells from 1 to 32,768.
