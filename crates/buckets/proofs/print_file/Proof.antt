@@ -25,12 +25,12 @@ returns : tie.Need-returns
 returns c = search needs
 
 survey-of-requires : tie.Need-survey-of-requires
-survey-of-requires c κs = right-sized (c .before .size .given .1) (c .before .before .before .header-of .ensures)
+survey-of-requires c κs = right-sized _ (c .before .size .given .1) (c .before .before .before .header-of .ensures)
 
 print-buckets-requires : tie.Need-print-buckets-requires
 print-buckets-requires c κs =
     let v = c .before .before .survey-of .ensures in
-    (right-sized (c .before .before .before .before .size .given .1) (c .before .before .before .before .before .before .header-of .ensures), v .slots-inside, v .count-most)
+    (right-sized _ (c .before .before .before .before .size .given .1) (c .before .before .before .before .before .before .header-of .ensures), v .slots-inside, v .count-most)
 
 returns-2 : tie.Need-returns-2
 returns-2 c = search needs
