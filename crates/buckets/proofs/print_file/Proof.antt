@@ -1,3 +1,4 @@
+-- `print_file` meets its contract.
 use Rattle.keeper.proofs.Laws.{right-sized}
 use Prim.Native.Nat.{ℕ, _≤_, _-_, _<_, _+_, _*_}
 use native.Mathlib.Omega.{arith}
