@@ -4,7 +4,7 @@ A store is one `pwrite` of a slot's bytes, then `fdatasync`; the stores of a cal
 
 What a kill can do. A finished `pwrite` stays, synced or not; only a machine that fails loses what is not yet on disk.
 But Linux looks for a deadly signal also between two pages of one `pwrite`. A slot that lies across the edge of a page
-(a multiple of 4,096 bytes in the file) can so be left in part: about one in 1,600 kills that were aimed at the stores.
+(a multiple of 4,096 bytes in the file) can so be left in part: seen once in a trial of 1,644 kills aimed at the stores.
 The file is then bad, or for some b, rarely, sound and wrong. The format has no place for a copy of such a slot, so this
 is not mended here. A file of at most 4,096 bytes has no such slot. A power loss can do the same to a slot across the
 edge of a sector.
