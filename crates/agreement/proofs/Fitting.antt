@@ -13,6 +13,7 @@ use Rattle.model.proofs.Shapes.{shapes}
 use Rattle.model.proofs.Tries.{cell-length}
 use Rattle.trie.specs.declared.Strings.{Strings}
 use Rattle.trie.specs.Strung.{Holds, last-digits, lengths}
+use Rattle.trie.proofs.Strung.{last-digits-at, lengths-at}
 use Rattle.agreement.proofs.Parts.{Fits, Numbered}
 
 pub numbered-numbers : (p : Str) (t : Tree) → Numbered (length p) t → Numbers p t
@@ -130,16 +131,6 @@ module _ (s : Strings) where
           let m : suc (at + size L) + j ≡ at + (suc (size L) + j) = omega arith in
           let e : getD (leaves L ++ leaves R) (suc (size L) + j) 0 ≡ getD (leaves R) j 0 = rw ll at (getD-append-add (leaves L) (leaves R) j 0) in
           rw m (g (suc (size L) + j) (omega arith) ∙ e)
-
-lengths-at : (ss : List Str) (j : ℕ) → getD (lengths ss) j 0 ≡ length (getD ss j [])
-lengths-at [] j = refl
-lengths-at (x ∷ ss) zero = refl
-lengths-at (x ∷ ss) (suc j) = lengths-at ss j
-
-last-digits-at : (ss : List Str) (j : ℕ) → getD (last-digits ss) j 0 ≡ last-digit (getD ss j [])
-last-digits-at [] j = refl
-last-digits-at (x ∷ ss) zero = refl
-last-digits-at (x ∷ ss) (suc j) = last-digits-at ss j
 
 -- A tree with the strings and leaves that the arrays hold fits them.
 pub holds-fits : (s : Strings) (t : Tree) (ss : List Str) (Bs : List ℕ) → Holds s ss Bs → Numbers [] t → strings [] t ≡ ss → leaves t ≡ Bs → Fits s 0 t

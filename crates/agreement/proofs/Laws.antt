@@ -25,10 +25,11 @@ use Rattle.model.proofs.Tries.{cast, cells-count, flat-trie, inside, strings-ar
 use Rattle.trie.specs.declared.Strings.{Strings}
 use Rattle.trie.specs.Places.{Placed}
 use Rattle.trie.specs.Strung.{Holds, Strung}
+use Rattle.trie.proofs.Strung.{order-size}
 use Rattle.agreement.specs.declared.Agreement.{Agreement}
 use Rattle.agreement.specs.Decides.{Decided}
 use Rattle.agreement.specs.Passes.{Met, Passes}
-use Rattle.agreement.proofs.Parts.{Fits, Rest, Whole, all as all-met, ordered, order-size, pass-tree, same-cells, whole}
+use Rattle.agreement.proofs.Parts.{Fits, Rest, Whole, all as all-met, ordered, pass-tree, same-cells, whole}
 use Rattle.agreement.proofs.Fitting.{holds-fits, numbered-numbers, numbers-numbered, same-fits, same-leaves}
 
 some-digits : (x : Str) → x ≺ [] → 0 < length x

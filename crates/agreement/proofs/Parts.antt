@@ -15,6 +15,7 @@ use Rattle.model.proofs.Passing.{occ-snoc}
 use Rattle.model.proofs.Shapes.{Floors}
 use Rattle.trie.specs.declared.Strings.{Strings}
 use Rattle.trie.specs.Places.{InOrder, cells, no-cells}
+use Rattle.trie.proofs.Strung.{order-size}
 use Rattle.agreement.specs.declared.Frame.{Frame}
 use Rattle.agreement.specs.Passes.{Passes, ends, enters, leaves}
 
@@ -39,10 +40,6 @@ pub same-cells : {cs : List Cell} {a : Side} {t : Tree} {vs os : List ℕ} → R
 same-cells here no-cells i = refl
 same-cells (there {n = m} {vs = vs} {ws = ws} h l r) (cells {vs = xs} {ws = ys} h′ x y) i =
     omega (arith, same-cells l x i, same-cells r y i, occ-append i vs ws, occ-append i xs (m ∷ ys))
-
-pub order-size : {cs : List Cell} {a : Side} {t : Tree} {vs os : List ℕ} → Reads cs a t vs → InOrder cs a os → length os ≡ size t
-order-size here no-cells = refl
-order-size (there {n = m} h l r) (cells {vs = xs} {ws = ys} h′ x y) = omega (arith, order-size l x, order-size r y, length-append xs (m ∷ ys))
 
 -- No number exceeds the length of the path, which begins so long.
 abbrev pub Numbered : ℕ → Tree → Type 0

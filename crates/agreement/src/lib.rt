@@ -17,6 +17,7 @@ use model::Side;
 use model::Trie;
 use trie::Strings;
 use trie::number;
+use trie::short;
 
 // A cell whose left part is under way, and the length of the path to it.
 pub struct Frame {
@@ -89,13 +90,6 @@ fn byte(x: usize) -> u8
     ensures { λ r. ⌜ r ≡ x ⌝ }
 {
     x as u8
-}
-
-fn short(x: usize) -> u16
-    requires { ⌜ x < 65536 ⌝ }
-    ensures { λ r. ⌜ r ≡ x ⌝ }
-{
-    x as u16
 }
 
 // The pass itself, over a trie whose count is the number of strings and not 0.

@@ -13,7 +13,7 @@ use Rattle.model.specs.Growth.{path-cells, root, spot-cells}
 use Rattle.model.proofs.Cells.{reads-append, visits-count, walk-reads}
 use Rattle.model.proofs.Files.{one-range}
 use Rattle.model.proofs.Agreement.{agrees-walk}
-use Rattle.trie.specs.declared.Walked.{Walked}
+use Rattle.trie.specs.declared.Walk.{Walk}
 use Rattle.trie.specs.Places.{Placed}
 use Rattle.trie.specs.Strung.{lengths}
 use Rattle.trie.specs.Walks.{Ended, Walks, walkOf}
@@ -35,9 +35,9 @@ module _ {b : ℕ} {fs : List Slot} (S : Sound b fs) {t : Trie} (A : Agrees fs t
       whole : Reads (t .cells) (top-side t) (A .tree) (A .visits)
       whole = rw take-append-drop at (reads-append (drop (t .count) (t .cells)) (A .reads))
 
-  pub asked : (r : Walked) {places lens : List ℕ} {c s : Str} {shared a : ℕ} → Placed t places → take (length (strings-of fs)) lens ≡ lengths (strings-of fs)
+  pub asked : (r : Walk) {places lens : List ℕ} {c s : Str} {shared a : ℕ} → Placed t places → take (length (strings-of fs)) lens ≡ lengths (strings-of fs)
       → length c ≡ 24 → 0 < length s → s ≡ take (length s) c → In (head (slot-at fs a)) c → Walks r (walkOf t c)
-      → shared ≡ diff s (take (r .walk .len) (r .walk .path)) → Asked t places lens (r .walk) c s shared a
+      → shared ≡ diff s (take (r .len) (r .path)) → Asked t places lens r c s shared a
   asked r {c = c} {s = s} P lens full some begins i w shares =
       record {
         b = b;

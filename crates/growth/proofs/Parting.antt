@@ -26,14 +26,10 @@ use Rattle.model.proofs.GrownCells.{diff-begin, path-at, path-reads, spot, spot
 use Rattle.trie.specs.declared.Walk.{Walk}
 use Rattle.trie.specs.Strung.{lengths}
 use Rattle.trie.specs.Walks.{By}
+use Rattle.trie.proofs.Strung.{lengths-at, order-size}
 use Rattle.growth.specs.Grows.{Asked, live-cells, top-side}
 use Rattle.growth.specs.Parts.{FirstPlace, leaf-place}
-use Rattle.growth.proofs.Standing.{Ends, Side-by, asc-le, asc-lt, at-mem, left-of, mem-at, no-cell, order-below, order-length, right-of, walk-stands}
-
-at-lengths : (ss : List Str) (j : ℕ) → getD (lengths ss) j 0 ≡ length (getD ss j [])
-at-lengths [] j = refl
-at-lengths (x ∷ ss) zero = refl
-at-lengths (x ∷ ss) (suc j) = at-lengths ss j
+use Rattle.growth.proofs.Standing.{Ends, Side-by, asc-le, asc-lt, at-mem, left-of, mem-at, no-cell, order-below, right-of, walk-stands}
 
 leaf-on-left : (w : Walk) (places : List ℕ) (m : ℕ) → w .cell ≡ m → w .left ≡ true → m < 256 → leaf-place w places ≡ getD places m 0
 unfolding leaf-place
@@ -68,7 +64,7 @@ module _ {t : Trie} {places lens : List ℕ} {w : Walk} {c s : Str} {shared a : 
   strings-count = sym (cells-count (C .trie)) ∙ sym (reads-size (C .reads)) ∙ visits ∙ live
 
   pub order-count : length os ≡ t .count
-  order-count = order-length (C .reads) (K .placed .in-order) ∙ sym (reads-size (C .reads)) ∙ visits ∙ live
+  order-count = order-size (C .reads) (K .placed .in-order) ∙ sym (reads-size (C .reads)) ∙ visits ∙ live
 
   -- The walk of c, in the tree: the leaf's path, the side by which it is reached, its slot and its place.
   abbrev pub path : Str
@@ -114,7 +110,7 @@ module _ {t : Trie} {places lens : List ℕ} {w : Walk} {c s : Str} {shared a : 
   lens-at : (j : ℕ) → j < length ss → getD lens j 0 ≡ length (getD ss j [])
   lens-at j h =
       let e : take (length ss) lens ≡ lengths ss = rw (strings-right (K .b) (K .sound)) at (K .lens-are) in
-      sym (getD-take (length ss) lens j 0 h) ∙ ap (λ (l : List ℕ). getD l j 0) e ∙ at-lengths ss j
+      sym (getD-take (length ss) lens j 0 h) ∙ ap (λ (l : List ℕ). getD l j 0) e ∙ lengths-at ss j
 
   -- s is a string already: the first place with as many digits is its own.
   module _ (same : shared ≡ length s) where

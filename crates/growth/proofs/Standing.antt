@@ -17,6 +17,7 @@ use Rattle.model.proofs.Strings.{trie-asc}
 use Rattle.model.proofs.Tries.{cells-count}
 use Rattle.model.proofs.GrownCells.{path-at, spot}
 use Rattle.trie.specs.Places.{InOrder, cells, no-cells}
+use Rattle.trie.proofs.Strung.{order-size}
 use Rattle.growth.proofs.Meeting.{Met, at-once, on-left, on-right, string-of}
 
 -- A list that goes on with q: up to its end q is what comes next; behind q the rest.
@@ -64,11 +65,6 @@ asc-le {ss = ss} s i j h = elim (decLt i (length ss)) [
   | yes k ↦ elim (ℕ-discrete i j) [ yes e ↦ rw e (le-refl (getD ss j [])) | no n ↦ lt-le (asc-lt s i j (omega arith) k) ]
 ]
 
--- As many cells in order ns strings.
-pub order-length : {cs : List Cell} {a : Side} {t : Tree} {vs os : List ℕ} → Reads cs a t vs → InOrder cs a os → length os ≡ size t
-order-length here no-cells = refl
-order-length (there {n = m} h l r) (cells {vs = ns} {ws = ks} k x y) = omega (arith, order-length l x, order-length r y, length-append ns (m ∷ ks))
-
 pub order-below : {cs : List Cell} {a : Side} {os : List ℕ} → InOrder cs a os → (j : ℕ) → j < length os → getD os j 0 < length cs
 order-below no-cells j h = absurd (omega arith)
 order-below {cs} (cells {m = m} {vs = ns} {ws = ks} k x y) j h = go (decLt j (length ns)) (ℕ-discrete j (length ns)) (λ b. order-below x j b) (λ b. order-below y (j - suc (length ns)) b)
@@ -96,7 +92,7 @@ pub record Stands (cs : List Cell) (u : Str) (ss : List Str) (os : List ℕ) (m 
 pub met-stands : {P : Low → Str → ℕ → Type 0} {cs : List Cell} {a : Side} {t : Tree} {vs os : List ℕ} {l : Low} {u : Str} {ss : List Str} {m : ℕ} {r : Str}
     → Reads cs a t vs → Spans P l u t ss → InOrder cs a os → Met cs u a m r → Stands cs u ss os m r
 met-stands {cs = cs} {u = u} (there {n = m} h x y) (cut {xs = xs} {ys = ys} i a b X Y) (cells {vs = ns} {ws = ks} k o o′) at-once =
-    let len : length ns ≡ length xs = order-length x o ∙ cells-count X in
+    let len : length ns ≡ length xs = order-size x o ∙ cells-count X in
     let q : Str = string-of (at-cell cs m) u in
     record {
       place = length xs;
@@ -106,7 +102,7 @@ met-stands {cs = cs} {u = u} (there {n = m} h x y) (cut {xs = xs} {ys = ys} i a 
       next = λ s e. rw (behind xs q ys u 0 (suc (length xs)) (omega arith), none-below s e y Y);
     }
 met-stands {cs = cs} {u = u} (there {n = m} h x y) (cut {xs = xs} {ys = ys} i a b X Y) (cells {vs = ns} {ws = ks} k o o′) (on-left z) =
-    let len : length ns ≡ length xs = order-length x o ∙ cells-count X in
+    let len : length ns ≡ length xs = order-size x o ∙ cells-count X in
     let q : Str = string-of (at-cell cs m) u in
     let S = met-stands x X o z in
     record {
@@ -117,7 +113,7 @@ met-stands {cs = cs} {u = u} (there {n = m} h x y) (cut {xs = xs} {ys = ys} i a 
       next = λ s e. rw (up-to xs q ys u (suc (S .place)) (omega (arith, S .fits))) (S .next s e);
     }
 met-stands {cs = cs} {u = u} (there {n = m} h x y) (cut {xs = xs} {ys = ys} i a b X Y) (cells {vs = ns} {ws = ks} k o o′) (on-right z) =
-    let len : length ns ≡ length xs = order-length x o ∙ cells-count X in
+    let len : length ns ≡ length xs = order-size x o ∙ cells-count X in
     let q : Str = string-of (at-cell cs m) u in
     let S = met-stands y Y o′ z in
     let at : ℕ = suc (length xs + S .place) in
@@ -231,7 +227,7 @@ walk-stands {cs = cs} {u = u} c k (there {n = m} {L = L} {R = R} h x y) (cut {xs
     q = string-of (at-cell cs m) u
 
     len : length ns ≡ length xs
-    len = order-length x o ∙ cells-count X
+    len = order-size x o ∙ cells-count X
 
     low : q ≺ c → (j : ℕ) → j ≤ length xs → getD xs j q ≺ c
     low w j h = elim (decLt j (length xs)) [

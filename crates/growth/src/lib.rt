@@ -15,13 +15,7 @@ use model::Side;
 use model::Trie;
 use trie::Walk;
 use trie::number;
-
-fn short(x: usize) -> u16
-    requires { ⌜ x ≤ 256 ⌝ }
-    ensures { λ r. ⌜ r ≡ x ⌝ }
-{
-    x as u16
-}
+use trie::short;
 
 // How many digits s shares with the path of the leaf at which the split key's walk ended: as many beginnings of s are
 // strings already, and all of them where s is a cell's string.

@@ -31,6 +31,7 @@ use model::PutAnswer;
 use model::PutGiven;
 use model::RemoveAnswer;
 use model::Trie;
+use trie::short;
 
 fn given(answer: PutAnswer, trie: Trie) -> PutGiven
     ensures { λ r. ⌜ (r .answer ≡ answer) × (r .trie ≡ trie) ⌝ }
@@ -185,13 +186,6 @@ fn written_below(lower: &[u8], string: &[u8; 24], len: usize, entries: &[u8]) ->
 {
     let whole = &string[..];
     bucket::written(lower, &whole[0..len], entries)
-}
-
-fn short(x: usize) -> u16
-    requires { ⌜ x < 64 ⌝ }
-    ensures { λ r. ⌜ r ≡ x ⌝ }
-{
-    x as u16
 }
 
 // The trie after a split.

@@ -17,6 +17,7 @@ use Rattle.model.proofs.Rebuilding.{pick-fits}
 use Rattle.trie.specs.declared.Strings.{Strings}
 use Rattle.trie.specs.Strung.{Holds, last-digits, lengths}
 use Rattle.trie.proofs.Agreed.{string-short}
+use Rattle.trie.proofs.Strung.{last-digits-at, lengths-at}
 use Rattle.rebuilding.specs.Roots.{middle, part, run}
 use Rattle.rebuilding.specs.Runs.{rebuilt-of, run-tree}
 use Rattle.rebuilding.proofs.Picks.{middle-add, pick-middle}
@@ -103,16 +104,6 @@ module _ (lens digits slots : List ℕ) (lab : Low → ℕ) where
           let k : to - from ≡ length ss = omega arith in
           rw (k, part-lengths ss from (R .len-at), pick-middle x xs (R .short 0 (omega arith))) (middle-add from (map length ss))
 
-lengths-at : (ss : List Str) (i : ℕ) → i < length ss → getD (lengths ss) i 0 ≡ length (getD ss i [])
-lengths-at [] i h = absurd (omega arith)
-lengths-at (x ∷ xs) zero h = refl
-lengths-at (x ∷ xs) (suc i) h = lengths-at xs i (omega arith)
-
-last-digits-at : (ss : List Str) (i : ℕ) → i < length ss → getD (last-digits ss) i 0 ≡ last-digit (getD ss i [])
-last-digits-at [] i h = absurd (omega arith)
-last-digits-at (x ∷ xs) zero h = refl
-last-digits-at (x ∷ xs) (suc i) h = last-digits-at xs i (omega arith)
-
 between-first : (fs : List Slot) (l : Low) (ss : List Str) → getD (slotsBetween fs l ss) 0 0 ≡ label (ranges fs) (order-of fs) l
 unfolding slotsBetween
 between-first fs l [] = refl
@@ -149,8 +140,8 @@ rebuilt-right {b} {fs} S s H few =
 
     row : Row (s .lens) (s .digits) (s .slots) lab 0 none ss
     row = record {
-      len-at = λ i h. rw (place i) (sym (getD-take n (s .lens) i 0 h) ∙ ap (λ (xs : List ℕ). getD xs i 0) (H .lens-are) ∙ lengths-at ss i h);
-      digit-at = λ i h. rw (place i) (sym (getD-take n (s .digits) i 0 h) ∙ ap (λ (xs : List ℕ). getD xs i 0) (H .digits-are) ∙ last-digits-at ss i h);
+      len-at = λ i h. rw (place i) (sym (getD-take n (s .lens) i 0 h) ∙ ap (λ (xs : List ℕ). getD xs i 0) (H .lens-are) ∙ lengths-at ss i);
+      digit-at = λ i h. rw (place i) (sym (getD-take n (s .digits) i 0 h) ∙ ap (λ (xs : List ℕ). getD xs i 0) (H .digits-are) ∙ last-digits-at ss i);
       left-at = slots-at 0 (omega arith) ∙ between-first fs none ss;
       right-at = λ i h. rw (place i) (slots-at (suc i) (omega arith) ∙ between-at fs none ss i h);
       short = λ i h. omega (arith, string-short S (strings-only b S (getD ss i []) (mem-at [] ss i h)));

@@ -15,18 +15,12 @@ use model::Side;
 use model::Trie;
 use trie::Strings;
 use trie::number;
+use trie::short;
 
 // The strings from the first place on and below the second.
 pub struct Run {
     pub from: u16,
     pub to: u16,
-}
-
-fn short(x: usize) -> u16
-    requires { ⌜ x ≤ 256 ⌝ }
-    ensures { λ r. ⌜ r ≡ x ⌝ }
-{
-    x as u16
 }
 
 fn lesser(x: u8, y: u8) -> u8

@@ -1,13 +1,15 @@
 -- The walk cell by cell: the definition, the code's walk of it, and where it arrives.
 use mathlib.Core.Path.{_∙_, _≡_, ap, refl, subst, sym}
 use mathlib.Core.Bool.{Bool, cond, false, not, true}
+use mathlib.Core.Logic.{_⊎_, inl, inr}
 use mathlib.Core.Option.{Option, none as nothing, some}
 use mathlib.Core.List.{List, []}
 use Prim.Native.Nat.{_+_, _-_, _<_, _≤_, suc, zero, ℕ}
 use native.Mathlib.Numerals.{add-one}
+use native.Mathlib.Decide.{decLe, ℕ-discrete}
 use native.Mathlib.Omega.{arith}
-use borrow.Author.Tests.{le-leb, le-ltb, lt-leb, lt-ltb}
-use lib.Dec.{leb, ltb}
+use borrow.Author.Tests.{eq-eqb, le-leb, le-ltb, lt-leb, lt-ltb, ne-eqb}
+use lib.Dec.{eqb, leb, ltb}
 use lib.ListN.{length, length-set, set, take}
 use lib.Seq.{length-take-le, take-suc-set, take-take}
 use Rattle.model.specs.declared.Cell.{Cell}
@@ -19,34 +21,15 @@ use Rattle.model.specs.Names.{within}
 use Rattle.model.specs.Tries.{at-cell, cell, root-side}
 use Rattle.model.specs.Growth.{Spot, left, right, root}
 use Rattle.model.specs.Calls.{arrive}
-use Rattle.trie.specs.declared.Arrival.the-variants.{At, Stale}
 use Rattle.trie.specs.declared.Walk.{Walk}
-use Rattle.trie.specs.declared.Walked.{Walked}
-use Rattle.trie.specs.Walks.{Begun, By, Stepped, Walks, arrival, arrivalOf, pathAfter, placeAfter, spotAfter, walkOf, walkRun}
+use Rattle.trie.specs.declared.Place.{Place}
+use Rattle.trie.specs.declared.Place.the-variants.{Cell as before-cell, Slot as at-slot, Stale as stale}
+use Rattle.trie.specs.Walks.{Ahead, Strayed, Underway, Walks, placeOf, walkOf, walkRun}
 
 -- Cell 0 is the root unless the count is 0.
 pub root-further : (count first : ℕ) → (count ≡ 0 → ⊥) → further 0 ≡ root-side count first
 root-further zero first h = absurd (h refl)
 root-further (suc count) first h = refl
-
--- The code writes the cell's digit into the path, and has the cell's string.
-module _ (n path : Str) (len k m : ℕ) (c : Cell) (e : k ≡ c .number) (b : k ≤ len) (s : k ≤ 23) (full : length path ≡ 24) where
-  string-is : take (k + 1) (set path k (c .digit)) ≡ cell (c .digit) (c .number) (take len path)
-  string-is = rw (add-one, take-suc-set path k (c .digit) (omega arith), ← take-take k len path b, e)
-
-  pub stepped-left : within n (take (k + 1) (set path k (c .digit))) ≡ true
-      → Stepped n (take len path) m c (record { path = set path k (c .digit); len = k + 1; place = c .left; cell = m; left = true })
-  unfolding pathAfter spotAfter placeAfter
-  stepped-left w =
-      let v : within n (cell (c .digit) (c .number) (take len path)) ≡ true = rw string-is at w in
-      record { short = omega arith; full = simp length-set full; path = rw (v, string-is); by = rw v (refl, refl); place = rw v }
-
-  pub stepped-right : len ≤ 24 → within n (take (k + 1) (set path k (c .digit))) ≡ false
-      → Stepped n (take len path) m c (record { path = path; len = len; place = c .right; cell = m; left = false })
-  unfolding pathAfter spotAfter placeAfter
-  stepped-right h w =
-      let v : within n (cell (c .digit) (c .number) (take len path)) ≡ false = rw string-is at w in
-      record { short = h; full = full; path = rw v; by = rw v (refl, refl); place = rw v }
 
 module _ (count : ℕ) (cs : List Cell) (n p : Str) (k : Spot) where
   pub run-slot : (f s : ℕ) → walkRun f count cs n p k (slot s) ≡ some (p, k, s)
@@ -85,86 +68,164 @@ module _ (count : ℕ) (cs : List Cell) (n p : Str) (k : Spot) where
     unfolding walkRun
     run-right e = rw (lt-ltb m count h, le-leb _ _ j, le-leb _ _ l, e)
 
-    pub run-pass : walkRun (suc f) count cs n p k (further m)
-        ≡ walkRun f count cs n (pathAfter n p (at-cell cs m)) (spotAfter n p m (at-cell cs m)) (placeAfter n p (at-cell cs m))
-    unfolding pathAfter spotAfter placeAfter
-    run-pass = go (within n (cell (at-cell cs m .digit) (at-cell cs m .number) p)) refl
-      where
-        go : (b : Bool) → within n (cell (at-cell cs m .digit) (at-cell cs m .number) p) ≡ b → walkRun (suc f) count cs n p k (further m)
-            ≡ walkRun f count cs n (pathAfter n p (at-cell cs m)) (spotAfter n p m (at-cell cs m)) (placeAfter n p (at-cell cs m))
-        go true e = rw e (run-left e)
-        go false e = rw e (run-right e)
+-- A walk goes on from the place that a side leads to.
+onward : {o : Option (Str × Spot × ℕ)} (cs : List Cell) (n : Str) (w : Walk) (k : Spot) (a : Side) → w .count ≤ 256
+    → o ≡ walkRun (w .more) (w .count) cs n (take (w .len) (w .path)) k a → Ahead (placeOf a (w .count) (w .more)) o cs n w k
+unfolding placeOf
+onward {o} cs n w k (slot s) h e = e ∙ run-slot (w .count) cs n (take (w .len) (w .path)) k (w .more) s
+onward {o} cs n w k (further i) h e = go (ℕ-discrete (w .more) 0) (decLe (w .count) i)
+  where
+    p : Str
+    p = take (w .len) (w .path)
 
--- The code's walk on its way, with f cells left: it will end as `o`.
-pub record Underway (o : Option (Str × Spot × ℕ)) (f count : ℕ) (cs : List Cell) (n : Str) (w : Walk) : Type 0 where
-  pub short : w .len ≤ 24
-  pub full : length (w .path) ≡ 24
-  pub spot : Spot
-  pub by : By spot w
-  pub rest : o ≡ walkRun f count cs n (take (w .len) (w .path)) spot (w .place)
+    go : Dec (w .more ≡ 0) → Dec (w .count ≤ i) → Ahead (cond (eqb (w .more) 0) stale (cond (leb (w .count) i) stale (before-cell i))) o cs n w k
+    go (yes z) d = rw (eq-eqb (w .more) 0 z) (e ∙ run-none (w .count) cs n p k (w .more) i z)
+    go (no z) (yes l) = rw (ne-eqb (w .more) 0 z, le-leb (w .count) i l) (e ∙ run-count (w .count) cs n p k (w .more) i l)
+    go (no z) (no l) = rw (ne-eqb (w .more) 0 z, lt-leb (w .count) i (omega arith)) (omega arith, omega arith, h, e)
 
--- What the code hands back where the definition gives nothing.
-pub is-stale : {o : Option (Str × Spot × ℕ)} (r : Walked) → (r .walk .len ≤ 24) × (r .ended ≡ false) → o ≡ nothing → (r .walk .len ≤ 24) × Walks r o
-is-stale {o} r h e = (h .0, subst (λ (x : Option (Str × Spot × ℕ)). Walks r x) (sym e) (h .1))
+-- The places, side by side.
+module _ {a : Side} (count more : ℕ) where
+  pub place-slot : {s : ℕ} → a ≡ slot s → at-slot s ≡ placeOf a count more
+  unfolding placeOf
+  place-slot e = rw e
 
-module _ (t : Trie) (n : Str) where
-  pub too-many : 256 < t .count → walkOf t n ≡ nothing
+  pub place-none : {i : ℕ} → a ≡ further i → more ≡ 0 → stale ≡ placeOf a count more
+  unfolding placeOf
+  place-none e z = rw (e, eq-eqb more 0 z)
+
+  pub place-past : {i : ℕ} → a ≡ further i → (more ≡ 0 → ⊥) → count ≤ i → stale ≡ placeOf a count more
+  unfolding placeOf
+  place-past {i} e z h = rw (e, ne-eqb more 0 z, le-leb count i h)
+
+  pub place-cell : {i : ℕ} → a ≡ further i → (more ≡ 0 → ⊥) → i < count → before-cell i ≡ placeOf a count more
+  unfolding placeOf
+  place-cell {i} e z h = rw (e, ne-eqb more 0 z, lt-leb count i h)
+
+-- The walk begins at the root, with the empty path.
+pub root-begins : (count first : ℕ) → count ≤ 256 → (count ≡ 0 → ⊥) → before-cell 0 ≡ cond (leb count 256) (placeOf (root-side count first) count count) stale
+root-begins count first h z = rw (le-leb count 256 h) (place-cell count count (sym (root-further count first z)) z (omega (arith, z)))
+
+module _ (t : Trie) (n : Str) (w : Walk) (count-is : t .count ≡ w .count) where
+  first-run : w .count ≤ 256 → w .len ≡ 0 → w .more ≡ w .count
+      → walkOf t n ≡ walkRun (w .more) (w .count) (t .cells) n (take (w .len) (w .path)) root (root-side (w .count) (t .first))
   unfolding walkOf
-  too-many h = rw (lt-leb _ _ h)
+  first-run h z m = rw (count-is, le-leb (w .count) 256 h, m, z)
 
-  pub begins : {w : Walk} → t .count ≤ 256 → Begun (root-side (t .count) (t .first)) w → Underway (walkOf t n) (t .count) (t .count) (t .cells) n w
+  too-many : 256 < w .count → walkOf t n ≡ nothing
   unfolding walkOf
-  begins {w} h B = record { short = omega arith; full = B .full; spot = root; by = tt; rest = rw (le-leb _ _ h, B .len, B .place) }
+  too-many h = rw (count-is, lt-leb (w .count) 256 h)
 
-module _ {o : Option (Str × Spot × ℕ)} {f count : ℕ} {cs : List Cell} {n : Str} {w : Walk} (u : Underway o f count cs n w) where
-  path-length : length (take (w .len) (w .path)) ≡ w .len
+  pub begins : w .len ≡ 0 → length (w .path) ≡ 24 → w .more ≡ w .count
+      → w .place ≡ cond (leb (w .count) 256) (placeOf (root-side (w .count) (t .first)) (w .count) (w .more)) stale → Underway (walkOf t n) (t .cells) n w
+  begins z full m at = record { short = omega arith; full = full; spot = root; by = tt; ahead = subst (λ (x : Place). Ahead x (walkOf t n) (t .cells) n w root) (sym at) (go (decLe (w .count) 256)) }
+    where
+      a : Side
+      a = root-side (w .count) (t .first)
+
+      go : Dec (w .count ≤ 256) → Ahead (cond (leb (w .count) 256) (placeOf a (w .count) (w .more)) stale) (walkOf t n) (t .cells) n w root
+      go (yes h) = rw (le-leb (w .count) 256 h) (onward {o = walkOf t n} (t .cells) n w root a h (first-run h z m))
+      go (no h) = rw (lt-leb (w .count) 256 (omega arith)) (too-many (omega arith))
+
+-- A walk that strayed will end as nothing.
+pub strays : {o : Option (Str × Spot × ℕ)} (cs : List Cell) (n : Str) {r : Walk} → Strayed r → o ≡ nothing → Underway o cs n r
+strays cs n {r} S e = record { short = omega (arith, S .len); full = S .full; spot = root; by = tt; ahead = rw (S .place) e }
+
+-- One step, over a cell that the walk stands before.
+module _ (n : Str) (w : Walk) (i : ℕ) (c : Cell) (o : Option (Str × Spot × ℕ)) (cs : List Cell) (e : w .place ≡ before-cell i) (f : at-cell cs i ≡ c)
+    (u : Underway o cs n w) where
+  abbrev p : Str
+  p = take (w .len) (w .path)
+
+  path-length : length p ≡ w .len
   path-length = length-take-le (w .len) (w .path) (omega (arith, u .short, u .full))
 
-  pub ends : {s : ℕ} → w .place ≡ slot s → (w .len ≤ 24) × Walks (record { ended = true; walk = w }) o
-  ends {s} e =
-      let whole : o ≡ some (take (w .len) (w .path), u .spot, s) = u .rest ∙ rw e (run-slot count cs n (take (w .len) (w .path)) (u .spot) f s) in (
-        u .short,
-        subst (λ (x : Option (Str × Spot × ℕ)). Walks (record { ended = true; walk = w }) x) (sym whole)
-            (record { ended = refl; len = sym path-length; path = refl; by = u .by; place = e }),
-      )
+  here : Ahead (before-cell i) o cs n w (u .spot)
+  here = rw e at (u .ahead)
 
-  module _ {m : ℕ} (e : w .place ≡ further m) where
-    at-further : o ≡ walkRun f count cs n (take (w .len) (w .path)) (u .spot) (further m)
-    at-further = rw e at (u .rest)
+  pub number-strays : w .len < c .number → o ≡ nothing
+  number-strays h = here .3 ∙ run-number (w .count) cs n p (u .spot) (w .more) i (here .1) (rw (path-length, f) h)
 
-    pub ends-none : f ≡ 0 → o ≡ nothing
-    ends-none z = at-further ∙ run-none count cs n (take (w .len) (w .path)) (u .spot) f m z
+  pub last-strays : c .number ≤ w .len → 23 < c .number → o ≡ nothing
+  last-strays h l = here .3 ∙ run-last (w .count) cs n p (u .spot) (w .more) i (here .1) (rw (path-length, f) h) (rw f l)
 
-    pub ends-count : count ≤ m → o ≡ nothing
-    ends-count h = at-further ∙ run-count count cs n (take (w .len) (w .path)) (u .spot) f m h
+  -- The code writes the cell's digit into the path, and has the cell's string.
+  module _ {k : ℕ} (number-is : k ≡ c .number) (b : k ≤ w .len) (s : k ≤ 23) where
+    abbrev string : Str
+    string = cell (at-cell cs i .digit) (at-cell cs i .number) p
 
-    module _ {k : ℕ} (i : k ≡ m) (h : m < count) where
-      pub ends-number : w .len < at-cell cs k .number → o ≡ nothing
-      ends-number j =
-          let l : w .len < at-cell cs m .number = rw i at j in
-          at-further ∙ run-number count cs n (take (w .len) (w .path)) (u .spot) f m h (rw path-length l)
+    string-is : take (k + 1) (set (w .path) k (c .digit)) ≡ string
+    string-is = rw (add-one, take-suc-set (w .path) k (c .digit) (omega (arith, u .full)), ← take-take k (w .len) (w .path) b, number-is, f)
 
-      pub ends-last : at-cell cs k .number ≤ w .len → 23 < at-cell cs k .number → o ≡ nothing
-      ends-last j l =
-          let j′ : at-cell cs m .number ≤ w .len = rw i at j in
-          let l′ : 23 < at-cell cs m .number = rw i at l in
-          at-further ∙ run-last count cs n (take (w .len) (w .path)) (u .spot) f m h (rw path-length j′) l′
+    fuel : w .more ≡ suc (w .more - 1)
+    fuel = omega (arith, here .0)
 
-      pub passes : {v : Walk} → (f ≡ 0 → ⊥) → at-cell cs k .number ≤ w .len → at-cell cs k .number ≤ 23
-          → Stepped n (take (w .len) (w .path)) m (at-cell cs k) v → Underway o (f - 1) count cs n v
-      passes {v} z j l S =
-          let j′ : at-cell cs m .number ≤ w .len = rw i at j in
-          let l′ : at-cell cs m .number ≤ 23 = rw i at l in
-          let T : Stepped n (take (w .len) (w .path)) m (at-cell cs m) v = rw i at S in
-          let e : f ≡ suc (f - 1) = omega (arith, z) in
-          let one = ap (λ (x : ℕ). walkRun x count cs n (take (w .len) (w .path)) (u .spot) (further m)) e in
-          record {
-            short = T .short;
-            full = T .full;
-            spot = spotAfter n (take (w .len) (w .path)) m (at-cell cs m);
-            by = T .by;
-            rest = rw (T .path, T .place) (at-further ∙ one ∙ run-pass count cs n (take (w .len) (w .path)) (u .spot) (f - 1) m h (rw path-length j′) l′);
-          }
+    run-is : o ≡ walkRun (suc (w .more - 1)) (w .count) cs n p (u .spot) (further i)
+    run-is = here .3 ∙ ap (λ (x : ℕ). walkRun x (w .count) cs n p (u .spot) (further i)) fuel
+
+    fits : at-cell cs i .number ≤ length p
+    fits = rw (path-length, f, ← number-is) b
+
+    last : at-cell cs i .number ≤ 23
+    last = rw (f, ← number-is) s
+
+    pub goes-left : {a : Place} → within n (take (k + 1) (set (w .path) k (c .digit))) ≡ true → a ≡ placeOf (c .left) (w .count) (w .more - 1)
+        → Underway o cs n (record { path = set (w .path) k (c .digit); len = k + 1; place = a; cell = i; left = true; count = w .count; more = w .more - 1 })
+    goes-left {a} g at =
+        record {
+          short = omega arith;
+          full = simp length-set (u .full);
+          spot = left i;
+          by = (refl, refl);
+          ahead = subst (λ (x : Place). Ahead x o cs n r (left i)) (sym at) (onward cs n r (left i) (c .left) (here .2) rest);
+        }
+      where
+        r : Walk
+        r = record { path = set (w .path) k (c .digit); len = k + 1; place = a; cell = i; left = true; count = w .count; more = w .more - 1 }
+
+        v : within n string ≡ true
+        v = rw string-is at g
+
+        rest : o ≡ walkRun (w .more - 1) (w .count) cs n (take (k + 1) (set (w .path) k (c .digit))) (left i) (c .left)
+        rest = rw (string-is, ← f) (run-is ∙ run-left (w .count) cs n p (u .spot) (w .more - 1) i (here .1) fits last v)
+
+    pub goes-right : {a : Place} → within n (take (k + 1) (set (w .path) k (c .digit))) ≡ false → a ≡ placeOf (c .right) (w .count) (w .more - 1)
+        → Underway o cs n (record { path = w .path; len = w .len; place = a; cell = i; left = false; count = w .count; more = w .more - 1 })
+    goes-right {a} g at =
+        record {
+          short = u .short;
+          full = u .full;
+          spot = right i;
+          by = (refl, refl);
+          ahead = subst (λ (x : Place). Ahead x o cs n r (right i)) (sym at) (onward cs n r (right i) (c .right) (here .2) rest);
+        }
+      where
+        r : Walk
+        r = record { path = w .path; len = w .len; place = a; cell = i; left = false; count = w .count; more = w .more - 1 }
+
+        v : within n string ≡ false
+        v = rw string-is at g
+
+        rest : o ≡ walkRun (w .more - 1) (w .count) cs n p (right i) (c .right)
+        rest = rw (← f) (run-is ∙ run-right (w .count) cs n p (u .spot) (w .more - 1) i (here .1) fits last v)
+
+-- The first of a place's cases is neither of the others.
+pub no-cell : _≡_ {A = ℕ} 0 1 ⊎ _≡_ {A = ℕ} 0 2 → ⊥
+no-cell (inl e) = absurd (omega arith)
+no-cell (inr e) = absurd (omega arith)
+
+-- A walk that stands before no cell has ended.
+module _ {o : Option (Str × Spot × ℕ)} {cs : List Cell} {n : Str} {w : Walk} (u : Underway o cs n w) where
+  pub ends : ((i : ℕ) → w .place ≡ before-cell i → ⊥) → (w .len ≤ 24) × Walks w o
+  ends apart = (u .short, go (w .place) refl (u .ahead))
+    where
+      go : (a : Place) → w .place ≡ a → Ahead a o cs n w (u .spot) → Walks w o
+      go (before-cell i) e h = absurd (apart i e)
+      go (at-slot s) e h = subst (λ (x : Option (Str × Spot × ℕ)). Walks w x) (sym h)
+          (record { len = sym (length-take-le (w .len) (w .path) (omega (arith, u .short, u .full))); path = refl; by = u .by; place = e })
+      go stale e h = subst (λ (x : Option (Str × Spot × ℕ)). Walks w x) (sym h) e
+
+  pub before : {i : ℕ} → w .place ≡ before-cell i → (0 < w .more) × (i < 256)
+  before e = let h = rw e at (u .ahead) in (h .0, omega (arith, h .1, h .2))
 
 -- The slot of a walk, where it is one of the file's.
 abbrev pub landed : ℕ → Option (Str × Spot × ℕ) → Option ℕ
@@ -189,43 +250,14 @@ arrive-run (suc f) slots count cs n p k (further m) =
       arrive-run f slots count cs n p (right m) (at-cell cs m .right),
     )
 
-pub arrival-of-walk : (t : Trie) (n : Str) (slots : ℕ) → arrivalOf t n slots ≡ arrival (landed slots (walkOf t n))
-unfolding arrivalOf walkOf
-arrival-of-walk t n slots = go (leb (t .count) 256) refl
-  where
-    go : (b : Bool) → leb (t .count) 256 ≡ b → arrivalOf t n slots ≡ arrival (landed slots (walkOf t n))
-    go true e = rw (e, arrive-run (t .count) slots (t .count) (t .cells) n [] root (root-side (t .count) (t .first)))
-    go false e = rw e
-
--- What the code's walk says of the arrival.
-module _ (slots : ℕ) (r : Walked) where
-  pub lands-nowhere : (o : Option (Str × Spot × ℕ)) → Walks r o → not (r .ended) ≡ true → arrival (landed slots o) ≡ Stale
-  lands-nowhere nothing h e = refl
-  lands-nowhere (some (p, k, s)) h e =
-      let z : _≡_ {A = Bool} false true = rw (h .ended) at e in
+-- The slot that a walk says it ended at is the one where it lands.
+module _ (slots : ℕ) (w : Walk) where
+  pub lands-at : (s : ℕ) → w .place ≡ at-slot s → (o : Option (Str × Spot × ℕ)) → Walks w o → landed slots o ≡ cond (ltb s slots) (some s) nothing
+  lands-at s q nothing h =
+      let z : at-slot s ≡ stale = sym q ∙ h in
       let y : _≡_ {A = ℕ} 0 1 = cc in
       absurd (omega arith)
-
-  module _ (i : ℕ) (e : not (r .ended) ≡ false) (q : r .walk .place ≡ slot i) where
-    slot-of : (o : Option (Str × Spot × ℕ)) → Walks r o → landed slots o ≡ cond (ltb i slots) (some i) nothing
-    slot-of nothing h =
-        let z : _≡_ {A = Bool} true false = rw h at e in
-        let y : _≡_ {A = ℕ} 0 1 = cc in
-        absurd (omega arith)
-    slot-of (some (p, k, s)) h =
-        let z : slot s ≡ slot i = sym (h .place) ∙ q in
-        let y : s ≡ i = cc in
-        rw y
-
-    pub lands-at : (o : Option (Str × Spot × ℕ)) → Walks r o → i < slots → arrival (landed slots o) ≡ At i
-    lands-at o h l = rw (slot-of o h, lt-ltb i slots l)
-
-    pub lands-past : (o : Option (Str × Spot × ℕ)) → Walks r o → slots ≤ i → arrival (landed slots o) ≡ Stale
-    lands-past o h l = rw (slot-of o h, le-ltb i slots l)
-
-  pub lands-never : (o : Option (Str × Spot × ℕ)) {m : ℕ} → Walks r o → r .walk .place ≡ further m → arrival (landed slots o) ≡ Stale
-  lands-never nothing h q = refl
-  lands-never (some (p, k, s)) {m} h q =
-      let z : slot s ≡ further m = sym (h .place) ∙ q in
-      let y : _≡_ {A = ℕ} 0 1 = cc in
-      absurd (omega arith)
+  lands-at s q (some (p, k, i)) h =
+      let z : at-slot i ≡ at-slot s = sym (h .place) ∙ q in
+      let y : i ≡ s = cc in
+      rw y

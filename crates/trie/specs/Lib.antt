@@ -1,4 +1,3 @@
-pub mod Arrivals
 pub mod Walks
 pub mod Strung
 pub mod Places

@@ -3,8 +3,8 @@ use mathlib.Core.Path.{_≡_}
 use mathlib.Core.Bool.{_&&_, cond, false, true}
 use mathlib.Core.Option.{Option, none as nothing, some}
 use mathlib.Core.List.{List, []}
-use Prim.Native.Nat.{_≤_, suc, zero, ℕ}
-use lib.Dec.{leb, ltb}
+use Prim.Native.Nat.{_<_, _≤_, suc, zero, ℕ}
+use lib.Dec.{eqb, leb, ltb}
 use lib.ListN.{length, take}
 use Rattle.model.specs.declared.Cell.{Cell}
 use Rattle.model.specs.declared.Side.{Side}
@@ -14,11 +14,9 @@ use Rattle.model.specs.Order.{Str}
 use Rattle.model.specs.Names.{within}
 use Rattle.model.specs.Tries.{at-cell, cell, root-side}
 use Rattle.model.specs.Growth.{Spot, left, right, root}
-use Rattle.model.specs.Calls.{arrive}
-use Rattle.trie.specs.declared.Arrival.{Arrival}
-use Rattle.trie.specs.declared.Arrival.the-variants.{At, Stale}
+use Rattle.trie.specs.declared.Place.{Place}
+use Rattle.trie.specs.declared.Place.the-variants.{Cell as before-cell, Slot as at-slot, Stale as stale}
 use Rattle.trie.specs.declared.Walk.{Walk}
-use Rattle.trie.specs.declared.Walked.{Walked}
 
 -- The leaf reached: its path, its side and its slot. Nothing where "the walk meets a cell number not below the count, more
 -- cells than the count, a digit number above the path's length or 23". The first number is how many cells may still be met.
@@ -40,17 +38,10 @@ walkOf t n =
     let w = walkRun (t .count) (t .count) (t .cells) n [] root (root-side (t .count) (t .first)) in
     cond (leb (t .count) 256) w nothing
 
--- One cell is met: the path behind it, the side taken there and what that leads to.
-unfoldable pub pathAfter : Str → Str → Cell → Str
-pathAfter n p c =
-    let q = cell (c .digit) (c .number) p in
-    cond (within n q) q p
-
-unfoldable pub spotAfter : Str → Str → ℕ → Cell → Spot
-spotAfter n p m c = cond (within n (cell (c .digit) (c .number) p)) (left m) (right m)
-
-unfoldable pub placeAfter : Str → Str → Cell → Side
-placeAfter n p c = cond (within n (cell (c .digit) (c .number) p)) (c .left) (c .right)
+-- A side leads on to a cell below the count while cells may be met.
+unfoldable pub placeOf : Side → ℕ → ℕ → Place
+placeOf (slot s) count more = at-slot s
+placeOf (further i) count more = cond (eqb more 0) stale (cond (leb count i) stale (before-cell i))
 
 -- The walk came by this side. At the root there was none.
 abbrev pub By : Spot → Walk → Type 0
@@ -58,38 +49,40 @@ By root w = Unit {0}
 By (left m) w = (w .cell ≡ m) × (w .left ≡ true)
 By (right m) w = (w .cell ≡ m) × (w .left ≡ false)
 
--- The path is empty, and nothing was met. The digits behind the path's length say nothing.
-pub record Begun (a : Side) (w : Walk) : Type 0 where
-  pub len : w .len ≡ 0
-  pub full : length (w .path) ≡ 24
-  pub place : w .place ≡ a
+-- What is ahead of a walk at a place, to which it came by the side k: it will end as `o`.
+abbrev pub Ahead : Place → Option (Str × Spot × ℕ) → List Cell → Str → Walk → Spot → Type 0
+Ahead (before-cell i) o cs n w k =
+    (0 < w .more) × (i < w .count) × (w .count ≤ 256) × (o ≡ walkRun (w .more) (w .count) cs n (take (w .len) (w .path)) k (further i))
+Ahead (at-slot s) o cs n w k = o ≡ some (take (w .len) (w .path), k, s)
+Ahead stale o cs n w k = o ≡ nothing
 
--- The walk after a cell, whose number is m, was met with the path p.
-pub record Stepped (n p : Str) (m : ℕ) (c : Cell) (w : Walk) : Type 0 where
+-- The walk of a name on its way over cells. The digits behind the path's length say nothing.
+pub record Underway (o : Option (Str × Spot × ℕ)) (cs : List Cell) (n : Str) (w : Walk) : Type 0 where
   pub short : w .len ≤ 24
   pub full : length (w .path) ≡ 24
-  pub path : take (w .len) (w .path) ≡ pathAfter n p c
-  pub by : By (spotAfter n p m c) w
-  pub place : w .place ≡ placeAfter n p c
+  pub spot : Spot
+  pub by : By spot w
+  pub ahead : Ahead (w .place) o cs n w spot
+
+-- One step over the cell with this number: whatever the walk will end as, it still will.
+abbrev pub Steps : Str → Walk → ℕ → Cell → Walk → Type 0
+Steps n w i c r =
+    (o : Option (Str × Spot × ℕ)) (cs : List Cell) → w .place ≡ before-cell i → at-cell cs i ≡ c → Underway o cs n w → Underway o cs n r
+
+-- Nothing is ahead of it.
+pub record Strayed (w : Walk) : Type 0 where
+  pub len : w .len ≡ 0
+  pub full : length (w .path) ≡ 24
+  pub place : w .place ≡ stale
+  pub more : w .more ≡ 0
 
 -- The walk ended at this leaf.
-pub record Ended (r : Walked) (p : Str) (k : Spot) (s : ℕ) : Type 0 where
-  pub ended : r .ended ≡ true
-  pub len : r .walk .len ≡ length p
-  pub path : take (r .walk .len) (r .walk .path) ≡ p
-  pub by : By k (r .walk)
-  pub place : r .walk .place ≡ slot s
+pub record Ended (r : Walk) (p : Str) (k : Spot) (s : ℕ) : Type 0 where
+  pub len : r .len ≡ length p
+  pub path : take (r .len) (r .path) ≡ p
+  pub by : By k r
+  pub place : r .place ≡ at-slot s
 
-abbrev pub Walks : Walked → Option (Str × Spot × ℕ) → Type 0
-Walks r nothing = r .ended ≡ false
+abbrev pub Walks : Walk → Option (Str × Spot × ℕ) → Type 0
+Walks r nothing = r .place ≡ stale
 Walks r (some (p, k, s)) = Ended r p k s
-
--- The slot that a name arrives at, of a file with so many slots: the model's, with what the code says of it.
-abbrev pub arrival : Option ℕ → Arrival
-arrival nothing = Stale
-arrival (some k) = At k
-
-unfoldable pub arrivalOf : Trie → Str → ℕ → Arrival
-arrivalOf t n slots =
-    let a = arrival (arrive (t .count) slots (t .count) (t .cells) n [] (root-side (t .count) (t .first))) in
-    cond (leb (t .count) 256) a Stale

@@ -1,13 +1,14 @@
 // The trie: its cells held together with their count and a first leaf, and the walk (document 000, A1).
-ghost use mathlib.Core.Bool.{false};
+ghost use mathlib.Core.Bool.{cond};
 ghost use mathlib.Core.Path.{_≡_};
 ghost use Prim.Native.Nat.{_≤_, _<_, _+_};
+ghost use lib.Dec.{leb};
 ghost use lib.ListN.{take};
 ghost use Rattle.model.specs.Names as names;
 ghost use mathlib.Core.List.{[]};
+ghost use Rattle.model.specs.Order.{Str};
 ghost use Rattle.model.specs.Tries.{root-side, trie-of};
-ghost use Rattle.trie.specs.Arrivals.{Inside};
-ghost use Rattle.trie.specs.Walks.{Begun, Stepped, Walks, arrivalOf, walkOf};
+ghost use Rattle.trie.specs.Walks.{Steps, Strayed, Underway, Walks, placeOf, walkOf};
 use digits::index;
 use model::Cell;
 use model::Side;
@@ -24,24 +25,23 @@ pub struct Strings {
     pub slots: [u8; 257],
 }
 
-// A walk under way: the path, the place reached, and the side by which it was reached.
+// Where a walk stands: at a cell that it has yet to meet, at a slot, where it ends, or at what no agreeing trie has.
+pub enum Place {
+    Cell(u16),
+    Slot(u16),
+    Stale,
+}
+
+// A walk under way: the path, the place reached, the side by which it was reached, the trie's count, and how many cells
+// may still be met.
 pub struct Walk {
     pub path: [u8; 24],
     pub len: usize,
-    pub place: Side,
+    pub place: Place,
     pub cell: u16,
     pub left: bool,
-}
-
-// A walk that ended at a slot, where `ended` says so; else it met what no agreeing trie has.
-pub struct Walked {
-    pub ended: bool,
-    pub walk: Walk,
-}
-
-pub enum Arrival {
-    At(usize),
-    Stale,
+    pub count: u16,
+    pub more: u16,
 }
 
 // A cell number or a slot number as an index.
@@ -49,6 +49,14 @@ pub fn number(x: u16) -> usize
     ensures { λ r. ⌜ (r ≡ x) × (r < 65536) ⌝ }
 {
     x as usize
+}
+
+// And an index as such a number.
+pub fn short(x: usize) -> u16
+    requires { ⌜ x < 65536 ⌝ }
+    ensures { λ r. ⌜ r ≡ x ⌝ }
+{
+    x as u16
 }
 
 // The trie with count 0 that leads every name to one slot.
@@ -76,38 +84,95 @@ fn goes_left(name: &[u8; 24], string: &[u8; 24], len: usize) -> bool
     digits::within(name, &whole[0..len])
 }
 
+// A side leads on to a cell below the count while cells may be met.
+fn place_of(side: Side, count: u16, more: u16) -> Place
+    ensures { λ r. ⌜ r ≡ placeOf side count more ⌝ }
+{
+    match side {
+        Side::Slot(s) => Place::Slot(s),
+        Side::Cell(i) => {
+            if more == 0 {
+                return Place::Stale;
+            }
+            if count <= i {
+                return Place::Stale;
+            }
+            Place::Cell(i)
+        }
+    }
+}
+
+// Cell 0 is the root. With count 0 the walk ends at the first leaf at once.
+fn root(count: u16, first: u16) -> Place
+    ensures { λ r. ⌜ r ≡ cond (leb count 256) (placeOf (root-side count first) count count) Place.Stale ⌝ }
+{
+    if 256 < count {
+        return Place::Stale;
+    }
+    if count == 0 {
+        return Place::Slot(first);
+    }
+    Place::Cell(0)
+}
+
+// A walk that met a cell which no agreeing trie has.
+fn strayed() -> Walk
+    ensures { λ r. ⌜ Strayed r ⌝ }
+{
+    Walk {
+        path: [0u8; 24],
+        len: 0,
+        place: Place::Stale,
+        cell: 0,
+        left: false,
+        count: 0,
+        more: 0,
+    }
+}
+
 impl Walk {
-    // The path begins empty.
-    pub fn begin(place: Side) -> Walk
-        ensures { λ r. ⌜ Begun place r ⌝ }
+    // The path begins empty. No more cells may be met than the count.
+    pub fn begin(count: u16, first: u16) -> Walk
+        ensures { λ r. ⌜ ((t : Trie) → t .count ≡ count → t .first ≡ first → (n : Str) → Underway (walkOf t n) (t .cells) n r) ⌝ }
     {
         Walk {
             path: [0u8; 24],
             len: 0,
-            place,
+            place: root(count, first),
             cell: 0,
             left: false,
+            count,
+            more: count,
         }
     }
 
     // The cell's string is the first digits of the path, as many as its number says, then its digit. A name within that
     // string goes left and the path becomes that string; otherwise it goes right with the path unchanged.
     pub fn step(mut self, name: &[u8; 24], i: u16, cell: Cell) -> Walk
-        requires { ⌜ (self .len ≤ 24) × (cell .number ≤ self .len) × (cell .number ≤ 23) ⌝ }
-        ensures { λ r. ⌜ Stepped (now (name .entry)) (take (self .len) (self .path)) i cell r ⌝ }
+        requires { ⌜ (self .len ≤ 24) × (0 < self .more) ⌝ }
+        ensures { λ r. ⌜ (r .more < self .more) × Steps (now (name .entry)) self i cell r ⌝ }
     {
         let at = index(cell.number);
+        if self.len < at {
+            return strayed();
+        }
+        if 23 < at {
+            return strayed();
+        }
         let end = at + 1;
         let mut string = self.path;
         string[at] = cell.digit;
+        self.more -= 1;
         if goes_left(name, &string, end) {
             let left = cell.left;
             return Walk {
                 path: string,
                 len: end,
-                place: left,
+                place: place_of(left, self.count, self.more),
                 cell: i,
                 left: true,
+                count: self.count,
+                more: self.more,
             };
         }
         let right = cell.right;
@@ -115,89 +180,26 @@ impl Walk {
         Walk {
             path,
             len: self.len,
-            place: right,
+            place: place_of(right, self.count, self.more),
             cell: i,
             left: false,
+            count: self.count,
+            more: self.more,
         }
     }
 }
 
-fn stale() -> Walked
-    ensures { λ r. ⌜ (r .walk .len ≤ 24) × (r .ended ≡ false) ⌝ }
+// The walk of a filled name over any trie at all, damaged ones too. It meets no more cells than the count.
+pub fn walk_of(trie: Trie, name: &[u8; 24]) -> Walk
+    ensures { λ r. ⌜ (r .len ≤ 24) × Walks r (walkOf trie (now (name .entry))) ⌝ }
 {
-    Walked {
-        ended: false,
-        walk: Walk::begin(Side::Slot(0)),
-    }
-}
-
-// Cell 0 is the root. With count 0 the walk ends at the first leaf at once.
-fn root(count: u16, first: u16) -> Side
-    ensures { λ r. ⌜ r ≡ root-side count first ⌝ }
-{
-    if count == 0 {
-        return Side::Slot(first);
-    }
-    Side::Cell(0)
-}
-
-// The walk of a filled name over any trie at all. It meets no more cells than the count.
-pub fn walk_of(trie: Trie, name: &[u8; 24]) -> Walked
-    ensures { λ r. ⌜ (r .walk .len ≤ 24) × Walks r (walkOf trie (now (name .entry))) ⌝ }
-{
-    let count = trie.count;
-    if 256 < count {
-        return stale();
-    }
-    let mut walk = Walk::begin(root(count, trie.first));
-    let mut left = count;
+    let mut walk = Walk::begin(trie.count, trie.first);
     loop {
         let place = walk.place;
-        match place {
-            Side::Slot(_) => {
-                return Walked { ended: true, walk };
-            }
-            Side::Cell(i) => {
-                if left == 0 {
-                    return stale();
-                }
-                if count <= i {
-                    return stale();
-                }
-                let k = number(i);
-                let cell = trie.cells[k];
-                let n = index(cell.number);
-                if walk.len < n {
-                    return stale();
-                }
-                if 23 < n {
-                    return stale();
-                }
-                walk = walk.step(name, i, cell);
-                left -= 1;
-            }
-        }
-    }
-}
-
-// The slot that the walk of a filled name ends at, of a file with so many slots.
-pub fn arrival_of(trie: Trie, name: &[u8; 24], slots: usize) -> Arrival
-    ensures { λ r. ⌜ Inside r slots × (r ≡ arrivalOf trie (now (name .entry)) slots) ⌝ }
-{
-    let end = walk_of(trie, name);
-    if !end.ended {
-        return Arrival::Stale;
-    }
-    let walk = end.walk;
-    let place = walk.place;
-    match place {
-        Side::Slot(s) => {
-            let k = number(s);
-            if k < slots {
-                return Arrival::At(k);
-            }
-            Arrival::Stale
-        }
-        Side::Cell(_) => Arrival::Stale,
+        let Place::Cell(i) = place else {
+            return walk;
+        };
+        let cell = trie.cells[number(i)];
+        walk = walk.step(name, i, cell);
     }
 }

@@ -1,0 +1,38 @@
+-- `place_of` is its definition, case by case.
+use native.Mathlib.Omega.{arith}
+use borrow.Author.Needs.{needs}
+use Rattle.trie.proofs.Laws.{place-cell, place-none, place-past, place-slot}
+use Rattle.trie.proofs.place_of.Statement.{statement}
+use Rattle.trie.proofs.place_of.Tie as tie
+use Rattle.trie.proofs.place_of.Reads as reads
+use Rattle.trie.proofs.place_of.Lts as lts
+
+enum-known-side : tie.Need-enum-known-side
+enum-known-side c = search needs
+
+enum-known-side-2 : tie.Need-enum-known-side-2
+enum-known-side-2 c = search needs
+
+returns : tie.Need-returns
+returns c =
+    let a = c .before .before .before .before .args in
+    place-none (a .count) (a .more) (c .before .before .side2 .given .1) (c .if1 .taken)
+
+returns-2 : tie.Need-returns-2
+returns-2 c =
+    let a = c .before .before .before .before .before .args in
+    place-past (a .count) (a .more) (c .before .before .before .side2 .given .1) (c .before .if1 .left) (c .if2 .taken)
+
+returns-3 : tie.Need-returns-3
+returns-3 c =
+    let a = c .before .before .before .args in
+    place-slot (a .count) (a .more) (c .before .side .given .1)
+
+returns-4 : tie.Need-returns-4
+returns-4 c =
+    let a = c .before .before .before .before .before .args in
+    place-cell (a .count) (a .more) (c .before .before .before .side2 .given .1) (c .before .if1 .left) (omega arith)
+
+pub place-of-spec : {M : Type 1} → statement M
+place-of-spec =
+    tie.close (tie.spec enum-known-side enum-known-side-2 returns returns-2 returns-3 returns-4)
