@@ -32,7 +32,6 @@ use Rattle.bucket.proofs.Changing.{length-new}
 use Rattle.file.specs.declared.Room.{Room}
 use Rattle.file.specs.declared.Room.the-variants.{At, Full as NoRoom}
 use Rattle.file.specs.Maps.{RoomTold, map-of, room-of}
-use Rattle.trie.specs.declared.Walked.{Walked}
 use Rattle.trie.specs.Places.{Placed}
 use Rattle.trie.specs.Strung.{lengths}
 use Rattle.trie.specs.Walks.{Ended}
@@ -131,17 +130,11 @@ module _ (b : ℕ) (two : 2 ≤ b) (few : b ≤ 16) (xs : List ℕ) {fs : List S
   c-length = legal-length (c-in .0)
 
   module _ (G : Agrees fs t) {s : Split} (D : Divides s b t ws) where
-    abbrev w : Walked
-    w = record { ended = s .ended; walk = s .walk }
-
     abbrev path : Str
     path = path-cells (live-cells t) c (suc (length (live-cells t))) [] (top-side t)
 
-    walk-ended : Ended w path (spot-cells (live-cells t) c (suc (length (live-cells t))) [] root (top-side t)) (walk-trie t c)
+    walk-ended : Ended (s .walk) path (spot-cells (live-cells t) c (suc (length (live-cells t))) [] root (top-side t)) (walk-trie t c)
     walk-ended = rw (agreed-walk S G c c-length) at (D .walked)
-
-    pub not-stale : not (s .ended) ≡ true → ⊥
-    not-stale h = let q : false ≡ true = rw (walk-ended .ended) at h in let z : _≡_ {A = ℕ} 0 1 = cc in omega arith
 
     pub grown-is : {places lens : List ℕ} → Placed t places → take (length (strings-of fs)) lens ≡ lengths (strings-of fs) → (N : ℕ) (r : Trie)
         → Grows t places lens (s .walk) (take (s .len) (s .string)) (s .shared) A N r → r ≡ grown-trie t c (split-of b ws) A N
@@ -149,7 +142,7 @@ module _ (b : ℕ) (two : 2 ≤ b) (few : b ≤ 16) (xs : List ℕ) {fs : List S
         let q : take (s .len) (s .string) ≡ split-of b ws = rw (D .len-is, D .string-is) (string-front row-all b two few length-all entries (F .entries-are)) in
         let i : In (head (slot-at fs A)) c = rw (F .is) (tt, c-in .1, c-in .2) in
         subst (λ (z : Str). Grows t places lens (s .walk) z (s .shared) A N r) q g c
-        (grown-asked S G w P k c-length (split-some row-all b two few length-all entries (F .entries-are)) (split-begins row-all b two few length-all entries (F .entries-are)) i (D .walked) (D .shares))
+        (grown-asked S G (s .walk) P k c-length (split-some row-all b two few length-all entries (F .entries-are)) (split-begins row-all b two few length-all entries (F .entries-are)) i (D .walked) (D .shares))
 
     pub count-after : (N : ℕ) → Lowest fs N → string-count (stored (halves b N A l u ws) fs) ≡ t .count + (s .len - s .shared)
     count-after N L =
@@ -245,13 +238,6 @@ module _ {c : Checked} {xs : List ℕ} {t : Trie} (G : Agreed c xs t) (A : ℕ) 
         (room-full fs (sym (lowest G R e) ∙ q)) g
 
     module _ {N : ℕ} (q : room ≡ At N) {s : Split} (p : Parted s (c .size .b)) (f : Found s (c .size .b) t entries) where
-      pub stale-told : {ys : List ℕ} (r : PutGiven) → not (s .ended) ≡ true → SplitTold xs ys t (c .size) A entries limit r
-      stale-told r h fs e n v a l u es i j lo up w k z =
-          let S = known G e .sound in
-          let F : Full (c .size .b) fs A n v l u es entries = record { legal = a; is = i; slot-is = j; above = lo; within = up; new = w; counted = k; entries-are = z } in
-          let D = f l u (insert n v es) (row-all (c .size .b) (two G) (few G) xs e S t F) (length-all (c .size .b) (two G) (few G) xs e S t F) z in
-          absurd (not-stale (c .size .b) (two G) (few G) xs e S t F (known G e .agrees) D h)
-
       pub many-told : (r : PutGiven) → 256 + s .shared < t .count + s .len → (r .answer ≡ Refused ManyStrings) × (r .trie ≡ t) → SplitTold xs xs t (c .size) A entries limit r
       many-told r h g fs e n v a l u es i j lo up w k z =
           let S = known G e .sound in

@@ -28,7 +28,7 @@ use Rattle.bucket.proofs.Rows.{Reads, numbers, values-row}
 use Rattle.bucket.proofs.Finding.{entry-at, part-row}
 use Rattle.bucket.proofs.Changing.{lower-at, upper-at}
 use Rattle.bucket.proofs.Copies.{moved}
-use Rattle.trie.specs.declared.Walked.{Walked}
+use Rattle.trie.specs.declared.Walk.{Walk}
 use Rattle.trie.specs.Walks.{Walks, walkOf}
 use Rattle.keeper.specs.Divides.{Divides}
 
@@ -232,11 +232,11 @@ module _ {l : Low} {u : Str} {ws : List Entry} (R : Row l ws u) (b : ℕ) (two :
       ∙ counted-between v b xs (omega (arith, n, stay-some)) (omega (arith, n, stay-most)) ∙ n
 
   -- All of it, with the walk of the split key.
-  pub divides : (t : Trie) (w : Walked) {key last string : List ℕ} {len st shared : ℕ} → key ≡ take 24 (drop (32 * (b / 2)) xs) → last ≡ take 24 (drop (32 * b) xs)
+  pub divides : (t : Trie) (w : Walk) {key last string : List ℕ} {len st shared : ℕ} → key ≡ take 24 (drop (32 * (b / 2)) xs) → last ≡ take 24 (drop (32 * b) xs)
       → len ≡ diff (take 23 key) last + 1 → string ≡ padded 24 (take len key)
       → (len ≤ 24 → isZero (take (24 - len) (drop (0 + len) string)) ≡ true → st ≡ 1 + notAbove (value (continued (take len string))) (values (b - 1) (drop 32 xs)))
-      → Walks w (walkOf t key) → shared ≡ diff (take (len - 0) (drop 0 string)) (take (w .walk .len) (w .walk .path))
-      → Divides (record { string = string; len = len; stay = st; ended = w .ended; walk = w .walk; shared = shared }) b t ws
+      → Walks w (walkOf t key) → shared ≡ diff (take (len - 0) (drop 0 string)) (take (w .len) (w .path))
+      → Divides (record { string = string; len = len; stay = st; walk = w; shared = shared }) b t ws
   divides t w {key} {last} {string} {len} {st} {shared} i j k m f g h =
       let p : len ≡ length s = length-found key last len i j k in
       let q : string ≡ padded 24 s = string-found key len string i p m in
@@ -246,7 +246,7 @@ module _ {l : Low} {u : Str} {ws : List Entry} (R : Row l ws u) (b : ℕ) (two :
         len-is = p;
         stay-is = stay-found len st string p q f;
         walked = subst (λ (x : Str). Walks w (walkOf t x)) (i ∙ key-read) g;
-        shares = h ∙ ap (λ (x : Str). diff x (take (w .walk .len) (w .walk .path))) (front len string ∙ o);
+        shares = h ∙ ap (λ (x : Str). diff x (take (w .len) (w .path))) (front len string ∙ o);
       }
 
   -- Their bytes, and those of the others.

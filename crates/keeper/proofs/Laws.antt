@@ -17,9 +17,6 @@ use Rattle.file.specs.declared.Room.{Room}
 use Rattle.file.specs.declared.Room.the-variants.{At as RoomAt}
 use Rattle.file.specs.Sizes.{Fitting, Said, Sized, Told, Inside as RoomInside}
 use Rattle.model.specs.Format.{fileSize, headerOf, legalSizes}
-use Rattle.trie.specs.declared.Arrival.{Arrival}
-use Rattle.trie.specs.declared.Arrival.the-variants.{At as ArrivalAt}
-use Rattle.trie.specs.Arrivals.{Inside as ArrivalInside}
 use Rattle.keeper.specs.declared.checks.Checked.{Checked}
 use Rattle.keeper.specs.declared.checks.Verdict.{Verdict}
 use Rattle.keeper.specs.declared.checks.Verdict.the-variants.{Fine, Refused}
@@ -41,10 +38,6 @@ right-sized xs e t = right-said e t .sized
 -- a free slot that was found is one of the file's
 pub room-inside : {r : Room} {k n : ℕ} → r ≡ RoomAt k → RoomInside r n → k < n
 room-inside {r} {k} {n} e t = subst (λ (x : Room). RoomInside x n) e t
-
--- a walk arrives at one of the file's slots
-pub arrival-inside : {a : Arrival} {k n : ℕ} → a ≡ ArrivalAt k → ArrivalInside a n → k < n
-arrival-inside {a} {k} {n} e t = subst (λ (x : Arrival). ArrivalInside x n) e t
 
 -- checks whose verdict is fine found a file and a trie that agree, and others the cause
 pub fine-agreed : (c : Checked) {xs : List ℕ} {t : Trie} → c .verdict ≡ Fine → Passed c xs t → Agreed c xs t

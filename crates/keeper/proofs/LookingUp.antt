@@ -1,11 +1,13 @@
 -- Look up, put together from its stages: each refusal, and what one slot answers to a name.
 use mathlib.Core.Path.{_∙_, _≡_, ap, refl, sym}
 use mathlib.Core.Bool.{Bool, _&&_, cond, false, not, true}
+use mathlib.Core.Logic.{_⊎_, inl, inr}
 use mathlib.Core.Option.{Option, none as nothing, some}
 use mathlib.Core.List.{List, []}
 use Prim.Native.Nat.{_*_, _+_, _<_, _≤_, ℕ}
 use native.Mathlib.Omega.{arith}
 use lib.Dec.{leb, ltb}
+use borrow.Author.Tests.{le-ltb, lt-ltb}
 use lib.ListN.{drop, getD, length, take}
 use lib.Seq.{take-all}
 use Rattle.model.specs.declared.Cause.the-variants.{BadFile, IllegalName, StaleTrie}
@@ -17,8 +19,9 @@ use Rattle.model.specs.Names.{Legal, filled, legalName}
 use Rattle.model.specs.Entries.{find}
 use Rattle.model.specs.Files.{Slot, free, used}
 use Rattle.model.specs.Tries.{root-side}
+use Rattle.model.specs.Growth.{Spot, root}
 use Rattle.model.specs.Format.{headerOf, readSlot, slotAt, slotSize}
-use Rattle.model.specs.Calls.{arrive, arrivedAnswer, headedAnswer, heldAnswer, lookUpOf, slotAnswer}
+use Rattle.model.specs.Calls.{arrivedAnswer, headedAnswer, heldAnswer, lookUpOf, slotAnswer}
 use Rattle.model.proofs.Names.{length-filled}
 use Rattle.digits.specs.declared.Naming.the-variants.{Illegal, Legal as LegalName}
 use Rattle.digits.specs.Keys.{isZero, keyValue, naming, value}
@@ -31,9 +34,10 @@ use Rattle.bucket.specs.Forms.{Formed, WellRead, heldUnder, holding}
 use Rattle.bucket.specs.Slots.{countAt}
 use Rattle.bucket.proofs.Rows.{read-used, read-values}
 use Rattle.bucket.proofs.Finding.{count-is, free-zero, held, held-find, ill-read, range-holds, well-reads, zero-free}
-use Rattle.trie.specs.declared.Arrival.{Arrival}
-use Rattle.trie.specs.declared.Arrival.the-variants.{At, Stale}
-use Rattle.trie.specs.Walks.{arrival, arrivalOf}
+use Rattle.trie.specs.declared.Place.the-variants.{Slot as at-slot}
+use Rattle.trie.specs.declared.Walk.{Walk}
+use Rattle.trie.specs.Walks.{Walks, walkOf}
+use Rattle.trie.proofs.Laws.{arrive-run, landed, lands-at}
 
 -- Which way a test went, by the answer that it gave.
 pub naming-legal : (t : Bool) → LegalName ≡ naming t → t ≡ true
@@ -51,6 +55,11 @@ holding-holds false e = let z : _≡_ {A = ℕ} 0 1 = cc in absurd (omega arith)
 pub holding-lacks : (t : Bool) → Lacks ≡ holding t → t ≡ false
 holding-lacks true e = let z : _≡_ {A = ℕ} 0 1 = cc in absurd (omega arith)
 holding-lacks false e = refl
+
+-- Of a place's three cases, the second is neither of the others.
+pub no-slot : _≡_ {A = ℕ} 1 0 ⊎ _≡_ {A = ℕ} 1 2 → ⊥
+no-slot (inl e) = absurd (omega arith)
+no-slot (inr e) = absurd (omega arith)
 
 -- The key of a filled name.
 pub filled-value : (name : List ℕ) (xs : List ℕ) (v : ℕ) → xs ≡ filled name → v ≡ value (take 24 (drop 0 xs)) → v ≡ value (filled name)
@@ -117,25 +126,31 @@ module _ (xs : List ℕ) (t : Trie) (name : List ℕ) where
   headless-looked e h = rw (e, h)
 
   module _ {b slots : ℕ} (e : legalName name ≡ true) (h : headerOf xs ≡ some (b, slots)) where
-    abbrev arrived : Option ℕ
-    arrived = arrive (t .count) slots (t .count) (t .cells) (filled name) [] (root-side (t .count) (t .first))
-
-    pub stale-looked : {n : Str} {a : Arrival} → n ≡ filled name → a ≡ arrivalOf t n slots → a ≡ Stale → Refused StaleTrie ≡ lookUpOf xs t name
-    unfolding lookUpOf headedAnswer arrivalOf arrivedAnswer
-    stale-looked f g s = rw (e, h) (go (leb (t .count) 256) arrived (sym s ∙ g ∙ rw f))
+    -- Where the walk lands, and what is answered there.
+    landed-looked : lookUpOf xs t name ≡ arrivedAnswer xs b (filled name) (landed slots (walkOf t (filled name)))
+    unfolding lookUpOf headedAnswer walkOf arrivedAnswer
+    landed-looked =
+        rw (e, h, arrive-run (t .count) slots (t .count) (t .cells) (filled name) [] root (root-side (t .count) (t .first))) (go (leb (t .count) 256) _)
       where
-        go : (c : Bool) (o : Option ℕ) → Stale ≡ cond c (arrival o) Stale → Refused StaleTrie ≡ cond c (arrivedAnswer xs b (filled name) o) (Refused StaleTrie)
-        go false o q = refl
-        go true nothing q = refl
-        go true (some k) q = let z : _≡_ {A = ℕ} 0 1 = cc in absurd (omega arith)
+        go : (c : Bool) (o : Option (Str × Spot × ℕ)) → cond c (arrivedAnswer xs b (filled name) (landed slots o)) (Refused StaleTrie)
+            ≡ arrivedAnswer xs b (filled name) (landed slots (cond c o nothing))
+        go false o = refl
+        go true o = refl
 
-    pub arrived-looked : {n ys : List ℕ} {a : Arrival} {k : ℕ} (r : LookUpAnswer) → n ≡ filled name → a ≡ arrivalOf t n slots → a ≡ At k
-        → ys ≡ take (64 + 32 * b) (drop (16 + k * (64 + 32 * b)) xs) → r ≡ slotAnswer b (filled name) (readSlot b ys) → r ≡ lookUpOf xs t name
-    unfolding lookUpOf headedAnswer arrivalOf arrivedAnswer slotAt slotSize
-    arrived-looked {k = k} r f g s i q = q ∙ rw (e, h, i) (go (leb (t .count) 256) arrived (sym s ∙ g ∙ rw f))
-      where
-        go : (c : Bool) (o : Option ℕ) → At k ≡ cond c (arrival o) Stale
-            → slotAnswer b (filled name) (readSlot b (slotAt b k xs)) ≡ cond c (arrivedAnswer xs b (filled name) o) (Refused StaleTrie)
-        go false o q = let z : _≡_ {A = ℕ} 0 1 = cc in absurd (omega arith)
-        go true nothing q = let z : _≡_ {A = ℕ} 0 1 = cc in absurd (omega arith)
-        go true (some j) q = let i : k ≡ j = cc in rw i
+    module _ (w : Walk) (W : Walks w (walkOf t (filled name))) where
+      pub stray-looked : ((s : ℕ) → w .place ≡ at-slot s → ⊥) → Refused StaleTrie ≡ lookUpOf xs t name
+      unfolding arrivedAnswer
+      stray-looked apart = sym (landed-looked ∙ go (walkOf t (filled name)) W)
+        where
+          go : (o : Option (Str × Spot × ℕ)) → Walks w o → arrivedAnswer xs b (filled name) (landed slots o) ≡ Refused StaleTrie
+          go nothing W = refl
+          go (some (p, k, s)) W = absurd (apart s (W .place))
+
+      pub past-looked : {s : ℕ} → w .place ≡ at-slot s → slots ≤ s → Refused StaleTrie ≡ lookUpOf xs t name
+      unfolding arrivedAnswer
+      past-looked {s} q i = sym (landed-looked ∙ rw (lands-at slots w s q (walkOf t (filled name)) W, le-ltb s slots i))
+
+      pub arrived-looked : {s k : ℕ} {ys : List ℕ} (r : LookUpAnswer) → w .place ≡ at-slot s → k ≡ s → k < slots
+          → ys ≡ take (64 + 32 * b) (drop (16 + k * (64 + 32 * b)) xs) → r ≡ slotAnswer b (filled name) (readSlot b ys) → r ≡ lookUpOf xs t name
+      unfolding arrivedAnswer slotAt slotSize
+      arrived-looked {s} {k} r q l i y a = a ∙ rw (y, l) (sym (landed-looked ∙ rw (lands-at slots w s q (walkOf t (filled name)) W, lt-ltb s slots (omega arith))))

@@ -24,7 +24,7 @@ pub record Divides (s : Split) (b : ℕ) (t : Trie) (ws : List Entry) : Type 0 w
   pub string-is : s .string ≡ padded 24 (split-of b ws)
   pub len-is : s .len ≡ length (split-of b ws)
   pub stay-is : s .stay ≡ length (stay (split-of b ws) ws)
-  pub walked : Walks (record { ended = s .ended; walk = s .walk }) (walkOf t (name-at ws (b / 2)))
+  pub walked : Walks (s .walk) (walkOf t (name-at ws (b / 2)))
   pub shares : s .shared ≡ diff (split-of b ws) (take (s .walk .len) (s .walk .path))
 
 -- It is the split of the entries whose bytes these are.

@@ -276,9 +276,6 @@ fn split(
         return refused(Cause::NoFreeSlot, trie);
     };
     let split = split_of(entries, size.b, trie);
-    if !split.ended {
-        return refused(Cause::StaleTrie, trie);
-    }
     if 256 + split.shared < trie::number(trie.count) + split.len {
         return refused(Cause::ManyStrings, trie);
     }

@@ -11,6 +11,7 @@ pub use changes::put;
 pub use changes::remove;
 pub use reading::list;
 pub use reading::look_up;
+pub use reading::look_up_from;
 pub use whole::check;
 pub use whole::create;
 pub use whole::rebuild;

@@ -3,10 +3,11 @@ ghost use mathlib.Core.Path.{_≡_};
 ghost use Prim.Native.Nat.{_≤_, _<_, _+_, _-_, _*_};
 ghost use lib.ListN.{length};
 ghost use Rattle.model.specs.Order.{Str};
-ghost use Rattle.model.specs.Names.{Legal};
+ghost use Rattle.model.specs.Names.{Legal, filled};
 ghost use Rattle.model.specs.Format.{readSlot};
 ghost use Rattle.model.specs.Files.{order-of};
 ghost use Rattle.model.specs.Calls.{between, entriesIn, listEntries, listOf, lookUpOf, slotAnswer};
+ghost use Rattle.trie.specs.Walks.{Walks, walkOf};
 ghost use Rattle.digits.specs.Keys.{keyValue, value};
 ghost use Rattle.file.specs.Sizes.{Sized, Below};
 ghost use Rattle.keeper.specs.Ready.{Ready};
@@ -28,7 +29,8 @@ use model::Cause;
 use model::ListAnswer;
 use model::LookUpAnswer;
 use model::Trie;
-use trie::Arrival;
+use trie::Place;
+use trie::Walk;
 
 // What one slot answers to a name.
 fn answer_of(slot: &[u8], b: usize, name: Key) -> LookUpAnswer
@@ -50,9 +52,9 @@ fn answer_of(slot: &[u8], b: usize, name: Key) -> LookUpAnswer
     LookUpAnswer::Found(value)
 }
 
-// Look up reads one bucket and has its own order of refusals.
-pub fn look_up(file: &[u8], trie: Trie, name: &[u8]) -> LookUpAnswer
-    ensures { λ r. ⌜ r ≡ lookUpOf (now (file .entry)) trie (now (name .entry)) ⌝ }
+// Look up where a trie's walk of the filled name is known: it reads one bucket and has its own order of refusals.
+pub fn look_up_from(file: &[u8], walk: Walk, name: &[u8]) -> LookUpAnswer
+    ensures { λ r. ⌜ ((t : Trie) → Walks walk (walkOf t (filled (now (name .entry)))) → r ≡ lookUpOf (now (file .entry)) t (now (name .entry))) ⌝ }
 {
     let Naming::Legal = digits::named(name) else {
         return LookUpAnswer::Refused(Cause::IllegalName);
@@ -60,15 +62,28 @@ pub fn look_up(file: &[u8], trie: Trie, name: &[u8]) -> LookUpAnswer
     let Header::Right(size) = file::header_of(file) else {
         return LookUpAnswer::Refused(Cause::BadFile);
     };
-    let filled = digits::filled(name);
-    let Arrival::At(k) = trie::arrival_of(trie, &filled, size.slots) else {
+    let place = walk.place;
+    let Place::Slot(s) = place else {
         return LookUpAnswer::Refused(Cause::StaleTrie);
     };
+    let k = trie::number(s);
+    if size.slots <= k {
+        return LookUpAnswer::Refused(Cause::StaleTrie);
+    }
+    let filled = digits::filled(name);
     answer_of(
         file::slot_at(file, size, k),
         size.b,
         digits::key_at(&filled, 0),
     )
+}
+
+// Looks up a name. Whatever the name is, it can be walked with.
+pub fn look_up(file: &[u8], trie: Trie, name: &[u8]) -> LookUpAnswer
+    ensures { λ r. ⌜ r ≡ lookUpOf (now (file .entry)) trie (now (name .entry)) ⌝ }
+{
+    let filled = digits::filled(name);
+    look_up_from(file, trie::walk_of(trie, &filled), name)
 }
 
 // How many bytes the entries take that are to be listed, from the bucket at the place `from` to that at `to`.

@@ -13,12 +13,11 @@ use model::Trie;
 use trie::Walk;
 
 // The split string and how many digits it has, how many entries stay, the walk of the split key, and how many digits of
-// the string are shared with the walk's path. `ended` is whether that walk ended at a slot.
+// the string are shared with the walk's path.
 pub struct Split {
     pub string: [u8; 24],
     pub len: usize,
     pub stay: usize,
-    pub ended: bool,
     pub walk: Walk,
     pub shared: usize,
 }
@@ -76,14 +75,12 @@ pub fn split_of(entries: &[u8; 544], b: usize, trie: Trie) -> Split
     let len = string_length(&key, &last);
     let string = beginning(&key, len);
     let stay = stay_of(entries, b, &string, len);
-    let end = trie::walk_of(trie, &key);
-    let walk = end.walk;
+    let walk = trie::walk_of(trie, &key);
     let shared = growth::shared_with(walk, &string[0..len]);
     Split {
         string,
         len,
         stay,
-        ended: end.ended,
         walk,
         shared,
     }

@@ -1,7 +1,7 @@
 -- `split` meets its contract.
 use native.Mathlib.Omega.{arith}
 use Rattle.keeper.proofs.Laws.{room-inside}
-use Rattle.keeper.proofs.Dividing.{full-told, many-told, split-told, stale-told}
+use Rattle.keeper.proofs.Dividing.{full-told, many-told, split-told}
 use borrow.Author.Needs.{needs}
 use Rattle.keeper.proofs.changes.split.Statement.{statement}
 use Rattle.keeper.proofs.changes.split.Tie as tie
@@ -26,48 +26,40 @@ returns c =
 split-of-requires : tie.Need-split-of-requires
 split-of-requires c κs = search needs
 
+add-if1 : tie.Need-add-if1
+add-if1 c = search needs
+
+number-requires : tie.Need-number-requires
+number-requires c κs = search needs
+
+add-if1-2 : tie.Need-add-if1-2
+add-if1-2 c = search needs
+
 refused-requires-2 : tie.Need-refused-requires-2
 refused-requires-2 c κs = search needs
 
 returns-2 : tie.Need-returns-2
 returns-2 c =
-    let s = c .before .before .before .before .before .before .before .before .before .before .before in
-    let p = c .before .before .before .split-of .ensures in
-    stale-told (s .pre .0) (s .args .a) (s .args .entries .now) (s .args .limit) (c .before .before .before .before .before .before .before .lowest-free .ensures) (c .before .before .before .before .before .n .given .1) (p .0) (p .1) _ (c .before .if1 .taken)
-
-add-if2 : tie.Need-add-if2
-add-if2 c = search needs
-
-number-requires : tie.Need-number-requires
-number-requires c κs = search needs
-
-add-if2-2 : tie.Need-add-if2-2
-add-if2-2 c = search needs
-
-refused-requires-3 : tie.Need-refused-requires-3
-refused-requires-3 c κs = search needs
-
-returns-3 : tie.Need-returns-3
-returns-3 c =
-    let s = c .before .before .before .before .before .before .before .before .before .before .before .before .before .before .before in
-    let p = c .before .before .before .before .before .before .before .split-of .ensures in
-    many-told (s .pre .0) (s .args .a) (s .args .entries .now) (s .args .limit) (c .before .before .before .before .before .before .before .before .before .before .before .lowest-free .ensures) (c .before .before .before .before .before .before .before .before .before .n .given .1) (p .0) (p .1) _ (omega (arith, c .before .if2 .taken, c .before .before .before .number .ensures)) (c .refused3 .ensures)
+    let s = c .before .before .before .before .before .before .before .before .before .before .before .before .before in
+    let p = c .before .before .before .before .before .split-of .ensures in
+    many-told (s .pre .0) (s .args .a) (s .args .entries .now) (s .args .limit) (c .before .before .before .before .before .before .before .before .before .lowest-free .ensures) (c .before .before .before .before .before .before .before .n .given .1) (p .0) (p .1) _
+    (omega (arith, c .before .if1 .taken, c .before .before .before .number .ensures)) (c .refused2 .ensures)
 
 divide-requires : tie.Need-divide-requires
 divide-requires c κs =
-    let s = c .before .before .before .before .before .before .before .before .before .before .before .before .before .before .before in
-    let h = room-inside (c .before .before .before .before .before .before .before .before .before .n .given .1) (c .before .before .before .before .before .before .before .before .before .before .before .lowest-free .ensures .inside) in
-    (s .pre .0, s .pre .1, h, c .before .before .before .before .before .before .before .split-of .ensures .0, omega (arith, c .before .if2 .left, c .before .before .before .number .ensures))
+    let s = c .before .before .before .before .before .before .before .before .before .before .before .before .before in
+    let h = room-inside (c .before .before .before .before .before .before .before .n .given .1) (c .before .before .before .before .before .before .before .before .before .lowest-free .ensures .inside) in
+    (s .pre .0, s .pre .1, h, c .before .before .before .before .before .split-of .ensures .0, omega (arith, c .before .if1 .left, c .before .before .before .number .ensures))
 
 same-length : tie.Need-same-length
 same-length c = search needs
 
-returns-4 : tie.Need-returns-4
-returns-4 c =
-    let s = c .before .before .before .before .before .before .before .before .before .before .before .before .before .before .before .before .before .before in
-    let p = c .before .before .before .before .before .before .before .before .before .before .split-of .ensures in
-    split-told (s .pre .0) (s .args .a) (s .args .entries .now) (s .args .limit) (c .before .before .before .before .before .before .before .before .before .before .before .before .before .before .lowest-free .ensures) (c .before .before .before .before .before .before .before .before .before .before .before .before .n .given .1) (p .0) (p .1) _
-    (omega (arith, c .before .before .before .before .if2 .left, c .before .before .before .before .before .before .number .ensures)) (c .before .before .divide .ensures)
+returns-3 : tie.Need-returns-3
+returns-3 c =
+    let s = c .before .before .before .before .before .before .before .before .before .before .before .before .before .before .before .before in
+    let p = c .before .before .before .before .before .before .before .before .split-of .ensures in
+    split-told (s .pre .0) (s .args .a) (s .args .entries .now) (s .args .limit) (c .before .before .before .before .before .before .before .before .before .before .before .before .lowest-free .ensures) (c .before .before .before .before .before .before .before .before .before .before .n .given .1) (p .0) (p .1) _
+    (omega (arith, c .before .before .before .before .if1 .left, c .before .before .before .before .before .before .number .ensures)) (c .before .before .divide .ensures)
 
 pub split-spec : {M : Type 1} → statement M
 split-spec =
@@ -79,13 +71,11 @@ split-spec =
     refused-requires
     returns
     split-of-requires
+    add-if1
+    number-requires
+    add-if1-2
     refused-requires-2
     returns-2
-    add-if2
-    number-requires
-    add-if2-2
-    refused-requires-3
-    returns-3
     divide-requires
     same-length
-    returns-4)
+    returns-3)

@@ -42,12 +42,12 @@ shared-with-requires c κs = search needs
 
 returns : tie.Need-returns
 returns c =
-    let s = c .before .before .before .before .before .before .before .before .before .before .before .before .before .before .before in
+    let s = c .before .before .before .before .before .before .before .before .before .before .before .before .before .before in
     let a = s .args in (
       search needs,
-      λ l u ws R size e. divides R (a .b) (s .pre .0) (s .pre .1) size (a .entries .now) e (a .trie) (c .before .before .before .before .walk-of .result)
-          (c .before .before .before .before .before .before .before .before .before .before .before .before .before .before .name-at .ensures) (c .before .before .before .before .before .before .before .before .before .before .before .before .before .name-at2 .ensures) (c .before .before .before .before .before .before .before .before .before .before .string-length .ensures .2)
-          (c .before .before .before .before .before .before .before .before .beginning .ensures) (c .before .before .before .before .before .before .stay-of .ensures .2) (c .before .before .before .before .walk-of .ensures .1) (c .shared-with .ensures .1),
+      λ l u ws R size e. divides R (a .b) (s .pre .0) (s .pre .1) size (a .entries .now) e (a .trie) (c .before .before .before .walk-of .result)
+          (c .before .before .before .before .before .before .before .before .before .before .before .before .before .name-at .ensures) (c .before .before .before .before .before .before .before .before .before .before .before .before .name-at2 .ensures) (c .before .before .before .before .before .before .before .before .before .string-length .ensures .2)
+          (c .before .before .before .before .before .before .before .beginning .ensures) (c .before .before .before .before .before .stay-of .ensures .2) (c .before .before .before .walk-of .ensures .1) (c .shared-with .ensures .1),
     )
 
 pub split-of-spec : {M : Type 1} → statement M
