@@ -1,6 +1,6 @@
 -- The image written and read cell by cell, as the code does it.
 use mathlib.Core.Path.{_∙_, _≡_, ap, refl, sym}
-use mathlib.Core.List.{List, [], _++_, _∷_, append-assoc}
+use mathlib.Core.List.{List, [], _++_, _∷_, append-assoc, append-nil}
 use Prim.Native.Nat.{_%_, _*_, _+_, _-_, _/_, _<_, _≤_, suc, zero, ℕ}
 use native.Mathlib.Numerals.{add-one, towards-suc}
 use native.Mathlib.Omega.{arith}
@@ -11,7 +11,7 @@ use Rattle.model.specs.declared.Cell.{Cell}
 use Rattle.model.specs.declared.Side.the-variants.{Cell as further, Slot as slot}
 use Rattle.model.specs.declared.Trie.{Trie}
 use Rattle.model.specs.Tries.{at-cell, trie-of, zero-cell}
-use Rattle.capi.specs.Images.{cellBytes, cellFrom, cellsBytes, cellsOf, few, headBytes, imageOf, pairOf, sideNumber, sideOf, trieWith}
+use Rattle.capi.specs.Images.{cellBytes, cellFrom, cellsBytes, cellsOf, headBytes, imageOf, pairOf, sideNumber, sideOf, trieOf}
 
 -- A side's number, and the side of a number.
 pub number-cell : (i : ℕ) → (i ≡ 0 → ⊥) → 65535 - (i - 1) ≡ sideNumber (further i)
@@ -34,12 +34,6 @@ side-slot x h = rw (lt-ltb x 32768 h)
 pub side-cell : (x : ℕ) → 32768 ≤ x → x < 65536 → further (65535 - x + 1) ≡ sideOf x
 unfolding sideOf
 side-cell x h l = let e : 65535 - x + 1 ≡ 65536 - x = omega arith in rw (le-ltb x 32768 h, e)
-
-pub few-most : (x : ℕ) → 256 < x → 256 ≡ few x
-few-most x h = rw (lt-ltb 256 x h)
-
-pub few-same : (x : ℕ) → x ≤ 256 → x ≡ few x
-few-same x h = rw (le-ltb 256 x h)
 
 -- The six stores of a cell.
 pub cell-written : (xs : List ℕ) (at : ℕ) (c : Cell) {l r a b d e : ℕ} → l ≡ sideNumber (c .left) → r ≡ sideNumber (c .right)
@@ -87,18 +81,21 @@ unfolding imageOf
 written-all t i xs l h e = sym (take-all (4 + 6 * i) xs (omega arith)) ∙ e ∙ ap (written t) h
 
 -- Read: the first i cells, and no cell past them.
+abbrev pub readTo : ℕ → List ℕ → Trie
+readTo i xs = record { cells = cellsOf i xs ++ replicate (256 - i) zero-cell; count = trieOf xs .count; first = trieOf xs .first }
+
 pub length-cellsOf : (n : ℕ) (xs : List ℕ) → length (cellsOf n xs) ≡ n
 unfolding cellsOf
 length-cellsOf zero xs = refl
 length-cellsOf (suc n) xs = rw (length-append, length-cellsOf n xs) (omega arith)
 
 pub read-first : (u : Trie) (xs : List ℕ) {f n : ℕ} → u ≡ trie-of [] (slot f) → f ≡ pairOf (getD xs 2 0) (getD xs 3 0) → n ≡ pairOf (getD xs 0 0) (getD xs 1 0)
-    → record { cells = u .cells; count = n; first = u .first } ≡ trieWith 0 xs
+    → record { cells = u .cells; count = n; first = u .first } ≡ readTo 0 xs
 unfolding cellsOf
 read-first u xs e f n = rw (e, f, n)
 
-pub read-next : (t : Trie) (i : ℕ) (xs : List ℕ) {c : Cell} → t ≡ trieWith i xs → i < 256 → c ≡ cellFrom xs (4 + 6 * i)
-    → record { cells = set (t .cells) i c; count = t .count; first = t .first } ≡ trieWith (i + 1) xs
+pub read-next : (t : Trie) (i : ℕ) (xs : List ℕ) {c : Cell} → t ≡ readTo i xs → i < 256 → c ≡ cellFrom xs (4 + 6 * i)
+    → record { cells = set (t .cells) i c; count = t .count; first = t .first } ≡ readTo (i + 1) xs
 unfolding cellsOf
 read-next t i xs {c} e h w = rw (e, w) (ap (λ (r : List Cell). record { cells = r; count = pairOf (getD xs 0 0) (getD xs 1 0); first = pairOf (getD xs 2 0) (getD xs 3 0) }) cells)
   where
@@ -119,3 +116,6 @@ read-next t i xs {c} e h w = rw (e, w) (ap (λ (r : List Cell). record { cells =
         ∙ set-at (cellsOf i xs) zero-cell rest d i (length-cellsOf i xs)
         ∙ sym (append-snoc (cellsOf i xs) d rest)
         ∙ ap (λ (k : ℕ). cellsOf k xs ++ rest) (sym (add-one i))
+
+pub read-all : (t : Trie) (i : ℕ) (xs : List ℕ) → t ≡ readTo i xs → i ≡ 256 → t ≡ trieOf xs
+read-all t i xs e h = e ∙ rw (h, append-nil (cellsOf 256 xs))

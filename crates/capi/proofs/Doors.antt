@@ -1,5 +1,5 @@
 -- Each call's answer, as a number, with the bytes and words lent: a law for a malformed image, and one for all others.
-use mathlib.Core.Path.{_∙_, _≡_, ap, refl, sym}
+use mathlib.Core.Path.{_∙_, _≡_, ap, refl, subst, sym}
 use mathlib.Core.List.{List}
 use Prim.Native.Nat.{ℕ}
 use borrow.Author.Tests.{eq-eqb, ne-eqb}
@@ -16,13 +16,15 @@ use Rattle.model.specs.declared.TrieGiven.{TrieGiven}
 use Rattle.model.specs.Answers.{checkSays, createSays, listSays, lookUpSays, putSays, rebuildSays, recoverSays, removeSays}
 use Rattle.model.specs.Calls.{createOf, listOf, lookUpOf, putOf, rebuildOf, recoverOf, removeOf}
 use Rattle.model.specs.Checks.{Kind, is-bad, is-cut, is-sound}
+use Rattle.model.specs.Names.{filled}
 use Rattle.model.specs.Format.{checkFile}
 use Rattle.file.specs.declared.survey.Kind.{Kind as Found}
 use Rattle.file.specs.declared.survey.Kind.the-variants.{Bad, Cut, Sound}
 use Rattle.keeper.specs.Outcomes.{created, found, listed, put, rebuilt, recovered, removed}
-use Rattle.capi.specs.Images.{imageOf, imageSize, trieBelow, trieOf}
+use Rattle.trie.specs.declared.Walk.{Walk}
+use Rattle.trie.specs.Walks.{Walks, walkOf}
+use Rattle.capi.specs.Images.{imageOf, imageSize, trieOf}
 use Rattle.capi.specs.Doors.{imageAfter, malformed, outAfter, palCheckOf, palCreateOf, palListOf, palLookUpOf, palPutOf, palRebuildOf, palRecoverOf, palRemoveOf}
-use Rattle.capi.proofs.Images.{lookUp-below}
 
 module _ (image : List ℕ) (ill : length image ≡ imageSize → ⊥) where
   pub create-malformed : (file : List ℕ) (version b slots : ℕ) → palCreateOf file version b slots image ≡ (malformed, file, image)
@@ -61,12 +63,10 @@ module _ (image : List ℕ) (well : length image ≡ imageSize) where
   unfolding palRebuildOf
   rebuild-said file g t e z s = rw (eq-eqb (length image) imageSize well, ← e, z, s, t)
 
-  pub lookUp-said : (file name out : List ℕ) {t : Trie} {x a : LookUpAnswer} {ws : List ℕ} {n : ℕ} → t ≡ trieBelow image → x ≡ a → x ≡ lookUpOf file t name
+  pub lookUp-said : (file name out : List ℕ) {x a : LookUpAnswer} {ws : List ℕ} {n : ℕ} → x ≡ a → x ≡ lookUpOf file (trieOf image) name
       → n ≡ lookUpSays a .0 → ws ≡ outAfter (lookUpSays a) out → palLookUpOf file image name out ≡ (n, ws)
   unfolding palLookUpOf
-  lookUp-said file name out d t e s w =
-      let f = sym t ∙ e ∙ ap (λ (u : Trie). lookUpOf file u name) d ∙ lookUp-below file image name in
-      rw (eq-eqb (length image) imageSize well, ← f, s, w)
+  lookUp-said file name out t e s w = rw (eq-eqb (length image) imageSize well, ← e, s, w, t)
 
   pub put-said : (file name : List ℕ) (value limit : ℕ) (out : List ℕ) (g : PutGiven) {t : Trie} {a : PutAnswer} {ys zs ws : List ℕ} {n : ℕ}
       → t ≡ trieOf image → g .answer ≡ a → put g ys ≡ putOf file t name value limit → n ≡ putSays a .0 → zs ≡ imageAfter a (g .trie) image
@@ -85,6 +85,11 @@ module _ (image : List ℕ) (well : length image ≡ imageSize) where
       → ws ≡ outAfter (listSays a) out → palListOf file image first second output out ≡ (n, ys, ws)
   unfolding palListOf
   list-said file first second output out d t e s w = rw (eq-eqb (length image) imageSize well, ← d, ← e, s, w, t)
+
+-- Look up walks over the image itself.
+pub lookUp-walked : (image file name : List ℕ) {n : List ℕ} {x : LookUpAnswer} (w : Walk) → n ≡ filled name → Walks w (walkOf (trieOf image) n)
+    → ((t : Trie) → Walks w (walkOf t (filled name)) → x ≡ lookUpOf file t name) → x ≡ lookUpOf file (trieOf image) name
+lookUp-walked image file name w e W said = said (trieOf image) (subst (λ (k : List ℕ). Walks w (walkOf (trieOf image) k)) e W)
 
 pub recover-said : (file : List ℕ) (limit : ℕ) (out : List ℕ) {x a : RecoverAnswer} {ys ws : List ℕ} {n : ℕ}
     → x ≡ a → recovered x ys ≡ recoverOf file limit → n ≡ recoverSays a .0

@@ -1,8 +1,7 @@
 -- Reading back the image that was written, and the converse: 1,540 bytes and the tries with an image are one to one.
 use mathlib.Core.Path.{_∙_, _≡_, ap, refl, sym}
 use mathlib.Core.Bool.{cond}
-use mathlib.Core.List.{List, [], _++_, _∷_, append-assoc, append-nil}
-use mathlib.Core.Option.{Option, none as nothing, some}
+use mathlib.Core.List.{List, [], _++_, _∷_, append-assoc}
 use Prim.Native.Nat.{_%_, _*_, _+_, _-_, _/_, _<_, _≤_, suc, zero, ℕ}
 use native.Mathlib.Decide.{decLe, decLt}
 use native.Mathlib.Nat.{add-zero}
@@ -15,17 +14,9 @@ use Rattle.model.specs.declared.Cell.{Cell}
 use Rattle.model.specs.declared.Side.{Side}
 use Rattle.model.specs.declared.Side.the-variants.{Cell as further, Slot as slot}
 use Rattle.model.specs.declared.Trie.{Trie}
-use Rattle.model.specs.Order.{Str}
-use Rattle.model.specs.Names.{filled}
-use Rattle.model.specs.Tries.{at-cell, root-side, zero-cell}
-use Rattle.model.specs.Growth.{root}
-use Rattle.model.specs.Calls.{arrive, arrivedAnswer, headedAnswer, lookUpOf}
-use Rattle.model.specs.Format.{headerOf}
-use Rattle.trie.specs.Walks.{walkRun}
-use Rattle.trie.proofs.Agreed.{run-live}
-use Rattle.trie.proofs.Laws.{arrive-run, landed}
-use Rattle.capi.specs.Images.{cellBytes, cellFrom, cellsBytes, cellsOf, few, headBytes, imageOf, imageSize, pairOf, sideNumber, sideOf, trieBelow, trieOf, trieWith}
-use Rattle.capi.proofs.Coding.{few-same, length-cellsOf, written}
+use Rattle.model.specs.Tries.{at-cell, zero-cell}
+use Rattle.capi.specs.Images.{cellBytes, cellFrom, cellsBytes, cellsOf, headBytes, imageOf, imageSize, pairOf, sideNumber, sideOf, trieOf}
+use Rattle.capi.proofs.Coding.{length-cellsOf, written}
 
 -- The sides that 16 bits with a sign hold: slots below 32,768, and cells from 1 to 32,768.
 abbrev pub Held : Side → Type 0
@@ -122,21 +113,9 @@ module _ (t : Trie) (I : Imaged t) where
   first-back = pair-back (t .first)
 
   pub trie-back : trieOf (imageOf t) ≡ t
-  trie-back = rw (cells, count-back, first-back)
-    where
-      cells : cellsOf 256 (imageOf t) ++ [] ≡ t .cells
-      cells = append-nil (cellsOf 256 (imageOf t)) ∙ cells-back 256 (omega arith) ∙ take-all 256 (t .cells) (omega (arith, I .whole))
+  trie-back = rw (cells-back 256 (omega arith), take-all 256 (t .cells) (omega (arith, I .whole)), count-back, first-back)
 
--- The first n cells of more.
-cells-first : (n m : ℕ) (xs : List ℕ) → n ≤ m → take n (cellsOf m xs) ≡ cellsOf n xs
-unfolding cellsOf
-cells-first n zero xs h = let e : n ≡ 0 = omega arith in rw e
-cells-first n (suc m) xs h = go (decLe n m) (λ i. cells-first n m xs i)
-  where
-    go : Dec (n ≤ m) → (n ≤ m → take n (cellsOf m xs) ≡ cellsOf n xs) → take n (cellsOf (suc m) xs) ≡ cellsOf n xs
-    go (yes i) before = take-append-le n (cellsOf m xs) (cellFrom xs (4 + 6 * m) ∷ []) (omega (arith, length-cellsOf m xs)) ∙ before i
-    go (no i) before = let e : n ≡ suc m = omega arith in rw e (take-all (suc m) (cellsOf (suc m) xs) (omega (arith, length-cellsOf (suc m) xs)))
-
+-- Each cell of the trie of some bytes.
 cell-is : (n m : ℕ) (xs : List ℕ) → n < m → at-cell (cellsOf m xs) n ≡ cellFrom xs (4 + 6 * n)
 unfolding cellsOf
 cell-is n zero xs h = absurd (omega arith)
@@ -152,8 +131,8 @@ cell-is n (suc m) xs h = go (decLt n m) (λ i. cell-is n m xs i)
         ∙ getD-append-seam (cellsOf m xs) (cellFrom xs (4 + 6 * m)) [] zero-cell
         ∙ ap (λ (k : ℕ). cellFrom xs (4 + 6 * k)) (sym f)
 
-cell-of : (xs : List ℕ) (n : ℕ) → n < 256 → at-cell (trieOf xs .cells) n ≡ cellFrom xs (4 + 6 * n)
-cell-of xs n h = rw append-nil (cell-is n 256 xs h)
+pub cell-of : (xs : List ℕ) (n : ℕ) → n < 256 → at-cell (trieOf xs .cells) n ≡ cellFrom xs (4 + 6 * n)
+cell-of xs n h = cell-is n 256 xs h
 
 first-four : (xs : List ℕ) → 4 ≤ length xs → getD xs 0 0 ∷ getD xs 1 0 ∷ getD xs 2 0 ∷ getD xs 3 0 ∷ [] ≡ take 4 xs
 first-four [] h = absurd (omega arith)
@@ -208,38 +187,3 @@ module _ (xs : List ℕ) (size : length xs ≡ imageSize) (bytes : (i : ℕ) →
   pub image-back : imageOf (trieOf xs) ≡ xs
   unfolding imageOf
   image-back = bytes-back 256 (omega arith) ∙ take-all 1540 xs (omega arith)
-
--- Look up meets no cell past the count.
-arrive-live : (f slots count : ℕ) (cs ds : List Cell) (n p : Str) (a : Side) → take count cs ≡ take count ds → arrive f slots count cs n p a ≡ arrive f slots count ds n p a
-arrive-live f slots count cs ds n p a e =
-    arrive-run f slots count cs n p root a
-    ∙ ap (landed slots) (run-live f count cs n p root a)
-    ∙ ap (λ (r : List Cell). landed slots (walkRun f count r n p root a)) e
-    ∙ ap (landed slots) (sym (run-live f count ds n p root a))
-    ∙ sym (arrive-run f slots count ds n p root a)
-
-with-first : (n m : ℕ) (xs : List ℕ) → n ≤ m → take n (trieWith m xs .cells) ≡ cellsOf n xs
-with-first n m xs h = take-append-le n (cellsOf m xs) (replicate (256 - m) zero-cell) (omega (arith, length-cellsOf m xs)) ∙ cells-first n m xs h
-
-below-same : (xs : List ℕ) → trieBelow xs .count ≤ 256 → take (trieBelow xs .count) (trieBelow xs .cells) ≡ take (trieOf xs .count) (trieOf xs .cells)
-below-same xs h =
-    with-first (trieOf xs .count) (few (trieOf xs .count)) xs (omega (arith, few-same (trieOf xs .count) h))
-    ∙ sym (with-first (trieOf xs .count) 256 xs h)
-
-headed-below : (file image : List ℕ) (n : Str) (h : Option (ℕ × ℕ)) → headedAnswer file (trieBelow image) n h ≡ headedAnswer file (trieOf image) n h
-unfolding headedAnswer
-headed-below file image n nothing = refl
-headed-below file image n (some h) = go (decLe (trieOf image .count) 256)
-  where
-    k : ℕ
-    k = trieOf image .count
-
-    go : Dec (trieOf image .count ≤ 256) → headedAnswer file (trieBelow image) n (some h) ≡ headedAnswer file (trieOf image) n (some h)
-    go (yes i) =
-        rw (le-leb k 256 i)
-        (ap (arrivedAnswer file (h .0) n) (arrive-live k (h .1) k (trieBelow image .cells) (trieOf image .cells) n [] (root-side k (trieOf image .first)) (below-same image i)))
-    go (no i) = rw (lt-leb k 256 (omega arith))
-
-pub lookUp-below : (file image name : List ℕ) → lookUpOf file (trieBelow image) name ≡ lookUpOf file (trieOf image) name
-unfolding lookUpOf
-lookUp-below file image name = rw (headed-below file image (filled name) (headerOf file))

@@ -3,12 +3,12 @@ use mathlib.Core.Bool.{cond}
 use mathlib.Core.List.{List, [], _++_, _∷_}
 use Prim.Native.Nat.{_%_, _*_, _+_, _-_, _/_, suc, zero, ℕ}
 use lib.Dec.{ltb}
-use lib.ListN.{getD, replicate}
+use lib.ListN.{getD}
 use Rattle.model.specs.declared.Cell.{Cell}
 use Rattle.model.specs.declared.Side.{Side}
 use Rattle.model.specs.declared.Side.the-variants.{Cell as further, Slot as slot}
 use Rattle.model.specs.declared.Trie.{Trie}
-use Rattle.model.specs.Tries.{at-cell, zero-cell}
+use Rattle.model.specs.Tries.{at-cell}
 
 -- "1,540 bytes"
 abbrev pub imageSize : ℕ
@@ -62,22 +62,6 @@ unfoldable pub cellsOf : ℕ → List ℕ → List Cell
 cellsOf zero xs = []
 cellsOf (suc n) xs = cellsOf n xs ++ (cellFrom xs (4 + 6 * n) ∷ [])
 
--- The trie with the first n cells of the image, and no cell past them.
-abbrev pub trieWith : ℕ → List ℕ → Trie
-trieWith n xs =
-    record {
-      cells = cellsOf n xs ++ replicate (256 - n) zero-cell;
-      count = pairOf (getD xs 0 0) (getD xs 1 0);
-      first = pairOf (getD xs 2 0) (getD xs 3 0);
-    }
-
 -- "So every 1,540 bytes are some trie."
 abbrev pub trieOf : List ℕ → Trie
-trieOf xs = trieWith 256 xs
-
--- The trie without the cells past its count, which no walk meets.
-abbrev pub few : ℕ → ℕ
-few x = cond (ltb 256 x) 256 x
-
-abbrev pub trieBelow : List ℕ → Trie
-trieBelow xs = trieWith (few (pairOf (getD xs 0 0) (getD xs 1 0))) xs
+trieOf xs = record { cells = cellsOf 256 xs; count = pairOf (getD xs 0 0) (getD xs 1 0); first = pairOf (getD xs 2 0) (getD xs 3 0) }

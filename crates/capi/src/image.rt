@@ -7,10 +7,13 @@ ghost use mathlib.Core.Path.{_≡_};
 ghost use Prim.Native.Nat.{_≤_, _<_, _+_, _*_, _%_, _/_};
 ghost use lib.ListN.{length};
 ghost use lib.Seq.{sets};
-ghost use Rattle.capi.specs.Images.{cellBytes, cellFrom, few, imageOf, pairOf, sideNumber, sideOf, trieBelow, trieOf, trieWith};
+ghost use Rattle.trie.specs.Walks.{Walks, walkOf};
+ghost use Rattle.capi.specs.Images.{cellBytes, cellFrom, imageOf, pairOf, sideNumber, sideOf, trieOf};
 use model::Cell;
 use model::Side;
 use model::Trie;
+use trie::Place;
+use trie::Walk;
 use trie::number;
 
 fn wide(x: u8) -> u16
@@ -48,15 +51,15 @@ fn cell_at(image: &[u8], i: usize) -> Cell
     }
 }
 
-// The first cells of the image, and no cell past them.
-fn with_cells(image: &[u8], cells: usize) -> Trie
-    requires { ⌜ (cells ≤ 256) × (length (now image) ≡ 1540) ⌝ }
-    ensures { λ r. ⌜ r ≡ trieWith cells (now (image .entry)) ⌝ }
+// The trie of an image.
+pub fn decoded(image: &[u8]) -> Trie
+    requires { ⌜ length (now image) ≡ 1540 ⌝ }
+    ensures { λ r. ⌜ r ≡ trieOf (now (image .entry)) ⌝ }
 {
     let mut trie = trie::lone(pair(image[2], image[3]));
     trie.count = pair(image[0], image[1]);
     let mut i = 0usize;
-    while i < cells {
+    while i < 256 {
         let cell = cell_at(image, i);
         trie.cells[i] = cell;
         i += 1;
@@ -64,29 +67,22 @@ fn with_cells(image: &[u8], cells: usize) -> Trie
     trie
 }
 
-// The trie of an image.
-pub fn decoded(image: &[u8]) -> Trie
+// The walk of a filled name over the trie of an image. It reads the cells that it meets, and no others.
+pub fn walk_in(image: &[u8], name: &[u8; 24]) -> Walk
     requires { ⌜ length (now image) ≡ 1540 ⌝ }
-    ensures { λ r. ⌜ r ≡ trieOf (now (image .entry)) ⌝ }
+    ensures { λ r. ⌜ Walks r (walkOf (trieOf (now (image .entry))) (now (name .entry))) ⌝ }
 {
-    with_cells(image, 256)
-}
-
-fn at_most_256(x: usize) -> usize
-    ensures { λ r. ⌜ (r ≤ 256) × (r ≡ few x) ⌝ }
-{
-    if 256 < x {
-        return 256;
+    let count = pair(image[0], image[1]);
+    let first = pair(image[2], image[3]);
+    let mut walk = Walk::begin(count, first);
+    loop {
+        let place = walk.place;
+        let Place::Cell(i) = place else {
+            return walk;
+        };
+        let cell = cell_at(image, number(i));
+        walk = walk.step(name, i, cell);
     }
-    x
-}
-
-// The trie of an image without the cells past its count, which no walk meets.
-pub fn decoded_below_count(image: &[u8]) -> Trie
-    requires { ⌜ length (now image) ≡ 1540 ⌝ }
-    ensures { λ r. ⌜ r ≡ trieBelow (now (image .entry)) ⌝ }
-{
-    with_cells(image, at_most_256(number(pair(image[0], image[1]))))
 }
 
 fn low(x: u16) -> u8

@@ -100,7 +100,8 @@ pub extern "C" fn pal_lookup(file: &[u8], trie: &[u8], name: &[u8], out: &mut [u
     if trie.len() != 1540 {
         return MALFORMED;
     }
-    let answer = keeper::look_up(file, image::decoded_below_count(trie), name);
+    let filled = digits::filled(name);
+    let answer = keeper::look_up_from(file, image::walk_in(trie, &filled), name);
     match answer {
         LookUpAnswer::Found(value) => {
             out[0] = value;

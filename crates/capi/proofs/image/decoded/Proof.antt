@@ -1,18 +1,17 @@
--- `with_cells` reads the image: after i cells it has the trie of the first i.
-use Prim.Native.Nat.{_-_, _≤_, ℕ}
+-- `decoded` reads the image: after i cells it has the trie of the first i.
+use Prim.Native.Nat.{_-_, _≤_}
 use native.Mathlib.Omega.{arith}
-use mathlib.Core.Path.{_∙_, _≡_, ap}
+use mathlib.Core.Path.{_≡_}
 use borrow.Author.Needs.{needs}
-use Rattle.capi.specs.Images.{trieWith}
-use Rattle.capi.proofs.Coding.{read-first, read-next}
-use Rattle.capi.proofs.image.with_cells.Statement.{statement}
-use Rattle.capi.proofs.image.with_cells.Tie as tie
+use Rattle.capi.proofs.Coding.{read-all, read-first, read-next, readTo}
+use Rattle.capi.proofs.image.decoded.Statement.{statement}
+use Rattle.capi.proofs.image.decoded.Tie as tie
 
 abbrev Inv-loop : tie.InvT-loop
-Inv-loop image cells trie₀ i₀ trie i = (i ≤ cells) × (cells ≤ 256) × (trie ≡ trieWith i image)
+Inv-loop image trie₀ i₀ trie i = (i ≤ 256) × (trie ≡ readTo i image)
 
 abbrev μ-loop : tie.MeasureT-loop
-μ-loop image cells trie₀ i₀ trie i = cells - i
+μ-loop image trie₀ i₀ trie i = 256 - i
 
 shared-slice-read-pair : tie.Need-shared-slice-read-pair Inv-loop μ-loop
 shared-slice-read-pair c = search needs
@@ -37,7 +36,7 @@ pair-requires-2 c κs = search needs
 
 loop-holds : tie.Need-loop-holds Inv-loop μ-loop
 loop-holds c =
-    (omega arith, c .before .before .before .before .before .before .before .before .pre .0, read-first _ (c .before .before .before .before .before .before .before .before .args .image .now) (c .before .before .before .lone .ensures) (c .before .before .before .before .pair .ensures) (c .pair2 .ensures))
+    (omega arith, read-first _ (c .before .before .before .before .before .before .before .before .args .image .now) (c .before .before .before .lone .ensures) (c .before .before .before .before .pair .ensures) (c .pair2 .ensures))
 
 cell-at-requires : tie.Need-cell-at-requires Inv-loop μ-loop
 cell-at-requires c κs = search needs
@@ -57,16 +56,15 @@ loop-less c = search needs
 loop-again : tie.Need-loop-again Inv-loop μ-loop
 loop-again c =
     let v = c .before .before .loop .inv in
-    (omega arith, v .1, read-next (c .before .before .loop .trie) (c .before .before .loop .i) (c .before .before .before .before .before .before .before .before .before .before .before .args .image .now) (v .2) (omega arith) (c .cell-at .ensures))
+    (omega arith, read-next (c .before .before .loop .trie) (c .before .before .loop .i) (c .before .before .before .before .before .before .before .before .before .before .before .args .image .now) (v .1) (omega arith) (c .cell-at .ensures))
 
 returns : tie.Need-returns Inv-loop μ-loop
 returns c =
     let v = c .before .loop .inv in
-    let e : c .before .loop .i ≡ c .before .before .before .before .before .before .before .before .before .before .args .cells = omega arith in
-    v .2 ∙ ap (λ (k : ℕ). trieWith k (c .before .before .before .before .before .before .before .before .before .before .args .image .now)) e
+    read-all (c .before .loop .trie) (c .before .loop .i) (c .before .before .before .before .before .before .before .before .before .before .args .image .now) (v .1) (omega arith)
 
-pub with-cells-spec : {M : Type 1} → statement M
-with-cells-spec =
+pub decoded-spec : {M : Type 1} → statement M
+decoded-spec =
     tie.close
     (tie.spec
     Inv-loop
