@@ -12,10 +12,10 @@ use lib.Seq.{drop-drop, take-add, take-all}
 use borrow.Author.Tests.{eq-eqb, le-ltb, lt-ltb, ne-eqb}
 use Rattle.model.specs.Names.{legalFilled}
 use Rattle.model.specs.Checks.{sameStr}
-use Rattle.model.specs.Format.{lowOf, valueOf}
+use Rattle.model.specs.Format.{Bytes, lowOf, valueOf}
 use Rattle.model.proofs.Checks.{sameStr-equal, sameStr-self}
 use Rattle.digits.specs.Keys.{continued, isZero, value}
-use Rattle.digits.proofs.Keys.{Bytes, bytes-part, length-part, value-same}
+use Rattle.digits.proofs.Keys.{bytes-part, length-part, value-same}
 use Rattle.bucket.specs.declared.Held.the-variants.{Absent, Value}
 use Rattle.bucket.specs.Forms.{areAmong, areEntries, below, entriesFrom, heldAt, lowValue, notAbove, pieces, values}
 

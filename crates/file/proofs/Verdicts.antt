@@ -13,9 +13,10 @@ use Rattle.model.specs.Order.{at, none}
 use Rattle.model.specs.Files.{Bad, Chain, Cut, IsUsed, Slot, Sound, free, head, order-of, ranges, slot-at, upper-of, used}
 use Rattle.model.specs.Checks.{Kind, check, is-bad, is-cut, is-sound}
 use Rattle.model.specs.Format.{checkRead, readSlots, readUsed, sized, slotAt}
+use Rattle.model.proofs.Lists.{mem-insert}
 use Rattle.model.proofs.Files.{cut-not-sound, cut-unique, order-right, used-inside}
 use Rattle.model.proofs.Checks.{Checked, check-right}
-use Rattle.model.proofs.Surveys.{Apart, Before, Copy, Differ, Lists, Sorted, Twins, apart-bad, chain-follows, chain-sound, copy-cut, follows-chain, mem-insert, sound-sorted, twin-bad}
+use Rattle.model.proofs.Surveys.{Apart, Before, Copy, Differ, Lists, Sorted, Twins, apart-bad, chain-follows, chain-sound, copy-cut, follows-chain, sound-sorted, twin-bad}
 use Rattle.file.specs.declared.Size.{Size}
 use Rattle.file.specs.declared.survey.Kind.{Kind as Found}
 use Rattle.file.specs.declared.survey.Survey.{Survey}

@@ -1,21 +1,21 @@
 -- Cells that agree with ranges in order: decided by the pass, fed by a cursor.
 use mathlib.Core.Path.{_∙_, _≡_, ap, ap₂, refl, sym}
 use mathlib.Core.Option.{Option, some}
-use mathlib.Core.List.{List, List·Memᴰ, List·Memᴰ·head, List·Memᴰ·tail, [], _++_, _∷_, append-assoc, append-nil}
-use Prim.Native.Nat.{_+_, _-_, _<_, _≤_, suc, zero, ℕ}
-use native.Mathlib.Numerals.{add-one}
+use mathlib.Core.List.{List, List·Memᴰ, List·Memᴰ·head, List·Memᴰ·tail, [], _++_, _∷_, append-nil}
+use Prim.Native.Nat.{_+_, _-_, _<_, _≤_, suc, ℕ}
 use native.Mathlib.Omega.{arith}
-use lib.ListN.{drop, length, length-append, length-drop, length-replicate, length-take, replicate, take, take-append-drop}
-use lib.Seq.{getD-append-add, length-take-le, take-append-add, take-append-seam}
+use lib.ListN.{drop, length, length-append, length-replicate, length-take, replicate, take, take-append-drop}
+use lib.Seq.{getD-append-add, take-append-seam}
 use Rattle.model.specs.declared.Cell.{Cell}
 use Rattle.model.specs.declared.Side.{Side}
 use Rattle.model.specs.declared.Side.the-variants.{Cell as further, Slot as slot}
 use Rattle.model.specs.declared.Trie.{Trie}
-use Rattle.model.specs.Order.{Asc, Low, Str, _≺_, _⊑_, _◁_, above, at, diff, end, least, low?, none, over, step, top}
-use Rattle.model.specs.Files.{Chain, In, Ranges, Slot, Sound, all, bounds, fresh, head, last, longer, next, ranges, slot-at, string-count, strings-of}
+use Rattle.model.specs.Order.{Asc, Low, Str, _≺_, _⊑_, _◁_, above, at, end, least, low?, none, over, step, top}
+use Rattle.model.specs.Files.{Chain, In, Ranges, Slot, Sound, all, bounds, fresh, head, last, next, ranges, slot-at, string-count, strings-of}
 use Rattle.model.specs.Tries.{Agrees, Leads, Leaves, Numbers, Reads, Spans, Tree, at-cell, cell, cut, first-leaf-of, leaf, leaf-last, leaf-next, leaves, node, occ, root-side, size, strings, tip, trie-of, walk-trie, zero-cell}
 use Rattle.model.specs.Rebuilding.{label, laid, lay, rebuilt, rebuilt-trie, side-of}
-use Rattle.model.proofs.Order.{diff-lt-left, le-take, le-trans, lt-le, lt-le-trans}
+use Rattle.model.proofs.Lists.{at-replicate}
+use Rattle.model.proofs.Order.{le-take, le-trans, lt-le, lt-le-trans}
 use Rattle.model.proofs.Tries.{cast, cells-count, flat-trie, relabel-same, relabel-trie, strings-are, trie-flat}
 use Rattle.model.proofs.Strings.{all-asc, asc-mem, asc-unique, fresh-asc, fresh-begins, trie-asc}
 use Rattle.model.proofs.Ranges.{bounds-all, bounds-asc, chain-some, label-leads, leads-unique}
@@ -133,45 +133,7 @@ module _ (F : Ranges) (Bs : List ℕ) (chain : Chain F none Bs) (listed : (B : �
         rw e at (pass-complete cs (suc (length cs)) [] [] [] (A .reads) (trie-flat (λ l u B. B ≡ label F Bs l) T .0)
         (omega (arith, reads-height (A .reads), visits-count (A .reads) (A .each))) (each-once (A .reads) (A .each)))
 
--- The expected strings and slots as a cursor gives them: a slot, and a length that goes down.
-
--- The beginnings of x with j + n, …, j + 1 digits.
-abbrev pub shorter : Str → ℕ → ℕ → List Str
-shorter x j zero = []
-shorter x j (suc n) = take (j + suc n) x ∷ shorter x j n
-
-shorter-snoc : (x : Str) (j n : ℕ) → shorter x j (suc n) ≡ shorter x (suc j) n ++ (take (suc j) x ∷ [])
-shorter-snoc x j zero = rw add-one
-shorter-snoc x j (suc n) =
-    let e : j + suc (suc n) ≡ suc j + suc n = omega arith in
-    rw (← shorter-snoc x j n, e)
-
--- The digits ds behind p, where p ++ ds is x.
-longer-shorter : (ds p : Str) → longer p ds ≡ shorter (p ++ ds) (length p) (length ds)
-longer-shorter [] p = refl
-longer-shorter (d ∷ ds) p =
-    let q : Str = p ++ (d ∷ []) in
-    let X : Str = p ++ (d ∷ ds) in
-    let e : q ++ ds ≡ X = append-assoc p (d ∷ []) ds in
-    let len : length q ≡ suc (length p) = length-append p (d ∷ []) ∙ add-one (length p) in
-    let tq : take (suc (length p)) X ≡ q = rw add-one at (take-append-add p (d ∷ ds) 1) in
-    let ih : longer q ds ≡ shorter X (suc (length p)) (length ds) = rw (e, len) at (longer-shorter ds q) in
-    rw (ih, shorter-snoc X (length p) (length ds), tq)
-
-pub fresh-shorter : (x y : Str) → x ≺ y → fresh x y ≡ shorter x (diff x y) (length x - diff x y)
-fresh-shorter x y h =
-    let j : ℕ = diff x y in
-    let k : j < length x = diff-lt-left x y h in
-    rw (take-append-drop j x, length-take-le j x (omega arith), length-drop j x) at (longer-shorter (drop j x) (take j x))
-
--- How many strings come with a bound x before the bound y.
-pub length-fresh : (x y : Str) → x ≺ y → length (fresh x y) ≡ length x - diff x y
-length-fresh x y h = ap length (fresh-shorter x y h) ∙ count x (diff x y) (length x - diff x y)
-  where
-    count : (x : Str) (j n : ℕ) → length (shorter x j n) ≡ n
-    count x j zero = refl
-    count x j (suc n) = ap suc (count x j n)
-
+-- The expected strings and slots as a cursor gives them: after each string the slot of the leaf right of it.
 abbrev pub follow : ℕ → List Str → List Token
 follow C [] = []
 follow C (q ∷ qs) = string q ∷ leads C ∷ follow C qs
@@ -296,15 +258,10 @@ module _ (b : ℕ) {fs : List Slot} (S : Sound b fs) where
       whole : length (cs ++ replicate (256 - length cs) zero-cell) ≡ 256
       whole = omega (arith, small, length-append cs (replicate (256 - length cs) zero-cell), length-replicate (256 - length cs) zero-cell)
 
-      zeros : (k j : ℕ) → at-cell (replicate k zero-cell) j ≡ zero-cell
-      zeros zero j = refl
-      zeros (suc k) zero = refl
-      zeros (suc k) (suc j) = zeros k j
-
       past : (i : ℕ) → length cs ≤ i → at-cell (cs ++ replicate (256 - length cs) zero-cell) i ≡ zero-cell
       past i h =
           let e : i ≡ length cs + (i - length cs) = omega arith in
-          ap (λ (k : ℕ). at-cell (cs ++ replicate (256 - length cs) zero-cell) k) e ∙ getD-append-add cs (replicate (256 - length cs) zero-cell) (i - length cs) zero-cell ∙ zeros (256 - length cs) (i - length cs)
+          ap (λ (k : ℕ). at-cell (cs ++ replicate (256 - length cs) zero-cell) k) e ∙ getD-append-add cs (replicate (256 - length cs) zero-cell) (i - length cs) zero-cell ∙ at-replicate zero-cell (256 - length cs) (i - length cs)
 
       first : (a : Side) → a ≡ root-side (length cs) (first-leaf-of a) → 0 < length cs → first-leaf-of a ≡ 0
       first (further m) e h = refl

@@ -62,7 +62,7 @@ first-before t (x ∷ xs) (suc B) h = elim (t x) [
     lower : (i : ℕ) → suc B < suc i → B < i
     lower i h = omega arith
 
-chain-once : (F : Ranges) (Bs : List ℕ) {l : Low} → Chain F l Bs → (i : ℕ) → occ i Bs ≤ 1
+pub chain-once : (F : Ranges) (Bs : List ℕ) {l : Low} → Chain F l Bs → (i : ℕ) → occ i Bs ≤ 1
 chain-once F Bs (last {B = B} u e f) i = go (ℕ-discrete i B)
   where
     go : (d : Dec (i ≡ B)) → one-if d + 0 ≤ 1
@@ -186,6 +186,9 @@ module _ (b : ℕ) where
     -- The order of a sound file is the computed one.
     pub order-right : order-of fs ≡ S .order
     order-right = order-chain (length fs) (S .chain) order-short
+
+    pub chain-right : Chain (ranges fs) none (order-of fs)
+    chain-right = rw order-right (S .chain)
 
     pub strings-right : strings-of fs ≡ all (bounds (ranges fs) (S .order))
     strings-right = ap (λ Bs. all (bounds (ranges fs) Bs)) order-right

@@ -58,14 +58,14 @@ module _ (slots count : ℕ) (cs : List Cell) (n : Str) (whole : length n ≡ 24
       go (yes h) k x y = rw (le-within n q (omega (arith, fits)) h) (x k)
       go (no h) k x y = rw (within-atMost n q (omega (arith, fits)), lt-atMost n q h) (y k)
 
--- The strings of a sound file have at most 24 digits.
-string-fits : (b : ℕ) {fs : List Slot} → Sound b fs → (x : Str) → IsString fs x → length x ≤ 24
+-- The bounds and strings of a sound file have at most 24 digits.
+pub bound-fits : (b : ℕ) (s : Slot) {y : Str} → Well b s → BoundOf (head s) y → length y ≤ 24
+bound-fits b (used l u es) (well-used (limit a) c h r k) lower-bound = a .fits
+bound-fits b (used l u es) (well-used a c h r k) upper-bound = c .fits
+
+pub string-fits : (b : ℕ) {fs : List Slot} → Sound b fs → (x : Str) → IsString fs x → length x ≤ 24
 string-fits b {fs} S x g =
-    rw (g .begins .is) (omega (arith, length-take (g .begins .count) (g .bound), bound-fits (slot-at fs (g .bucket)) (S .well (g .bucket)) (g .is-bound)))
-  where
-    bound-fits : (s : Slot) {y : Str} → Well b s → BoundOf (head s) y → length y ≤ 24
-    bound-fits (used l u es) (well-used (limit a) c h r k) lower-bound = a .fits
-    bound-fits (used l u es) (well-used a c h r k) upper-bound = c .fits
+    rw (g .begins .is) (omega (arith, length-take (g .begins .count) (g .bound), bound-fits b (slot-at fs (g .bucket)) (S .well (g .bucket)) (g .is-bound)))
 
 module _ (b : ℕ) {fs : List Slot} (S : Sound b fs) {t : Trie} (A : Agrees fs t) where
   -- The walk of a lookup meets no cell or slot that is not there.

@@ -20,7 +20,7 @@ use Rattle.model.proofs.Strings.{mem-at}
 use Rattle.model.proofs.Ranges.{chain-some, chain-used}
 use Rattle.model.proofs.Files.{order-right}
 use Rattle.model.proofs.Format.{readSlots-each, slotBytes-readSlot}
-use Rattle.model.proofs.Agreement.{coming, expect-cursor, expect-slots, follow, labels, length-fresh, to-slots, to-slots-append}
+use Rattle.model.proofs.Agreement.{coming, expect-cursor, expect-slots, follow, labels, to-slots, to-slots-append}
 use Rattle.bucket.specs.Slots.{upperAt}
 use Rattle.bucket.proofs.Laws.{upperAt-slot}
 use Rattle.file.specs.declared.Size.{Size}
@@ -70,7 +70,7 @@ module _ (F : Ranges) where
       let ss : List Str = fresh (F .upper B) (F .upper C) in
       let up : F .upper B ≺ F .upper C = chain-up c in
       rw (to-slots-append lab (follow C ss) (coming F C Bs), ← coming-slots lab Bs C (chain-rest c))
-      (first-slot lab B C ss (to-slots lab (coming F C Bs)) (omega (arith, length-fresh (F .upper B) (F .upper C) up, diff-lt-left (F .upper B) (F .upper C) up)))
+      (first-slot lab B C ss (to-slots lab (coming F C Bs)) (omega (arith, length-beyond (diff (F .upper B) (F .upper C)) (F .upper B), diff-lt-left (F .upper B) (F .upper C) up)))
 
   labels-from : (Cs : List ℕ) (B : ℕ) (Bs : List ℕ) → Cs ≡ B ∷ Bs → Chain F none (B ∷ Bs)
       → labels (label F Cs) none (all (bounds F Cs)) ≡ leaves-from B Bs
