@@ -1,6 +1,6 @@
 -- Look up, put, remove and list on the bytes of one slot: what the code finds in a slot that reads as used and is well formed.
 use mathlib.Core.Path.{_∙_, _≡_, ap, ap₂, refl, sym}
-use mathlib.Core.Bool.{Bool, _&&_, cond, false, not, true}
+use mathlib.Core.Bool.{Bool, Bool·not-not, _&&_, and-false, cond, false, not, true}
 use mathlib.Core.Option.{Option, none as nothing, some}
 use mathlib.Core.List.{List, [], _++_, _∷_, append-assoc}
 use Prim.Native.Nat.{_*_, _+_, _-_, _<_, _^_, _≤_, suc, zero, ℕ}
@@ -88,12 +88,8 @@ pub range-is : (l : Low) (u n : Str) (low high v : ℕ) → legalLow l ≡ true 
     → (ltb low v && not (ltb high v)) ≡ (isAbove l n && atMost n u)
 range-is l u n low high v f h g i j e =
     let a : ltb low v ≡ isAbove l n = ap₂ ltb i e ∙ name-low l n f (legal-legalFilled g) in
-    let c : not (ltb high v) ≡ atMost n u = ap not (ap₂ ltb j e ∙ name-over u n h g) ∙ twice (atMost n u) in
+    let c : not (ltb high v) ≡ atMost n u = ap not (ap₂ ltb j e ∙ name-over u n h g) ∙ Bool·not-not (atMost n u) in
     ap₂ (λ (x y : Bool). x && y) a c
-  where
-    twice : (t : Bool) → not (not t) ≡ t
-    twice true = refl
-    twice false = refl
 
 pub range-holds : {b : ℕ} {xs : List ℕ} {k : Bucket} {l : Low} {u : Str} {es : List Entry} → WellRead b xs k → readUsed b xs ≡ some (used l u es)
     → (n : Str) (v : ℕ) → Legal n → v ≡ value n
@@ -222,10 +218,6 @@ part-row ys (entry {e = e} {es = es} g a c r) (suc i) k h =
     rw append-assoc (ap (take (32 * k)) (drop-behind (entryBytes e) (entriesBytes es ++ ys) (length-entryBytes e g) i) ∙ part-row ys r i k (omega arith))
 
 -- The entries from one name to another stand together.
-and-false : (t : Bool) → (t && false) ≡ false
-and-false true = refl
-and-false false = refl
-
 between-none : {u x : Str} {es : List Entry} (n m : Str) → Row (at x) es u → ¬ (x ⊑ m) → between n m es ≡ []
 unfolding between
 between-none n m no-entries h = refl

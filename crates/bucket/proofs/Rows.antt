@@ -86,7 +86,7 @@ read-written b xs s = go (sameStr xs (slotBytes b (usedOf xs))) refl
     go false e h = let z : _≡_ {A = ℕ} 0 1 = cc in absurd (omega arith)
 
 -- A slot is free where it is all zero; else it is read as used.
-zero-same : (k : ℕ) (xs : List ℕ) → length xs ≡ k → sameStr xs (replicate k 0) ≡ isZero xs
+pub zero-same : (k : ℕ) (xs : List ℕ) → length xs ≡ k → sameStr xs (replicate k 0) ≡ isZero xs
 unfolding sameStr isZero
 zero-same zero [] e = refl
 zero-same zero (x ∷ xs) e = absurd (omega arith)
