@@ -17,7 +17,7 @@ use Rattle.model.specs.Files.{Slot, free, used}
 use Rattle.model.specs.Checks.{isAbove, isWell, legalLow}
 use Rattle.model.specs.Format.{Values, entriesBytes, entryBytes, readSlot, readUsed, slotBytes, slotSize, valueBytes, valueOf}
 use Rattle.model.specs.Calls.{between}
-use Rattle.model.proofs.Order.{le-refl, le-trans, lt-le}
+use Rattle.model.proofs.Order.{le-trans, lt-le}
 use Rattle.model.proofs.Names.{le-atMost, legal-legalFilled, legal-length, lt-atMost}
 use Rattle.model.proofs.Entries.{at-find, chosen-no, chosen-yes, row-at}
 use Rattle.model.proofs.Checks.{isWell-well}
@@ -32,7 +32,7 @@ use Rattle.bucket.specs.declared.Vacancy.the-variants.{Free, Taken}
 use Rattle.bucket.specs.Entries.{place}
 use Rattle.bucket.specs.Forms.{Formed, WellRead, below, entriesFrom, heldUnder, lowValue, notAbove, partBetween, vacant, values}
 use Rattle.bucket.specs.Slots.{countAt}
-use Rattle.bucket.proofs.Laws.{countAt-slot, drop-behind, find-not-over, length-entryBytes, take-behind}
+use Rattle.bucket.proofs.Laws.{countAt-slot, drop-behind, find-behind, find-first, length-entryBytes, take-behind}
 use Rattle.bucket.proofs.Forms.{held-behind, held-here, held-other}
 use Rattle.bucket.proofs.Reading.{are-zeros, name-legal, name-low, name-value, under-bound}
 use Rattle.bucket.proofs.Rows.{Reads, drop-row, name-first, name-over, numbers, read-by-zero, reads, value-behind, values-row}
@@ -125,15 +125,12 @@ pub place-found : {l : Low} {u : Str} {es : List Entry} (n : Str) (w : ℕ) → 
 unfolding place find
 place-found n w no-entries h = let y : _≡_ {A = ℕ} 0 1 = cc in absurd (omega arith)
 place-found n w (entry {e = e} {es = es} g a c r) h = elim (le? n (e .0)) [
-  | no q ↦ let i = place-found n w r (sym (chosen-no (str? n (e .0)) (λ p. q (rw (← p) (le-refl n))) _ _) ∙ h) in
+  | no q ↦ let i = place-found n w r (find-behind n e es q ∙ h) in
       rw (chosen-no (le? n (e .0)) q) (omega (arith, i .0), i .1)
-  | yes q ↦ elim (str? n (e .0)) [
-    | yes p ↦ let s : _≡_ {A = Option ℕ} (some (e .1)) (some w) = sym (chosen-yes (str? n (e .0)) p _ _) ∙ h in
-        let k : e .1 ≡ w = cc in
-        rw (chosen-yes (le? n (e .0)) q) (omega arith, ap₂ (λ (x : Str) (y : ℕ). (x, y)) (sym p) k)
-    | no p ↦ let z : _≡_ {A = Option ℕ} nothing (some w) = sym (find-not-over n r (λ d. over d q)) ∙ sym (chosen-no (str? n (e .0)) p _ _) ∙ h in
-        let y : _≡_ {A = ℕ} 0 1 = cc in absurd (omega arith)
-  ]
+  | yes q ↦ let p : n ≡ e .0 = find-first n e r q h in
+      let s : _≡_ {A = Option ℕ} (some (e .1)) (some w) = sym (chosen-yes (str? n (e .0)) p _ _) ∙ h in
+      let k : e .1 ≡ w = cc in
+      rw (chosen-yes (le? n (e .0)) q) (omega arith, ap₂ (λ (x : Str) (y : ℕ). (x, y)) (sym p) k)
 ]
 
 pub place-lost : (n : Str) (es : List Entry) → find n es ≡ nothing → (i : ℕ) → i < length es → ¬ (name-at es i ≡ n)

@@ -7,7 +7,7 @@ use native.Mathlib.Omega.{arith}
 use lib.ListN.{drop, getD, length, length-append, length-drop, length-take, replicate, replicate-append-replicate, set, take}
 use lib.Seq.{drop-append-le, drop-at, drop-cons, length-paste, length-take-le, paste, take-all, take-append-add, take-append-le, take-at, take-length, take-take}
 use borrow.Author.Tests.{le-ltb, lt-ltb}
-use Rattle.model.specs.Order.{Low, Str, _◁_, le?, over, str?}
+use Rattle.model.specs.Order.{Low, Str, _⊑_, _◁_, at as after, le?, over, str?}
 use Rattle.model.specs.Names.{Legal}
 use Rattle.model.specs.Entries.{Entry, Row, entry, find, insert, keep, no-entries, not?, without}
 use Rattle.model.specs.Files.{used}
@@ -303,6 +303,19 @@ find-not-over n no-entries h = refl
 find-not-over n (entry {e = e} g a b r) h =
     rw (chosen-no (str? n (e .0)) (λ q. h (rw q a))) (find-not-over n r (λ c. h (low-lower (low-at a) c)))
 
+-- A name above the first of a row is looked for behind it; one that is not, and is held, is the first.
+pub find-behind : (n : Str) (e : Entry) (es : List Entry) → ¬ (n ⊑ e .0) → find n es ≡ find n (e ∷ es)
+unfolding find
+find-behind n e es q = sym (chosen-no (str? n (e .0)) (λ p. q (rw (← p) (le-refl n))) _ _)
+
+pub find-first : {u : Str} (n : Str) (e : Entry) {es : List Entry} {w : ℕ} → Row (after (e .0)) es u → n ⊑ e .0 → find n (e ∷ es) ≡ some w → n ≡ e .0
+unfolding find
+find-first n e {w = w} r q h = elim (str? n (e .0)) [
+  | yes p ↦ p
+  | no p ↦ let z : _≡_ {A = Option ℕ} nothing (some w) = sym (find-not-over n r (λ c. over c q)) ∙ sym (chosen-no (str? n (e .0)) p _ _) ∙ h in
+      let y : _≡_ {A = ℕ} 0 1 = cc in absurd (omega arith)
+]
+
 -- The changes at the first place.
 with-first : {l : Low} {u : Str} {es : List Entry} (n : Str) (v : ℕ) (ys : List ℕ) → Row l es u
     → withEntry (entriesBytes es ++ ys) (length es) 0 n v ≡ entriesBytes ((n, v) ∷ es)
@@ -334,7 +347,7 @@ pub with-insert : {l : Low} {u : Str} {es : List Entry} (n : Str) (v : ℕ) (ys 
 unfolding entriesBytes place insert find
 with-insert {l} {u} n v ys no-entries h = with-first {l = l} {u = u} n v ys no-entries
 with-insert n v ys (entry {e = e} {es = es} g a b r) h = elim (le? n (e .0)) [
-  | no q ↦ let f : find n es ≡ nothing = sym (chosen-no (str? n (e .0)) (λ p. q (rw (← p) (le-refl n))) _ _) ∙ h in
+  | no q ↦ let f : find n es ≡ nothing = find-behind n e es q ∙ h in
       rw (chosen-no (le? n (e .0)) q, chosen-no (le? n (e .0)) q, append-assoc)
       (with-behind (entryBytes e) (entriesBytes es ++ ys) (length-entryBytes e g) (length es) (place n es) n v
       ∙ ap (λ (w : List ℕ). entryBytes e ++ w) (with-insert n v ys r f))
@@ -351,15 +364,12 @@ pub changed-insert : {l : Low} {u : Str} {es : List Entry} (n : Str) (v o : ℕ)
 unfolding entriesBytes place insert find
 changed-insert n v o ys no-entries h = let y : _≡_ {A = ℕ} 0 1 = cc in absurd (omega arith)
 changed-insert n v o ys (entry {e = e} {es = es} g a b r) h = elim (le? n (e .0)) [
-  | no q ↦ let f : find n es ≡ some o = sym (chosen-no (str? n (e .0)) (λ p. q (rw (← p) (le-refl n))) _ _) ∙ h in
+  | no q ↦ let f : find n es ≡ some o = find-behind n e es q ∙ h in
       rw (chosen-no (le? n (e .0)) q, chosen-no (le? n (e .0)) q, append-assoc)
       (changed-behind (entryBytes e) (entriesBytes es ++ ys) (length-entryBytes e g) (length es) (place n es) v
       ∙ ap (λ (w : List ℕ). entryBytes e ++ w) (changed-insert n v o ys r f))
-  | yes q ↦ elim (str? n (e .0)) [
-    | yes p ↦ rw (chosen-yes (le? n (e .0)) q, chosen-yes (le? n (e .0)) q, chosen-yes (str? n (e .0)) p, append-assoc, p) (changed-first e v ys g r)
-    | no p ↦ let z : _≡_ {A = Option ℕ} nothing (some o) = sym (find-not-over n r (λ c. over c q)) ∙ sym (chosen-no (str? n (e .0)) p _ _) ∙ h in
-        let y : _≡_ {A = ℕ} 0 1 = cc in absurd (omega arith)
-  ]
+  | yes q ↦ let p : n ≡ e .0 = find-first n e r q h in
+      rw (chosen-yes (le? n (e .0)) q, chosen-yes (le? n (e .0)) q, chosen-yes (str? n (e .0)) p, append-assoc, p) (changed-first e v ys g r)
 ]
 
 -- The entry left out at the place of a name that is held is a removal.
@@ -368,14 +378,10 @@ pub without-removal : {l : Low} {u : Str} {es : List Entry} (n : Str) (o : ℕ) 
 unfolding entriesBytes place keep find
 without-removal n o ys no-entries h = let y : _≡_ {A = ℕ} 0 1 = cc in absurd (omega arith)
 without-removal n o ys (entry {e = e} {es = es} g a b r) h = elim (le? n (e .0)) [
-  | no q ↦ let f : find n es ≡ some o = sym (chosen-no (str? n (e .0)) (λ p. q (rw (← p) (le-refl n))) _ _) ∙ h in
+  | no q ↦ let f : find n es ≡ some o = find-behind n e es q ∙ h in
       rw (chosen-no (le? n (e .0)) q, chosen-yes (not? (str? (e .0) n)) (λ p. q (rw p (le-refl n))), append-assoc)
       (without-behind (entryBytes e) (entriesBytes es ++ ys) (length-entryBytes e g) (length es) (place n es)
       ∙ ap (λ (w : List ℕ). entryBytes e ++ w) (without-removal n o ys r f))
-  | yes q ↦ elim (str? n (e .0)) [
-    | yes p ↦ rw (chosen-yes (le? n (e .0)) q, chosen-no (not? (str? (e .0) n)) (λ f. f (sym p)), keep-all (λ k. not? (str? k n)) r (λ k c d. over c (rw d q)), append-assoc)
-        (without-first (entryBytes e) ys (length-entryBytes e g) r)
-    | no p ↦ let z : _≡_ {A = Option ℕ} nothing (some o) = sym (find-not-over n r (λ c. over c q)) ∙ sym (chosen-no (str? n (e .0)) p _ _) ∙ h in
-        let y : _≡_ {A = ℕ} 0 1 = cc in absurd (omega arith)
-  ]
+  | yes q ↦ rw (chosen-yes (le? n (e .0)) q, chosen-no (not? (str? (e .0) n)) (λ f. f (sym (find-first n e r q h))), keep-all (λ k. not? (str? k n)) r (λ k c d. over c (rw d q)), append-assoc)
+      (without-first (entryBytes e) ys (length-entryBytes e g) r)
 ]

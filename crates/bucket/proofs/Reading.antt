@@ -17,7 +17,7 @@ use Rattle.model.specs.Checks.{isAbove, isRow, isWell, legalLow, sameStr}
 use Rattle.model.specs.Format.{Bytes, entriesBytes, entriesOf, entryBytes, lowDigits, lowOf, padded, readUsed, slotBytes, usedOf, valueBytes, valueOf}
 use Rattle.model.proofs.Lists.{drop-take}
 use Rattle.model.proofs.Names.{both-true, bound-legalBound, legal-bound, legal-length, legalBound-bound, legalFilled-legal}
-use Rattle.model.proofs.Checks.{isAbove-above, isRow-row, sameStr-equal, sameStr-self}
+use Rattle.model.proofs.Checks.{Wells, isAbove-above, isRow-row, sameStr-equal, sameStr-self, wells}
 use Rattle.model.proofs.Format.{bytes-drop, bytes-each, bytes-take, length-entriesBytes, length-padded, length-valueBytes, lowOf-lowDigits, padded-front, padded-short, valueBytes-valueOf}
 use Rattle.digits.specs.Keys.{continued, isZero, keyValue, value}
 use Rattle.digits.proofs.Keys.{Under, bound-below, continued-whole, digits-under, name-atMost, value-some}
@@ -316,27 +316,14 @@ module _ (b : ℕ) (l : Low) (u : Str) (es : List Entry) (w : isWell b (used l u
   abbrev xs : List ℕ
   xs = slotBytes b (used l u es)
 
-  pub record Wells : Type 0 where
-    pub low : legalLow l ≡ true
-    pub high : legalBound u ≡ true
-    pub above : isAbove l u ≡ true
-    pub row : isRow l es u ≡ true
-    pub most : length es ≤ b
-
-  pub wells : Wells
-  unfolding isWell
-  wells =
-      let p = both-true (legalLow l && legalBound u && isAbove l u && isRow l es u) (leb (length es) b) w in
-      let q = both-true (legalLow l && legalBound u && isAbove l u) (isRow l es u) (p .0) in
-      let r = both-true (legalLow l && legalBound u) (isAbove l u) (q .0) in
-      let s = both-true (legalLow l) (legalBound u) (r .0) in
-      record { low = s .0; high = s .1; above = r .1; row = q .1; most = leb-true (length es) b (p .1) }
+  parts : Wells b l u es
+  parts = wells b l u es w
 
   low-fits : length (lowDigits l) ≤ 24
-  low-fits = legalBound-bound (lowDigits l) (low-legal l (wells .low)) .fits
+  low-fits = legalBound-bound (lowDigits l) (low-legal l (parts .low)) .fits
 
   high-fits : length u ≤ 24
-  high-fits = legalBound-bound u (wells .high) .fits
+  high-fits = legalBound-bound u (parts .high) .fits
 
   from-low : drop 8 xs ≡ x ++ (y ++ z)
   unfolding slotBytes
@@ -355,16 +342,16 @@ module _ (b : ℕ) (l : Low) (u : Str) (es : List Entry) (w : isWell b (used l u
   low-is : lowIn xs ≡ l
   low-is =
       ap₂ (λ (k : ℕ) (v : List ℕ). lowOf (take k v)) (head-is .2) from-low
-      ∙ ap lowOf (padded-front 24 (lowDigits l) (y ++ z) low-fits) ∙ lowOf-lowDigits (isAbove-above l u (wells .above))
+      ∙ ap lowOf (padded-front 24 (lowDigits l) (y ++ z) low-fits) ∙ lowOf-lowDigits (isAbove-above l u (parts .above))
 
   high-is : highIn xs ≡ u
   high-is = ap₂ (λ (k : ℕ) (v : List ℕ). take k v) (head-is .3) from-high ∙ padded-front 24 u z high-fits
 
   length-row : length (entriesBytes es) ≡ 32 * length es
-  length-row = length-entriesBytes (isRow-row l es u (wells .row))
+  length-row = length-entriesBytes (isRow-row l es u (parts .row))
 
   padded-row : padded (32 * b) (entriesBytes es) ≡ entriesBytes es ++ replicate (32 * b - length (entriesBytes es)) 0
-  padded-row = padded-short (32 * b) (entriesBytes es) (omega (arith, length-row, wells .most))
+  padded-row = padded-short (32 * b) (entriesBytes es) (omega (arith, length-row, parts .most))
 
   unused : isZero (drop (64 + 32 * length es) xs) ≡ true
   unused =
@@ -387,19 +374,19 @@ module _ (b : ℕ) (l : Low) (u : Str) (es : List Entry) (w : isWell b (used l u
   well-tested =
       let lo = lowValue l in
       let hi = value (continued u) in
-      let r : ltb lo hi ≡ true = low-above l u (wells .low) (wells .high) ∙ wells .above in
+      let r : ltb lo hi ≡ true = low-above l u (parts .low) (parts .high) ∙ parts .above in
       let k : lo ≤ hi = omega (arith, ltb-true lo hi r) in
       record {
         first = head-is .0;
-        fits = omega (arith, head-is .1, wells .most);
+        fits = omega (arith, head-is .1, parts .most);
         clear = is-clear;
-        lower = bound-part 8 (getD xs 2 0) (lowDigits l) (y ++ z) (head-is .2) from-low (low-legal l (wells .low));
-        upper = bound-part 32 (getD xs 3 0) u z (head-is .3) from-high (wells .high);
+        lower = bound-part 8 (getD xs 2 0) (lowDigits l) (y ++ z) (head-is .2) from-low (low-legal l (parts .low));
+        upper = bound-part 32 (getD xs 3 0) u z (head-is .3) from-high (parts .high);
         ranged = ap₂ (λ (m : Low) (v : Str). ltb (lowValue m) (value (continued v))) low-is high-is ∙ r;
         rowed =
             ap₂ (λ (m : Low) (v : Str). areEntries (getD xs 1 0) (drop 64 xs) (lowValue m) (value (continued v))) low-is high-is
             ∙ ap₂ (λ (m : ℕ) (v : List ℕ). areEntries m v lo hi) (head-is .1) (entries-slot b l u es ∙ padded-row)
-            ∙ row-entries es (replicate (32 * b - length (entriesBytes es)) 0) l u (wells .low) (wells .high) k (wells .row);
+            ∙ row-entries es (replicate (32 * b - length (entriesBytes es)) 0) l u (parts .low) (parts .high) k (parts .row);
       }
 
 passes : (b : ℕ) (xs : List ℕ) → xs ≡ slotBytes b (usedOf xs) → isWell b (usedOf xs) ≡ true → Tested b xs

@@ -15,14 +15,14 @@ use Rattle.model.specs.Files.{Slot, Well, free, used}
 use Rattle.model.specs.Checks.{isAbove, legalLow, sameStr}
 use Rattle.model.specs.Format.{Values, entriesBytes, entryBytes, lowOf, padded, readSlot, readUsed, slotBytes, slotSize, usedOf, valueBytes}
 use Rattle.model.proofs.Names.{legal-legalFilled, legal-length}
-use Rattle.model.proofs.Checks.{sameStr-equal, well-isWell}
+use Rattle.model.proofs.Checks.{sameStr-equal, well-isWell, wells}
 use Rattle.model.proofs.Files.{well-parts}
 use Rattle.model.proofs.Format.{bytes-each, length-entriesBytes, length-slotBytes, length-valueBytes, padded-short, values-readSlot}
 use Rattle.digits.specs.Keys.{continued, isZero, value}
 use Rattle.bucket.specs.Forms.{lowValue, pieces, values}
 use Rattle.bucket.proofs.Laws.{drop-behind, entries-slot, length-entryBytes}
 use Rattle.bucket.proofs.Forms.{zero-not}
-use Rattle.bucket.proofs.Reading.{Tested, by-bound, highIn, lowIn, name-low, well-tested, wells}
+use Rattle.bucket.proofs.Reading.{Tested, by-bound, highIn, lowIn, name-low, well-tested}
 
 -- The numbers of the names, and the bytes of each entry.
 abbrev pub numbers : List Entry → List ℕ

@@ -9,15 +9,15 @@ use native.Mathlib.Decide.{decLe, decLt, ℕ-discrete}
 use lib.Pow.{pow-add}
 use native.Mathlib.Omega.{arith}
 use lib.Dec.{eqb, leb, ltb}
-use lib.ListN.{drop, getD, length, length-append, length-drop, length-replicate, length-take, replicate, take}
+use lib.ListN.{drop, getD, length, length-append, length-drop, length-take, replicate, take}
 use lib.Seq.{drop-cons, drop-drop, take-add, take-at, take-take}
 use borrow.Author.Tests.{eq-eqb, eqb-true, le-leb, le-ltb, lt-leb, lt-ltb, ne-eqb}
 use Rattle.model.specs.Names.{Digits, atMost}
 use Rattle.model.specs.Format.{Bytes}
-use Rattle.model.proofs.Lists.{drop-take}
+use Rattle.model.proofs.Lists.{drop-take, length-made}
 use Rattle.model.proofs.Order.{le-antisym, le-refl}
 use Rattle.model.proofs.Names.{atMost-le, both-true, le-atMost}
-use Rattle.model.proofs.Format.{bytes-append, bytes-drop, bytes-each, bytes-same, bytes-take}
+use Rattle.model.proofs.Format.{bytes-drop, bytes-each, bytes-made, bytes-take}
 use Rattle.digits.proofs.Laws.{pair-lt}
 use Rattle.digits.specs.Keys.{continued, isZero, value}
 
@@ -255,9 +255,6 @@ value-atMost (a ∷ x) (b ∷ y) f g e =
         let p = pair-lt (256 ^ length y) b (value y) a (value x) k (value-lt y (g .1)) in
         rw (lt-leb (a * 256 ^ length y + value x) (b * 256 ^ length y + value y) p, le-ltb a b (omega arith), ne-eqb a b q)
 
-pub value-below : (x y : List ℕ) → Bytes x → Bytes y → length x ≡ length y → ltb (value x) (value y) ≡ not (atMost y x)
-value-below x y f g e = ltb-leb (value x) (value y) ∙ ap not (value-atMost y x g f (sym e))
-
 pub value-same : (x y : List ℕ) → Bytes x → Bytes y → length x ≡ length y → value x ≡ value y → x ≡ y
 value-same x y f g e v =
     le-antisym
@@ -279,11 +276,11 @@ under-bytes (d ∷ x) h = (omega (arith, h .0), under-bytes x (h .1))
 
 pub length-continued : (p : List ℕ) → length (continued p) ≡ 24
 unfolding continued
-length-continued p = omega (arith, length-take 24 (p ++ replicate 24 0xFF), length-append p (replicate 24 0xFF), length-replicate {A = ℕ} 24 0xFF)
+length-continued p = length-made 24 0xFF p
 
 pub bytes-continued : (p : List ℕ) → Bytes p → Bytes (continued p)
 unfolding continued
-bytes-continued p h = bytes-take 24 (p ++ replicate 24 0xFF) (bytes-append p (replicate 24 0xFF) h (bytes-same 24 0xFF (omega arith)))
+bytes-continued p h = bytes-made 24 0xFF p (omega arith) h
 
 pub continued-whole : (n : List ℕ) → length n ≡ 24 → continued n ≡ n
 unfolding continued
@@ -324,9 +321,6 @@ bound-same p q f g u v e =
 module _ (n p : List ℕ) (f : Under n) (g : Under p) (e : length n ≡ 24) (v : length p ≤ 24) where
   pub name-atMost : leb (value n) (value (continued p)) ≡ atMost n p
   name-atMost = ap (λ (x : List ℕ). leb (value x) (value (continued p))) (sym (continued-whole n e)) ∙ bound-atMost n p f g (omega arith) v
-
-  pub name-above : ltb (value (continued p)) (value n) ≡ not (atMost n p)
-  name-above = ltb-leb (value (continued p)) (value n) ∙ ap not name-atMost
 
 -- No limit is below every string that begins with more than a zero.
 pub value-some : (x : List ℕ) → 0 < getD x 0 0 → 0 < value x

@@ -100,16 +100,29 @@ unfolding isRow
 row-isRow no-entries = refl
 row-isRow {u = u} (entry {e = e} g a c r) = rw (legal-legalFilled g, above-isAbove a, le-atMost (e .0) u c, row-isRow r)
 
+-- What the test of a used slot says, part by part.
+pub record Wells (b : ℕ) (l : Low) (u : Str) (es : List Entry) : Type 0 where
+  pub low : legalLow l ≡ true
+  pub high : legalBound u ≡ true
+  pub above : isAbove l u ≡ true
+  pub row : isRow l es u ≡ true
+  pub most : length es ≤ b
+
+pub wells : (b : ℕ) (l : Low) (u : Str) (es : List Entry) → isWell b (used l u es) ≡ true → Wells b l u es
+unfolding isWell
+wells b l u es e =
+    let p = both-true (legalLow l && legalBound u && isAbove l u && isRow l es u) (leb (length es) b) e in
+    let q = both-true (legalLow l && legalBound u && isAbove l u) (isRow l es u) (p .0) in
+    let r = both-true (legalLow l && legalBound u) (isAbove l u) (q .0) in
+    let t = both-true (legalLow l) (legalBound u) (r .0) in
+    record { low = t .0; high = t .1; above = r .1; row = q .1; most = leb-true (length es) b (p .1) }
+
 module _ (b : ℕ) where
   pub isWell-well : (x : Slot) → isWell b x ≡ true → Well b x
-  unfolding isWell
   isWell-well free e = well-free
   isWell-well (used l u es) e =
-      let p = both-true (legalLow l && legalBound u && isAbove l u && isRow l es u) (leb (length es) b) e in
-      let q = both-true (legalLow l && legalBound u && isAbove l u) (isRow l es u) (p .0) in
-      let r = both-true (legalLow l && legalBound u) (isAbove l u) (q .0) in
-      let t = both-true (legalLow l) (legalBound u) (r .0) in
-      well-used (legalLow-bound l (t .0)) (legalBound-bound u (t .1)) (isAbove-above l u (r .1)) (isRow-row l es u (q .1)) (leb-true (length es) b (p .1))
+      let t = wells b l u es e in
+      well-used (legalLow-bound l (t .low)) (legalBound-bound u (t .high)) (isAbove-above l u (t .above)) (isRow-row l es u (t .row)) (t .most)
 
   pub well-isWell : {x : Slot} → Well b x → isWell b x ≡ true
   unfolding isWell

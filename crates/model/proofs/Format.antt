@@ -9,8 +9,8 @@ use native.Mathlib.Nat.{add-zero, mul-le-mul-right, pow-suc, pow-zero, suc-mul, 
 use native.Mathlib.Decide.{decLt}
 use native.Mathlib.Omega.{arith}
 use lib.Dec.{eqb, leb}
-use lib.ListN.{List·getD-eq-default, drop, drop-of-length-le, getD, length, length-append, length-replicate, length-set, length-take, replicate, set, take, take-append-drop}
-use lib.Seq.{drop-at, drop-cons, drop-drop, drop-nil, drop-paste, length-paste, length-take-le, paste, take-all, take-append-add, take-append-le, take-append-seam, take-at, take-take}
+use lib.ListN.{List·getD-eq-default, drop, drop-of-length-le, getD, length, length-append, length-replicate, length-set, replicate, set, take, take-append-drop}
+use lib.Seq.{drop-at, drop-cons, drop-drop, drop-nil, drop-paste, length-paste, length-take-le, paste, take-all, take-append-le, take-append-seam, take-at, take-take}
 use borrow.Author.Tests.{eq-eqb, eqb-true, le-leb, leb-true}
 use Rattle.model.specs.Order.{Low, Str, _◁_, above, at, least, top}
 use Rattle.model.specs.Names.{BoundLow, Digits, Legal, filled, limit, unlimited}
@@ -18,7 +18,7 @@ use Rattle.model.specs.Entries.{Entry, Row, entry, no-entries}
 use Rattle.model.specs.Files.{Slot, Well, entries-of, free, slot-at, used, well-used}
 use Rattle.model.specs.Checks.{sameStr}
 use Rattle.model.specs.Format.{Bytes, Sizes, Values, entriesBytes, entriesOf, entryBytes, fileBytes, fileSize, headerBytes, headerOf, joined, legalSizes, littleEndian, lowDigits, lowOf, padded, readBy, readFile, readSlot, readSlots, readUsed, rightHeader, sized, slotAt, slotBytes, slotSize, slotsBytes, storeBytes, usedOf, valueBytes, valueOf}
-use Rattle.model.proofs.Lists.{at-taken, drop-past, drop-take, take-past, take-replicate}
+use Rattle.model.proofs.Lists.{at-taken, drop-past, drop-take, length-made, made-short, take-past}
 use Rattle.model.proofs.Names.{both-true, legal-length}
 use Rattle.model.proofs.Checks.{sameStr-equal, sameStr-self}
 
@@ -71,14 +71,11 @@ length-valueBytes v = length-littleEndian 8 v
 
 pub length-padded : (k : ℕ) (xs : List ℕ) → length (padded k xs) ≡ k
 unfolding padded
-length-padded k xs = omega (arith, length-take k (xs ++ replicate k 0), length-append xs (replicate k 0), length-replicate {A = ℕ} k 0)
+length-padded k xs = length-made k 0 xs
 
 pub padded-short : (k : ℕ) (xs : List ℕ) → length xs ≤ k → padded k xs ≡ xs ++ replicate (k - length xs) 0
 unfolding padded
-padded-short k xs h =
-    let e : k ≡ length xs + (k - length xs) = omega arith in
-    ap (λ (n : ℕ). take n (xs ++ replicate k 0)) e ∙ take-append-add xs (replicate k 0) (k - length xs)
-    ∙ ap (λ (r : List ℕ). xs ++ r) (take-replicate (k - length xs) k 0 (omega arith))
+padded-short k xs h = made-short k 0 xs h
 
 pub length-entriesBytes : {l : Low} {u : Str} {es : List Entry} → Row l es u → length (entriesBytes es) ≡ 32 * length es
 unfolding entriesBytes entryBytes
@@ -378,17 +375,20 @@ values-readFile xs {b} {fs} k e B = elim (decLt B (length fs)) [
 ]
 
 -- What is written is bytes.
-pub bytes-append : (xs ys : List ℕ) → Bytes xs → Bytes ys → Bytes (xs ++ ys)
+bytes-append : (xs ys : List ℕ) → Bytes xs → Bytes ys → Bytes (xs ++ ys)
 bytes-append [] ys h k = k
 bytes-append (x ∷ xs) ys h k = (h .0, bytes-append xs ys (h .1) k)
 
-pub bytes-same : (k x : ℕ) → x < 256 → Bytes (replicate k x)
+bytes-same : (k x : ℕ) → x < 256 → Bytes (replicate k x)
 bytes-same zero x h = tt
 bytes-same (suc k) x h = (h, bytes-same k x h)
 
+pub bytes-made : (k a : ℕ) (xs : List ℕ) → a < 256 → Bytes xs → Bytes (take k (xs ++ replicate k a))
+bytes-made k a xs h g = bytes-take k (xs ++ replicate k a) (bytes-append xs (replicate k a) g (bytes-same k a h))
+
 bytes-padded : (k : ℕ) (xs : List ℕ) → Bytes xs → Bytes (padded k xs)
 unfolding padded
-bytes-padded k xs h = bytes-take k (xs ++ replicate k 0) (bytes-append xs (replicate k 0) h (bytes-same k 0 (omega arith)))
+bytes-padded k xs h = bytes-made k 0 xs (omega arith) h
 
 bytes-littleEndian : (n v : ℕ) → Bytes (littleEndian n v)
 unfolding littleEndian
@@ -401,9 +401,7 @@ bytes-digits lo (d ∷ x) h = (omega (arith, h .1), bytes-digits lo x (h .2))
 
 bytes-legal : {n : Str} → Legal n → Bytes n
 unfolding filled
-bytes-legal g =
-    rw (g .is) (bytes-take 24 (g .name ++ replicate 24 0x20)
-    (bytes-append (g .name) (replicate 24 0x20) (bytes-digits 0x21 (g .name) (g .digits)) (bytes-same 24 0x20 (omega arith))))
+bytes-legal g = rw (g .is) (bytes-made 24 0x20 (g .name) (omega arith) (bytes-digits 0x21 (g .name) (g .digits)))
 
 bytes-low : {l : Low} → BoundLow l → Bytes (lowDigits l)
 unfolding lowDigits

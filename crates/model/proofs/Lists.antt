@@ -6,7 +6,7 @@ use Prim.Native.Nat.{_+_, _-_, _<_, _≤_, suc, zero, ℕ}
 use native.Mathlib.Nat.{sub-zero}
 use native.Mathlib.Numerals.{unary-clauses}
 use native.Mathlib.Omega.{arith}
-use lib.ListN.{drop, getD, length, replicate, take}
+use lib.ListN.{drop, getD, length, length-append, length-replicate, length-take, replicate, take}
 use lib.Seq.{drop-append-add, getD-take, take-append-add, take-nil}
 
 -- One number many times.
@@ -42,6 +42,14 @@ module _ (p w : List ℕ) (k m : ℕ) (e : length p + m ≡ k) where
 
   pub drop-past : drop k (p ++ w) ≡ drop m w
   drop-past = rw (← e) (drop-append-add p w m)
+
+-- A list made k long: as much of it as there is, and then a.
+module _ (k a : ℕ) (xs : List ℕ) where
+  pub length-made : length (take k (xs ++ replicate k a)) ≡ k
+  length-made = omega (arith, length-take k (xs ++ replicate k a), length-append xs (replicate k a), length-replicate {A = ℕ} k a)
+
+  pub made-short : length xs ≤ k → take k (xs ++ replicate k a) ≡ xs ++ replicate (k - length xs) a
+  made-short h = take-past xs (replicate k a) k (k - length xs) (omega arith) ∙ ap (λ (r : List ℕ). xs ++ r) (take-replicate (k - length xs) k a (omega arith))
 
 -- What is in a list stands between two parts of it.
 pub mem-parts : {A : ℕ} (Bs : List ℕ) → List·Memᴰ A Bs → (Xs : List ℕ) × (Ys : List ℕ) × (Bs ≡ Xs ++ (A ∷ Ys))

@@ -7,11 +7,10 @@ use native.Mathlib.Decide.{decLe, decLt, ℕ-discrete}
 use native.Mathlib.Omega.{arith}
 use lib.Dec.{eqb, leb, ltb}
 use lib.ListN.{length, length-append, length-replicate, length-take, replicate, take}
-use lib.Seq.{take-append-add}
 use borrow.Author.Tests.{eq-eqb, eqb-true, le-leb, le-ltb, leb-true, lt-ltb, ne-eqb}
 use Rattle.model.specs.Order.{Str, _≺_, _⊑_, at, diff, diff-at, digit, head-le, nil-not-le, tail-le, top}
 use Rattle.model.specs.Names.{Bound, Digits, Legal, areDigits, atMost, blankEnded, blanks, filled, legalBound, legalFilled, legalName, notGreater, smaller, splitFrom, splitString, within}
-use Rattle.model.proofs.Lists.{take-replicate}
+use Rattle.model.proofs.Lists.{length-made, made-short}
 use Rattle.model.proofs.Order.{diff-lt-left, lt-le, split-shortest}
 
 -- How two digits stand.
@@ -87,14 +86,11 @@ le-within n p h q = within-atMost n p h ∙ le-atMost n p q
 -- Names, filled.
 pub length-filled : (n : Str) → length (filled n) ≡ 24
 unfolding filled
-length-filled n = omega (arith, length-take 24 (n ++ replicate 24 0x20), length-append n (replicate 24 0x20), length-replicate {A = ℕ} 24 0x20)
+length-filled n = length-made 24 0x20 n
 
 pub filled-short : (n : Str) → length n ≤ 24 → filled n ≡ n ++ replicate (24 - length n) 0x20
 unfolding filled
-filled-short n h =
-    let e : 24 ≡ length n + (24 - length n) = omega arith in
-    ap (λ (k : ℕ). take k (n ++ replicate 24 0x20)) e ∙ take-append-add n (replicate 24 0x20) (24 - length n)
-    ∙ ap (λ (r : Str). n ++ r) (take-replicate (24 - length n) 24 0x20 (omega arith))
+filled-short n h = made-short 24 0x20 n h
 
 pub legal-length : {n : Str} → Legal n → length n ≡ 24
 legal-length g = ap length (g .is) ∙ length-filled (g .name)
