@@ -61,7 +61,7 @@ pub paste-into-zeros : (k n : ℕ) (p s : List ℕ) → length p ≡ n → n + l
 paste-into-zeros k n p s e h =
     let z : List ℕ = replicate (k - length p) 0 in
     let i : padded k p ≡ p ++ z = padded-short k p (omega arith) in
-    let d : drop (n + length s) (p ++ z) ≡ replicate (k - length p - length s) 0 = drop-past p z (n + length s) (length s) (omega arith) ∙ drop-replicate (length s) (k - length p) 0 in
+    let d : drop (n + length s) (p ++ z) ≡ replicate (k - length p - length s) 0 = drop-past p z (n + length s) (length s) (omega arith) ∙ drop-replicate {A = ℕ} (length s) (k - length p) 0 in
     let j : k - length p - length s ≡ k - length (p ++ s) = omega (arith, length-append p s) in
     rw (i, take-at p z n e, take-length s, d, j) (sym (padded-short k (p ++ s) (omega (arith, length-append p s))))
 

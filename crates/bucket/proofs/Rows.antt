@@ -11,7 +11,7 @@ use lib.Seq.{drop-at, take-at}
 use Rattle.model.specs.Order.{Low, Str, at}
 use Rattle.model.specs.Names.{Legal, atMost, legalBound}
 use Rattle.model.specs.Entries.{Entry, Row, entry, no-entries}
-use Rattle.model.specs.Files.{Slot, Well, free, used}
+use Rattle.model.specs.Files.{IsUsed, Slot, Well, entries-of, free, head, lower-of, upper-of, used}
 use Rattle.model.specs.Checks.{isAbove, legalLow, sameStr}
 use Rattle.model.specs.Format.{Values, entriesBytes, entryBytes, lowOf, padded, readSlot, readUsed, slotBytes, slotSize, usedOf, valueBytes}
 use Rattle.model.proofs.Names.{legal-legalFilled, legal-length}
@@ -146,6 +146,11 @@ reads b xs {l} {u} {es} e w =
       unused = k;
       behind = ap (drop 64) i ∙ entries-slot b l u es ∙ f;
     }
+
+-- The same of any slot that is used.
+pub used-reads : (b : ℕ) (xs : List ℕ) (s : Slot) → IsUsed (head s) → readUsed b xs ≡ some s → Well b s → Reads b xs (lower-of (head s)) (upper-of (head s)) (entries-of s)
+used-reads b xs free u e w = absurd u
+used-reads b xs (used l v es) u e w = reads b xs e w
 
 -- The lower limit's number, as it is told of any slot.
 pub read-low : (b : ℕ) (xs : List ℕ) {l : Low} {u : Str} {es : List Entry} (k : ℕ) → Reads b xs l u es

@@ -123,7 +123,7 @@ frees b (suc k) =
 -- A bucket without limits and entries is a 1 and zeros.
 empty : (b : ℕ) → slotBytes b (used none [] []) ≡ 1 ∷ (replicate 63 0 ++ replicate (32 * b) 0)
 unfolding slotBytes padded lowDigits entriesBytes
-empty b = rw (take-replicate (32 * b) (32 * b) 0 (omega arith)) refl
+empty b = rw (take-replicate {A = ℕ} (32 * b) (32 * b) 0 (omega arith)) refl
 
 -- The bytes that create writes over zeros.
 abbrev pub marks : ℕ → ℕ → List ℕ → List ℕ

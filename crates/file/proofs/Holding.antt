@@ -11,8 +11,8 @@ use lib.ListN.{drop, getD, length, take}
 use borrow.Author.Tests.{not-false, not-true}
 use Rattle.model.specs.Order.{Low, Str, _≺_, _⊑_, _⊴_, _◁_, above, at, least as unlimited, none, over, top}
 use Rattle.model.specs.Names.{Legal, atMost}
-use Rattle.model.specs.Files.{Chain, IsUsed, Ranges, Slot, Well, entries-of, free, head, last, lower-of, next, order-of, ranges, slot-at, upper-of, used}
-use Rattle.model.specs.Format.{readSlot, readUsed, slotAt, slotSize}
+use Rattle.model.specs.Files.{Chain, IsUsed, Ranges, Slot, entries-of, head, last, lower-of, next, order-of, ranges, slot-at}
+use Rattle.model.specs.Format.{readSlot, slotAt, slotSize}
 use Rattle.model.proofs.Lists.{at-taken}
 use Rattle.model.proofs.Order.{low-lower, lt-le, le-refl, le-trans}
 use Rattle.model.proofs.Names.{atMost-le, atMost-lt}
@@ -21,7 +21,7 @@ use Rattle.model.proofs.Ranges.{chain-above, chain-length, chain-some, chain-us
 use Rattle.model.proofs.Files.{chain-right, used-inside, well-head}
 use Rattle.model.proofs.Format.{readSlot-readFile}
 use Rattle.digits.specs.Keys.{continued, isZero, value}
-use Rattle.bucket.proofs.Rows.{Reads, name-over, read-high, reads}
+use Rattle.bucket.proofs.Rows.{Reads, name-over, read-high, used-reads}
 use Rattle.file.specs.declared.Size.{Size}
 use Rattle.file.specs.Holders.{Holder, Ordered, placed, upper-at}
 use Rattle.file.proofs.Readings.{used-read}
@@ -72,11 +72,7 @@ module _ {xs : List ℕ} {s : Size} {order : List ℕ} {count : ℕ} {fs : List 
       let p : k ≡ B = e ∙ place-number i h in
       let u = place-used i h in
       let r : readSlot (s .b) ys ≡ some (slot-at fs B) = rw (f, p) (readSlot-readFile xs (O .is) B (used-inside fs B u)) in
-      go (slot-at fs B) u (O .sound .well B) (used-read (s .b) ys (slot-at fs B) u r)
-    where
-      go : (x : Slot) → IsUsed (head x) → Well (s .b) x → readUsed (s .b) ys ≡ some x → Reads (s .b) ys (lower-of (head x)) (upper-of (head x)) (entries-of x)
-      go free u w q = absurd u
-      go (used l v es) u w q = reads (s .b) ys q w
+      used-reads (s .b) ys (slot-at fs B) u (used-read (s .b) ys (slot-at fs B) u r) (O .sound .well B)
 
   -- Places ascend with their bounds.
   pub places-apart : (i j : ℕ) → i < j → j < count → at (upper-at fs i) ⊴ lower-of (head (placed fs j))

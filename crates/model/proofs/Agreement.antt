@@ -12,7 +12,7 @@ use Rattle.model.specs.declared.Side.the-variants.{Cell as further, Slot
 use Rattle.model.specs.declared.Trie.{Trie}
 use Rattle.model.specs.Order.{Asc, Low, Str, _≺_, _⊑_, _◁_, above, at, end, least, low?, none, over, step, top}
 use Rattle.model.specs.Files.{Chain, In, Ranges, Slot, Sound, all, bounds, fresh, head, last, next, ranges, slot-at, string-count, strings-of}
-use Rattle.model.specs.Tries.{Agrees, Leads, Leaves, Numbers, Reads, Spans, Tree, at-cell, cell, cut, first-leaf-of, leaf, leaf-last, leaf-next, leaves, node, occ, root-side, size, strings, tip, trie-of, walk-trie, zero-cell}
+use Rattle.model.specs.Tries.{Agrees, Leads, Leaves, Numbers, Reads, Spans, Tree, at-cell, cell, cut, first-leaf-of, leaf, leaf-last, leaf-next, leaves, node, occ, root-side, size, strings, tip, trie-of, walk, walk-trie, zero-cell}
 use Rattle.model.specs.Rebuilding.{label, laid, lay, rebuilt, rebuilt-trie, side-of}
 use Rattle.model.proofs.Lists.{at-replicate}
 use Rattle.model.proofs.Order.{le-take, le-trans, lt-le, lt-le-trans}
@@ -202,6 +202,20 @@ module _ (F : Ranges) where
       expect-tokens (label F (B ∷ C ∷ Bs)) none (all (bounds F (B ∷ C ∷ Bs)))
       ∙ ap (λ (es : List Token). leads B ∷ es) (tokens-after (label F (B ∷ C ∷ Bs)) (C ∷ Bs) B none c (λ x h k. label-skip B C Bs x h))
 
+-- A trie that agrees: its cells below the count are read, each once, and the walk is the tree's.
+module _ {fs : List Slot} {t : Trie} (A : Agrees fs t) where
+  pub live-count : length (take (t .count) (t .cells)) ≡ t .count
+  live-count = omega (arith, length-take (t .count) (t .cells), A .whole, A .few)
+
+  pub visit-count : length (A .visits) ≡ t .count
+  visit-count = visits-count (A .reads) (λ i h. A .once i (omega (arith, h, live-count))) ∙ live-count
+
+  pub whole-reads : Reads (t .cells) (root-side (t .count) (t .first)) (A .tree) (A .visits)
+  whole-reads = rw take-append-drop at (reads-append (drop (t .count) (t .cells)) (A .reads))
+
+  pub whole-walk : (n : Str) → walk-trie t n ≡ walk n [] (A .tree)
+  whole-walk n = walk-reads n (suc (t .count)) [] whole-reads (omega (arith, visit-count))
+
 -- Document 01's agreement of a trie with a sound file is the cells' agreement with its ranges.
 module _ (b : ℕ) {fs : List Slot} (S : Sound b fs) where
   pub agrees-cells : {t : Trie} → Agrees fs t → CellsAgree (ranges fs) (S .order) (take (t .count) (t .cells)) (root-side (t .count) (t .first))
@@ -288,13 +302,5 @@ module _ (b : ℕ) {fs : List Slot} (S : Sound b fs) where
 
   -- "So each name arrives at the bucket whose range holds it."
   pub agrees-walk : {t : Trie} → Agrees fs t → (n : Str) → In (head (slot-at fs (walk-trie t n))) n
-  agrees-walk {t} A n = rw (walk-reads n (suc (t .count)) [] whole short) (walk-right (ranges fs) (C .trie) n)
-    where
-      C : CellsAgree (ranges fs) (S .order) (take (t .count) (t .cells)) (root-side (t .count) (t .first))
-      C = agrees-cells A
-
-      whole : Reads (t .cells) (root-side (t .count) (t .first)) (C .tree) (C .visits)
-      whole = rw take-append-drop at (reads-append (drop (t .count) (t .cells)) (C .reads))
-
-      short : length (C .visits) < suc (t .count)
-      short = omega (arith, visits-count (C .reads) (C .each), length-take (t .count) (t .cells))
+  unfolding agrees-cells
+  agrees-walk A n = rw (whole-walk A n) (walk-right (ranges fs) (agrees-cells A .trie) n)

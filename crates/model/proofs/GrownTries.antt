@@ -25,16 +25,16 @@ use Rattle.model.proofs.GrownCells.{grows}
 use Rattle.model.proofs.Changes.{after-second, half, is-split, length-all, one-sound, row-all, same-heads, second-sound, well-a}
 
 -- A root that is a cell is cell 0, and stays so.
+pub root-further : (count first : ℕ) → (count ≡ 0 → ⊥) → further 0 ≡ root-side count first
+root-further zero first h = absurd (h refl)
+root-further (suc count) first h = refl
+
 root-right : {F : Ranges} {Bs : List ℕ} {cs : List Cell} {a : Side} → CellsAgree F Bs cs a → ((m : ℕ) → a ≡ further m → m ≡ 0) → a ≡ root-side (length cs) (first-leaf-of a)
 root-right {cs = cs} {a = a} A zero-root = go a (A .reads) (visits-count (A .reads) (A .each)) zero-root
   where
-    cells : (n f : ℕ) → 0 < n → further 0 ≡ root-side n f
-    cells zero f h = absurd (omega arith)
-    cells (suc n) f h = refl
-
     go : (a : Side) {t : Tree} {vs : List ℕ} → Reads cs a t vs → length vs ≡ length cs → ((m : ℕ) → a ≡ further m → m ≡ 0) → a ≡ root-side (length cs) (first-leaf-of a)
     go (slot s) here e f = rw (← e)
-    go (further m) (there h l r) e f = rw (f m refl) (cells (length cs) 0 (omega arith))
+    go (further m) (there h l r) e f = rw (f m refl) (root-further (length cs) 0 (λ z. omega arith))
 
 root-zero : (f : Str → ℕ → ℕ) (n first k : ℕ) (X : Tree) → (n ≡ 0 → k ≡ 0) → (m : ℕ) → turn-side f [] (placed (root-side n first) (side-of k X)) ≡ further m → m ≡ 0
 root-zero f zero first k (leaf s) h m e = cc

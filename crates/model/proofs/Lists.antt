@@ -9,13 +9,13 @@ use native.Mathlib.Omega.{arith}
 use lib.ListN.{drop, getD, length, length-append, length-replicate, length-take, replicate, take}
 use lib.Seq.{drop-append-add, getD-take, take-append-add, take-nil}
 
--- One number many times.
-pub take-replicate : (k m a : ℕ) → k ≤ m → take k (replicate m a) ≡ replicate k a
+-- One thing many times.
+pub take-replicate : {A : Type 0} (k m : ℕ) (a : A) → k ≤ m → take k (replicate m a) ≡ replicate k a
 take-replicate zero m a h = refl
 take-replicate (suc k) zero a h = absurd (omega arith)
-take-replicate (suc k) (suc m) a h = ap (λ (r : List ℕ). a ∷ r) (take-replicate k m a (omega arith))
+take-replicate {A} (suc k) (suc m) a h = ap (λ (r : List A). a ∷ r) (take-replicate k m a (omega arith))
 
-pub drop-replicate : (k m a : ℕ) → drop k (replicate m a) ≡ replicate (m - k) a
+pub drop-replicate : {A : Type 0} (k m : ℕ) (a : A) → drop k (replicate m a) ≡ replicate (m - k) a
 drop-replicate zero m a = rw (sub-zero m)
 drop-replicate (suc k) zero a = let e : 0 - suc k ≡ 0 = omega arith in rw e
 drop-replicate (suc k) (suc m) a = simp unary-clauses (drop-replicate k m a)
@@ -51,7 +51,12 @@ module _ (k a : ℕ) (xs : List ℕ) where
   pub made-short : length xs ≤ k → take k (xs ++ replicate k a) ≡ xs ++ replicate (k - length xs) a
   made-short h = take-past xs (replicate k a) k (k - length xs) (omega arith) ∙ ap (λ (r : List ℕ). xs ++ r) (take-replicate (k - length xs) k a (omega arith))
 
--- What is in a list stands between two parts of it.
+-- What is in a list stands at a place, and between two parts of the list.
+pub mem-place : {A : Type 0} (d : A) {x : A} (xs : List A) → List·Memᴰ x xs → (i : ℕ) × (i < length xs) × (getD xs i d ≡ x)
+mem-place d [] m = absurd (List·Memᴰ·not-nil m)
+mem-place d (y ∷ xs) (List·Memᴰ·head e) = (0, omega arith, sym e)
+mem-place d (y ∷ xs) (List·Memᴰ·tail m) = let r = mem-place d xs m in (suc (r .0), omega (arith, r .1), r .2)
+
 pub mem-parts : {A : ℕ} (Bs : List ℕ) → List·Memᴰ A Bs → (Xs : List ℕ) × (Ys : List ℕ) × (Bs ≡ Xs ++ (A ∷ Ys))
 mem-parts [] m = absurd (List·Memᴰ·not-nil m)
 mem-parts (B ∷ Bs) (List·Memᴰ·head e) = ([], Bs, ap (λ C. C ∷ Bs) (sym e))
