@@ -18,7 +18,7 @@ use Rattle.model.proofs.Format.{length-entriesBytes}
 use Rattle.digits.specs.Keys.{value}
 use Rattle.bucket.specs.Entries.{changedValue, place, withEntry, withoutEntry}
 use Rattle.bucket.specs.Slots.{lowerAt, upperAt, writtenBytes}
-use Rattle.bucket.proofs.Laws.{changed-insert, find-not-over, lowerAt-slot, take-padded-whole, upperAt-slot, with-insert, without-removal, written-slot}
+use Rattle.bucket.proofs.Laws.{changed-insert, find-behind, find-first, lowerAt-slot, take-padded-whole, upperAt-slot, with-insert, without-removal, written-slot}
 use Rattle.bucket.proofs.Reading.{low-legal}
 use Rattle.bucket.proofs.Rows.{Reads}
 use Rattle.bucket.proofs.Finding.{name-there, names-same, place-found}
@@ -40,12 +40,8 @@ pub length-held : {l : Low} {u : Str} {es : List Entry} (n : Str) (v w : ℕ) �
 unfolding insert find
 length-held n v w no-entries h = let y : _≡_ {A = ℕ} 0 1 = cc in absurd (omega arith)
 length-held n v w (entry {e = e} {es = es} g a c r) h = elim (le? n (e .0)) [
-  | no q ↦ rw (chosen-no (le? n (e .0)) q) (ap suc (length-held n v w r (sym (chosen-no (str? n (e .0)) (λ p. q (rw (← p) (le-refl n))) _ _) ∙ h)))
-  | yes q ↦ elim (str? n (e .0)) [
-    | yes p ↦ rw (chosen-yes (le? n (e .0)) q, chosen-yes (str? n (e .0)) p)
-    | no p ↦ let z : _≡_ {A = Option ℕ} nothing (some w) = sym (find-not-over n r (λ d. over d q)) ∙ sym (chosen-no (str? n (e .0)) p _ _) ∙ h in
-        let y : _≡_ {A = ℕ} 0 1 = cc in absurd (omega arith)
-  ]
+  | no q ↦ rw (chosen-no (le? n (e .0)) q) (ap suc (length-held n v w r (find-behind n e es q ∙ h)))
+  | yes q ↦ rw (chosen-yes (le? n (e .0)) q, chosen-yes (str? n (e .0)) (find-first n e r q h))
 ]
 
 pub length-less : {l : Low} {u : Str} {es : List Entry} (n : Str) (w : ℕ) → Row l es u → find n es ≡ some w → suc (length (without n es)) ≡ length es
@@ -110,13 +106,6 @@ module _ {b : ℕ} {xs : List ℕ} {l : Low} {u : Str} {es : List Entry} (R : Re
   row-without n = row-keep (λ k. not? (str? k n)) l u (R .row) (λ k p c d. (c, d))
 
   module _ (few : b ≤ 16) (n : Str) where
-    pub put-new-part : (v : ℕ) → Legal n → l ◁ n → n ⊑ u → find n es ≡ nothing
-        → take (32 * (length es + 1)) (padded 544 (withEntry (drop 64 xs) (length es) (place n es) n v)) ≡ entriesBytes (insert n v es)
-    put-new-part v g lo up h =
-        ap (λ (z : List ℕ). take (32 * (length es + 1)) (padded 544 z)) (put-new n v h)
-        ∙ take-padded-whole (32 * (length es + 1)) 544 (entriesBytes (insert n v es))
-        (omega (arith, length-entriesBytes (row-insert n v g lo up (R .row)), length-new n v es h)) (omega (arith, R .most))
-
     pub put-held-part : (v w : ℕ) → Legal n → l ◁ n → n ⊑ u → find n es ≡ some w
         → take (32 * length es) (padded 544 (changedValue (drop 64 xs) (length es) (place n es) v)) ≡ entriesBytes (insert n v es)
     put-held-part v w g lo up h =

@@ -18,7 +18,7 @@ use Rattle.model.specs.Format.{Values, entriesBytes, entryBytes, valueBytes, va
 use Rattle.model.proofs.Order.{le-refl, le-trans, lt-le}
 use Rattle.model.proofs.Names.{both-true, le-atMost, legal-length, lt-atMost}
 use Rattle.model.proofs.Entries.{chosen-no, chosen-yes, keep-all, row-at, row-keep}
-use Rattle.model.proofs.Checks.{above-isAbove, both-join, isAbove-above, sameStr-equal, sameStr-self}
+use Rattle.model.proofs.Checks.{above-isAbove, both-join, isAbove-above, sameStr-other, sameStr-self}
 use Rattle.model.proofs.Format.{valueOf-valueBytes}
 use Rattle.digits.specs.Keys.{continued, value}
 use Rattle.bucket.specs.Forms.{areAmong, lowValue, notAbove, pieces, values}
@@ -64,13 +64,6 @@ same-both e f g h v w q =
 same-yes : (x y : Str) → x ≡ y → sameStr x y ≡ true
 same-yes x y e = rw e (sameStr-self y)
 
-same-no : (x y : Str) → ¬ (x ≡ y) → sameStr x y ≡ false
-same-no x y n = go (sameStr x y) refl
-  where
-    go : (t : Bool) → sameStr x y ≡ t → t ≡ false
-    go true e = absurd (n (sameStr-equal x y e))
-    go false e = refl
-
 -- A row without its first name.
 without-head : {u : Str} (e : Entry) {es : List Entry} → Row (at (e .0)) es u → without (e .0) (e ∷ es) ≡ es
 unfolding keep
@@ -94,7 +87,7 @@ among-same no-entries (entry g a c r) p q t h = absurd (omega arith)
 among-same (entry {e = e} {es = es} g a c r) (entry {e = n} {es = ns} g′ a′ c′ r′) p q t h = elim (str? (entryBytes e) (entryBytes n)) [
   | yes s ↦ ap₂ (λ (x : Entry) (xs : List Entry). x ∷ xs) (same-both e n g g′ (p .0) (q .0) s)
       (among-same r r′ (p .1) (q .1) (rw (same-yes (entryBytes e) (entryBytes n) s) at t) (omega arith))
-  | no s ↦ let i = among-same (entry g a c r) r′ p (q .1) (rw (same-no (entryBytes e) (entryBytes n) s) at t) (omega arith) in
+  | no s ↦ let i = among-same (entry g a c r) r′ p (q .1) (rw (sameStr-other (entryBytes e) (entryBytes n) s) at t) (omega arith) in
       absurd (omega (arith, ap length i))
 ]
 
@@ -108,7 +101,7 @@ among-one no-entries (entry g a c (entry g′ a′ c′ r)) p q t h = absurd (om
 among-one (entry {e = e} {es = es} g a c r) (entry {e = n} {es = ns} g′ a′ c′ r′) p q t h = elim (str? (entryBytes e) (entryBytes n)) [
   | yes s ↦ let i = among-one r r′ (p .1) (q .1) (rw (same-yes (entryBytes e) (entryBytes n) s) at t) (omega arith) in
       (suc (i .0), omega (arith, i .1), without-tail n r′ (i .0) (i .1) ∙ ap₂ (λ (x : Entry) (xs : List Entry). x ∷ xs) (sym (same-both e n g g′ (p .0) (q .0) s)) (i .2))
-  | no s ↦ let i = among-same (entry g a c r) r′ p (q .1) (rw (same-no (entryBytes e) (entryBytes n) s) at t) (omega arith) in
+  | no s ↦ let i = among-same (entry g a c r) r′ p (q .1) (rw (sameStr-other (entryBytes e) (entryBytes n) s) at t) (omega arith) in
       (0, omega arith, without-head n r′ ∙ sym i)
 ]
 
@@ -122,7 +115,7 @@ among-next : {v : Str} (n : Entry) {ns : List Entry} → Legal (n .0) → Row (a
 unfolding areAmong
 among-next n g no-entries = refl
 among-next n g (entry {e = e} {es = es} g′ a c r) =
-    rw (same-no (entryBytes e) (entryBytes n) (λ q. over a (rw (same-name e n g′ g q) (le-refl (n .0))))) (among-self (each (e ∷ es)))
+    rw (sameStr-other (entryBytes e) (entryBytes n) (λ q. over a (rw (same-name e n g′ g q) (le-refl (n .0))))) (among-self (each (e ∷ es)))
 
 among-without : {m : Low} {v : Str} {ns : List Entry} → Row m ns v → (i : ℕ) → i < length ns
     → (areAmong (each ns) (each (without (name-at ns i) ns)) ≡ true) × (length ns ≡ suc (length (without (name-at ns i) ns)))

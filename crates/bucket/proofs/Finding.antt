@@ -1,6 +1,6 @@
 -- Look up, put, remove and list on the bytes of one slot: what the code finds in a slot that reads as used and is well formed.
 use mathlib.Core.Path.{_∙_, _≡_, ap, ap₂, refl, sym}
-use mathlib.Core.Bool.{Bool, _&&_, cond, false, not, true}
+use mathlib.Core.Bool.{Bool, Bool·not-not, _&&_, and-false, cond, false, not, true}
 use mathlib.Core.Option.{Option, none as nothing, some}
 use mathlib.Core.List.{List, [], _++_, _∷_, append-assoc}
 use Prim.Native.Nat.{_*_, _+_, _-_, _<_, _^_, _≤_, suc, zero, ℕ}
@@ -17,7 +17,7 @@ use Rattle.model.specs.Files.{Slot, free, used}
 use Rattle.model.specs.Checks.{isAbove, isWell, legalLow}
 use Rattle.model.specs.Format.{Values, entriesBytes, entryBytes, readSlot, readUsed, slotBytes, slotSize, valueBytes, valueOf}
 use Rattle.model.specs.Calls.{between}
-use Rattle.model.proofs.Order.{le-refl, le-trans, lt-le}
+use Rattle.model.proofs.Order.{le-trans, lt-le}
 use Rattle.model.proofs.Names.{le-atMost, legal-legalFilled, legal-length, lt-atMost}
 use Rattle.model.proofs.Entries.{at-find, chosen-no, chosen-yes, row-at}
 use Rattle.model.proofs.Checks.{isWell-well}
@@ -32,7 +32,7 @@ use Rattle.bucket.specs.declared.Vacancy.the-variants.{Free, Taken}
 use Rattle.bucket.specs.Entries.{place}
 use Rattle.bucket.specs.Forms.{Formed, WellRead, below, entriesFrom, heldUnder, lowValue, notAbove, partBetween, vacant, values}
 use Rattle.bucket.specs.Slots.{countAt}
-use Rattle.bucket.proofs.Laws.{countAt-slot, drop-behind, find-not-over, length-entryBytes, take-behind}
+use Rattle.bucket.proofs.Laws.{countAt-slot, drop-behind, find-behind, find-first, length-entryBytes, take-behind}
 use Rattle.bucket.proofs.Forms.{held-behind, held-here, held-other}
 use Rattle.bucket.proofs.Reading.{are-zeros, name-legal, name-low, name-value, under-bound}
 use Rattle.bucket.proofs.Rows.{Reads, drop-row, name-first, name-over, numbers, read-by-zero, reads, value-behind, values-row}
@@ -88,12 +88,8 @@ pub range-is : (l : Low) (u n : Str) (low high v : ℕ) → legalLow l ≡ true 
     → (ltb low v && not (ltb high v)) ≡ (isAbove l n && atMost n u)
 range-is l u n low high v f h g i j e =
     let a : ltb low v ≡ isAbove l n = ap₂ ltb i e ∙ name-low l n f (legal-legalFilled g) in
-    let c : not (ltb high v) ≡ atMost n u = ap not (ap₂ ltb j e ∙ name-over u n h g) ∙ twice (atMost n u) in
+    let c : not (ltb high v) ≡ atMost n u = ap not (ap₂ ltb j e ∙ name-over u n h g) ∙ Bool·not-not (atMost n u) in
     ap₂ (λ (x y : Bool). x && y) a c
-  where
-    twice : (t : Bool) → not (not t) ≡ t
-    twice true = refl
-    twice false = refl
 
 pub range-holds : {b : ℕ} {xs : List ℕ} {k : Bucket} {l : Low} {u : Str} {es : List Entry} → WellRead b xs k → readUsed b xs ≡ some (used l u es)
     → (n : Str) (v : ℕ) → Legal n → v ≡ value n
@@ -129,15 +125,12 @@ pub place-found : {l : Low} {u : Str} {es : List Entry} (n : Str) (w : ℕ) → 
 unfolding place find
 place-found n w no-entries h = let y : _≡_ {A = ℕ} 0 1 = cc in absurd (omega arith)
 place-found n w (entry {e = e} {es = es} g a c r) h = elim (le? n (e .0)) [
-  | no q ↦ let i = place-found n w r (sym (chosen-no (str? n (e .0)) (λ p. q (rw (← p) (le-refl n))) _ _) ∙ h) in
+  | no q ↦ let i = place-found n w r (find-behind n e es q ∙ h) in
       rw (chosen-no (le? n (e .0)) q) (omega (arith, i .0), i .1)
-  | yes q ↦ elim (str? n (e .0)) [
-    | yes p ↦ let s : _≡_ {A = Option ℕ} (some (e .1)) (some w) = sym (chosen-yes (str? n (e .0)) p _ _) ∙ h in
-        let k : e .1 ≡ w = cc in
-        rw (chosen-yes (le? n (e .0)) q) (omega arith, ap₂ (λ (x : Str) (y : ℕ). (x, y)) (sym p) k)
-    | no p ↦ let z : _≡_ {A = Option ℕ} nothing (some w) = sym (find-not-over n r (λ d. over d q)) ∙ sym (chosen-no (str? n (e .0)) p _ _) ∙ h in
-        let y : _≡_ {A = ℕ} 0 1 = cc in absurd (omega arith)
-  ]
+  | yes q ↦ let p : n ≡ e .0 = find-first n e r q h in
+      let s : _≡_ {A = Option ℕ} (some (e .1)) (some w) = sym (chosen-yes (str? n (e .0)) p _ _) ∙ h in
+      let k : e .1 ≡ w = cc in
+      rw (chosen-yes (le? n (e .0)) q) (omega arith, ap₂ (λ (x : Str) (y : ℕ). (x, y)) (sym p) k)
 ]
 
 pub place-lost : (n : Str) (es : List Entry) → find n es ≡ nothing → (i : ℕ) → i < length es → ¬ (name-at es i ≡ n)
@@ -222,10 +215,6 @@ part-row ys (entry {e = e} {es = es} g a c r) (suc i) k h =
     rw append-assoc (ap (take (32 * k)) (drop-behind (entryBytes e) (entriesBytes es ++ ys) (length-entryBytes e g) i) ∙ part-row ys r i k (omega arith))
 
 -- The entries from one name to another stand together.
-and-false : (t : Bool) → (t && false) ≡ false
-and-false true = refl
-and-false false = refl
-
 between-none : {u x : Str} {es : List Entry} (n m : Str) → Row (at x) es u → ¬ (x ⊑ m) → between n m es ≡ []
 unfolding between
 between-none n m no-entries h = refl

@@ -1,6 +1,6 @@
 -- What the code tests and counts in a slot's bytes, entry by entry.
 use mathlib.Core.Path.{_∙_, _≡_, ap, refl, sym}
-use mathlib.Core.Bool.{Bool, _&&_, cond, false, not, true}
+use mathlib.Core.Bool.{Bool, _&&_, and-assoc, cond, false, not, true}
 use mathlib.Core.List.{List, [], _++_, _∷_}
 use Prim.Native.Nat.{_*_, _+_, _-_, _<_, _≤_, suc, zero, ℕ}
 use native.Mathlib.Decide.{decLt, ℕ-discrete}
@@ -12,10 +12,10 @@ use lib.Seq.{drop-drop, take-add, take-all}
 use borrow.Author.Tests.{eq-eqb, le-ltb, lt-ltb, ne-eqb}
 use Rattle.model.specs.Names.{legalFilled}
 use Rattle.model.specs.Checks.{sameStr}
-use Rattle.model.specs.Format.{lowOf, valueOf}
-use Rattle.model.proofs.Checks.{sameStr-equal, sameStr-self}
+use Rattle.model.specs.Format.{Bytes, lowOf, valueOf}
+use Rattle.model.proofs.Checks.{sameStr-other, sameStr-self}
 use Rattle.digits.specs.Keys.{continued, isZero, value}
-use Rattle.digits.proofs.Keys.{Bytes, bytes-part, length-part, value-same}
+use Rattle.digits.proofs.Keys.{bytes-part, length-part, value-same}
 use Rattle.bucket.specs.declared.Held.the-variants.{Absent, Value}
 use Rattle.bucket.specs.Forms.{areAmong, areEntries, below, entriesFrom, heldAt, lowValue, notAbove, pieces, values}
 
@@ -165,20 +165,12 @@ same-append [] b [] d e = refl
 same-append [] b (y ∷ c) d e = absurd (omega arith)
 same-append (x ∷ a) b [] d e = absurd (omega arith)
 same-append (x ∷ a) b (y ∷ c) d e = rw (same-append a b c d (omega arith)) (sym (and-assoc (eqb x y) (sameStr a c) (sameStr b d)))
-  where
-    and-assoc : (a b c : Bool) → (a && b && c) ≡ (a && (b && c))
-    and-assoc true b c = refl
-    and-assoc false b c = refl
 
 same-value : (x y : List ℕ) → Bytes x → Bytes y → length x ≡ length y → sameStr x y ≡ eqb (value x) (value y)
 same-value x y f g e = elim (ℕ-discrete (value x) (value y)) [
   | yes q ↦ rw (eq-eqb (value x) (value y) q, value-same x y f g e q) (sameStr-self y)
-  | no q ↦ rw (ne-eqb (value x) (value y) q) (go (sameStr x y) refl q)
+  | no q ↦ rw (ne-eqb (value x) (value y) q) (sameStr-other x y (λ s. q (ap value s)))
 ]
-  where
-    go : (t : Bool) → sameStr x y ≡ t → (value x ≡ value y → ⊥) → t ≡ false
-    go true s q = absurd (q (ap value (sameStr-equal x y s)))
-    go false s q = refl
 
 pub same-entry : (x y : List ℕ) (at to : ℕ) → ((i : ℕ) → getD x i 0 < 256) → ((i : ℕ) → getD y i 0 < 256) → at + 32 ≤ length x → to + 32 ≤ length y
     → sameStr (take 32 (drop at x)) (take 32 (drop to y))

@@ -5,24 +5,20 @@ use mathlib.Core.List.{List, [], _++_, _∷_, append-assoc}
 use Prim.Native.Nat.{_%_, _*_, _+_, _-_, _/_, _<_, _≤_, suc, zero, ℕ}
 use native.Mathlib.Omega.{arith}
 use lib.ListN.{drop, getD, length, length-append, length-drop, length-take, replicate, replicate-append-replicate, set, take}
-use lib.Seq.{drop-append-add, drop-append-le, drop-at, drop-cons, length-paste, length-take-le, paste, take-all, take-append-add, take-append-le, take-at, take-length, take-take}
+use lib.Seq.{drop-append-le, drop-at, drop-cons, length-paste, length-take-le, paste, take-all, take-append-add, take-append-le, take-at, take-length, take-take}
 use borrow.Author.Tests.{le-ltb, lt-ltb}
-use Rattle.model.specs.Order.{Low, Str, _◁_, le?, over, str?}
+use Rattle.model.specs.Order.{Low, Str, _⊑_, _◁_, at as after, le?, over, str?}
 use Rattle.model.specs.Names.{Legal}
 use Rattle.model.specs.Entries.{Entry, Row, entry, find, insert, keep, no-entries, not?, without}
 use Rattle.model.specs.Files.{used}
 use Rattle.model.specs.Format.{entriesBytes, entryBytes, littleEndian, lowDigits, padded, slotBytes, slotSize, valueBytes, valueOf}
+use Rattle.model.proofs.Lists.{drop-past, drop-replicate, take-past}
 use Rattle.model.proofs.Order.{le-refl, low-at, low-lower}
 use Rattle.model.proofs.Names.{legal-length}
 use Rattle.model.proofs.Entries.{chosen-no, chosen-yes, keep-all}
-use Rattle.model.proofs.Format.{length-entriesBytes, length-padded, length-valueBytes, padded-short}
+use Rattle.model.proofs.Format.{length-entriesBytes, length-padded, length-valueBytes, padded-front, padded-short}
 use Rattle.bucket.specs.Entries.{changedValue, place, withEntry, withoutEntry}
 use Rattle.bucket.specs.Slots.{boundAt, countAt, lowerAt, upperAt, writtenBytes}
-
-drop-zeros : (n m : ℕ) → _≡_ {A = List ℕ} (drop n (replicate m 0)) (replicate (m - n) 0)
-drop-zeros zero m = let e : m - 0 ≡ m = omega arith in rw e
-drop-zeros (suc n) zero = let e : 0 - suc n ≡ 0 = omega arith in rw e
-drop-zeros (suc n) (suc m) = let e : suc m - suc n ≡ m - n = omega arith in rw e (drop-zeros n m)
 
 -- As many zeros behind a list as wanted.
 take-zeros-behind : (j k m : ℕ) (xs : List ℕ) → j ≤ k → j ≤ m → take j (xs ++ replicate k 0) ≡ take j (xs ++ replicate m 0)
@@ -65,7 +61,7 @@ pub paste-into-zeros : (k n : ℕ) (p s : List ℕ) → length p ≡ n → n + l
 paste-into-zeros k n p s e h =
     let z : List ℕ = replicate (k - length p) 0 in
     let i : padded k p ≡ p ++ z = padded-short k p (omega arith) in
-    let d : drop (n + length s) (p ++ z) ≡ replicate (k - length p - length s) 0 = rw (← e) (drop-append-add p z (length s) ∙ drop-zeros (length s) (k - length p)) in
+    let d : drop (n + length s) (p ++ z) ≡ replicate (k - length p - length s) 0 = drop-past p z (n + length s) (length s) (omega arith) ∙ drop-replicate {A = ℕ} (length s) (k - length p) 0 in
     let j : k - length p - length s ≡ k - length (p ++ s) = omega (arith, length-append p s) in
     rw (i, take-at p z n e, take-length s, d, j) (sym (padded-short k (p ++ s) (omega (arith, length-append p s))))
 
@@ -220,12 +216,6 @@ written-copies lower upper entries m₁ m₂ m₃ a b c hl hu he i j k q₁ q₂
     joined : (u x y z w : List ℕ) → u ++ x ++ y ++ z ++ w ≡ u ++ (x ++ (y ++ (z ++ w)))
     joined u x y z w = simp append-assoc
 
-take-past : (p w : List ℕ) (k m : ℕ) → length p + m ≡ k → take k (p ++ w) ≡ p ++ take m w
-take-past p w k m e = rw (← e) (take-append-add p w m)
-
-drop-past : (p w : List ℕ) (k m : ℕ) → length p + m ≡ k → drop k (p ++ w) ≡ drop m w
-drop-past p w k m e = rw (← e) (drop-append-add p w m)
-
 -- A slot that is written whole is the slot's bytes, as far as its entries reach.
 pub written-slot : (b : ℕ) (l : Low) (u : Str) {k : Low} {v : Str} {es : List Entry} → Row k es v → b ≤ 16
     → take (slotSize b) (writtenBytes (lowDigits l) u (entriesBytes es)) ≡ slotBytes b (used l u es)
@@ -247,20 +237,17 @@ written-slot b l u {es = es} r h =
 
 -- The parts of a slot's bytes as they are read.
 module _ (b : ℕ) (l : Low) (u : Str) (es : List Entry) where
-  in-front : (k : ℕ) (xs ys : List ℕ) → length xs ≤ k → take (length xs) (padded k xs ++ ys) ≡ xs
-  in-front k xs ys h = take-append-le (length xs) (padded k xs) ys (omega (arith, length-padded k xs)) ∙ take-padded-whole (length xs) k xs refl h
-
   pub lowerAt-slot : length (lowDigits l) ≤ 24 → lowerAt (slotBytes b (used l u es)) ≡ lowDigits l
   unfolding boundAt slotBytes
   lowerAt-slot h = rw (le-ltb 24 (length (lowDigits l)) h)
-      (in-front 24 (lowDigits l) (padded 24 u ++ (replicate 8 0 ++ padded (32 * b) (entriesBytes es))) h)
+      (padded-front 24 (lowDigits l) (padded 24 u ++ (replicate 8 0 ++ padded (32 * b) (entriesBytes es))) h)
 
   pub upperAt-slot : length u ≤ 24 → upperAt (slotBytes b (used l u es)) ≡ u
   unfolding boundAt slotBytes
   upperAt-slot h =
       let y : List ℕ = padded 24 u ++ (replicate 8 0 ++ padded (32 * b) (entriesBytes es)) in
       rw (le-ltb 24 (length u) h, drop-at (padded 24 (lowDigits l)) y 24 (length-padded 24 (lowDigits l)))
-      (in-front 24 u (replicate 8 0 ++ padded (32 * b) (entriesBytes es)) h)
+      (padded-front 24 u (replicate 8 0 ++ padded (32 * b) (entriesBytes es)) h)
 
   pub countAt-slot : length es ≤ b → countAt b (slotBytes b (used l u es)) ≡ length es
   unfolding countAt slotBytes
@@ -278,10 +265,10 @@ module _ (b : ℕ) (l : Low) (u : Str) (es : List Entry) where
 -- Behind an entry that stays, a change of the others is the same change.
 module _ (e xs : List ℕ) (whole : length e ≡ 32) where
   pub take-behind : (i : ℕ) → take (32 * suc i) (e ++ xs) ≡ e ++ take (32 * i) xs
-  take-behind i = let s : 32 * suc i ≡ length e + 32 * i = omega arith in rw s (take-append-add e xs (32 * i))
+  take-behind i = take-past e xs (32 * suc i) (32 * i) (omega arith)
 
   pub drop-behind : (i : ℕ) → drop (32 * suc i) (e ++ xs) ≡ drop (32 * i) xs
-  drop-behind i = let s : 32 * suc i ≡ length e + 32 * i = omega arith in rw s (drop-append-add e xs (32 * i))
+  drop-behind i = drop-past e xs (32 * suc i) (32 * i) (omega arith)
 
   with-behind : (count i : ℕ) (n : List ℕ) (v : ℕ) → withEntry (e ++ xs) (suc count) (suc i) n v ≡ e ++ withEntry xs count i n v
   unfolding withEntry
@@ -297,10 +284,8 @@ module _ (e xs : List ℕ) (whole : length e ≡ 32) where
   unfolding changedValue
   changed-behind count i v =
       let f = take (32 * count) xs in
-      let s : 32 * suc i + 24 ≡ length e + (32 * i + 24) = omega arith in
-      let o : 32 * suc i + 24 + 8 ≡ length e + (32 * i + 24 + 8) = omega arith in
-      let t : take (32 * suc i + 24) (e ++ f) ≡ e ++ take (32 * i + 24) f = rw s (take-append-add e f (32 * i + 24)) in
-      let d : drop (32 * suc i + 24 + 8) (e ++ f) ≡ drop (32 * i + 24 + 8) f = rw o (drop-append-add e f (32 * i + 24 + 8)) in
+      let t : take (32 * suc i + 24) (e ++ f) ≡ e ++ take (32 * i + 24) f = take-past e f (32 * suc i + 24) (32 * i + 24) (omega arith) in
+      let d : drop (32 * suc i + 24 + 8) (e ++ f) ≡ drop (32 * i + 24 + 8) f = drop-past e f (32 * suc i + 24 + 8) (32 * i + 24 + 8) (omega arith) in
       rw (take-behind count, t, d) (simp append-assoc)
 
 -- The bytes of an entry, and of entries in front of others.
@@ -317,6 +302,19 @@ unfolding find
 find-not-over n no-entries h = refl
 find-not-over n (entry {e = e} g a b r) h =
     rw (chosen-no (str? n (e .0)) (λ q. h (rw q a))) (find-not-over n r (λ c. h (low-lower (low-at a) c)))
+
+-- A name above the first of a row is looked for behind it; one that is not, and is held, is the first.
+pub find-behind : (n : Str) (e : Entry) (es : List Entry) → ¬ (n ⊑ e .0) → find n es ≡ find n (e ∷ es)
+unfolding find
+find-behind n e es q = sym (chosen-no (str? n (e .0)) (λ p. q (rw (← p) (le-refl n))) _ _)
+
+pub find-first : {u : Str} (n : Str) (e : Entry) {es : List Entry} {w : ℕ} → Row (after (e .0)) es u → n ⊑ e .0 → find n (e ∷ es) ≡ some w → n ≡ e .0
+unfolding find
+find-first n e {w = w} r q h = elim (str? n (e .0)) [
+  | yes p ↦ p
+  | no p ↦ let z : _≡_ {A = Option ℕ} nothing (some w) = sym (find-not-over n r (λ c. over c q)) ∙ sym (chosen-no (str? n (e .0)) p _ _) ∙ h in
+      let y : _≡_ {A = ℕ} 0 1 = cc in absurd (omega arith)
+]
 
 -- The changes at the first place.
 with-first : {l : Low} {u : Str} {es : List Entry} (n : Str) (v : ℕ) (ys : List ℕ) → Row l es u
@@ -349,7 +347,7 @@ pub with-insert : {l : Low} {u : Str} {es : List Entry} (n : Str) (v : ℕ) (ys 
 unfolding entriesBytes place insert find
 with-insert {l} {u} n v ys no-entries h = with-first {l = l} {u = u} n v ys no-entries
 with-insert n v ys (entry {e = e} {es = es} g a b r) h = elim (le? n (e .0)) [
-  | no q ↦ let f : find n es ≡ nothing = sym (chosen-no (str? n (e .0)) (λ p. q (rw (← p) (le-refl n))) _ _) ∙ h in
+  | no q ↦ let f : find n es ≡ nothing = find-behind n e es q ∙ h in
       rw (chosen-no (le? n (e .0)) q, chosen-no (le? n (e .0)) q, append-assoc)
       (with-behind (entryBytes e) (entriesBytes es ++ ys) (length-entryBytes e g) (length es) (place n es) n v
       ∙ ap (λ (w : List ℕ). entryBytes e ++ w) (with-insert n v ys r f))
@@ -366,15 +364,12 @@ pub changed-insert : {l : Low} {u : Str} {es : List Entry} (n : Str) (v o : ℕ)
 unfolding entriesBytes place insert find
 changed-insert n v o ys no-entries h = let y : _≡_ {A = ℕ} 0 1 = cc in absurd (omega arith)
 changed-insert n v o ys (entry {e = e} {es = es} g a b r) h = elim (le? n (e .0)) [
-  | no q ↦ let f : find n es ≡ some o = sym (chosen-no (str? n (e .0)) (λ p. q (rw (← p) (le-refl n))) _ _) ∙ h in
+  | no q ↦ let f : find n es ≡ some o = find-behind n e es q ∙ h in
       rw (chosen-no (le? n (e .0)) q, chosen-no (le? n (e .0)) q, append-assoc)
       (changed-behind (entryBytes e) (entriesBytes es ++ ys) (length-entryBytes e g) (length es) (place n es) v
       ∙ ap (λ (w : List ℕ). entryBytes e ++ w) (changed-insert n v o ys r f))
-  | yes q ↦ elim (str? n (e .0)) [
-    | yes p ↦ rw (chosen-yes (le? n (e .0)) q, chosen-yes (le? n (e .0)) q, chosen-yes (str? n (e .0)) p, append-assoc, p) (changed-first e v ys g r)
-    | no p ↦ let z : _≡_ {A = Option ℕ} nothing (some o) = sym (find-not-over n r (λ c. over c q)) ∙ sym (chosen-no (str? n (e .0)) p _ _) ∙ h in
-        let y : _≡_ {A = ℕ} 0 1 = cc in absurd (omega arith)
-  ]
+  | yes q ↦ let p : n ≡ e .0 = find-first n e r q h in
+      rw (chosen-yes (le? n (e .0)) q, chosen-yes (le? n (e .0)) q, chosen-yes (str? n (e .0)) p, append-assoc, p) (changed-first e v ys g r)
 ]
 
 -- The entry left out at the place of a name that is held is a removal.
@@ -383,14 +378,10 @@ pub without-removal : {l : Low} {u : Str} {es : List Entry} (n : Str) (o : ℕ) 
 unfolding entriesBytes place keep find
 without-removal n o ys no-entries h = let y : _≡_ {A = ℕ} 0 1 = cc in absurd (omega arith)
 without-removal n o ys (entry {e = e} {es = es} g a b r) h = elim (le? n (e .0)) [
-  | no q ↦ let f : find n es ≡ some o = sym (chosen-no (str? n (e .0)) (λ p. q (rw (← p) (le-refl n))) _ _) ∙ h in
+  | no q ↦ let f : find n es ≡ some o = find-behind n e es q ∙ h in
       rw (chosen-no (le? n (e .0)) q, chosen-yes (not? (str? (e .0) n)) (λ p. q (rw p (le-refl n))), append-assoc)
       (without-behind (entryBytes e) (entriesBytes es ++ ys) (length-entryBytes e g) (length es) (place n es)
       ∙ ap (λ (w : List ℕ). entryBytes e ++ w) (without-removal n o ys r f))
-  | yes q ↦ elim (str? n (e .0)) [
-    | yes p ↦ rw (chosen-yes (le? n (e .0)) q, chosen-no (not? (str? (e .0) n)) (λ f. f (sym p)), keep-all (λ k. not? (str? k n)) r (λ k c d. over c (rw d q)), append-assoc)
-        (without-first (entryBytes e) ys (length-entryBytes e g) r)
-    | no p ↦ let z : _≡_ {A = Option ℕ} nothing (some o) = sym (find-not-over n r (λ c. over c q)) ∙ sym (chosen-no (str? n (e .0)) p _ _) ∙ h in
-        let y : _≡_ {A = ℕ} 0 1 = cc in absurd (omega arith)
-  ]
+  | yes q ↦ rw (chosen-yes (le? n (e .0)) q, chosen-no (not? (str? (e .0) n)) (λ f. f (sym (find-first n e r q h))), keep-all (λ k. not? (str? k n)) r (λ k c d. over c (rw d q)), append-assoc)
+      (without-first (entryBytes e) ys (length-entryBytes e g) r)
 ]

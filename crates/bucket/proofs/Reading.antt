@@ -1,15 +1,13 @@
 -- The code's tests of a used slot hold exactly of the slots that were written and are well formed.
 use mathlib.Core.Path.{_∙_, _≡_, ap, ap₂, refl, sym}
-use mathlib.Core.Bool.{Bool, _&&_, cond, false, not, true}
+use mathlib.Core.Bool.{Bool, _&&_, cond, false, true}
 use mathlib.Core.Option.{none as nothing, some}
 use mathlib.Core.List.{List, [], _++_, _∷_, append-assoc}
 use Prim.Native.Nat.{_*_, _+_, _-_, _<_, _≤_, suc, zero, ℕ}
-use native.Mathlib.Nat.{sub-zero}
-use native.Mathlib.Numerals.{unary-clauses}
 use native.Mathlib.Omega.{arith}
 use lib.Dec.{eqb, leb, ltb}
 use lib.ListN.{drop, getD, length, length-append, length-drop, replicate, take, take-append-drop}
-use lib.Seq.{drop-at, drop-drop, length-take-le, take-add, take-all, take-at, take-nil, take-take}
+use lib.Seq.{drop-at, drop-drop, length-take-le, take-add, take-all, take-at, take-take}
 use borrow.Author.Tests.{eqb-true, le-leb, le-ltb, leb-true, lt-ltb, ltb-false, ltb-true, not-true}
 use Rattle.model.specs.Order.{Low, Str, at, none}
 use Rattle.model.specs.Names.{Digits, areDigits, atMost, legalBound, legalFilled}
@@ -17,9 +15,10 @@ use Rattle.model.specs.Entries.{Entry}
 use Rattle.model.specs.Files.{Slot, used}
 use Rattle.model.specs.Checks.{isAbove, isRow, isWell, legalLow, sameStr}
 use Rattle.model.specs.Format.{Bytes, entriesBytes, entriesOf, entryBytes, lowDigits, lowOf, padded, readUsed, slotBytes, usedOf, valueBytes, valueOf}
+use Rattle.model.proofs.Lists.{drop-take}
 use Rattle.model.proofs.Names.{both-true, bound-legalBound, legal-bound, legal-length, legalBound-bound, legalFilled-legal}
-use Rattle.model.proofs.Checks.{isRow-row, sameStr-equal, sameStr-self}
-use Rattle.model.proofs.Format.{bytes-each, length-entriesBytes, length-padded, length-valueBytes, padded-short, valueBytes-valueOf}
+use Rattle.model.proofs.Checks.{Wells, isAbove-above, isRow-row, sameStr-equal, sameStr-self, wells}
+use Rattle.model.proofs.Format.{bytes-drop, bytes-each, bytes-take, length-entriesBytes, length-padded, length-valueBytes, lowOf-lowDigits, padded-front, padded-short, valueBytes-valueOf}
 use Rattle.digits.specs.Keys.{continued, isZero, keyValue, value}
 use Rattle.digits.proofs.Keys.{Under, bound-below, continued-whole, digits-under, name-atMost, value-some}
 use Rattle.bucket.specs.declared.Bucket.{Bucket}
@@ -46,12 +45,6 @@ pub record Tested (b : ℕ) (xs : List ℕ) : Type 0 where
   pub rowed : areEntries (getD xs 1 0) (drop 64 xs) (lowValue (lowIn xs)) (value (continued (highIn xs))) ≡ true
 
 -- A bound in its 24 bytes.
-drop-take : (k n : ℕ) (x : List ℕ) → drop k (take n x) ≡ take (n - k) (drop k x)
-drop-take zero n x = simp sub-zero
-drop-take (suc k) zero x = let e : 0 - suc k ≡ 0 = omega arith in rw e
-drop-take (suc k) (suc n) [] = sym (take-nil (suc n - suc k))
-drop-take (suc k) (suc n) (d ∷ x) = simp unary-clauses (drop-take k n x)
-
 record Bounded (len : ℕ) (s : List ℕ) : Type 0 where
   short : len ≤ 24
   legal : legalBound (take len s) ≡ true
@@ -100,16 +93,6 @@ padded-part len k s e h z =
     ∙ sym (padded-short k (take len s) (omega arith))
 
 -- The bytes of the entries that are read.
-bytes-drop : (n : ℕ) (xs : List ℕ) → Bytes xs → Bytes (drop n xs)
-bytes-drop zero xs h = h
-bytes-drop (suc n) [] h = tt
-bytes-drop (suc n) (x ∷ xs) h = bytes-drop n xs (h .1)
-
-bytes-take : (n : ℕ) (xs : List ℕ) → Bytes xs → Bytes (take n xs)
-bytes-take zero xs h = tt
-bytes-take (suc n) [] h = tt
-bytes-take (suc n) (x ∷ xs) h = (h .0, bytes-take n xs (h .1))
-
 entries-bytes : (n : ℕ) (z : List ℕ) → 32 * n ≤ length z → Bytes z → entriesBytes (entriesOf n z) ≡ take (32 * n) z
 unfolding entriesBytes entriesOf entryBytes
 entries-bytes zero z h g = refl
@@ -308,13 +291,6 @@ module _ (b : ℕ) (xs : List ℕ) (size : length xs ≡ 64 + 32 * b) (bytes : (
       }
 
 -- A slot that was written, and is well formed, passes.
-low-back : (l : Low) (u : Str) → isAbove l u ≡ true → lowOf (lowDigits l) ≡ l
-unfolding lowOf lowDigits isAbove atMost
-low-back none u e = refl
-low-back (at []) [] e = let z : _≡_ {A = ℕ} 0 1 = cc in absurd (omega arith)
-low-back (at []) (d ∷ u) e = let z : _≡_ {A = ℕ} 0 1 = cc in absurd (omega arith)
-low-back (at (d ∷ x)) u e = refl
-
 pub low-legal : (l : Low) → legalLow l ≡ true → legalBound (lowDigits l) ≡ true
 unfolding legalLow lowDigits legalBound areDigits
 low-legal none e = refl
@@ -340,27 +316,14 @@ module _ (b : ℕ) (l : Low) (u : Str) (es : List Entry) (w : isWell b (used l u
   abbrev xs : List ℕ
   xs = slotBytes b (used l u es)
 
-  pub record Wells : Type 0 where
-    pub low : legalLow l ≡ true
-    pub high : legalBound u ≡ true
-    pub above : isAbove l u ≡ true
-    pub row : isRow l es u ≡ true
-    pub most : length es ≤ b
-
-  pub wells : Wells
-  unfolding isWell
-  wells =
-      let p = both-true (legalLow l && legalBound u && isAbove l u && isRow l es u) (leb (length es) b) w in
-      let q = both-true (legalLow l && legalBound u && isAbove l u) (isRow l es u) (p .0) in
-      let r = both-true (legalLow l && legalBound u) (isAbove l u) (q .0) in
-      let s = both-true (legalLow l) (legalBound u) (r .0) in
-      record { low = s .0; high = s .1; above = r .1; row = q .1; most = leb-true (length es) b (p .1) }
+  parts : Wells b l u es
+  parts = wells b l u es w
 
   low-fits : length (lowDigits l) ≤ 24
-  low-fits = legalBound-bound (lowDigits l) (low-legal l (wells .low)) .fits
+  low-fits = legalBound-bound (lowDigits l) (low-legal l (parts .low)) .fits
 
   high-fits : length u ≤ 24
-  high-fits = legalBound-bound u (wells .high) .fits
+  high-fits = legalBound-bound u (parts .high) .fits
 
   from-low : drop 8 xs ≡ x ++ (y ++ z)
   unfolding slotBytes
@@ -372,11 +335,6 @@ module _ (b : ℕ) (l : Low) (u : Str) (es : List Entry) (w : isWell b (used l u
   from-zeros : drop 56 xs ≡ z
   from-zeros = sym (drop-drop 24 32 xs) ∙ ap (drop 24) from-high ∙ drop-at y z 24 (length-padded 24 u)
 
-  in-front : (p q : List ℕ) → length p ≤ 24 → take (length p) (padded 24 p ++ q) ≡ p
-  in-front p q h =
-      let r : List ℕ = replicate (24 - length p) 0 in
-      ap (λ (v : List ℕ). take (length p) (v ++ q)) (padded-short 24 p h) ∙ ap (take (length p)) (append-assoc p r q) ∙ take-at p (r ++ q) (length p) refl
-
   head-is : (getD xs 0 0 ≡ 1) × (getD xs 1 0 ≡ length es) × (getD xs 2 0 ≡ length (lowDigits l)) × (getD xs 3 0 ≡ length u) × (take 4 (drop 4 xs) ≡ replicate 4 0)
   unfolding slotBytes
   head-is = (refl, refl, refl, refl, refl)
@@ -384,16 +342,16 @@ module _ (b : ℕ) (l : Low) (u : Str) (es : List Entry) (w : isWell b (used l u
   low-is : lowIn xs ≡ l
   low-is =
       ap₂ (λ (k : ℕ) (v : List ℕ). lowOf (take k v)) (head-is .2) from-low
-      ∙ ap lowOf (in-front (lowDigits l) (y ++ z) low-fits) ∙ low-back l u (wells .above)
+      ∙ ap lowOf (padded-front 24 (lowDigits l) (y ++ z) low-fits) ∙ lowOf-lowDigits (isAbove-above l u (parts .above))
 
   high-is : highIn xs ≡ u
-  high-is = ap₂ (λ (k : ℕ) (v : List ℕ). take k v) (head-is .3) from-high ∙ in-front u z high-fits
+  high-is = ap₂ (λ (k : ℕ) (v : List ℕ). take k v) (head-is .3) from-high ∙ padded-front 24 u z high-fits
 
   length-row : length (entriesBytes es) ≡ 32 * length es
-  length-row = length-entriesBytes (isRow-row l es u (wells .row))
+  length-row = length-entriesBytes (isRow-row l es u (parts .row))
 
   padded-row : padded (32 * b) (entriesBytes es) ≡ entriesBytes es ++ replicate (32 * b - length (entriesBytes es)) 0
-  padded-row = padded-short (32 * b) (entriesBytes es) (omega (arith, length-row, wells .most))
+  padded-row = padded-short (32 * b) (entriesBytes es) (omega (arith, length-row, parts .most))
 
   unused : isZero (drop (64 + 32 * length es) xs) ≡ true
   unused =
@@ -416,19 +374,19 @@ module _ (b : ℕ) (l : Low) (u : Str) (es : List Entry) (w : isWell b (used l u
   well-tested =
       let lo = lowValue l in
       let hi = value (continued u) in
-      let r : ltb lo hi ≡ true = low-above l u (wells .low) (wells .high) ∙ wells .above in
+      let r : ltb lo hi ≡ true = low-above l u (parts .low) (parts .high) ∙ parts .above in
       let k : lo ≤ hi = omega (arith, ltb-true lo hi r) in
       record {
         first = head-is .0;
-        fits = omega (arith, head-is .1, wells .most);
+        fits = omega (arith, head-is .1, parts .most);
         clear = is-clear;
-        lower = bound-part 8 (getD xs 2 0) (lowDigits l) (y ++ z) (head-is .2) from-low (low-legal l (wells .low));
-        upper = bound-part 32 (getD xs 3 0) u z (head-is .3) from-high (wells .high);
+        lower = bound-part 8 (getD xs 2 0) (lowDigits l) (y ++ z) (head-is .2) from-low (low-legal l (parts .low));
+        upper = bound-part 32 (getD xs 3 0) u z (head-is .3) from-high (parts .high);
         ranged = ap₂ (λ (m : Low) (v : Str). ltb (lowValue m) (value (continued v))) low-is high-is ∙ r;
         rowed =
             ap₂ (λ (m : Low) (v : Str). areEntries (getD xs 1 0) (drop 64 xs) (lowValue m) (value (continued v))) low-is high-is
             ∙ ap₂ (λ (m : ℕ) (v : List ℕ). areEntries m v lo hi) (head-is .1) (entries-slot b l u es ∙ padded-row)
-            ∙ row-entries es (replicate (32 * b - length (entriesBytes es)) 0) l u (wells .low) (wells .high) k (wells .row);
+            ∙ row-entries es (replicate (32 * b - length (entriesBytes es)) 0) l u (parts .low) (parts .high) k (parts .row);
       }
 
 passes : (b : ℕ) (xs : List ℕ) → xs ≡ slotBytes b (usedOf xs) → isWell b (usedOf xs) ≡ true → Tested b xs
@@ -446,10 +404,6 @@ not-read b xs f s = go (sameStr xs (slotBytes b (usedOf xs))) (isWell b s) refl 
     go true true e w h =
         let i : usedOf xs ≡ s = cc in
         absurd (f (passes b xs (sameStr-equal xs (slotBytes b (usedOf xs)) e) (ap (isWell b) i ∙ w)))
-
--- A test that the code found false is not true.
-pub clash : (r t : Bool) → r ≡ t → r ≡ false → t ≡ true → ⊥
-clash r t e f g = let z : _≡_ {A = ℕ} 0 1 = cc in absurd (omega arith)
 
 pub same-entries : {m n : ℕ} {x y : List ℕ} {p q v w : ℕ} → m ≡ n → x ≡ y → p ≡ q → v ≡ w → areEntries m x p v ≡ areEntries n y q w
 same-entries e f g h = rw (e, f, g, h)

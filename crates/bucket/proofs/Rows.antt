@@ -11,18 +11,18 @@ use lib.Seq.{drop-at, take-at}
 use Rattle.model.specs.Order.{Low, Str, at}
 use Rattle.model.specs.Names.{Legal, atMost, legalBound}
 use Rattle.model.specs.Entries.{Entry, Row, entry, no-entries}
-use Rattle.model.specs.Files.{Slot, Well, free, used}
+use Rattle.model.specs.Files.{IsUsed, Slot, Well, entries-of, free, head, lower-of, upper-of, used}
 use Rattle.model.specs.Checks.{isAbove, legalLow, sameStr}
 use Rattle.model.specs.Format.{Values, entriesBytes, entryBytes, lowOf, padded, readSlot, readUsed, slotBytes, slotSize, usedOf, valueBytes}
 use Rattle.model.proofs.Names.{legal-legalFilled, legal-length}
-use Rattle.model.proofs.Checks.{sameStr-equal, well-isWell}
+use Rattle.model.proofs.Checks.{sameStr-equal, well-isWell, wells}
 use Rattle.model.proofs.Files.{well-parts}
 use Rattle.model.proofs.Format.{bytes-each, length-entriesBytes, length-slotBytes, length-valueBytes, padded-short, values-readSlot}
 use Rattle.digits.specs.Keys.{continued, isZero, value}
 use Rattle.bucket.specs.Forms.{lowValue, pieces, values}
 use Rattle.bucket.proofs.Laws.{drop-behind, entries-slot, length-entryBytes}
 use Rattle.bucket.proofs.Forms.{zero-not}
-use Rattle.bucket.proofs.Reading.{Tested, by-bound, highIn, lowIn, name-low, well-tested, wells}
+use Rattle.bucket.proofs.Reading.{Tested, by-bound, highIn, lowIn, name-low, well-tested}
 
 -- The numbers of the names, and the bytes of each entry.
 abbrev pub numbers : List Entry → List ℕ
@@ -86,7 +86,7 @@ read-written b xs s = go (sameStr xs (slotBytes b (usedOf xs))) refl
     go false e h = let z : _≡_ {A = ℕ} 0 1 = cc in absurd (omega arith)
 
 -- A slot is free where it is all zero; else it is read as used.
-zero-same : (k : ℕ) (xs : List ℕ) → length xs ≡ k → sameStr xs (replicate k 0) ≡ isZero xs
+pub zero-same : (k : ℕ) (xs : List ℕ) → length xs ≡ k → sameStr xs (replicate k 0) ≡ isZero xs
 unfolding sameStr isZero
 zero-same zero [] e = refl
 zero-same zero (x ∷ xs) e = absurd (omega arith)
@@ -146,6 +146,11 @@ reads b xs {l} {u} {es} e w =
       unused = k;
       behind = ap (drop 64) i ∙ entries-slot b l u es ∙ f;
     }
+
+-- The same of any slot that is used.
+pub used-reads : (b : ℕ) (xs : List ℕ) (s : Slot) → IsUsed (head s) → readUsed b xs ≡ some s → Well b s → Reads b xs (lower-of (head s)) (upper-of (head s)) (entries-of s)
+used-reads b xs free u e w = absurd u
+used-reads b xs (used l v es) u e w = reads b xs e w
 
 -- The lower limit's number, as it is told of any slot.
 pub read-low : (b : ℕ) (xs : List ℕ) {l : Low} {u : Str} {es : List Entry} (k : ℕ) → Reads b xs l u es

@@ -12,6 +12,7 @@ ghost use Rattle.digits.specs.Keys.{continued, isZero, keyValue, value};
 ghost use Rattle.bucket.specs.Forms.{Formed, areEntries, heldUnder, holding, isClear, lowValue, partBetween, vacant};
 ghost use Rattle.bucket.specs.Slots.{countAt, lowerAt, upperAt, writtenBytes};
 use digits::Key;
+use digits::byte;
 use digits::index;
 use digits::wide;
 
@@ -260,13 +261,6 @@ pub fn held_under(entries: &[u8], count: usize, name: Key) -> Held
         return Held::Absent;
     }
     Held::Value(value_at(entries, i))
-}
-
-fn byte(x: usize) -> u8
-    requires { ⌜ x < 256 ⌝ }
-    ensures { λ r. ⌜ r ≡ x ⌝ }
-{
-    x as u8
 }
 
 // The slot with the same bounds and other entries.

@@ -1,6 +1,6 @@
 -- Strings as numbers: a number's parts, and the one order.
 use mathlib.Core.Path.{_∙_, _≡_, ap, refl, sym}
-use mathlib.Core.Bool.{Bool, _&&_, cond, false, not, true}
+use mathlib.Core.Bool.{Bool, _&&_, and-assoc, cond, false, not, true}
 use mathlib.Core.List.{List, [], _++_, _∷_}
 use Prim.Native.Nat.{_*_, _+_, _-_, _%_, _<_, _^_, _≤_, suc, zero, ℕ}
 use native.Mathlib.Nat.{add-mul, add-zero, mul-assoc, mul-le-mul-right, one-le-pow, pow-suc, sub-zero, suc-mul}
@@ -9,19 +9,17 @@ use native.Mathlib.Decide.{decLe, decLt, ℕ-discrete}
 use lib.Pow.{pow-add}
 use native.Mathlib.Omega.{arith}
 use lib.Dec.{eqb, leb, ltb}
-use lib.ListN.{drop, getD, length, length-append, length-drop, length-replicate, length-take, replicate, take}
-use lib.Seq.{drop-cons, drop-drop, take-add, take-at, take-nil, take-take}
+use lib.ListN.{drop, getD, length, length-append, length-drop, length-take, replicate, take}
+use lib.Seq.{drop-cons, drop-drop, take-add, take-at, take-take}
 use borrow.Author.Tests.{eq-eqb, eqb-true, le-leb, le-ltb, lt-leb, lt-ltb, ne-eqb}
-use Rattle.model.proofs.Names.{atMost-le, both-true, le-atMost}
-use Rattle.model.proofs.Order.{le-antisym, le-refl}
 use Rattle.model.specs.Names.{Digits, atMost}
+use Rattle.model.specs.Format.{Bytes}
+use Rattle.model.proofs.Lists.{drop-take, length-made}
+use Rattle.model.proofs.Order.{le-antisym, le-refl}
+use Rattle.model.proofs.Names.{atMost-le, both-true, le-atMost}
+use Rattle.model.proofs.Format.{bytes-drop, bytes-each, bytes-made, bytes-take}
 use Rattle.digits.proofs.Laws.{pair-lt}
 use Rattle.digits.specs.Keys.{continued, isZero, value}
-
--- Each is a byte.
-abbrev pub Bytes : List ℕ → Type 0
-Bytes [] = Unit {0}
-Bytes (d ∷ x) = (d < 256) × Bytes x
 
 pub value-lt : (x : List ℕ) → Bytes x → value x < 256 ^ length x
 unfolding value
@@ -142,10 +140,6 @@ zero-append : (x y : List ℕ) → isZero (x ++ y) ≡ (isZero x && isZero y)
 unfolding isZero
 zero-append [] y = refl
 zero-append (d ∷ x) y = rw (zero-append x y) (sym (and-assoc (eqb d 0) (isZero x) (isZero y)))
-  where
-    and-assoc : (a b c : Bool) → (a && b && c) ≡ (a && (b && c))
-    and-assoc true b c = refl
-    and-assoc false b c = refl
 
 drop-append : (k : ℕ) (x y : List ℕ) → drop k (x ++ y) ≡ drop k x ++ drop (k - length x) y
 drop-append zero [] y = refl
@@ -153,34 +147,14 @@ drop-append zero (d ∷ x) y = let e : 0 - suc (length x) ≡ 0 = omega arith in
 drop-append (suc k) [] y = simp unary-clauses
 drop-append (suc k) (d ∷ x) y = simp unary-clauses (drop-append k x y)
 
-drop-take : (k n : ℕ) (x : List ℕ) → drop k (take n x) ≡ take (n - k) (drop k x)
-drop-take zero n x = simp sub-zero
-drop-take (suc k) zero x = let e : 0 - suc k ≡ 0 = omega arith in rw e
-drop-take (suc k) (suc n) [] = sym (take-nil (suc n - suc k))
-drop-take (suc k) (suc n) (d ∷ x) = simp unary-clauses (drop-take k n x)
-
 zero-split : (k n : ℕ) (x y : List ℕ) → length x ≡ n → isZero (drop k (x ++ y)) ≡ true → (isZero (drop k x) ≡ true) × (isZero (drop (k - n) y) ≡ true)
 zero-split k n x y e h = both-true (isZero (drop k x)) (isZero (drop (k - n) y)) (rw (drop-append k x y, zero-append, e) at h)
 
 cover-split : (k n : ℕ) (x y : List ℕ) → length x ≡ n → length y ≡ 8 → value (cover k (x ++ y)) ≡ value (cover k x) * 2 ^ 64 + value (cover (k - n) y)
 cover-split k n x y e f = rw (cover-append k x y, value-append, e, length-cover (k - n) y, f)
 
-bytes-of : (x : List ℕ) → ((i : ℕ) → getD x i 0 < 256) → Bytes x
-bytes-of [] h = tt
-bytes-of (d ∷ x) h = (h 0, bytes-of x (λ i. h (suc i)))
-
-bytes-take : (n : ℕ) (x : List ℕ) → Bytes x → Bytes (take n x)
-bytes-take zero x h = tt
-bytes-take (suc n) [] h = tt
-bytes-take (suc n) (d ∷ x) h = (h .0, bytes-take n x (h .1))
-
-bytes-drop : (n : ℕ) (x : List ℕ) → Bytes x → Bytes (drop n x)
-bytes-drop zero x h = h
-bytes-drop (suc n) [] h = tt
-bytes-drop (suc n) (d ∷ x) h = bytes-drop n x (h .1)
-
 pub bytes-part : (s : List ℕ) (n at : ℕ) → ((i : ℕ) → getD s i 0 < 256) → Bytes (take n (drop at s))
-bytes-part s n at h = bytes-take n (drop at s) (bytes-drop at s (bytes-of s h))
+bytes-part s n at h = bytes-take n (drop at s) (bytes-drop at s (bytes-each s h))
 
 -- A table of fills: each is a power of 256, less one.
 unfoldable pub areFills : ℕ → List ℕ → Bool
@@ -281,9 +255,6 @@ value-atMost (a ∷ x) (b ∷ y) f g e =
         let p = pair-lt (256 ^ length y) b (value y) a (value x) k (value-lt y (g .1)) in
         rw (lt-leb (a * 256 ^ length y + value x) (b * 256 ^ length y + value y) p, le-ltb a b (omega arith), ne-eqb a b q)
 
-pub value-below : (x y : List ℕ) → Bytes x → Bytes y → length x ≡ length y → ltb (value x) (value y) ≡ not (atMost y x)
-value-below x y f g e = ltb-leb (value x) (value y) ∙ ap not (value-atMost y x g f (sym e))
-
 pub value-same : (x y : List ℕ) → Bytes x → Bytes y → length x ≡ length y → value x ≡ value y → x ≡ y
 value-same x y f g e v =
     le-antisym
@@ -305,19 +276,11 @@ under-bytes (d ∷ x) h = (omega (arith, h .0), under-bytes x (h .1))
 
 pub length-continued : (p : List ℕ) → length (continued p) ≡ 24
 unfolding continued
-length-continued p = omega (arith, length-take 24 (p ++ replicate 24 0xFF), length-append p (replicate 24 0xFF), length-replicate {A = ℕ} 24 0xFF)
+length-continued p = length-made 24 0xFF p
 
 pub bytes-continued : (p : List ℕ) → Bytes p → Bytes (continued p)
 unfolding continued
-bytes-continued p h = bytes-take 24 (p ++ replicate 24 0xFF) (joined p h)
-  where
-    fills : (m : ℕ) → Bytes (replicate m 0xFF)
-    fills zero = tt
-    fills (suc m) = (omega arith, fills m)
-
-    joined : (p : List ℕ) → Bytes p → Bytes (p ++ replicate 24 0xFF)
-    joined [] h = fills 24
-    joined (d ∷ p) h = (h .0, joined p (h .1))
+bytes-continued p h = bytes-made 24 0xFF p (omega arith) h
 
 pub continued-whole : (n : List ℕ) → length n ≡ 24 → continued n ≡ n
 unfolding continued
@@ -358,9 +321,6 @@ bound-same p q f g u v e =
 module _ (n p : List ℕ) (f : Under n) (g : Under p) (e : length n ≡ 24) (v : length p ≤ 24) where
   pub name-atMost : leb (value n) (value (continued p)) ≡ atMost n p
   name-atMost = ap (λ (x : List ℕ). leb (value x) (value (continued p))) (sym (continued-whole n e)) ∙ bound-atMost n p f g (omega arith) v
-
-  pub name-above : ltb (value (continued p)) (value n) ≡ not (atMost n p)
-  name-above = ltb-leb (value (continued p)) (value n) ∙ ap not name-atMost
 
 -- No limit is below every string that begins with more than a zero.
 pub value-some : (x : List ℕ) → 0 < getD x 0 0 → 0 < value x

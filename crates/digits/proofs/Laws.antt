@@ -1,12 +1,12 @@
 -- What one turn of each loop does to the definition that its function meets.
-use mathlib.Core.Path.{_∙_, _≡_, ap, refl, sym}
-use mathlib.Core.Bool.{Bool, _&&_, _||_, cond, false, true}
+use mathlib.Core.Path.{_∙_, _≡_, refl, sym}
+use mathlib.Core.Bool.{Bool, _&&_, _||_, and-assoc, and-false, cond, false, true}
 use mathlib.Core.List.{List, [], _++_, _∷_, append-nil}
-use mathlib.Core.Logic.{_⊎_, inl, inr, ⊎-elim}
+use mathlib.Core.Logic.{_⊎_, ⊎-elim}
 use Prim.Native.Nat.{_*_, _+_, _-_, _<_, _^_, _≤_, suc, zero, ℕ}
 use native.Mathlib.Decide.{decLt, ℕ-discrete}
-use native.Mathlib.Nat.{mul-le-mul-right, sub-zero, suc-mul, zero-add}
-use native.Mathlib.Numerals.{add-one, unary-clauses}
+use native.Mathlib.Nat.{mul-le-mul-right, suc-mul, zero-add}
+use native.Mathlib.Numerals.{add-one}
 use native.Mathlib.Omega.{arith}
 use lib.Dec.{eqb, leb, ltb}
 use lib.ListN.{drop, drop-of-length-le, getD, length, length-take, replicate, set, take}
@@ -14,13 +14,10 @@ use lib.Seq.{drop-cons, paste-suc, take-all, take-append-le, take-nil}
 use borrow.Author.Tests.{eq-eqb, le-leb, le-ltb, lt-leb, lt-ltb, ne-eqb}
 use Rattle.model.specs.Names.{areDigits, blankEnded, blanks, filled, legalBound, legalFilled, notGreater, within}
 use Rattle.model.specs.Order.{diff, diff-at}
+use Rattle.model.proofs.Lists.{drop-replicate}
 use Rattle.model.proofs.Names.{filled-short}
 use Rattle.digits.specs.declared.Key.{Key}
 use Rattle.digits.specs.Keys.{blankEnds, isZero, keyValue}
-
-pub and-false : (a : Bool) → (a && false) ≡ false
-and-false true = refl
-and-false false = refl
 
 -- A check that gathers: w of the whole is a so far and b of what is left.
 pub gathers : (w a b c d r : Bool) → w ≡ (a && b) → b ≡ (c && d) → r ≡ (a && c) → w ≡ (r && d)
@@ -114,11 +111,6 @@ pub filled-full : (n : List ℕ) (i : ℕ) → i ≡ 24 → 24 ≤ length n → 
 unfolding filledTo filled
 filled-full n i e h = rw (e, append-nil, take-append-le 24 n (replicate 24 0x20) h)
 
-drop-replicate : (i m a : ℕ) → drop i (replicate m a) ≡ replicate (m - i) a
-drop-replicate zero m a = rw (sub-zero m)
-drop-replicate (suc i) zero a = let e : 0 - suc i ≡ 0 = omega arith in rw e
-drop-replicate (suc i) (suc m) a = simp unary-clauses (drop-replicate i m a)
-
 pub filled-all : (n : List ℕ) (i : ℕ) → i ≡ length n → i ≤ 24 → filledTo n i ≡ filled n
 unfolding filledTo
 filled-all n i e h = rw (e, take-all (length n) n (omega arith), drop-replicate) (sym (filled-short n (omega arith)))
@@ -198,10 +190,6 @@ blank-last s i e h =
     let k : length s ≤ 24 = omega arith in
     let f : drop 24 s ≡ [] = drop-of-length-le s k in
     rw (e, drop-cons s 23 0 (omega arith), f)
-
-and-assoc : (a b c : Bool) → (a && b && c) ≡ (a && (b && c))
-and-assoc true b c = refl
-and-assoc false b c = refl
 
 -- A blank is followed by blanks alone; any other digit, by an end of blanks.
 blanks-is : (n : List ℕ) → blanks n ≡ (areDigits 0x20 n && blankEnds (0x20 ∷ n))

@@ -51,6 +51,13 @@ pub fn wide(x: u8) -> u64
     x as u64
 }
 
+pub fn byte(x: usize) -> u8
+    requires { ⌜ x < 256 ⌝ }
+    ensures { λ r. ⌜ r ≡ x ⌝ }
+{
+    x as u8
+}
+
 // The eight bytes from `at` on as one number, the first byte highest.
 pub fn word(s: &[u8], at: usize) -> u64
     requires { ⌜ at + 8 ≤ length (now s) ⌝ }

@@ -1,8 +1,8 @@
 -- Slots in order, read one after the other: whether they follow on each other, and which neighbours have one upper bound.
-use mathlib.Core.Path.{_∙_, _≡_, ap, refl, subst, sym}
+use mathlib.Core.Path.{_∙_, _≡_, ap, subst, sym}
 use mathlib.Core.Bool.{Bool, false, true}
-use mathlib.Core.List.{List, List·Memᴰ, List·Memᴰ·head, List·Memᴰ·not-nil, List·Memᴰ·tail, [], _∷_}
-use Prim.Native.Nat.{_+_, _-_, _<_, _≤_, suc, zero, ℕ}
+use mathlib.Core.List.{List, List·Memᴰ, [], _∷_}
+use Prim.Native.Nat.{_+_, _<_, _≤_, suc, ℕ}
 use native.Mathlib.Numerals.{add-one}
 use native.Mathlib.Omega.{arith}
 use lib.Dec.{eqb}
@@ -12,6 +12,8 @@ use borrow.Author.Tests.{eqb-false, eqb-true}
 use Rattle.model.specs.Order.{Low, at, none}
 use Rattle.model.specs.Names.{Bound, BoundLow, limit, unlimited}
 use Rattle.model.specs.Files.{IsUsed, Slot, Well, free, head, lower-of, ranges, slot-at, upper-of, used}
+use Rattle.model.proofs.Lists.{mem-place}
+use Rattle.model.proofs.Strings.{mem-at}
 use Rattle.model.proofs.Files.{well-parts}
 use Rattle.model.proofs.Surveys.{Follows, From, Neighbours, chain-follows, follows-chain}
 use Rattle.digits.specs.Keys.{continued, value}
@@ -29,28 +31,18 @@ module _ (R : ℕ → ℕ → Type 0) where
   neighbours-places [] h = tt
   neighbours-places (B ∷ Bs) h = from-places B Bs h
 
-pub mem-place : {B : ℕ} (Bs : List ℕ) → List·Memᴰ B Bs → (j : ℕ) × (j < length Bs) × (getD Bs j 0 ≡ B)
-mem-place [] m = absurd (List·Memᴰ·not-nil m)
-mem-place (C ∷ Bs) (List·Memᴰ·head e) = (0, omega arith, sym e)
-mem-place (C ∷ Bs) (List·Memᴰ·tail m) = let r = mem-place Bs m in (suc (r .0), omega (arith, r .1), r .2)
-
-pub place-mem : (Bs : List ℕ) (j : ℕ) → j < length Bs → List·Memᴰ (getD Bs j 0) Bs
-place-mem [] j h = absurd (omega arith)
-place-mem (C ∷ Bs) zero h = List·Memᴰ·head refl
-place-mem (C ∷ Bs) (suc j) h = List·Memᴰ·tail (place-mem Bs j (omega arith))
-
 -- A listed slot is used, and the other way round.
 module _ (fs : List Slot) (order : List ℕ) (count : ℕ) (short : count ≤ length order) where
   pub mem-listed : Listed fs order count → (B : ℕ) → List·Memᴰ B (take count order) → IsUsed (head (slot-at fs B))
   mem-listed L B m =
-      let r = mem-place (take count order) m in
+      let r = mem-place 0 (take count order) m in
       let h : r .0 < count = omega (arith, r .1, length-take-le count order short) in
       subst (λ C. IsUsed (head (slot-at fs C))) (sym (getD-take count order (r .0) 0 h) ∙ r .2) (L (r .0) h)
 
   pub listed-mem : ((B : ℕ) → List·Memᴰ B (take count order) → IsUsed (head (slot-at fs B))) → Listed fs order count
   listed-mem f j h =
       subst (λ C. IsUsed (head (slot-at fs C))) (getD-take count order j 0 h)
-      (f (getD (take count order) j 0) (place-mem (take count order) j (omega (arith, length-take-le count order short))))
+      (f (getD (take count order) j 0) (mem-at 0 (take count order) j (omega (arith, length-take-le count order short))))
 
 upper-bound : (b : ℕ) {s : Slot} → Well b s → IsUsed (head s) → Bound (upper-of (head s))
 upper-bound b {s = free} w k = absurd k

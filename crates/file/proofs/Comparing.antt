@@ -2,7 +2,6 @@
 use mathlib.Core.Path.{_∙_, _≡_, ap, refl, sym}
 use mathlib.Core.Logic.{_⊎_, inl, inr}
 use mathlib.Core.Bool.{Bool, _&&_, _||_, false, not, true}
-use mathlib.Core.Option.{some}
 use mathlib.Core.List.{List}
 use Prim.Native.Nat.{_*_, _+_, _-_, _<_, _≤_, ℕ}
 use native.Mathlib.Omega.{arith}
@@ -13,15 +12,15 @@ use Rattle.model.specs.Order.{Low, Str, _≺_, _⊑_, _⊴_, at, below, least, 
 use Rattle.model.specs.Names.{Bound, BoundLow, atMost, limit, unlimited}
 use Rattle.model.specs.Checks.{isAbove, legalLow}
 use Rattle.model.specs.Entries.{Entry}
-use Rattle.model.specs.Files.{IsUsed, Slot, Well, free, head, lower-of, slot-at, upper-of, used}
-use Rattle.model.specs.Format.{lowOf, readSlot, readUsed, slotAt, slotSize}
+use Rattle.model.specs.Files.{IsUsed, Slot, Well, entries-of, head, lower-of, slot-at, upper-of, used}
+use Rattle.model.specs.Format.{lowOf, readSlot, slotAt, slotSize}
 use Rattle.model.proofs.Names.{atMost-le, atMost-lt, bound-legalBound}
 use Rattle.model.proofs.Files.{well-parts}
 use Rattle.digits.specs.Keys.{continued, isZero, value}
 use Rattle.digits.proofs.Keys.{bound-atMost, bound-below, bound-same, digits-under}
 use Rattle.bucket.specs.Forms.{lowValue}
 use Rattle.bucket.proofs.Reading.{low-above}
-use Rattle.bucket.proofs.Rows.{read-high, read-low, reads}
+use Rattle.bucket.proofs.Rows.{Reads, read-high, read-low, used-reads}
 use Rattle.file.specs.Orders.{Known, Listed, Sorts, ahead, placed, stands}
 use Rattle.file.proofs.Readings.{used-read}
 
@@ -101,26 +100,20 @@ unfolding slotAt slotSize
 bytes-at b B xs = refl
 
 module _ {b : ℕ} {xs : List ℕ} {fs : List Slot} (K : Known b xs fs) (B : ℕ) (ys : List ℕ) (e : ys ≡ bytesAt b B xs) (v : ℕ) where
-  known-read : IsUsed (head (slot-at fs B)) → readUsed b ys ≡ some (slot-at fs B)
-  known-read k = used-read b ys (slot-at fs B) k (ap (readSlot b) (e ∙ bytes-at b B xs) ∙ K .read B k)
+  known-reads : IsUsed (head (slot-at fs B)) → Reads b ys (lower-of (head (slot-at fs B))) (upper-of (head (slot-at fs B))) (entries-of (slot-at fs B))
+  known-reads k =
+      let s = slot-at fs B in
+      used-reads b ys s k (used-read b ys s k (ap (readSlot b) (e ∙ bytes-at b B xs) ∙ K .read B k)) (K .well B)
 
   pub known-high : IsUsed (head (slot-at fs B))
       → (getD ys 3 0 ≤ 24 → isZero (take (24 - getD ys 3 0) (drop (32 + getD ys 3 0) ys)) ≡ true → v ≡ value (continued (take (getD ys 3 0) (drop 32 ys))))
       → v ≡ value (continued (upper-of (head (slot-at fs B))))
-  known-high k f = go (slot-at fs B) k (K .well B) (known-read k)
-    where
-      go : (s : Slot) → IsUsed (head s) → Well b s → readUsed b ys ≡ some s → v ≡ value (continued (upper-of (head s)))
-      go free k w i = absurd k
-      go (used l u es) k w i = read-high b ys v (reads b ys i w) f
+  known-high k f = read-high b ys v (known-reads k) f
 
   pub known-low : IsUsed (head (slot-at fs B))
       → (getD ys 2 0 ≤ 24 → isZero (take (24 - getD ys 2 0) (drop (8 + getD ys 2 0) ys)) ≡ true → v ≡ lowValue (lowOf (take (getD ys 2 0) (drop 8 ys))))
       → v ≡ lowValue (lower-of (head (slot-at fs B)))
-  known-low k f = go (slot-at fs B) k (K .well B) (known-read k)
-    where
-      go : (s : Slot) → IsUsed (head s) → Well b s → readUsed b ys ≡ some s → v ≡ lowValue (lower-of (head s))
-      go free k w i = absurd k
-      go (used l u es) k w i = read-low b ys v (reads b ys i w) f
+  known-low k f = read-low b ys v (known-reads k) f
 
 pub stands-by : (r t : Bool) (h l p q : ℕ) (s : Slot) → r ≡ ahead h l p q → p ≡ value (continued (upper-of (head s))) → q ≡ lowValue (lower-of (head s))
     → r ≡ t → stands h l s ≡ t

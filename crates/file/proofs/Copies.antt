@@ -12,9 +12,9 @@ use Rattle.model.specs.Entries.{Entry, move}
 use Rattle.model.specs.Files.{Copied, Well, used}
 use Rattle.model.specs.Checks.{legalLow}
 use Rattle.model.specs.Format.{lowOf, readUsed}
+use Rattle.model.proofs.Names.{clash}
 use Rattle.digits.specs.Keys.{isZero}
 use Rattle.bucket.specs.Forms.{areAmong, lowValue, notAbove, pieces, values}
-use Rattle.bucket.proofs.Reading.{clash}
 use Rattle.bucket.proofs.Rows.{read-low, read-values, reads}
 use Rattle.bucket.proofs.Copies.{copied-copy, copy-copied, lower-below, lower-some}
 use Rattle.file.specs.Copies.{CopyTold}
@@ -45,7 +45,7 @@ module _ (b : ℕ) (n a : List ℕ) where
     not-below h = refusal (λ ln la un ua en ea rn wn ra wa low i j k c.
         let N = reads b n rn wn in
         let A = reads b a ra wa in
-        clash (ltb ka kn) (ltb (lowValue la) (lowValue ln)) (ap₂ ltb (read-low b a ka A ta) (read-low b n kn N tn)) h (lower-below la ln low (A .low) (N .low) i j))
+        clash (ltb (lowValue la) (lowValue ln)) (lower-below la ln low (A .low) (N .low) i j) (sym (ap₂ ltb (read-low b a ka A ta) (read-low b n kn N tn)) ∙ h))
 
     -- The test made to the end.
     abbrev test : ℕ → ℕ → Bool
@@ -79,4 +79,4 @@ module _ (b : ℕ) (n a : List ℕ) where
             let g : kn ≡ lowValue (at low) = read-low b n kn N tn ∙ ap lowValue i in
             let q : stay ≡ notAbove (lowValue (at low)) (values b (drop 64 a)) = s ∙ ap (λ (k : ℕ). notAbove k (values b (drop 64 a))) g in
             let l : legalLow (at low) ≡ true = sym (ap legalLow i) ∙ N .low in
-            clash r (test count stay) e t (ap (test count) q ∙ copied-copy N A low f l count (c ∙ N .count) m)
+            clash r (e ∙ ap (test count) q ∙ copied-copy N A low f l count (c ∙ N .count) m) t

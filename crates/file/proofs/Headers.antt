@@ -1,47 +1,35 @@
 -- The header as it is tested, byte by byte, is the header that a writer writes; and what create writes is a new file.
 use mathlib.Core.Path.{_∙_, _≡_, ap, refl, sym}
-use mathlib.Core.Bool.{Bool, _&&_, cond, false, true}
+use mathlib.Core.Bool.{Bool, _&&_, false, true}
 use mathlib.Core.Option.{Option, none as nothing, some}
-use mathlib.Core.List.{List, [], _++_, _∷_, append-assoc}
+use mathlib.Core.List.{List, [], _++_, _∷_}
 use Prim.Native.Nat.{_*_, _+_, _-_, _<_, _≤_, suc, zero, ℕ}
 use native.Mathlib.Nat.{suc-mul, zero-mul}
 use native.Mathlib.Omega.{arith}
-use borrow.Author.Tests.{eq-eqb, eqb-true, ne-eqb}
-use lib.Dec.{eqb, leb}
+use borrow.Author.Tests.{eq-eqb, eqb-true}
+use lib.Dec.{eqb}
 use lib.ListN.{drop, getD, length, length-replicate, replicate, replicate-append-replicate, set, take}
-use lib.Seq.{getD-take, length-take-le, take-all, take-suc-set, take-take}
+use lib.Seq.{length-take-le, take-all, take-suc-set}
 use Rattle.model.specs.Order.{none}
 use Rattle.model.specs.Files.{created, free, used}
 use Rattle.model.specs.Checks.{sameStr}
-use Rattle.model.specs.Format.{entriesBytes, entrySize, fileBytes, fileSize, headerBytes, headerOf, legalSizes, lowDigits, padded, rightHeader, slotBytes, slotSize, slotsBytes}
-use Rattle.model.proofs.Checks.{sameStr-equal, sameStr-self}
-use Rattle.model.proofs.Format.{Headed, headed-headerOf, headed-b, headerOf-headed, legalSizes-sizes, sizes-legalSizes}
+use Rattle.model.specs.Format.{entriesBytes, fileBytes, fileSize, headerBytes, headerOf, legalSizes, lowDigits, padded, slotBytes, slotSize, slotsBytes}
+use Rattle.model.proofs.Lists.{at-taken, take-replicate}
+use Rattle.model.proofs.Names.{clash}
+use Rattle.model.proofs.Checks.{both-join, sameStr-equal, sameStr-other, sameStr-self}
+use Rattle.model.proofs.Format.{Headed, headed-b, headed-headerOf, headed-slots, headerOf-headed, legalSizes-sizes, sizes-legalSizes}
 use Rattle.digits.specs.Keys.{isZero}
+use Rattle.bucket.proofs.Rows.{zero-same}
 use Rattle.file.specs.declared.Size.{Size}
 use Rattle.file.specs.declared.Header.{Header}
 use Rattle.file.specs.declared.Header.the-variants.{Right, Wrong}
 use Rattle.file.specs.Sizes.{Fitting, Said, Sized, Told}
 
--- Strings that differ are not the same.
-pub not-same : (x y : List ℕ) → (x ≡ y → ⊥) → sameStr x y ≡ false
-not-same x y n = go (sameStr x y) refl
-  where
-    go : (t : Bool) → sameStr x y ≡ t → t ≡ false
-    go true e = absurd (n (sameStr-equal x y e))
-    go false e = refl
-
 -- A byte of the header that differs.
 pub not-marked : (xs : List ℕ) (i b slots : ℕ) {d : ℕ} → i < 16 → getD (headerBytes b slots) i 0 ≡ d → (getD xs i 0 ≡ d → ⊥)
     → sameStr (take 16 xs) (headerBytes b slots) ≡ false
 not-marked xs i b slots h e n =
-    not-same (take 16 xs) (headerBytes b slots) (λ f. n (sym (getD-take 16 xs i 0 h) ∙ ap (λ (l : List ℕ). getD l i 0) f ∙ e))
-
-zero-same : (xs : List ℕ) (n : ℕ) → length xs ≡ n → isZero xs ≡ sameStr xs (replicate n 0)
-unfolding isZero sameStr
-zero-same [] zero e = refl
-zero-same [] (suc n) e = absurd (omega arith)
-zero-same (x ∷ xs) zero e = absurd (omega arith)
-zero-same (x ∷ xs) (suc n) e = rw (zero-same xs n (omega arith))
+    sameStr-other (take 16 xs) (headerBytes b slots) (λ f. n (at-taken 16 xs i f h ∙ e))
 
 -- The first seven bytes are right: the others decide.
 pub marked-last : (xs : List ℕ) → 16 ≤ length xs → getD xs 0 0 ≡ 0x54 → getD xs 1 0 ≡ 0x4B → getD xs 2 0 ≡ 0x46 → getD xs 3 0 ≡ 1 → getD xs 4 0 ≡ 0
@@ -55,15 +43,11 @@ marked-last (a ∷ b ∷ c ∷ d ∷ []) h p q r s t = absurd (omega arith)
 marked-last (a ∷ b ∷ c ∷ d ∷ e ∷ []) h p q r s t = absurd (omega arith)
 marked-last (a ∷ b ∷ c ∷ d ∷ e ∷ f ∷ []) h p q r s t = absurd (omega arith)
 marked-last (a ∷ b ∷ c ∷ d ∷ e ∷ f ∷ g ∷ xs) h p q r s t =
-    rw (eq-eqb a 0x54 p, eq-eqb b 0x4B q, eq-eqb c 0x46 r, eq-eqb d 1 s, eq-eqb e 0 t, eq-eqb f f refl, eq-eqb g g refl) (zero-same (take 9 xs) 9 (length-take-le 9 xs (omega arith)))
+    rw (eq-eqb a 0x54 p, eq-eqb b 0x4B q, eq-eqb c 0x46 r, eq-eqb d 1 s, eq-eqb e 0 t, eq-eqb f f refl, eq-eqb g g refl) (sym (zero-same 9 (take 9 xs) (length-take-le 9 xs (omega arith))))
 
 -- Bytes 5 and 6 are b and slots.
 headed-here : (xs : List ℕ) {b slots : ℕ} → Headed b slots xs → Headed (getD xs 5 0) (getD xs 6 0) xs
-unfolding headerBytes
-headed-here xs {b} {slots} h =
-    let i : getD xs 5 0 ≡ b = headed-b h in
-    let j : getD xs 6 0 ≡ slots = sym (getD-take 16 xs 6 0 (omega arith)) ∙ ap (λ (l : List ℕ). getD l 6 0) (h .header) in
-    rw (i, j) h
+headed-here xs h = rw (headed-b h, headed-slots h) h
 
 pub no-header : (xs : List ℕ) → (Headed (getD xs 5 0) (getD xs 6 0) xs → ⊥) → headerOf xs ≡ nothing
 no-header xs n = go (headerOf xs) refl
@@ -78,17 +62,14 @@ too-short xs h = no-header xs (λ g. omega (arith, g .whole))
 
 pub ill-marked : (xs : List ℕ) → sameStr (take 16 xs) (headerBytes (getD xs 5 0) (getD xs 6 0)) ≡ false → headerOf xs ≡ nothing
 ill-marked xs e = no-header xs (λ g.
-    let t : true ≡ false = sym (sameStr-self (headerBytes (getD xs 5 0) (getD xs 6 0))) ∙ ap (λ (l : List ℕ). sameStr l (headerBytes (getD xs 5 0) (getD xs 6 0))) (sym (g .header)) ∙ e in
-    let z : _≡_ {A = ℕ} 0 1 = cc in
-    absurd (omega arith))
+    let h : List ℕ = headerBytes (getD xs 5 0) (getD xs 6 0) in
+    clash (sameStr (take 16 xs) h) (ap (λ (l : List ℕ). sameStr l h) (g .header) ∙ sameStr-self h) e)
 
 pub ill-sized : (xs : List ℕ) → (legalSizes (getD xs 5 0) (getD xs 6 0) && eqb (length xs) (fileSize (getD xs 5 0) (getD xs 6 0))) ≡ false → headerOf xs ≡ nothing
 ill-sized xs e = no-header xs (λ g.
-    let t : (legalSizes (getD xs 5 0) (getD xs 6 0) && eqb (length xs) (fileSize (getD xs 5 0) (getD xs 6 0))) ≡ true
-    = rw (sizes-legalSizes (g .sizes), eq-eqb (length xs) (fileSize (getD xs 5 0) (getD xs 6 0)) (g .whole)) in
-    let u : true ≡ false = sym t ∙ e in
-    let z : _≡_ {A = ℕ} 0 1 = cc in
-    absurd (omega arith))
+    let t = legalSizes (getD xs 5 0) (getD xs 6 0) in
+    let u = eqb (length xs) (fileSize (getD xs 5 0) (getD xs 6 0)) in
+    clash (t && u) (both-join t u (sizes-legalSizes (g .sizes)) (eq-eqb (length xs) (fileSize (getD xs 5 0) (getD xs 6 0)) (g .whole))) e)
 
 -- Legal sizes, and a length that fits them.
 pub said : (xs : List ℕ) (s : Size) → sameStr (take 16 xs) (headerBytes (getD xs 5 0) (getD xs 6 0)) ≡ true
@@ -142,10 +123,7 @@ frees b (suc k) =
 -- A bucket without limits and entries is a 1 and zeros.
 empty : (b : ℕ) → slotBytes b (used none [] []) ≡ 1 ∷ (replicate 63 0 ++ replicate (32 * b) 0)
 unfolding slotBytes padded lowDigits entriesBytes
-empty b = rw (take-zeros (32 * b)) refl
-  where
-    take-zeros : (k : ℕ) → take k (replicate {A = ℕ} k 0) ≡ replicate k 0
-    take-zeros k = take-all k (replicate k 0) (omega (arith, length-replicate {A = ℕ} k 0))
+empty b = rw (take-replicate {A = ℕ} (32 * b) (32 * b) 0 (omega arith)) refl
 
 -- The bytes that create writes over zeros.
 abbrev pub marks : ℕ → ℕ → List ℕ → List ℕ

@@ -1,6 +1,6 @@
 -- The search for the bucket that holds a name: what each probe says, and how the halves close in.
-use mathlib.Core.Path.{_∙_, _≡_, ap, refl, sym}
-use mathlib.Core.Bool.{Bool, cond, false, not, true}
+use mathlib.Core.Path.{_∙_, _≡_, ap, sym}
+use mathlib.Core.Bool.{Bool, false, not, true}
 use mathlib.Core.Option.{some}
 use mathlib.Core.List.{List, [], _∷_}
 use Prim.Native.Nat.{_*_, _+_, _-_, _<_, _≤_, suc, zero, ℕ}
@@ -8,24 +8,23 @@ use native.Mathlib.Decide.{decLt}
 use native.Mathlib.Omega.{arith}
 use lib.Dec.{ltb}
 use lib.ListN.{drop, getD, length, take}
-use lib.Seq.{getD-take}
 use borrow.Author.Tests.{not-false, not-true}
 use Rattle.model.specs.Order.{Low, Str, _≺_, _⊑_, _⊴_, _◁_, above, at, least as unlimited, none, over, top}
 use Rattle.model.specs.Names.{Legal, atMost}
-use Rattle.model.specs.Entries.{Entry}
-use Rattle.model.specs.Files.{Chain, IsUsed, Ranges, Slot, Well, entries-of, free, head, last, lower-of, next, order-of, ranges, slot-at, upper-of, used}
-use Rattle.model.specs.Checks.{sameStr}
-use Rattle.model.specs.Format.{readSlot, readUsed, slotAt, slotBytes, slotSize}
+use Rattle.model.specs.Files.{Chain, IsUsed, Ranges, Slot, entries-of, head, last, lower-of, next, order-of, ranges, slot-at}
+use Rattle.model.specs.Format.{readSlot, slotAt, slotSize}
+use Rattle.model.proofs.Lists.{at-taken}
 use Rattle.model.proofs.Order.{low-lower, lt-le, le-refl, le-trans}
 use Rattle.model.proofs.Names.{atMost-le, atMost-lt}
 use Rattle.model.proofs.Strings.{mem-at}
-use Rattle.model.proofs.Ranges.{chain-above, chain-some, chain-used}
-use Rattle.model.proofs.Files.{order-right, used-inside, well-head}
+use Rattle.model.proofs.Ranges.{chain-above, chain-length, chain-some, chain-used}
+use Rattle.model.proofs.Files.{chain-right, used-inside, well-head}
 use Rattle.model.proofs.Format.{readSlot-readFile}
 use Rattle.digits.specs.Keys.{continued, isZero, value}
-use Rattle.bucket.proofs.Rows.{Reads, name-over, read-high, reads}
+use Rattle.bucket.proofs.Rows.{Reads, name-over, read-high, used-reads}
 use Rattle.file.specs.declared.Size.{Size}
 use Rattle.file.specs.Holders.{Holder, Ordered, placed, upper-at}
+use Rattle.file.proofs.Readings.{used-read}
 
 -- Slots in range order, by their places.
 module _ (F : Ranges) where
@@ -51,31 +50,18 @@ module _ (F : Ranges) where
   chain-end (next {Bs = C ∷ Bs} u e a b c) zero h = absurd (omega arith)
   chain-end (next {Bs = C ∷ Bs} u e a b c) (suc i) h = chain-end c i (omega arith)
 
-used-read : (b : ℕ) (ys : List ℕ) (s : Slot) → IsUsed (head s) → readSlot b ys ≡ some s → readUsed b ys ≡ some s
-unfolding readSlot
-used-read b ys free u e = absurd u
-used-read b ys (used l v es) u e = go (sameStr ys (slotBytes b free)) e
-  where
-    go : (t : Bool) → cond t (some free) (readUsed b ys) ≡ some (used l v es) → readUsed b ys ≡ some (used l v es)
-    go true e = let z : _≡_ {A = ℕ} 0 1 = cc in absurd (omega arith)
-    go false e = e
-
 module _ {xs : List ℕ} {s : Size} {order : List ℕ} {count : ℕ} {fs : List Slot} (O : Ordered xs s order count fs) where
   ordered-chain : Chain (ranges fs) none (order-of fs)
-  ordered-chain = rw (order-right (s .b) (O .sound)) (O .sound .chain)
+  ordered-chain = chain-right (s .b) (O .sound)
 
   pub ordered-some : count ≡ 0 → ⊥
-  ordered-some e = go (order-of fs) ordered-chain (sym (O .count-is) ∙ e)
-    where
-      go : (Bs : List ℕ) → Chain (ranges fs) none Bs → length Bs ≡ 0 → ⊥
-      go [] c z = chain-some (ranges fs) c
-      go (B ∷ Bs) c z = omega arith
+  ordered-some e = omega (arith, chain-length (ranges fs) ordered-chain, O .count-is)
 
   pub place-used : (i : ℕ) → i < count → IsUsed (head (placed fs i))
   place-used i h = chain-used (ranges fs) ordered-chain (getD (order-of fs) i 0) (mem-at 0 (order-of fs) i (omega (arith, O .count-is)))
 
   pub place-number : (i : ℕ) → i < count → getD order i 0 ≡ getD (order-of fs) i 0
-  place-number i h = sym (getD-take count order i 0 h) ∙ ap (λ (x : List ℕ). getD x i 0) (O .order-is)
+  place-number i h = at-taken count order i (O .order-is) h
 
   -- The bytes of the slot at a place read as that slot.
   pub place-reads : (i k : ℕ) (ys : List ℕ) → i < count → k ≡ getD order i 0 → ys ≡ take (64 + 32 * s .b) (drop (16 + k * (64 + 32 * s .b)) xs)
@@ -86,11 +72,7 @@ module _ {xs : List ℕ} {s : Size} {order : List ℕ} {count : ℕ} {fs : List 
       let p : k ≡ B = e ∙ place-number i h in
       let u = place-used i h in
       let r : readSlot (s .b) ys ≡ some (slot-at fs B) = rw (f, p) (readSlot-readFile xs (O .is) B (used-inside fs B u)) in
-      go (slot-at fs B) u (O .sound .well B) (used-read (s .b) ys (slot-at fs B) u r)
-    where
-      go : (x : Slot) → IsUsed (head x) → Well (s .b) x → readUsed (s .b) ys ≡ some x → Reads (s .b) ys (lower-of (head x)) (upper-of (head x)) (entries-of x)
-      go free u w q = absurd u
-      go (used l v es) u w q = reads (s .b) ys q w
+      used-reads (s .b) ys (slot-at fs B) u (used-read (s .b) ys (slot-at fs B) u r) (O .sound .well B)
 
   -- Places ascend with their bounds.
   pub places-apart : (i j : ℕ) → i < j → j < count → at (upper-at fs i) ⊴ lower-of (head (placed fs j))

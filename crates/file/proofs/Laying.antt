@@ -1,10 +1,10 @@
 -- Slots laid out in order, one more at each step, from the last to the first.
 use mathlib.Core.Path.{_∙_, _≡_, ap, refl, subst, sym}
-use mathlib.Core.Bool.{Bool, cond, false, true}
+use mathlib.Core.Bool.{cond, false, true}
 use mathlib.Core.Option.{Option, none as nothing, some}
 use mathlib.Core.List.{List, List·Memᴰ, List·Memᴰ·append-cases, List·Memᴰ·cases-cons, List·Memᴰ·not-nil, Memᴰ·append-left, Memᴰ·append-right, _++_, _∷_}
 use mathlib.Core.Logic.{inl, inr}
-use Prim.Native.Nat.{_*_, _+_, _-_, _<_, _^_, _≤_, suc, zero, ℕ}
+use Prim.Native.Nat.{_*_, _+_, _<_, _^_, _≤_, suc, zero, ℕ}
 use native.Mathlib.Decide.{decLt, ℕ-discrete}
 use native.Mathlib.Nat.{zero-add}
 use native.Mathlib.Omega.{arith}
@@ -16,9 +16,12 @@ use Rattle.model.specs.Files.{IsUsed, Slot, Well, free, head, slot-at, used, we
 use Rattle.model.specs.Tries.{occ, one-if}
 use Rattle.model.specs.Checks.{is-bad, isWell}
 use Rattle.model.specs.Format.{readSlot, readSlots, readUsed, slotAt, slotSize}
+use Rattle.model.proofs.Lists.{at-replicate}
+use Rattle.model.proofs.Names.{clash}
 use Rattle.model.proofs.Cells.{occ-append, occ-mem, one-if-equal}
 use Rattle.model.proofs.Checks.{isWell-well, well-isWell}
 use Rattle.model.proofs.Files.{cut-well}
+use Rattle.model.proofs.Passing.{one-if-not}
 use Rattle.model.proofs.Format.{readSlots-each}
 use Rattle.digits.specs.Keys.{continued, isZero, value}
 use Rattle.bucket.specs.Forms.{lowValue}
@@ -41,21 +44,16 @@ map-fits : (fs : List Slot) (k : ℕ) → length fs ≤ 64 → map-of (drop k fs
 map-fits fs k h = map-lt 64 (drop k fs) (omega (arith, length-drop k fs))
 
 -- Nothing is seen yet.
-all-free : (n B : ℕ) → slot-at (replicate n free) B ≡ free
-all-free zero B = refl
-all-free (suc n) zero = refl
-all-free (suc n) (suc B) = all-free n B
-
 pub laid-start : (xs : List ℕ) (size : Size) → Laid xs size (size .slots) (replicate 64 0) 0 0
 unfolding map-of
 laid-start xs size = record {
   slots = replicate (size .slots) free;
   long = length-replicate (size .slots) free;
-  before = λ B h. all-free (size .slots) B;
+  before = λ B h. at-replicate free (size .slots) B;
   read = λ B h g. absurd (omega arith);
-  well = λ B. rw (all-free (size .slots) B) well-free;
+  well = λ B. rw (at-replicate free (size .slots) B) well-free;
   whole = length-replicate {A = ℕ} 64 0;
-  once = λ B u. absurd (rw (all-free (size .slots) B) at u);
+  once = λ B u. absurd (rw (at-replicate free (size .slots) B) at u);
   only = λ B m. absurd (List·Memᴰ·not-nil m);
   sorted = λ j h. absurd (omega arith);
   map = sym (ap map-of (drop-of-length-le (replicate (size .slots) free) {i = size .slots} (omega (arith, length-replicate {A = Slot} (size .slots) free))));
@@ -101,10 +99,7 @@ module _ {xs : List ℕ} {size : Size} {k : ℕ} {order : List ℕ} {count map :
     ill-slot fs e w =
         let r : readSlot (size .b) (slotAt (size .b) k xs) ≡ some (slot-at fs k) = rw zero-add at (readSlots-each (size .b) (size .slots) 0 k xs inside e) in
         let u : readUsed (size .b) ys ≡ some (slot-at fs k) = sym (k-read ∙ rw z) ∙ r in
-        clash (ill (slot-at fs k) u) (well-isWell (size .b) w)
-      where
-        clash : {t : Bool} → t ≡ false → t ≡ true → ⊥
-        clash e f = let n : _≡_ {A = ℕ} 0 1 = cc in absurd (omega arith)
+        clash (isWell (size .b) (slot-at fs k)) (well-isWell (size .b) w) (ill (slot-at fs k) u)
 
     pub ill-said : is-bad ≡ checkSlots (size .b) (size .slots) xs
     ill-said = sym (go (readSlots (size .b) (size .slots) 0 xs) refl)
@@ -141,10 +136,6 @@ module _ {xs : List ℕ} {size : Size} {k : ℕ} {order : List ℕ} {count map :
     old = ap (λ Xs. Xs ++ drop place (take count order)) (sym (take-take place count order fits)) ∙ take-append-drop place (take count order)
 
     -- listed once, and only the used ones
-    one-if-other : {A : Type 0} → (A → ⊥) → (d : Dec A) → one-if d ≡ 0
-    one-if-other f (yes a) = absurd (f a)
-    one-if-other f (no a) = refl
-
     occ-is : (B : ℕ) → occ B (take (count + 1) new) ≡ one-if (ℕ-discrete B n) + occ B (take count order)
     occ-is B =
         let f : occ B (take (count + 1) new) ≡ occ B (take place order) + (one-if (ℕ-discrete B n) + occ B (drop place (take count order))) =
@@ -160,7 +151,7 @@ module _ {xs : List ℕ} {size : Size} {k : ℕ} {order : List ℕ} {count map :
           let g : occ B (take count order) ≡ 0 = none-of B e in
           omega (arith, occ-is B))
       | no d ↦ (
-          let f : one-if (ℕ-discrete B n) ≡ 0 = one-if-other (λ e. d (e ∙ n-is)) (ℕ-discrete B n) in
+          let f : one-if (ℕ-discrete B n) ≡ 0 = one-if-not (λ e. d (e ∙ n-is)) (ℕ-discrete B n) in
           let g : occ B (take count order) ≡ 1 = L .once B (rw (there B d) at v) in
           omega (arith, occ-is B))
     ]

@@ -3,7 +3,7 @@ use mathlib.Core.Path.{_∙_, _≡_, ap, refl, subst, sym}
 use mathlib.Core.Bool.{Bool, false, true}
 use mathlib.Core.Option.{none as nothing, some}
 use mathlib.Core.List.{List, List·Memᴰ, [], _++_, _∷_}
-use Prim.Native.Nat.{_+_, _-_, _<_, _≤_, suc, ℕ}
+use Prim.Native.Nat.{_-_, _<_, _≤_, suc, ℕ}
 use native.Mathlib.Decide.{decLe}
 use native.Mathlib.Nat.{zero-add}
 use native.Mathlib.Omega.{arith}
@@ -13,9 +13,10 @@ use Rattle.model.specs.Order.{at, none}
 use Rattle.model.specs.Files.{Bad, Chain, Cut, IsUsed, Slot, Sound, free, head, order-of, ranges, slot-at, upper-of, used}
 use Rattle.model.specs.Checks.{Kind, check, is-bad, is-cut, is-sound}
 use Rattle.model.specs.Format.{checkRead, readSlots, readUsed, sized, slotAt}
+use Rattle.model.proofs.Lists.{mem-insert}
 use Rattle.model.proofs.Files.{cut-not-sound, cut-unique, order-right, used-inside}
 use Rattle.model.proofs.Checks.{Checked, check-right}
-use Rattle.model.proofs.Surveys.{Apart, Before, Copy, Differ, Lists, Sorted, Twins, apart-bad, chain-follows, chain-sound, copy-cut, follows-chain, mem-insert, sound-sorted, twin-bad}
+use Rattle.model.proofs.Surveys.{Apart, Before, Copy, Differ, Lists, Sorted, Twins, apart-bad, chain-follows, chain-sound, copy-cut, follows-chain, sound-sorted, twin-bad}
 use Rattle.file.specs.declared.Size.{Size}
 use Rattle.file.specs.declared.survey.Kind.{Kind as Found}
 use Rattle.file.specs.declared.survey.Survey.{Survey}
@@ -110,6 +111,9 @@ module _ {xs : List ℕ} {size : Size} {order : List ℕ} {count map : ℕ} (few
     read-is : readSlots (size .b) (size .slots) 0 xs ≡ some (L .slots)
     read-is = each-readSlots (size .b) (size .slots) 0 xs (L .slots) (L .long) (λ j h. rw zero-add (L .read j (omega arith) h))
 
+    one : (fs : List Slot) → readSlots (size .b) (size .slots) 0 xs ≡ some fs → fs ≡ L .slots
+    one fs e = let i = read-is in cc
+
     lists : Lists (L .slots) (take count order)
     lists = record { once = L .once; only = L .only }
 
@@ -131,15 +135,9 @@ module _ {xs : List ℕ} {size : Size} {order : List ℕ} {count map : ℕ} (few
         let T : Sound (size .b) (L .slots) = rw f at S in
         let q : take count order ≡ order-of fs = sound-sorted (size .b) T lists sorted ∙ sym (order-right (size .b) T) ∙ ap order-of (sym f) in
         (sym length-order ∙ ap length q, q)
-      where
-        one : (fs : List Slot) → readSlots (size .b) (size .slots) 0 xs ≡ some fs → fs ≡ L .slots
-        one fs e = let i = read-is in cc
 
     pub laid-map : Mapped xs size map
-    laid-map fs e S = L .map ∙ ap map-of (one fs e)
-      where
-        one : (fs : List Slot) → readSlots (size .b) (size .slots) 0 xs ≡ some fs → L .slots ≡ fs
-        one fs e = let i = read-is in cc
+    laid-map fs e S = L .map ∙ ap map-of (sym (one fs e))
 
     said : (k : Kind) → check (size .b) (L .slots) ≡ k → k ≡ checkSlots (size .b) (size .slots) xs
     said k e = sym (check-slots (size .b) (size .slots) xs (L .slots) read-is ∙ e)

@@ -11,6 +11,7 @@ ghost use Rattle.model.specs.Checks.{sameStr};
 ghost use Rattle.model.specs.Format.{fileBytes, headerBytes};
 ghost use Rattle.file.specs.Maps.{RoomTold};
 ghost use Rattle.file.specs.Sizes.{Legal, Sized, Fitting, Told, Below};
+use digits::byte;
 use digits::index;
 
 mod order;
@@ -123,13 +124,6 @@ pub fn store(file: &mut [u8], size: Size, k: usize, slot: &[u8])
 {
     let at = 16 + k * slot_size(size);
     bucket::copy(file, at, slot);
-}
-
-fn byte(x: usize) -> u8
-    requires { ⌜ x < 256 ⌝ }
-    ensures { λ r. ⌜ r ≡ x ⌝ }
-{
-    x as u8
 }
 
 fn clear(file: &mut [u8])

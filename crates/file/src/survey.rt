@@ -13,6 +13,7 @@ use crate::order;
 use crate::slot_at;
 use bucket::Form;
 use bucket::Vacancy;
+use digits::byte;
 use digits::index;
 
 pub enum Kind {
@@ -154,13 +155,6 @@ fn kind_of(file: &[u8], size: Size, order: &[u8; 64], count: usize, used: u64) -
         return found(Kind::Bad, used, count, order, 0);
     }
     found(Kind::Sound, used, count, order, 0)
-}
-
-fn byte(x: usize) -> u8
-    requires { ⌜ x < 64 ⌝ }
-    ensures { λ r. ⌜ r ≡ x ⌝ }
-{
-    x as u8
 }
 
 // The whole file, from its last slot to its first.

@@ -1,21 +1,21 @@
 -- Cells that agree with ranges in order: decided by the pass, fed by a cursor.
 use mathlib.Core.Path.{_∙_, _≡_, ap, ap₂, refl, sym}
 use mathlib.Core.Option.{Option, some}
-use mathlib.Core.List.{List, List·Memᴰ, List·Memᴰ·head, List·Memᴰ·tail, [], _++_, _∷_, append-assoc, append-nil}
-use Prim.Native.Nat.{_+_, _-_, _<_, _≤_, suc, zero, ℕ}
-use native.Mathlib.Numerals.{add-one}
+use mathlib.Core.List.{List, List·Memᴰ, List·Memᴰ·head, List·Memᴰ·tail, [], _++_, _∷_, append-nil}
+use Prim.Native.Nat.{_+_, _-_, _<_, _≤_, suc, ℕ}
 use native.Mathlib.Omega.{arith}
-use lib.ListN.{drop, length, length-append, length-drop, length-replicate, length-take, replicate, take, take-append-drop}
-use lib.Seq.{getD-append-add, length-take-le, take-append-add, take-append-seam}
+use lib.ListN.{drop, length, length-append, length-replicate, length-take, replicate, take, take-append-drop}
+use lib.Seq.{getD-append-add, take-append-seam}
 use Rattle.model.specs.declared.Cell.{Cell}
 use Rattle.model.specs.declared.Side.{Side}
 use Rattle.model.specs.declared.Side.the-variants.{Cell as further, Slot as slot}
 use Rattle.model.specs.declared.Trie.{Trie}
-use Rattle.model.specs.Order.{Asc, Low, Str, _≺_, _⊑_, _◁_, above, at, diff, end, least, low?, none, over, step, top}
-use Rattle.model.specs.Files.{Chain, In, Ranges, Slot, Sound, all, bounds, fresh, head, last, longer, next, ranges, slot-at, string-count, strings-of}
-use Rattle.model.specs.Tries.{Agrees, Leads, Leaves, Numbers, Reads, Spans, Tree, at-cell, cell, cut, first-leaf-of, leaf, leaf-last, leaf-next, leaves, node, occ, root-side, size, strings, tip, trie-of, walk-trie, zero-cell}
+use Rattle.model.specs.Order.{Asc, Low, Str, _≺_, _⊑_, _◁_, above, at, end, least, low?, none, over, step, top}
+use Rattle.model.specs.Files.{Chain, In, Ranges, Slot, Sound, all, bounds, fresh, head, last, next, ranges, slot-at, string-count, strings-of}
+use Rattle.model.specs.Tries.{Agrees, Leads, Leaves, Numbers, Reads, Spans, Tree, at-cell, cell, cut, first-leaf-of, leaf, leaf-last, leaf-next, leaves, node, occ, root-side, size, strings, tip, trie-of, walk, walk-trie, zero-cell}
 use Rattle.model.specs.Rebuilding.{label, laid, lay, rebuilt, rebuilt-trie, side-of}
-use Rattle.model.proofs.Order.{diff-lt-left, le-take, le-trans, lt-le, lt-le-trans}
+use Rattle.model.proofs.Lists.{at-replicate}
+use Rattle.model.proofs.Order.{le-take, le-trans, lt-le, lt-le-trans}
 use Rattle.model.proofs.Tries.{cast, cells-count, flat-trie, relabel-same, relabel-trie, strings-are, trie-flat}
 use Rattle.model.proofs.Strings.{all-asc, asc-mem, asc-unique, fresh-asc, fresh-begins, trie-asc}
 use Rattle.model.proofs.Ranges.{bounds-all, bounds-asc, chain-some, label-leads, leads-unique}
@@ -133,45 +133,7 @@ module _ (F : Ranges) (Bs : List ℕ) (chain : Chain F none Bs) (listed : (B : �
         rw e at (pass-complete cs (suc (length cs)) [] [] [] (A .reads) (trie-flat (λ l u B. B ≡ label F Bs l) T .0)
         (omega (arith, reads-height (A .reads), visits-count (A .reads) (A .each))) (each-once (A .reads) (A .each)))
 
--- The expected strings and slots as a cursor gives them: a slot, and a length that goes down.
-
--- The beginnings of x with j + n, …, j + 1 digits.
-abbrev pub shorter : Str → ℕ → ℕ → List Str
-shorter x j zero = []
-shorter x j (suc n) = take (j + suc n) x ∷ shorter x j n
-
-shorter-snoc : (x : Str) (j n : ℕ) → shorter x j (suc n) ≡ shorter x (suc j) n ++ (take (suc j) x ∷ [])
-shorter-snoc x j zero = rw add-one
-shorter-snoc x j (suc n) =
-    let e : j + suc (suc n) ≡ suc j + suc n = omega arith in
-    rw (← shorter-snoc x j n, e)
-
--- The digits ds behind p, where p ++ ds is x.
-longer-shorter : (ds p : Str) → longer p ds ≡ shorter (p ++ ds) (length p) (length ds)
-longer-shorter [] p = refl
-longer-shorter (d ∷ ds) p =
-    let q : Str = p ++ (d ∷ []) in
-    let X : Str = p ++ (d ∷ ds) in
-    let e : q ++ ds ≡ X = append-assoc p (d ∷ []) ds in
-    let len : length q ≡ suc (length p) = length-append p (d ∷ []) ∙ add-one (length p) in
-    let tq : take (suc (length p)) X ≡ q = rw add-one at (take-append-add p (d ∷ ds) 1) in
-    let ih : longer q ds ≡ shorter X (suc (length p)) (length ds) = rw (e, len) at (longer-shorter ds q) in
-    rw (ih, shorter-snoc X (length p) (length ds), tq)
-
-pub fresh-shorter : (x y : Str) → x ≺ y → fresh x y ≡ shorter x (diff x y) (length x - diff x y)
-fresh-shorter x y h =
-    let j : ℕ = diff x y in
-    let k : j < length x = diff-lt-left x y h in
-    rw (take-append-drop j x, length-take-le j x (omega arith), length-drop j x) at (longer-shorter (drop j x) (take j x))
-
--- How many strings come with a bound x before the bound y.
-pub length-fresh : (x y : Str) → x ≺ y → length (fresh x y) ≡ length x - diff x y
-length-fresh x y h = ap length (fresh-shorter x y h) ∙ count x (diff x y) (length x - diff x y)
-  where
-    count : (x : Str) (j n : ℕ) → length (shorter x j n) ≡ n
-    count x j zero = refl
-    count x j (suc n) = ap suc (count x j n)
-
+-- The expected strings and slots as a cursor gives them: after each string the slot of the leaf right of it.
 abbrev pub follow : ℕ → List Str → List Token
 follow C [] = []
 follow C (q ∷ qs) = string q ∷ leads C ∷ follow C qs
@@ -240,6 +202,20 @@ module _ (F : Ranges) where
       expect-tokens (label F (B ∷ C ∷ Bs)) none (all (bounds F (B ∷ C ∷ Bs)))
       ∙ ap (λ (es : List Token). leads B ∷ es) (tokens-after (label F (B ∷ C ∷ Bs)) (C ∷ Bs) B none c (λ x h k. label-skip B C Bs x h))
 
+-- A trie that agrees: its cells below the count are read, each once, and the walk is the tree's.
+module _ {fs : List Slot} {t : Trie} (A : Agrees fs t) where
+  pub live-count : length (take (t .count) (t .cells)) ≡ t .count
+  live-count = omega (arith, length-take (t .count) (t .cells), A .whole, A .few)
+
+  pub visit-count : length (A .visits) ≡ t .count
+  visit-count = visits-count (A .reads) (λ i h. A .once i (omega (arith, h, live-count))) ∙ live-count
+
+  pub whole-reads : Reads (t .cells) (root-side (t .count) (t .first)) (A .tree) (A .visits)
+  whole-reads = rw take-append-drop at (reads-append (drop (t .count) (t .cells)) (A .reads))
+
+  pub whole-walk : (n : Str) → walk-trie t n ≡ walk n [] (A .tree)
+  whole-walk n = walk-reads n (suc (t .count)) [] whole-reads (omega (arith, visit-count))
+
 -- Document 01's agreement of a trie with a sound file is the cells' agreement with its ranges.
 module _ (b : ℕ) {fs : List Slot} (S : Sound b fs) where
   pub agrees-cells : {t : Trie} → Agrees fs t → CellsAgree (ranges fs) (S .order) (take (t .count) (t .cells)) (root-side (t .count) (t .first))
@@ -296,15 +272,10 @@ module _ (b : ℕ) {fs : List Slot} (S : Sound b fs) where
       whole : length (cs ++ replicate (256 - length cs) zero-cell) ≡ 256
       whole = omega (arith, small, length-append cs (replicate (256 - length cs) zero-cell), length-replicate (256 - length cs) zero-cell)
 
-      zeros : (k j : ℕ) → at-cell (replicate k zero-cell) j ≡ zero-cell
-      zeros zero j = refl
-      zeros (suc k) zero = refl
-      zeros (suc k) (suc j) = zeros k j
-
       past : (i : ℕ) → length cs ≤ i → at-cell (cs ++ replicate (256 - length cs) zero-cell) i ≡ zero-cell
       past i h =
           let e : i ≡ length cs + (i - length cs) = omega arith in
-          ap (λ (k : ℕ). at-cell (cs ++ replicate (256 - length cs) zero-cell) k) e ∙ getD-append-add cs (replicate (256 - length cs) zero-cell) (i - length cs) zero-cell ∙ zeros (256 - length cs) (i - length cs)
+          ap (λ (k : ℕ). at-cell (cs ++ replicate (256 - length cs) zero-cell) k) e ∙ getD-append-add cs (replicate (256 - length cs) zero-cell) (i - length cs) zero-cell ∙ at-replicate zero-cell (256 - length cs) (i - length cs)
 
       first : (a : Side) → a ≡ root-side (length cs) (first-leaf-of a) → 0 < length cs → first-leaf-of a ≡ 0
       first (further m) e h = refl
@@ -331,13 +302,5 @@ module _ (b : ℕ) {fs : List Slot} (S : Sound b fs) where
 
   -- "So each name arrives at the bucket whose range holds it."
   pub agrees-walk : {t : Trie} → Agrees fs t → (n : Str) → In (head (slot-at fs (walk-trie t n))) n
-  agrees-walk {t} A n = rw (walk-reads n (suc (t .count)) [] whole short) (walk-right (ranges fs) (C .trie) n)
-    where
-      C : CellsAgree (ranges fs) (S .order) (take (t .count) (t .cells)) (root-side (t .count) (t .first))
-      C = agrees-cells A
-
-      whole : Reads (t .cells) (root-side (t .count) (t .first)) (C .tree) (C .visits)
-      whole = rw take-append-drop at (reads-append (drop (t .count) (t .cells)) (C .reads))
-
-      short : length (C .visits) < suc (t .count)
-      short = omega (arith, visits-count (C .reads) (C .each), length-take (t .count) (t .cells))
+  unfolding agrees-cells
+  agrees-walk A n = rw (whole-walk A n) (walk-right (ranges fs) (agrees-cells A .trie) n)

@@ -20,6 +20,9 @@ lowest-unique {fs} {M} {N} L K = elim (decLt M N) [
   | no h ↦ elim (decLt N M) [ yes k ↦ absurd (L .lowest N k (K .is-free)) | no k ↦ omega arith ]
 ]
 
+pub free-lowest : (fs : List Slot) → first free? fs < length fs → Lowest fs (first free? fs)
+free-lowest fs h = record { inside = h; is-free = first-passes free? fs h; lowest = λ B k. first-before free? fs B k }
+
 module _ (b : ℕ) where
   module _ {fs : List Slot} (S : Sound b fs) where
     one-bucket : {A C : ℕ} {l m : Low} {u w : Str} {es gs : List Entry} {n : Str} → slot-at fs A ≡ used l u es → l ◁ n → n ⊑ u → slot-at fs C ≡ used m w gs → m ◁ n → n ⊑ w
@@ -85,9 +88,6 @@ module _ (b : ℕ) (fs : List Slot) where
     is-made : {ss : List Store} → Change b fs q ss → Answered q (stores ss)
     is-denied : {r : ℕ} → Denied b fs q r → Answered q (refuse r)
 
-  free-lowest : first free? fs < length fs → Lowest fs (first free? fs)
-  free-lowest h = record { inside = h; is-free = first-passes free? fs h; lowest = λ B k. first-before free? fs B k }
-
   module _ (S : Sound b fs) (n : Str) where
     in-range : In (head (slot-at fs (first (holds? n) fs))) n
     in-range = let B = bucket b S n in first-right (holds? n) fs (B .0) (B .1) (λ h. h .0)
@@ -123,7 +123,7 @@ module _ (b : ℕ) (fs : List Slot) where
             split k j =
                 elim (decLe (string-count (stored (halves b (first free? fs) A l u (insert n v es)) fs)) 256) [
                   | yes i ↦ rw (chosen-yes (decLe (string-count (stored (halves b (first free? fs) A l u (insert n v es)) fs)) 256) i)
-                      (is-made (splits e g (h .1) (h .2) k (free-lowest j) i))
+                      (is-made (splits e g (h .1) (h .2) k (free-lowest fs j) i))
                   | no i ↦ rw (chosen-no (decLe (string-count (stored (halves b (first free? fs) A l u (insert n v es)) fs)) 256) i)
-                      (let m : 256 < string-count (stored (halves b (first free? fs) A l u (insert n v es)) fs) = omega arith in is-denied (too-many A (first free? fs) es e (h .1) (h .2) k (free-lowest j) m))
+                      (let m : 256 < string-count (stored (halves b (first free? fs) A l u (insert n v es)) fs) = omega arith in is-denied (too-many A (first free? fs) es e (h .1) (h .2) k (free-lowest fs j) m))
                 ]

@@ -3,7 +3,7 @@
 use mathlib.Core.Path.{_∙_, _≡_, ap, fun-ext, refl, subst, sym}
 use mathlib.Core.Logic.{_≢_, _⊎_, inl, inr}
 use mathlib.Core.Option.{none as nothing}
-use mathlib.Core.List.{List, List·Memᴰ, List·Memᴰ·append-cases, List·Memᴰ·cases-cons, List·Memᴰ·head, List·Memᴰ·not-nil, List·Memᴰ·tail, Memᴰ·append-left, Memᴰ·append-right, [], _++_, _∷_}
+use mathlib.Core.List.{List, List·Memᴰ, List·Memᴰ·head, List·Memᴰ·tail, Memᴰ·append-right, _++_, _∷_}
 use Prim.Native.Nat.{_/_, _<_, _≤_, suc, zero, ℕ}
 use native.Mathlib.Decide.{ℕ-discrete}
 use native.Mathlib.Omega.{arith}
@@ -14,6 +14,7 @@ use Rattle.model.specs.Names.{Bound, BoundLow, Legal, limit}
 use Rattle.model.specs.Entries.{Entry, Row, find, insert, move, name-at, not?, stay, without}
 use Rattle.model.specs.Files.{Bad, Chain, Copied, Cut, In, IsUsed, Slot, Sound, Well, all, bounds, by-heads, entries-of, exactly, free, head, one-more, range, ranges, slot-at, string-count, used, well-used}
 use Rattle.model.specs.Changes.{Change, Lowest, Map, Means, Request, Store, absent, fits, meant, put, remove, removes, split-string, splits, stored}
+use Rattle.model.proofs.Lists.{mem-insert, mem-parts}
 use Rattle.model.proofs.Order.{le-trans, low-at, low-lower, lt-le}
 use Rattle.model.proofs.Entries.{chosen-no, chosen-yes, find-at, find-drop, find-insert-other, find-insert-same, find-keep, insert-new, keep-comm, keep-insert-out, keep-parts, keep-some, length-insert, length-keep, row-at, row-insert, row-keep, split-bound, split-key, split-last, split-over, split-under}
 use Rattle.model.proofs.Files.{bucket, count-right, one-range, slot-freed, used-inside, well-parts}
@@ -24,23 +25,6 @@ pub at-set : (P : ℕ → Slot → Type 0) (fs : List Slot) (A : ℕ) (x : Slot)
 at-set P fs A x h p f B = elim (ℕ-discrete B A) [
   | yes e ↦ subst (λ C. P C (slot-at (set fs A x) C)) (sym e) (rw (getD-set-same fs A x free h) p)
   | no e ↦ rw (getD-set-other fs A B x free e) (f B e)
-]
-
-pub mem-parts : {B : ℕ} {Bs : List ℕ} → List·Memᴰ B Bs → (Xs : List ℕ) × (Ys : List ℕ) × (Bs ≡ Xs ++ (B ∷ Ys))
-mem-parts {B} {Bs} m = go Bs m
-  where
-    go : (Bs : List ℕ) → List·Memᴰ B Bs → (Xs : List ℕ) × (Ys : List ℕ) × (Bs ≡ Xs ++ (B ∷ Ys))
-    go [] m = absurd (List·Memᴰ·not-nil m)
-    go (C ∷ Bs) m = by (List·Memᴰ·cases-cons m) (go Bs)
-      where
-        by : (B ≡ C) ⊎ List·Memᴰ B Bs → (List·Memᴰ B Bs → (Xs : List ℕ) × (Ys : List ℕ) × (Bs ≡ Xs ++ (B ∷ Ys))) → (Xs : List ℕ) × (Ys : List ℕ) × (C ∷ Bs ≡ Xs ++ (B ∷ Ys))
-        by (inl e) f = ([], Bs, ap (λ x. x ∷ Bs) (sym e))
-        by (inr m) f = (C ∷ f m .0, f m .1, ap (λ xs. C ∷ xs) (f m .2))
-
-pub widen : (Xs Ys : List ℕ) (A N : ℕ) {B : ℕ} → List·Memᴰ B (Xs ++ (A ∷ Ys)) → List·Memᴰ B (Xs ++ (A ∷ N ∷ Ys))
-widen Xs Ys A N m = elim (List·Memᴰ·append-cases Xs m) [
-  | inl m ↦ Memᴰ·append-left (A ∷ N ∷ Ys) m
-  | inr m ↦ Memᴰ·append-right Xs (elim (List·Memᴰ·cases-cons m) [ inl e ↦ List·Memᴰ·head e | inr m ↦ List·Memᴰ·tail (List·Memᴰ·tail m) ])
 ]
 
 module _ (b : ℕ) where
@@ -210,7 +194,7 @@ module _ (b : ℕ) where
       }
 
       unfoldable pub second-sound : Sound b after-second
-      second-sound = go (mem-parts (S .listed A (rw is tt)))
+      second-sound = go (mem-parts (S .order) (S .listed A (rw is tt)))
         where
           go : (Xs : List ℕ) × (Ys : List ℕ) × (S .order ≡ Xs ++ (A ∷ Ys)) → Sound b after-second
           go (Xs, Ys, e) = record {
@@ -219,7 +203,7 @@ module _ (b : ℕ) where
             listed = in-second (λ B x. IsUsed (head x) → List·Memᴰ B (Xs ++ (A ∷ N ∷ Ys)))
                 (λ h. Memᴰ·append-right Xs (List·Memᴰ·tail (List·Memᴰ·head refl)))
                 (λ h. Memᴰ·append-right Xs (List·Memᴰ·head refl))
-                (λ B d c h. widen Xs Ys A N (rw e at (S .listed B h)));
+                (λ B d c h. mem-insert Xs A N Ys (rw e at (S .listed B h)));
             well = in-second (λ B x. Well b x) new-well old-well (λ B d c. S .well B);
           }
 

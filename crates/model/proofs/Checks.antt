@@ -1,5 +1,5 @@
 -- The tests of check are what they test; so check names sound files, the slot to free of cut ones, and bad files.
-use mathlib.Core.Path.{_∙_, _≡_, ap, ap₂, refl, sym}
+use mathlib.Core.Path.{_∙_, _≡_, ap, ap₂, refl}
 use mathlib.Core.Logic.{_⊎_, inl, inr}
 use mathlib.Core.Bool.{Bool, _&&_, _||_, cond, false, not, true}
 use mathlib.Core.List.{List, List·Memᴰ, List·Memᴰ·head, List·Memᴰ·not-nil, List·Memᴰ·tail, [], _∷_}
@@ -9,13 +9,13 @@ use native.Mathlib.Decide.{ℕ-discrete}
 use native.Mathlib.Omega.{arith}
 use lib.Dec.{eqb, leb}
 use lib.ListN.{length, set}
-use borrow.Author.Tests.{eq-eqb, eqb-true, le-leb, leb-true}
+use borrow.Author.Tests.{eq-eqb, eqb-true, le-leb, leb-true, not-true}
 use Rattle.model.specs.Order.{Low, Str, _◁_, above, at, least, none}
 use Rattle.model.specs.Names.{BoundLow, atMost, legalBound, legalFilled, limit, unlimited}
 use Rattle.model.specs.Entries.{Entry, Row, entry, move, name-at, no-entries, without}
 use Rattle.model.specs.Files.{Bad, Chain, Copied, Cut, IsUsed, Slot, Sound, Well, exactly, free, head, last, lower-of, next, one-more, order-of, ranges, slot-at, upper-of, used, well-free, well-used}
 use Rattle.model.specs.Checks.{Kind, allWell, check, cutBelow, hasTwin, is-bad, is-cut, is-sound, isAbove, isChain, isCopied, isCutBy, isIn, isListed, isRow, isSound, isTwin, isUsed, isWell, legalLow, oneMore, sameEntries, sameLow, sameStr}
-use Rattle.model.proofs.Names.{atMost-le, atMost-lt, both-true, bound-legalBound, le-atMost, legal-legalFilled, legalBound-bound, legalFilled-legal, lt-atMost}
+use Rattle.model.proofs.Names.{atMost-le, atMost-lt, both-true, bound-legalBound, clash, le-atMost, legal-legalFilled, legalBound-bound, legalFilled-legal, lt-atMost}
 use Rattle.model.proofs.Ranges.{chain-some}
 use Rattle.model.proofs.Files.{order-right, used-inside}
 
@@ -33,14 +33,10 @@ true-right false b e = e
 pub both-join : (a b : Bool) → a ≡ true → b ≡ true → (a && b) ≡ true
 both-join a b e f = rw (e, f)
 
-not-false : (a : Bool) → not a ≡ true → a ≡ false
-not-false true e = sym e
-not-false false e = refl
-
 pub isAbove-above : (l : Low) (x : Str) → isAbove l x ≡ true → l ◁ x
 unfolding isAbove
 isAbove-above none x e = least
-isAbove-above (at l) x e = above (atMost-lt x l (not-false (atMost x l) e))
+isAbove-above (at l) x e = above (atMost-lt x l (not-true (atMost x l) e))
 
 pub above-isAbove : {l : Low} {x : Str} → l ◁ x → isAbove l x ≡ true
 unfolding isAbove
@@ -71,6 +67,13 @@ unfolding sameStr
 sameStr-self [] = refl
 sameStr-self (a ∷ x) = rw (eq-eqb a a refl) (sameStr-self x)
 
+pub sameStr-other : (x y : Str) → ¬ (x ≡ y) → sameStr x y ≡ false
+sameStr-other x y n = go (sameStr x y) refl
+  where
+    go : (t : Bool) → sameStr x y ≡ t → t ≡ false
+    go true e = absurd (n (sameStr-equal x y e))
+    go false e = refl
+
 sameLow-equal : (l m : Low) → sameLow l m ≡ true → l ≡ m
 unfolding sameLow
 sameLow-equal none none e = refl
@@ -97,16 +100,29 @@ unfolding isRow
 row-isRow no-entries = refl
 row-isRow {u = u} (entry {e = e} g a c r) = rw (legal-legalFilled g, above-isAbove a, le-atMost (e .0) u c, row-isRow r)
 
+-- What the test of a used slot says, part by part.
+pub record Wells (b : ℕ) (l : Low) (u : Str) (es : List Entry) : Type 0 where
+  pub low : legalLow l ≡ true
+  pub high : legalBound u ≡ true
+  pub above : isAbove l u ≡ true
+  pub row : isRow l es u ≡ true
+  pub most : length es ≤ b
+
+pub wells : (b : ℕ) (l : Low) (u : Str) (es : List Entry) → isWell b (used l u es) ≡ true → Wells b l u es
+unfolding isWell
+wells b l u es e =
+    let p = both-true (legalLow l && legalBound u && isAbove l u && isRow l es u) (leb (length es) b) e in
+    let q = both-true (legalLow l && legalBound u && isAbove l u) (isRow l es u) (p .0) in
+    let r = both-true (legalLow l && legalBound u) (isAbove l u) (q .0) in
+    let t = both-true (legalLow l) (legalBound u) (r .0) in
+    record { low = t .0; high = t .1; above = r .1; row = q .1; most = leb-true (length es) b (p .1) }
+
 module _ (b : ℕ) where
   pub isWell-well : (x : Slot) → isWell b x ≡ true → Well b x
-  unfolding isWell
   isWell-well free e = well-free
   isWell-well (used l u es) e =
-      let p = both-true (legalLow l && legalBound u && isAbove l u && isRow l es u) (leb (length es) b) e in
-      let q = both-true (legalLow l && legalBound u && isAbove l u) (isRow l es u) (p .0) in
-      let r = both-true (legalLow l && legalBound u) (isAbove l u) (q .0) in
-      let t = both-true (legalLow l) (legalBound u) (r .0) in
-      well-used (legalLow-bound l (t .0)) (legalBound-bound u (t .1)) (isAbove-above l u (r .1)) (isRow-row l es u (q .1)) (leb-true (length es) b (p .1))
+      let t = wells b l u es e in
+      well-used (legalLow-bound l (t .low)) (legalBound-bound u (t .high)) (isAbove-above l u (t .above)) (isRow-row l es u (t .row)) (t .most)
 
   pub well-isWell : {x : Slot} → Well b x → isWell b x ≡ true
   unfolding isWell
@@ -161,7 +177,7 @@ module _ (fs : List Slot) where
       let q = both-true (isUsed x && sameLow (lower-of (head x)) l && isAbove l u) (not (atMost [] u)) (p .0) in
       let r = both-true (isUsed x && sameLow (lower-of (head x)) l) (isAbove l u) (q .0) in
       let t = both-true (isUsed x) (sameLow (lower-of (head x)) l) (r .0) in
-      next (isUsed-used x (t .0)) (sameLow-equal (lower-of (head x)) l (t .1)) (isAbove-above l u (r .1)) (atMost-lt [] u (not-false (atMost [] u) (q .1))) (isChain-chain (at u) (C ∷ Bs) (p .1))
+      next (isUsed-used x (t .0)) (sameLow-equal (lower-of (head x)) l (t .1)) (isAbove-above l u (r .1)) (atMost-lt [] u (not-true (atMost [] u) (q .1))) (isChain-chain (at u) (C ∷ Bs) (p .1))
 
   chain-isChain : (l : Low) (Bs : List ℕ) → Chain (ranges fs) l Bs → isChain fs l Bs ≡ true
   unfolding isChain
@@ -177,10 +193,7 @@ listed-used i Bs [] e B h = absurd h
 listed-used i Bs (x ∷ fs) e zero h =
     let p = both-true (not (isUsed x) || isIn i Bs) (isListed (suc i) Bs fs) e .0 in
     rw add-zero (elim (either-true (not (isUsed x)) (isIn i Bs) p)
-    [ inl q ↦ absurd (clash (not-false (isUsed x) q) (used-isUsed x h)) | inr q ↦ isIn-mem i Bs q ])
-  where
-    clash : isUsed x ≡ false → isUsed x ≡ true → ⊥
-    clash e f = let z : _≡_ {A = ℕ} 0 1 = cc in absurd (omega arith)
+    [ inl q ↦ absurd (clash (isUsed x) (used-isUsed x h) (not-true (isUsed x) q)) | inr q ↦ isIn-mem i Bs q ])
 listed-used i Bs (x ∷ fs) e (suc B) h =
     let q : suc i + B ≡ i + suc B = omega arith in
     rw q at (listed-used (suc i) Bs fs (both-true (not (isUsed x) || isIn i Bs) (isListed (suc i) Bs fs) e .1) B h)
@@ -336,10 +349,7 @@ module _ (b : ℕ) where
       go : (t : Bool) → isCutBy b fs k (slot-at fs k) ≡ t → (((N : ℕ) → k ≤ N → ¬ Cut b fs N) → Checked fs (cutBelow k b fs)) → Checked fs (cond t (is-cut k) (cutBelow k b fs))
       go true e g = isCutBy-cut fs k (slot-at fs k) refl e
       go false e g = g (λ N h C. elim (ℕ-discrete N k)
-          [ yes q ↦ clash (rw q at (cut-isCutBy fs N C)) e | no q ↦ f N (omega arith) C ])
-        where
-          clash : isCutBy b fs k (slot-at fs k) ≡ true → isCutBy b fs k (slot-at fs k) ≡ false → ⊥
-          clash e f = let z : _≡_ {A = ℕ} 0 1 = cc in absurd (omega arith)
+          [ yes q ↦ clash (isCutBy b fs k (slot-at fs k)) (rw q at (cut-isCutBy fs N C)) e | no q ↦ f N (omega arith) C ])
 
   -- Sound files are said to be sound, cut ones cut, and the others bad.
   pub check-right : (fs : List Slot) → Checked fs (check b fs)
@@ -348,10 +358,7 @@ module _ (b : ℕ) where
     where
       go : (t : Bool) → isSound b fs ≡ t → Checked fs (cond t is-sound (cutBelow (length fs) b fs))
       go true e = isSound-sound b fs e
-      go false e = cut-below (length fs) fs (λ S. clash (sound-isSound b S) e) (λ N h C. inside N h C)
+      go false e = cut-below (length fs) fs (λ S. clash (isSound b fs) (sound-isSound b S) e) (λ N h C. inside N h C)
         where
-          clash : isSound b fs ≡ true → isSound b fs ≡ false → ⊥
-          clash e f = let z : _≡_ {A = ℕ} 0 1 = cc in absurd (omega arith)
-
           inside : (N : ℕ) → length fs ≤ N → Cut b fs N → ⊥
           inside N h C = omega (arith, used-inside fs N (rw (C .n-is) tt))

@@ -62,7 +62,7 @@ first-before t (x ∷ xs) (suc B) h = elim (t x) [
     lower : (i : ℕ) → suc B < suc i → B < i
     lower i h = omega arith
 
-chain-once : (F : Ranges) (Bs : List ℕ) {l : Low} → Chain F l Bs → (i : ℕ) → occ i Bs ≤ 1
+pub chain-once : (F : Ranges) (Bs : List ℕ) {l : Low} → Chain F l Bs → (i : ℕ) → occ i Bs ≤ 1
 chain-once F Bs (last {B = B} u e f) i = go (ℕ-discrete i B)
   where
     go : (d : Dec (i ≡ B)) → one-if d + 0 ≤ 1
@@ -93,8 +93,8 @@ module _ (b : ℕ) where
     | no h ↦ rw (set-out fs N free (omega arith)) (List·getD-eq-default fs free (omega arith))
   ]
 
-  pub well-low : {l : Low} {u : Str} {es : List Entry} → Well b (used l u es) → l ◁ u
-  well-low (well-used a c h r k) = h
+  pub well-parts : {l : Low} {u : Str} {es : List Entry} → Well b (used l u es) → BoundLow l × Bound u × (l ◁ u) × Row l es u × (length es ≤ b)
+  well-parts (well-used a c h r k) = (a, c, h, r, k)
 
   module _ {fs : List Slot} {N : ℕ} (C : Cut b fs N) where
     pub other : C .A ≢ N
@@ -105,7 +105,7 @@ module _ (b : ℕ) where
     a-there = sym (getD-set-other fs N (C .A) free free other) ∙ C .a-is
 
     pub n-low : at (C .low) ◁ C .up
-    n-low = well-low (rw (C .n-is) at (C .n-well))
+    n-low = well-parts (rw (C .n-is) at (C .n-well)) .2
 
     pub a-below : C .a-low ◁ C .up
     a-below = low-lower (low-at (C .below)) n-low
@@ -140,9 +140,6 @@ module _ (b : ℕ) where
     where
       go : C .A ≡ N → D .A ≡ M → ⊥
       go p q = over (rw (low-is C D p) at (C .below)) (lt-le (over (rw (low-is D C q) at (D .below))))
-
-  pub well-parts : {l : Low} {u : Str} {es : List Entry} → Well b (used l u es) → BoundLow l × Bound u × (l ◁ u) × Row l es u × (length es ≤ b)
-  well-parts (well-used a c h r k) = (a, c, h, r, k)
 
   pub well-head : {x : Slot} → Well b x → IsUsed (head x) → lower-of (head x) ◁ upper-of (head x)
   well-head well-free u = absurd u
@@ -186,6 +183,9 @@ module _ (b : ℕ) where
     -- The order of a sound file is the computed one.
     pub order-right : order-of fs ≡ S .order
     order-right = order-chain (length fs) (S .chain) order-short
+
+    pub chain-right : Chain (ranges fs) none (order-of fs)
+    chain-right = rw order-right (S .chain)
 
     pub strings-right : strings-of fs ≡ all (bounds (ranges fs) (S .order))
     strings-right = ap (λ Bs. all (bounds (ranges fs) Bs)) order-right

@@ -5,12 +5,12 @@ use mathlib.Core.Bool.{Bool, _&&_, cond, false, true}
 use mathlib.Core.Option.{Option, none as nothing, some}
 use mathlib.Core.List.{List, [], _++_, _∷_, append-assoc}
 use Prim.Native.Nat.{_%_, _*_, _+_, _-_, _/_, _<_, _^_, _≤_, suc, zero, ℕ}
-use native.Mathlib.Nat.{add-zero, mul-le-mul-right, pow-suc, pow-zero, suc-add, suc-mul, zero-add, zero-mul}
+use native.Mathlib.Nat.{add-zero, mul-le-mul-right, pow-suc, pow-zero, suc-mul, zero-add, zero-mul}
 use native.Mathlib.Decide.{decLt}
 use native.Mathlib.Omega.{arith}
 use lib.Dec.{eqb, leb}
-use lib.ListN.{List·getD-eq-default, drop, drop-of-length-le, getD, length, length-append, length-replicate, length-set, length-take, replicate, set, take, take-append-drop}
-use lib.Seq.{drop-append-add, drop-at, drop-cons, drop-drop, drop-nil, drop-paste, getD-take, length-paste, length-take-le, paste, take-all, take-append-add, take-append-le, take-append-seam, take-at, take-nil, take-take}
+use lib.ListN.{List·getD-eq-default, drop, drop-of-length-le, getD, length, length-append, length-replicate, length-set, replicate, set, take, take-append-drop}
+use lib.Seq.{drop-at, drop-cons, drop-drop, drop-nil, drop-paste, length-paste, length-take-le, paste, take-all, take-append-le, take-append-seam, take-at, take-take}
 use borrow.Author.Tests.{eq-eqb, eqb-true, le-leb, leb-true}
 use Rattle.model.specs.Order.{Low, Str, _◁_, above, at, least, top}
 use Rattle.model.specs.Names.{BoundLow, Digits, Legal, filled, limit, unlimited}
@@ -18,6 +18,7 @@ use Rattle.model.specs.Entries.{Entry, Row, entry, no-entries}
 use Rattle.model.specs.Files.{Slot, Well, entries-of, free, slot-at, used, well-used}
 use Rattle.model.specs.Checks.{sameStr}
 use Rattle.model.specs.Format.{Bytes, Sizes, Values, entriesBytes, entriesOf, entryBytes, fileBytes, fileSize, headerBytes, headerOf, joined, legalSizes, littleEndian, lowDigits, lowOf, padded, readBy, readFile, readSlot, readSlots, readUsed, rightHeader, sized, slotAt, slotBytes, slotSize, slotsBytes, storeBytes, usedOf, valueBytes, valueOf}
+use Rattle.model.proofs.Lists.{at-taken, drop-past, drop-take, length-made, made-short, take-past}
 use Rattle.model.proofs.Names.{both-true, legal-length}
 use Rattle.model.proofs.Checks.{sameStr-equal, sameStr-self}
 
@@ -70,19 +71,11 @@ length-valueBytes v = length-littleEndian 8 v
 
 pub length-padded : (k : ℕ) (xs : List ℕ) → length (padded k xs) ≡ k
 unfolding padded
-length-padded k xs = omega (arith, length-take k (xs ++ replicate k 0), length-append xs (replicate k 0), length-replicate {A = ℕ} k 0)
-
-take-zeros : (k m : ℕ) → k ≤ m → _≡_ {A = List ℕ} (take k (replicate m 0)) (replicate k 0)
-take-zeros zero m h = refl
-take-zeros (suc k) zero h = absurd (omega arith)
-take-zeros (suc k) (suc m) h = ap (λ (r : List ℕ). 0 ∷ r) (take-zeros k m (omega arith))
+length-padded k xs = length-made k 0 xs
 
 pub padded-short : (k : ℕ) (xs : List ℕ) → length xs ≤ k → padded k xs ≡ xs ++ replicate (k - length xs) 0
 unfolding padded
-padded-short k xs h =
-    let e : k ≡ length xs + (k - length xs) = omega arith in
-    ap (λ (n : ℕ). take n (xs ++ replicate k 0)) e ∙ take-append-add xs (replicate k 0) (k - length xs)
-    ∙ ap (λ (r : List ℕ). xs ++ r) (take-zeros (k - length xs) k (omega arith))
+padded-short k xs h = made-short k 0 xs h
 
 pub length-entriesBytes : {l : Low} {u : Str} {es : List Entry} → Row l es u → length (entriesBytes es) ≡ 32 * length es
 unfolding entriesBytes entryBytes
@@ -115,23 +108,21 @@ length-fileBytes b fs =
     omega (arith, length-append (headerBytes b (length fs)) (slotsBytes b fs), length-headerBytes b (length fs), length-slotsBytes b fs)
 
 -- What is written reads back.
-lowOf-lowDigits : {l : Low} {u : Str} → l ◁ u → lowOf (lowDigits l) ≡ l
+pub lowOf-lowDigits : {l : Low} {u : Str} → l ◁ u → lowOf (lowDigits l) ≡ l
 unfolding lowOf lowDigits
 lowOf-lowDigits least = refl
 lowOf-lowDigits (above {l = []} p) = absurd (p top)
 lowOf-lowDigits (above {l = d ∷ x} p) = refl
 
-fits-low : {l : Low} → BoundLow l → length (lowDigits l) ≤ 24
+pub fits-low : {l : Low} → BoundLow l → length (lowDigits l) ≤ 24
 unfolding lowDigits
 fits-low unlimited = omega arith
 fits-low (limit g) = g .fits
 
-take-padded : (k : ℕ) (xs ys : List ℕ) → length xs ≤ k → take (length xs) (padded k xs ++ ys) ≡ xs
-take-padded k xs ys h =
+-- A string stands in front of its padding.
+pub padded-front : (k : ℕ) (xs ys : List ℕ) → length xs ≤ k → take (length xs) (padded k xs ++ ys) ≡ xs
+padded-front k xs ys h =
     rw (padded-short k xs h, append-assoc) (take-append-seam xs (replicate (k - length xs) 0 ++ ys))
-
-drop-behind : (p q : List ℕ) (n m : ℕ) → length p ≡ n → drop (n + m) (p ++ q) ≡ drop m q
-drop-behind p q n m h = rw (← h) (drop-append-add p q m)
 
 entries-read : {l : Low} {u : Str} {es : List Entry} (ys : List ℕ) → Row l es u → Values es → entriesOf (length es) (entriesBytes es ++ ys) ≡ es
 unfolding entriesOf entriesBytes entryBytes
@@ -144,7 +135,7 @@ entries-read ys (entry {e = e} {es = es} g a c r) v =
     let f : take 24 (n ++ (w ++ q)) ≡ n = take-at n (w ++ q) 24 (legal-length g) in
     let d : drop 24 (n ++ (w ++ q)) ≡ w ++ q = drop-at n (w ++ q) 24 (legal-length g) in
     let t : take 8 (w ++ q) ≡ w = take-at w q 8 (length-valueBytes (e .1)) in
-    let k : drop 32 (n ++ (w ++ q)) ≡ q = drop-behind n (w ++ q) 24 8 (legal-length g) ∙ drop-at w q 8 (length-valueBytes (e .1)) in
+    let k : drop 32 (n ++ (w ++ q)) ≡ q = drop-past n (w ++ q) 32 8 (omega (arith, legal-length g)) ∙ drop-at w q 8 (length-valueBytes (e .1)) in
     rw (i, f, d, t, k, valueOf-valueBytes (e .1) (v .0), entries-read ys r (v .1))
 
 usedOf-slotBytes : (b : ℕ) {l : Low} {u : Str} {es : List Entry} → Well b (used l u es) → Values es → usedOf (slotBytes b (used l u es)) ≡ used l u es
@@ -154,10 +145,10 @@ usedOf-slotBytes b {l = l} {u = u} {es = es} (well-used g h c r k) v =
     let y = padded 24 u in
     let z = padded (32 * b) (entriesBytes es) in
     let t : List ℕ = replicate 8 0 ++ z in
-    let a : take (length (lowDigits l)) (x ++ (y ++ t)) ≡ lowDigits l = take-padded 24 (lowDigits l) (y ++ t) (fits-low g) in
+    let a : take (length (lowDigits l)) (x ++ (y ++ t)) ≡ lowDigits l = padded-front 24 (lowDigits l) (y ++ t) (fits-low g) in
     let d : drop 24 (x ++ (y ++ t)) ≡ y ++ t = drop-at x (y ++ t) 24 (length-padded 24 (lowDigits l)) in
-    let p : take (length u) (y ++ t) ≡ u = take-padded 24 u t (h .fits) in
-    let e : drop 56 (x ++ (y ++ t)) ≡ z = drop-behind x (y ++ t) 24 32 (length-padded 24 (lowDigits l)) ∙ drop-behind y t 24 8 (length-padded 24 u) in
+    let p : take (length u) (y ++ t) ≡ u = padded-front 24 u t (h .fits) in
+    let e : drop 56 (x ++ (y ++ t)) ≡ z = drop-past x (y ++ t) 56 32 (omega (arith, length-padded 24 (lowDigits l))) ∙ drop-past y t 32 8 (omega (arith, length-padded 24 u)) in
     let q : z ≡ entriesBytes es ++ replicate (32 * b - length (entriesBytes es)) 0 = padded-short (32 * b) (entriesBytes es) (omega (arith, length-entriesBytes r)) in
     rw (a, d, p, e, q, lowOf-lowDigits c, entries-read (replicate (32 * b - length (entriesBytes es)) 0) r v)
 
@@ -188,13 +179,12 @@ unfolding slotsBytes
 drop-slotsBytes b zero fs = rw zero-mul
 drop-slotsBytes b (suc k) [] = drop-nil (suc k * slotSize b)
 drop-slotsBytes b (suc k) (s ∷ fs) =
-    let e : suc k * slotSize b ≡ slotSize b + k * slotSize b = omega (arith, suc-mul k (slotSize b)) in
-    rw e (drop-behind (slotBytes b s) (slotsBytes b fs) (slotSize b) (k * slotSize b) (length-slotBytes b s) ∙ drop-slotsBytes b k fs)
+    drop-past (slotBytes b s) (slotsBytes b fs) (suc k * slotSize b) (k * slotSize b) (omega (arith, suc-mul k (slotSize b), length-slotBytes b s)) ∙ drop-slotsBytes b k fs
 
 drop-fileBytes : (b k : ℕ) (fs : List Slot) → drop (16 + k * slotSize b) (fileBytes b fs) ≡ slotsBytes b (drop k fs)
 unfolding fileBytes
 drop-fileBytes b k fs =
-    drop-behind (headerBytes b (length fs)) (slotsBytes b fs) 16 (k * slotSize b) (length-headerBytes b (length fs)) ∙ drop-slotsBytes b k fs
+    drop-past (headerBytes b (length fs)) (slotsBytes b fs) (16 + k * slotSize b) (k * slotSize b) (omega (arith, length-headerBytes b (length fs))) ∙ drop-slotsBytes b k fs
 
 pub slotAt-fileBytes : (b k : ℕ) (fs : List Slot) → k < length fs → slotAt b k (fileBytes b fs) ≡ slotBytes b (slot-at fs k)
 unfolding slotAt slotsBytes
@@ -227,14 +217,17 @@ pub record Headed (b slots : ℕ) (xs : List ℕ) : Type 0 where
 -- Byte 5 is b.
 pub headed-b : {b slots : ℕ} {xs : List ℕ} → Headed b slots xs → getD xs 5 0 ≡ b
 unfolding headerBytes
-headed-b {xs = xs} g = sym (getD-take 16 xs 5 0 (omega arith)) ∙ ap (λ (l : List ℕ). getD l 5 0) (g .header)
+headed-b {xs = xs} g = at-taken 16 xs 5 (g .header) (omega arith)
+
+-- Byte 6 is slots.
+pub headed-slots : {b slots : ℕ} {xs : List ℕ} → Headed b slots xs → getD xs 6 0 ≡ slots
+unfolding headerBytes
+headed-slots {xs = xs} g = at-taken 16 xs 6 (g .header) (omega arith)
 
 pub headed-headerOf : {b slots : ℕ} {xs : List ℕ} → Headed b slots xs → headerOf xs ≡ some (b, slots)
 unfolding headerOf rightHeader headerBytes
 headed-headerOf {b} {slots} {xs} g =
-    let i : getD xs 5 0 ≡ b = headed-b g in
-    let j : getD xs 6 0 ≡ slots = sym (getD-take 16 xs 6 0 (omega arith)) ∙ ap (λ (l : List ℕ). getD l 6 0) (g .header) in
-    rw (i, j, sizes-legalSizes (g .sizes), eq-eqb (length xs) (fileSize b slots) (g .whole), g .header, sameStr-self (headerBytes b slots))
+    rw (headed-b g, headed-slots g, sizes-legalSizes (g .sizes), eq-eqb (length xs) (fileSize b slots) (g .whole), g .header, sameStr-self (headerBytes b slots))
 
 readSlots-fileBytes : (b n k : ℕ) (fs : List Slot) → ((B : ℕ) → Well b (slot-at fs B)) → ((B : ℕ) → Values (entries-of (slot-at fs B)))
     → k + n ≡ length fs → readSlots b n k (fileBytes b fs) ≡ some (drop k fs)
@@ -350,12 +343,12 @@ pub readSlot-readFile : (xs : List ℕ) {b : ℕ} {fs : List Slot} → readFile 
 readSlot-readFile xs {b} {fs} e k h = rw zero-add at (readSlots-each b (length fs) 0 k xs h (readFile-read xs e .listed))
 
 -- Values read from bytes are below 2 ^ 64.
-bytes-drop : (n : ℕ) (xs : List ℕ) → Bytes xs → Bytes (drop n xs)
+pub bytes-drop : (n : ℕ) (xs : List ℕ) → Bytes xs → Bytes (drop n xs)
 bytes-drop zero xs h = h
 bytes-drop (suc n) [] h = tt
 bytes-drop (suc n) (x ∷ xs) h = bytes-drop n xs (h .1)
 
-bytes-take : (n : ℕ) (xs : List ℕ) → Bytes xs → Bytes (take n xs)
+pub bytes-take : (n : ℕ) (xs : List ℕ) → Bytes xs → Bytes (take n xs)
 bytes-take zero xs h = tt
 bytes-take (suc n) [] h = tt
 bytes-take (suc n) (x ∷ xs) h = (h .0, bytes-take n xs (h .1))
@@ -390,9 +383,12 @@ bytes-same : (k x : ℕ) → x < 256 → Bytes (replicate k x)
 bytes-same zero x h = tt
 bytes-same (suc k) x h = (h, bytes-same k x h)
 
+pub bytes-made : (k a : ℕ) (xs : List ℕ) → a < 256 → Bytes xs → Bytes (take k (xs ++ replicate k a))
+bytes-made k a xs h g = bytes-take k (xs ++ replicate k a) (bytes-append xs (replicate k a) g (bytes-same k a h))
+
 bytes-padded : (k : ℕ) (xs : List ℕ) → Bytes xs → Bytes (padded k xs)
 unfolding padded
-bytes-padded k xs h = bytes-take k (xs ++ replicate k 0) (bytes-append xs (replicate k 0) h (bytes-same k 0 (omega arith)))
+bytes-padded k xs h = bytes-made k 0 xs (omega arith) h
 
 bytes-littleEndian : (n v : ℕ) → Bytes (littleEndian n v)
 unfolding littleEndian
@@ -405,9 +401,7 @@ bytes-digits lo (d ∷ x) h = (omega (arith, h .1), bytes-digits lo x (h .2))
 
 bytes-legal : {n : Str} → Legal n → Bytes n
 unfolding filled
-bytes-legal g =
-    rw (g .is) (bytes-take 24 (g .name ++ replicate 24 0x20)
-    (bytes-append (g .name) (replicate 24 0x20) (bytes-digits 0x21 (g .name) (g .digits)) (bytes-same 24 0x20 (omega arith))))
+bytes-legal g = rw (g .is) (bytes-made 24 0x20 (g .name) (omega arith) (bytes-digits 0x21 (g .name) (g .digits)))
 
 bytes-low : {l : Low} → BoundLow l → Bytes (lowDigits l)
 unfolding lowDigits
@@ -450,9 +444,7 @@ bytes-fileBytes b fs g w =
 -- A store changes exactly one slot.
 paste-behind : (p xs s : List ℕ) (n m w : ℕ) → length p ≡ n → paste (p ++ xs) (n + m) s w ≡ p ++ paste xs m s w
 paste-behind p xs s n m w h =
-    let t : take (n + m) (p ++ xs) ≡ p ++ take m xs = rw (← h) (take-append-add p xs m) in
-    let e : n + m + w ≡ n + (m + w) = omega arith in
-    rw (t, e, drop-behind p xs n (m + w) h) (simp append-assoc)
+    rw (take-past p xs (n + m) m (omega arith), drop-past p xs (n + m + w) (m + w) (omega arith)) (simp append-assoc)
 
 paste-slotsBytes : (b k : ℕ) (s : Slot) (fs : List Slot) → k < length fs
     → paste (slotsBytes b fs) (k * slotSize b) (slotBytes b s) (slotSize b) ≡ slotsBytes b (set fs k s)
@@ -504,9 +496,7 @@ module _ (b k : ℕ) (s : Slot) (xs : List ℕ) (fits : 16 + k * slotSize b + sl
       part n z (storeBytes b k s xs) ∙ ap (λ (l : List ℕ). drop n l) (take-stored (n + z) f) ∙ sym (part n z xs)
     where
       part : (n z : ℕ) (l : List ℕ) → take z (drop n l) ≡ drop n (take (n + z) l)
-      part zero z l = rw zero-add
-      part (suc n) z [] = rw suc-add (take-nil z)
-      part (suc n) z (x ∷ l) = rw suc-add (part n z l)
+      part n z l = let e : n + z - n ≡ z = omega arith in sym (drop-take n (n + z) l ∙ rw e)
 
   behind-stored : (j : ℕ) → k < j → slotAt b j (storeBytes b k s xs) ≡ slotAt b j xs
   unfolding slotAt storeBytes

@@ -8,7 +8,7 @@ use Prim.Native.Nat.{_-_, _≤_, suc, zero, ℕ}
 use native.Mathlib.Decide.{decLt}
 use native.Mathlib.Omega.{arith}
 use lib.Dec.{leb}
-use lib.ListN.{length, length-replicate, replicate, set}
+use lib.ListN.{length, length-replicate, set}
 use borrow.Author.Tests.{le-leb, le-ltb, lt-ltb}
 use Rattle.model.specs.Order.{at, least}
 use Rattle.model.specs.Names.{Legal, legalFilled, unlimited}
@@ -20,6 +20,7 @@ use Rattle.model.specs.Checks.{Kind, check, is-bad, is-cut, is-sound}
 use Rattle.model.specs.Format.{Sizes, Values, fileBytes}
 use Rattle.model.specs.Calls.{new-trie}
 use Rattle.model.specs.Histories.{Act, Demand3, World, act, answered, ask, asked-name, down, lose, ready, recover, recovered, run}
+use Rattle.model.proofs.Lists.{at-replicate}
 use Rattle.model.proofs.Names.{both-true, legalFilled-legal}
 use Rattle.model.proofs.Files.{count-right, cut-not-sound, cut-unique, order-right}
 use Rattle.model.proofs.Agreement.{agrees-walk, rebuilt-trie-agrees}
@@ -30,18 +31,13 @@ use Rattle.model.proofs.Format.{bytes-fileBytes, readFile-fileBytes}
 use Rattle.model.proofs.Stores.{Left}
 
 module _ (b slots : ℕ) where
-  free-all : (k B : ℕ) → _≡_ {A = Slot} (slot-at (replicate k free) B) free
-  free-all zero B = refl
-  free-all (suc k) zero = refl
-  free-all (suc k) (suc B) = free-all k B
-
   created-listed : (B : ℕ) → IsUsed (head (slot-at (created slots) B)) → List·Memᴰ B (0 ∷ [])
   created-listed zero h = List·Memᴰ·head refl
-  created-listed (suc B) h = absurd (rw (free-all (slots - 1) B) at h)
+  created-listed (suc B) h = absurd (rw (at-replicate free (slots - 1) B) at h)
 
   created-well : (B : ℕ) → Well b (slot-at (created slots) B)
   created-well zero = let z : 0 ≤ 24 = omega arith in let y : 0 ≤ b = omega arith in well-used unlimited (record { fits = z; digits = tt }) least no-entries y
-  created-well (suc B) = rw (free-all (slots - 1) B) well-free
+  created-well (suc B) = rw (at-replicate free (slots - 1) B) well-free
 
   unfoldable created-sound : Sound b (created slots)
   created-sound = record { order = 0 ∷ []; chain = last tt refl refl; listed = created-listed; well = created-well }
@@ -52,7 +48,7 @@ module _ (b slots : ℕ) where
     where
       means : Means (created slots) (λ k. nothing)
       means k zero h = refl
-      means k (suc B) h = rw (free-all (slots - 1) B)
+      means k (suc B) h = rw (at-replicate free (slots - 1) B)
 
   -- The file that create writes reads so, and the trie that it gives agrees with it.
   pub created-left : Sizes b slots → Left b (created slots) (fileBytes b (created slots))
@@ -63,7 +59,7 @@ module _ (b slots : ℕ) where
     where
       values : (B : ℕ) → Values (entries-of (slot-at (created slots) B))
       values zero = tt
-      values (suc B) = rw (free-all (slots - 1) B) tt
+      values (suc B) = rw (at-replicate free (slots - 1) B) tt
 
   pub created-agrees : Agrees (created slots) new-trie
   unfolding created-sound

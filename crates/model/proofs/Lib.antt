@@ -1,4 +1,5 @@
 pub mod Order
+pub mod Lists
 pub mod Names
 pub mod Entries
 pub mod Tries

@@ -1,12 +1,12 @@
 -- A trie that agrees with a sound file is never stale: its walk arrives, and a lookup answers what the bucket holds.
-use mathlib.Core.Path.{_∙_, _≡_, refl}
+use mathlib.Core.Path.{_≡_, refl}
 use mathlib.Core.Bool.{cond, true}
 use mathlib.Core.Option.{some}
 use mathlib.Core.List.{List, List·Memᴰ, List·Memᴰ·head, List·Memᴰ·tail, Memᴰ·append-left, Memᴰ·append-right, [], _∷_}
 use Prim.Native.Nat.{_<_, _≤_, suc, zero, ℕ}
 use native.Mathlib.Decide.{decLt, ℕ-discrete}
 use native.Mathlib.Omega.{arith}
-use lib.ListN.{drop, length, length-append, length-take, take, take-append-drop}
+use lib.ListN.{length, length-append, length-take}
 use borrow.Author.Tests.{le-leb, lt-ltb}
 use Rattle.model.specs.declared.Cell.{Cell}
 use Rattle.model.specs.declared.Side.{Side}
@@ -20,9 +20,9 @@ use Rattle.model.specs.Format.{SoundFile, headerOf}
 use Rattle.model.specs.Calls.{arrive, arrivedAnswer, headedAnswer, heldAnswer, lookUpOf, slotAnswer}
 use Rattle.model.proofs.Names.{le-atMost, le-within, length-filled, lt-atMost, within-atMost}
 use Rattle.model.proofs.Tries.{cell-length}
-use Rattle.model.proofs.Cells.{occ-append, one-if-equal, reads-append, reads-below, visits-count, walk-reads}
+use Rattle.model.proofs.Cells.{occ-append, one-if-equal, reads-below}
 use Rattle.model.proofs.Files.{used-inside}
-use Rattle.model.proofs.Agreement.{agrees-walk}
+use Rattle.model.proofs.Agreement.{agrees-walk, live-count, visit-count, whole-reads, whole-walk}
 use Rattle.model.proofs.Checks.{above-isAbove, well-isWell}
 use Rattle.model.proofs.Format.{headed-headerOf, readFile-read, readSlot-readFile}
 
@@ -58,39 +58,27 @@ module _ (slots count : ℕ) (cs : List Cell) (n : Str) (whole : length n ≡ 24
       go (yes h) k x y = rw (le-within n q (omega (arith, fits)) h) (x k)
       go (no h) k x y = rw (within-atMost n q (omega (arith, fits)), lt-atMost n q h) (y k)
 
--- The strings of a sound file have at most 24 digits.
-string-fits : (b : ℕ) {fs : List Slot} → Sound b fs → (x : Str) → IsString fs x → length x ≤ 24
+-- The bounds and strings of a sound file have at most 24 digits.
+pub bound-fits : (b : ℕ) (s : Slot) {y : Str} → Well b s → BoundOf (head s) y → length y ≤ 24
+bound-fits b (used l u es) (well-used (limit a) c h r k) lower-bound = a .fits
+bound-fits b (used l u es) (well-used a c h r k) upper-bound = c .fits
+
+pub string-fits : (b : ℕ) {fs : List Slot} → Sound b fs → (x : Str) → IsString fs x → length x ≤ 24
 string-fits b {fs} S x g =
-    rw (g .begins .is) (omega (arith, length-take (g .begins .count) (g .bound), bound-fits (slot-at fs (g .bucket)) (S .well (g .bucket)) (g .is-bound)))
-  where
-    bound-fits : (s : Slot) {y : Str} → Well b s → BoundOf (head s) y → length y ≤ 24
-    bound-fits (used l u es) (well-used (limit a) c h r k) lower-bound = a .fits
-    bound-fits (used l u es) (well-used a c h r k) upper-bound = c .fits
+    rw (g .begins .is) (omega (arith, length-take (g .begins .count) (g .bound), bound-fits b (slot-at fs (g .bucket)) (S .well (g .bucket)) (g .is-bound)))
 
 module _ (b : ℕ) {fs : List Slot} (S : Sound b fs) {t : Trie} (A : Agrees fs t) where
   -- The walk of a lookup meets no cell or slot that is not there.
   pub arrive-agrees : (n : Str) → length n ≡ 24 → (slots : ℕ) → length fs ≡ slots
       → arrive (t .count) slots (t .count) (t .cells) n [] (root-side (t .count) (t .first)) ≡ some (walk-trie t n)
   arrive-agrees n whole slots e =
-      rw same (arrive-reads slots (t .count) (t .cells) n whole (t .count) [] reads (omega (arith, count)) below (A .numbers) (λ x m. string-fits b S x (A .only x m)) inside)
+      rw (whole-walk A n) (arrive-reads slots (t .count) (t .cells) n whole (t .count) [] (whole-reads A) (omega (arith, visit-count A)) below (A .numbers) (λ x m. string-fits b S x (A .only x m)) inside)
     where
-      reads : Reads (t .cells) (root-side (t .count) (t .first)) (A .tree) (A .visits)
-      reads = rw take-append-drop at (reads-append (drop (t .count) (t .cells)) (A .reads))
-
-      length-front : length (take (t .count) (t .cells)) ≡ t .count
-      length-front = omega (arith, length-take (t .count) (t .cells), A .whole, A .few)
-
-      count : length (A .visits) ≡ t .count
-      count = visits-count (A .reads) (λ i h. A .once i (omega (arith, h, length-front))) ∙ length-front
-
-      same : walk-trie t n ≡ walk n [] (A .tree)
-      same = walk-reads n (suc (t .count)) [] reads (omega (arith, count))
-
       below : (m : ℕ) → 0 < occ m (A .visits) → m < t .count
-      below m o = elim (decLt m (t .count)) [ yes h ↦ h | no h ↦ absurd (omega (arith, o, reads-below m (omega (arith, length-front)) (A .reads))) ]
+      below m o = elim (decLt m (t .count)) [ yes h ↦ h | no h ↦ absurd (omega (arith, o, reads-below m (omega (arith, live-count A)) (A .reads))) ]
 
       inside : walk n [] (A .tree) < slots
-      inside = omega (arith, same, used-inside fs (walk-trie t n) (agrees-walk b S A n .0))
+      inside = omega (arith, whole-walk A n, used-inside fs (walk-trie t n) (agrees-walk b S A n .0))
 
 -- The bucket whose range holds the name is not refused.
 slot-answers : (b : ℕ) (n : Str) (x : Slot) → Well b x → In (head x) n → slotAnswer b n (some x) ≡ heldAnswer (find n (entries-of x))

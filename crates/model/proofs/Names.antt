@@ -1,16 +1,16 @@
 -- The tests of names and bounds are what they test; within and not above are one; the split string is the first difference's.
 use mathlib.Core.Path.{_∙_, _≡_, ap, ap₂, refl, sym}
-use mathlib.Core.Bool.{Bool, _&&_, cond, false, true}
+use mathlib.Core.Bool.{Bool, _&&_, cond, false, true, true≢false}
 use mathlib.Core.List.{[], _++_, _∷_}
 use Prim.Native.Nat.{_+_, _-_, _<_, _≤_, suc, zero, ℕ}
 use native.Mathlib.Decide.{decLe, decLt, ℕ-discrete}
 use native.Mathlib.Omega.{arith}
 use lib.Dec.{eqb, leb, ltb}
 use lib.ListN.{length, length-append, length-replicate, length-take, replicate, take}
-use lib.Seq.{take-append-add}
 use borrow.Author.Tests.{eq-eqb, eqb-true, le-leb, le-ltb, leb-true, lt-ltb, ne-eqb}
 use Rattle.model.specs.Order.{Str, _≺_, _⊑_, at, diff, diff-at, digit, head-le, nil-not-le, tail-le, top}
 use Rattle.model.specs.Names.{Bound, Digits, Legal, areDigits, atMost, blankEnded, blanks, filled, legalBound, legalFilled, legalName, notGreater, smaller, splitFrom, splitString, within}
+use Rattle.model.proofs.Lists.{length-made, made-short}
 use Rattle.model.proofs.Order.{diff-lt-left, lt-le, split-shortest}
 
 -- How two digits stand.
@@ -25,6 +25,10 @@ stand a b = elim (decLt a b) [ yes h ↦ less h | no h ↦ elim (ℕ-discrete a 
 pub both-true : (a b : Bool) → (a && b) ≡ true → (a ≡ true) × (b ≡ true)
 both-true true b e = (refl, e)
 both-true false b e = let z : _≡_ {A = ℕ} 0 1 = cc in absurd (omega arith)
+
+-- No test is both true and false.
+pub clash : (t : Bool) → t ≡ true → t ≡ false → ⊥
+clash t e f = true≢false (sym e ∙ f)
 
 pub le-atMost : (x y : Str) → x ⊑ y → atMost x y ≡ true
 unfolding atMost
@@ -53,7 +57,7 @@ atMost-le (a ∷ x) (b ∷ y) e = go (stand a b) e (atMost-le x y)
         let z : _≡_ {A = ℕ} 0 1 = cc in absurd (omega arith)
 
 pub atMost-lt : (x y : Str) → atMost x y ≡ false → y ≺ x
-atMost-lt x y e p = let t : atMost x y ≡ true = le-atMost x y p in let z : _≡_ {A = ℕ} 0 1 = cc in absurd (omega arith)
+atMost-lt x y e p = clash (atMost x y) (le-atMost x y p) e
 
 pub lt-atMost : (x y : Str) → y ≺ x → atMost x y ≡ false
 lt-atMost x y p = go (atMost x y) refl
@@ -80,21 +84,13 @@ pub le-within : (n p : Str) → length p ≤ length n → n ⊑ p → within n p
 le-within n p h q = within-atMost n p h ∙ le-atMost n p q
 
 -- Names, filled.
-take-replicate : (k m : ℕ) → k ≤ m → _≡_ {A = Str} (take k (replicate m 0x20)) (replicate k 0x20)
-take-replicate zero m h = refl
-take-replicate (suc k) zero h = absurd (omega arith)
-take-replicate (suc k) (suc m) h = ap (λ (r : Str). 0x20 ∷ r) (take-replicate k m (omega arith))
-
 pub length-filled : (n : Str) → length (filled n) ≡ 24
 unfolding filled
-length-filled n = omega (arith, length-take 24 (n ++ replicate 24 0x20), length-append n (replicate 24 0x20), length-replicate {A = ℕ} 24 0x20)
+length-filled n = length-made 24 0x20 n
 
 pub filled-short : (n : Str) → length n ≤ 24 → filled n ≡ n ++ replicate (24 - length n) 0x20
 unfolding filled
-filled-short n h =
-    let e : 24 ≡ length n + (24 - length n) = omega arith in
-    ap (λ (k : ℕ). take k (n ++ replicate 24 0x20)) e ∙ take-append-add n (replicate 24 0x20) (24 - length n)
-    ∙ ap (λ (r : Str). n ++ r) (take-replicate (24 - length n) 24 (omega arith))
+filled-short n h = made-short 24 0x20 n h
 
 pub legal-length : {n : Str} → Legal n → length n ≡ 24
 legal-length g = ap length (g .is) ∙ length-filled (g .name)

@@ -86,7 +86,7 @@ pub one-if-most : {A : Type 0} (d : Dec A) → one-if d ≤ 1
 one-if-most (yes e) = omega arith
 one-if-most (no n) = omega arith
 
-one-if-not : {A : Type 0} → ¬ A → (d : Dec A) → one-if d ≡ 0
+pub one-if-not : {A : Type 0} → ¬ A → (d : Dec A) → one-if d ≡ 0
 one-if-not k (yes e) = absurd (k e)
 one-if-not k (no n) = refl
 

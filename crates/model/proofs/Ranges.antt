@@ -2,7 +2,7 @@
 use mathlib.Core.Path.{_∙_, _≡_, ap, refl, sym}
 use mathlib.Core.Logic.{_≢_, _⊎_, inl, inr}
 use mathlib.Core.List.{List, List·Memᴰ, List·Memᴰ·cases-cons, List·Memᴰ·head, List·Memᴰ·not-nil, List·Memᴰ·tail, Memᴰ·cast, [], _∷_}
-use Prim.Native.Nat.{ℕ}
+use Prim.Native.Nat.{_<_, ℕ}
 use native.Mathlib.Omega.{arith}
 use lib.ListN.{length}
 use lib.Seq.{take-length}
@@ -17,6 +17,10 @@ use Rattle.model.proofs.Strings.{asc-mem, begins-all}
 module _ (F : Ranges) where
   pub chain-some : {l : Low} → Chain F l [] → ⊥
   chain-some c = elim c [ ]
+
+  pub chain-length : {l : Low} {Bs : List ℕ} → Chain F l Bs → 0 < length Bs
+  chain-length (last u e f) = omega arith
+  chain-length (next u e a b c) = omega arith
 
   pub bounds-asc : (Bs : List ℕ) (l : Low) → Chain F l Bs → Asc l (bounds F Bs) []
   bounds-asc [] l c = end

@@ -1,7 +1,7 @@
 -- A split of a bucket: N comes right after A, s is added to the bounds, and the grown trie leads every leaf to its bucket.
 use mathlib.Core.Path.{_∙_, _≡_, ap, refl, sym}
 use mathlib.Core.Logic.{_≢_, _⊎_, inl, inr}
-use mathlib.Core.List.{List, List·Memᴰ, List·Memᴰ·append-cases, List·Memᴰ·cases-cons, List·Memᴰ·head, List·Memᴰ·tail, Memᴰ·append-left, Memᴰ·append-right, Memᴰ·cast, [], _++_, _∷_}
+use mathlib.Core.List.{List, List·Memᴰ, List·Memᴰ·append-cases, List·Memᴰ·head, List·Memᴰ·tail, Memᴰ·append-left, Memᴰ·append-right, Memᴰ·cast, [], _++_, _∷_}
 use Prim.Native.Nat.{_<_, _≤_, suc, ℕ}
 use native.Mathlib.Decide.{ℕ-discrete}
 use native.Mathlib.Omega.{arith}
@@ -11,6 +11,7 @@ use Rattle.model.specs.Order.{Asc, Low, Str, _≺_, _⊑_, _◁_, above,
 use Rattle.model.specs.Files.{Begins, Chain, Ranges, all, bounds, fresh, last, next}
 use Rattle.model.specs.Tries.{Leads, Spans, Tree}
 use Rattle.model.specs.Growth.{graft, grow, relabel, turn, turned}
+use Rattle.model.proofs.Lists.{mem-insert, mem-leave}
 use Rattle.model.proofs.Order.{diff-le-right, diff-lt-left, le-take, le-trans, low-le, low-trans, lt-le-trans, not-over, split-lt}
 use Rattle.model.proofs.Tries.{Gap, cast, relabel-trie}
 use Rattle.model.proofs.Growth.{Growth, Shrinks, grow-trie}
@@ -179,28 +180,13 @@ module _ (F G : Ranges) (s : Str) (A N : ℕ) (S : SplitAt F G s A N) where
       d : Chain G none Cs
       d = chain-split Xs Ys c lo up
 
-      to : (B : ℕ) → List·Memᴰ B Bs → List·Memᴰ B Cs
-      to B m = elim (List·Memᴰ·append-cases Xs m) [
-        | inl m ↦ Memᴰ·append-left (A ∷ N ∷ Ys) m
-        | inr m ↦ Memᴰ·append-right Xs (elim (List·Memᴰ·cases-cons m) [ inl e ↦ List·Memᴰ·head e | inr m ↦ List·Memᴰ·tail (List·Memᴰ·tail m) ])
-      ]
-
-      from : (B : ℕ) → List·Memᴰ B Cs → (B ≡ N) ⊎ List·Memᴰ B Bs
-      from B m = elim (List·Memᴰ·append-cases Xs m) [
-        | inl m ↦ inr (Memᴰ·append-left (A ∷ Ys) m)
-        | inr m ↦ elim (List·Memᴰ·cases-cons m) [
-          | inl e ↦ inr (Memᴰ·append-right Xs (List·Memᴰ·head e))
-          | inr m ↦ elim (List·Memᴰ·cases-cons m) [ inl e ↦ inl e | inr m ↦ inr (Memᴰ·append-right Xs (List·Memᴰ·tail m)) ]
-        ]
-      ]
-
       keeps : (x : Str) → List·Memᴰ x (bounds F Bs) → List·Memᴰ x (bounds G Cs)
       keeps x m = go (bounds-from F Bs x m) (asc-mem (bounds-asc F Bs none c) m .1)
         where
           go : (B : ℕ) × List·Memᴰ B Bs × (x ≡ F .upper B) → x ≺ [] → List·Memᴰ x (bounds G Cs)
           go (B, m, e) t = elim (ℕ-discrete B A) [
             | yes q ↦ bounds-to G Cs none d x N (Memᴰ·append-right Xs (List·Memᴰ·tail (List·Memᴰ·head refl))) (e ∙ ap (F .upper) q ∙ sym (S .new-upper)) t
-            | no n ↦ bounds-to G Cs none d x B (to B m) (e ∙ sym (S .other B n (chain-used F c B m) .2)) t
+            | no n ↦ bounds-to G Cs none d x B (mem-insert Xs A N Ys m) (e ∙ sym (S .other B n (chain-used F c B m) .2)) t
           ]
 
       gains : List·Memᴰ s (bounds G Cs)
@@ -210,7 +196,7 @@ module _ (F G : Ranges) (s : Str) (A N : ℕ) (S : SplitAt F G s A N) where
       only x m = go (bounds-from G Cs x m) (asc-mem (bounds-asc G Cs none d) m .1)
         where
           go : (B : ℕ) × List·Memᴰ B Cs × (x ≡ G .upper B) → x ≺ [] → List·Memᴰ x (bounds F Bs) ⊎ (x ≡ s)
-          go (B, m, e) t = elim (from B m) [
+          go (B, m, e) t = elim (mem-leave Xs A N Ys m) [
             | inl q ↦ inl (bounds-to F Bs none c x A (Memᴰ·append-right Xs (List·Memᴰ·head refl)) (e ∙ ap (G .upper) q ∙ S .new-upper) t)
             | inr m ↦ elim (ℕ-discrete B A) [
               | yes q ↦ inr (e ∙ ap (G .upper) q ∙ S .old-upper)

@@ -1,7 +1,7 @@
 -- The used slots listed by upper bound, and where two are equal by lower limit, decide whether a file is sound, cut or bad.
 use mathlib.Core.Path.{_∙_, _≡_, ap, refl, subst, sym}
 use mathlib.Core.Logic.{_≢_, _⊎_, inl, inr}
-use mathlib.Core.List.{List, List·Memᴰ, List·Memᴰ·append-cases, List·Memᴰ·cases-cons, List·Memᴰ·head, List·Memᴰ·not-nil, List·Memᴰ·tail, Memᴰ·append-left, Memᴰ·append-right, Memᴰ·cast, [], _++_, _∷_}
+use mathlib.Core.List.{List, List·Memᴰ, List·Memᴰ·cases-cons, List·Memᴰ·head, List·Memᴰ·not-nil, List·Memᴰ·tail, Memᴰ·append-right, Memᴰ·cast, [], _++_, _∷_}
 use Prim.Native.Nat.{_<_, _≤_, ℕ}
 use native.Mathlib.Decide.{ℕ-discrete}
 use native.Mathlib.Omega.{arith}
@@ -11,10 +11,11 @@ use Rattle.model.specs.Order.{Low, Str, _≺_, _⊴_, _◁_, at, below, 
 use Rattle.model.specs.Entries.{Entry, move}
 use Rattle.model.specs.Files.{Bad, Chain, Copied, Cut, IsUsed, Ranges, Slot, Sound, Well, free, head, last, lower-of, next, ranges, slot-at, upper-of, used, well-free}
 use Rattle.model.specs.Tries.{occ}
+use Rattle.model.proofs.Lists.{mem-insert, mem-leave, mem-parts}
 use Rattle.model.proofs.Order.{le-antisym, le-refl, low-at, low-trans, lt-le, lt-le-trans, lt-trans}
-use Rattle.model.proofs.Ranges.{chain-other, chain-some, chain-used}
+use Rattle.model.proofs.Ranges.{chain-some, chain-used}
 use Rattle.model.proofs.Cells.{occ-mem, one-if-equal}
-use Rattle.model.proofs.Files.{a-below, a-there, n-low, one-lower, one-range, slot-freed, well-head}
+use Rattle.model.proofs.Files.{a-below, a-there, chain-once, n-low, one-lower, one-range, slot-freed, well-head}
 
 -- Each used slot stands in the list once, and each number in the list is a used slot.
 pub record Lists (fs : List Slot) (Bs : List ℕ) : Type 0 where
@@ -96,22 +97,6 @@ once-distinct [] h = tt
 once-distinct (B ∷ Bs) h =
     (λ m. omega (arith, h B, one-if-equal refl (ℕ-discrete B B), mem-occ B Bs m), once-distinct Bs (λ i. omega (arith, h i)))
 
-module _ (Xs : List ℕ) (A N : ℕ) (Ys : List ℕ) {B : ℕ} where
-  pub mem-leave : List·Memᴰ B (Xs ++ (A ∷ N ∷ Ys)) → (B ≡ N) ⊎ List·Memᴰ B (Xs ++ (A ∷ Ys))
-  mem-leave m = elim (List·Memᴰ·append-cases Xs m) [
-    | inl k ↦ inr (Memᴰ·append-left (A ∷ Ys) k)
-    | inr k ↦ elim (List·Memᴰ·cases-cons k) [
-      | inl e ↦ inr (Memᴰ·append-right Xs (List·Memᴰ·head e))
-      | inr j ↦ elim (List·Memᴰ·cases-cons j) [ inl e ↦ inl e | inr i ↦ inr (Memᴰ·append-right Xs (List·Memᴰ·tail i)) ]
-    ]
-  ]
-
-  pub mem-insert : List·Memᴰ B (Xs ++ (A ∷ Ys)) → List·Memᴰ B (Xs ++ (A ∷ N ∷ Ys))
-  mem-insert m = elim (List·Memᴰ·append-cases Xs m) [
-    | inl k ↦ Memᴰ·append-left (A ∷ N ∷ Ys) k
-    | inr k ↦ Memᴰ·append-right Xs (elim (List·Memᴰ·cases-cons k) [ inl e ↦ List·Memᴰ·head e | inr j ↦ List·Memᴰ·tail (List·Memᴰ·tail j) ])
-  ]
-
 distinct-insert : (Xs : List ℕ) (A N : ℕ) (Ys : List ℕ) → Distinct (Xs ++ (A ∷ Ys)) → ¬ List·Memᴰ N (Xs ++ (A ∷ Ys)) → Distinct (Xs ++ (A ∷ N ∷ Ys))
 distinct-insert [] A N Ys d n =
     (λ m. elim (List·Memᴰ·cases-cons m) [ inl e ↦ n (List·Memᴰ·head (sym e)) | inr k ↦ d .0 k ], (λ m. n (List·Memᴰ·tail m), d .1))
@@ -124,11 +109,6 @@ distinct-leave (X ∷ Xs) A N Ys d m = elim (List·Memᴰ·cases-cons m) [
   | inl e ↦ d .0 (Memᴰ·append-right Xs (List·Memᴰ·tail (List·Memᴰ·head (sym e))))
   | inr k ↦ distinct-leave Xs A N Ys (d .1) k
 ]
-
-mem-split : {A : ℕ} (Bs : List ℕ) → List·Memᴰ A Bs → (Xs : List ℕ) × (Ys : List ℕ) × (Bs ≡ Xs ++ (A ∷ Ys))
-mem-split [] m = absurd (List·Memᴰ·not-nil m)
-mem-split (B ∷ Bs) (List·Memᴰ·head e) = ([], Bs, ap (λ C. C ∷ Bs) (sym e))
-mem-split (B ∷ Bs) (List·Memᴰ·tail m) = let r = mem-split Bs m in (B ∷ r .0, r .1, ap (λ Cs. B ∷ Cs) (r .2))
 
 pub lists-mem : {fs : List Slot} {Bs : List ℕ} → Lists fs Bs → (B : ℕ) → IsUsed (head (slot-at fs B)) → List·Memᴰ B Bs
 lists-mem {Bs = Bs} L B u = occ-mem B Bs (omega (arith, L .once B u))
@@ -188,10 +168,10 @@ module _ (F : Ranges) where
       cc
 
   -- In a chain uppers strictly ascend.
-  abbrev Rises : ℕ → ℕ → Type 0
+  abbrev pub Rises : ℕ → ℕ → Type 0
   Rises B C = F .upper B ≺ F .upper C
 
-  chain-rises : (B : ℕ) (Bs : List ℕ) {l : Low} → Chain F l (B ∷ Bs) → From Rises B Bs
+  pub chain-rises : (B : ℕ) (Bs : List ℕ) {l : Low} → Chain F l (B ∷ Bs) → From Rises B Bs
   chain-rises B [] c = tt
   chain-rises B (C ∷ []) (next u e a b (last v g h)) = (rw h b, tt)
   chain-rises B (C ∷ []) (next u e a b (next v g h i c)) = absurd (chain-some F c)
@@ -202,9 +182,7 @@ module _ (F : Ranges) where
   chain-neighbours (B ∷ Bs) c = chain-rises B Bs c
 
   chain-distinct : (Bs : List ℕ) {l : Low} → Chain F l Bs → Distinct Bs
-  chain-distinct [] c = tt
-  chain-distinct (B ∷ []) c = (List·Memᴰ·not-nil, tt)
-  chain-distinct (B ∷ C ∷ Bs) (next u e a b c) = (λ m. chain-other F B (C ∷ Bs) (next u e a b c) B m refl, chain-distinct (C ∷ Bs) c)
+  chain-distinct Bs c = once-distinct Bs (chain-once F Bs c)
 
   rises-apart : {B C : ℕ} → Rises B C → Differ F B C
   rises-apart {B} {C} p e = p (rw e (le-refl (F .upper C)))
@@ -343,7 +321,7 @@ module _ (b : ℕ) where
     G = ranges (set fs N free)
 
     place : (Xs : List ℕ) × (Ys : List ℕ) × (C .freed .order ≡ Xs ++ (C .A ∷ Ys))
-    place = mem-split (C .freed .order) (C .freed .listed (C .A) (rw (C .a-is) tt))
+    place = mem-parts (C .freed .order) (C .freed .listed (C .A) (rw (C .a-is) tt))
 
     same-upper : F .upper (C .A) ≡ F .upper N
     same-upper = ap (λ x. upper-of (head x)) (a-there b C) ∙ sym (ap (λ x. upper-of (head x)) (C .n-is))

@@ -8,19 +8,21 @@ use native.Mathlib.Nat.{zero-add}
 use native.Mathlib.Numerals.{add-one}
 use native.Mathlib.Omega.{arith}
 use lib.ListN.{drop, drop-of-length-le, getD, length, length-append, set, take}
-use lib.Seq.{drop-cons, getD-take, take-suc-set}
+use lib.Seq.{drop-cons, take-suc-set}
 use borrow.Author.Tests.{le-leb, lt-leb}
-use Rattle.model.specs.Order.{Low, Str, _≺_, at, diff, none, over}
+use Rattle.model.specs.Order.{Low, Str, _≺_, at, diff, none}
 use Rattle.model.specs.Files.{Chain, IsUsed, Ranges, Slot, Sound, Well, all, bounds, free, fresh, head, last, next, order-of, ranges, slot-at, strings-of, upper-of, used, well-used}
 use Rattle.model.specs.Rebuilding.{label}
 use Rattle.model.specs.Agreeing.{slotsBetween}
 use Rattle.model.specs.Format.{readSlots, slotAt, slotBytes, slotSize}
+use Rattle.model.proofs.Lists.{at-taken}
 use Rattle.model.proofs.Order.{diff-lt-left}
 use Rattle.model.proofs.Strings.{mem-at}
-use Rattle.model.proofs.Ranges.{chain-some, chain-used}
-use Rattle.model.proofs.Files.{order-right}
+use Rattle.model.proofs.Ranges.{chain-length, chain-some, chain-used}
+use Rattle.model.proofs.Files.{chain-right}
 use Rattle.model.proofs.Format.{readSlots-each, slotBytes-readSlot}
-use Rattle.model.proofs.Agreement.{coming, expect-cursor, expect-slots, follow, labels, length-fresh, to-slots, to-slots-append}
+use Rattle.model.proofs.Agreement.{coming, expect-cursor, expect-slots, follow, labels, to-slots, to-slots-append}
+use Rattle.model.proofs.Surveys.{chain-rises}
 use Rattle.bucket.specs.Slots.{upperAt}
 use Rattle.bucket.proofs.Laws.{upperAt-slot}
 use Rattle.file.specs.declared.Size.{Size}
@@ -57,10 +59,6 @@ module _ (F : Ranges) where
   first-slot lab B C [] zs h = absurd (omega arith)
   first-slot lab B C (s ∷ ss) zs h = ap (λ (ns : List ℕ). B ∷ ns) (same-slots lab C ss zs)
 
-  chain-up : {l : Low} {B C : ℕ} {Bs : List ℕ} → Chain F l (B ∷ C ∷ Bs) → F .upper B ≺ F .upper C
-  chain-up (next u e a b (last u′ e′ f′)) = rw f′ b
-  chain-up (next u e a b (next u′ e′ a′ b′ c)) = over a′
-
   chain-rest : {l : Low} {B C : ℕ} {Bs : List ℕ} → Chain F l (B ∷ C ∷ Bs) → Chain F (at (F .upper B)) (C ∷ Bs)
   chain-rest (next u e a b c) = c
 
@@ -68,9 +66,9 @@ module _ (F : Ranges) where
   coming-slots lab [] B c = refl
   coming-slots lab (C ∷ Bs) B c =
       let ss : List Str = fresh (F .upper B) (F .upper C) in
-      let up : F .upper B ≺ F .upper C = chain-up c in
+      let up : F .upper B ≺ F .upper C = chain-rises F B (C ∷ Bs) c .0 in
       rw (to-slots-append lab (follow C ss) (coming F C Bs), ← coming-slots lab Bs C (chain-rest c))
-      (first-slot lab B C ss (to-slots lab (coming F C Bs)) (omega (arith, length-fresh (F .upper B) (F .upper C) up, diff-lt-left (F .upper B) (F .upper C) up)))
+      (first-slot lab B C ss (to-slots lab (coming F C Bs)) (omega (arith, length-beyond (diff (F .upper B) (F .upper C)) (F .upper B), diff-lt-left (F .upper B) (F .upper C) up)))
 
   labels-from : (Cs : List ℕ) (B : ℕ) (Bs : List ℕ) → Cs ≡ B ∷ Bs → Chain F none (B ∷ Bs)
       → labels (label F Cs) none (all (bounds F Cs)) ≡ leaves-from B Bs
@@ -84,15 +82,12 @@ between-labels fs l [] = refl
 between-labels fs l (x ∷ xs) = ap (λ (ns : List ℕ). label (ranges fs) (order-of fs) l ∷ ns) (between-labels fs (at x) xs)
 
 module _ {b : ℕ} {fs : List Slot} (S : Sound b fs) where
-  order-chain : Chain (ranges fs) none (order-of fs)
-  order-chain = rw (order-right b S) (S .chain)
-
   -- The upper of a bucket in the order, as it is read from the file's bytes.
   pub upper-read : (slots : ℕ) (file : List ℕ) → readSlots b slots 0 file ≡ some fs → (i : ℕ) → i < length (order-of fs)
       → getD (order-of fs) i 0 < slots
       → upperAt (take (64 + 32 * b) (drop (16 + getD (order-of fs) i 0 * (64 + 32 * b)) file)) ≡ ranges fs .upper (getD (order-of fs) i 0)
   unfolding slotAt slotSize
-  upper-read slots file e i h k = rw bytes (go (slot-at fs B) (S .well B) (chain-used (ranges fs) order-chain B (mem-at 0 (order-of fs) i h)))
+  upper-read slots file e i h k = rw bytes (go (slot-at fs B) (S .well B) (chain-used (ranges fs) (chain-right b S) B (mem-at 0 (order-of fs) i h)))
     where
       B : ℕ
       B = getD (order-of fs) i 0
@@ -115,7 +110,7 @@ pub record Going (fs : List Slot) (lens digits slots : List ℕ) (n j : ℕ) : T
   pub slots-are : take n slots ++ leaves-from (ranges fs) (getD (order-of fs) (j - 1) 0) (drop j (order-of fs)) ≡ slotsBetween fs none (strings-of fs)
 
 pub going-start : {b : ℕ} {fs : List Slot} → Sound b fs → (lens digits slots : List ℕ) → Going fs lens digits slots 0 1
-going-start {fs = fs} S lens digits slots = go (order-of fs) refl (order-chain S)
+going-start {b} {fs} S lens digits slots = go (order-of fs) refl (chain-right b S)
   where
     go : (Bs : List ℕ) → order-of fs ≡ Bs → Chain (ranges fs) none Bs → Going fs lens digits slots 0 1
     go [] e c = absurd (chain-some (ranges fs) c)
@@ -222,7 +217,7 @@ module _ (file order : List ℕ) (size : Size) (count : ℕ) where
   upper-in B = upperAt (take (64 + 32 * size .b) (drop (16 + B * (64 + 32 * size .b)) file))
 
   order-at : (fs : List Slot) → Given fs → (i : ℕ) → i < count → getD order i 0 ≡ getD (order-of fs) i 0
-  order-at fs g i h = sym (getD-take count order i 0 h) ∙ ap (λ (Bs : List ℕ). getD Bs i 0) (g .3)
+  order-at fs g i h = at-taken count order i (g .3) h
 
   upper-is : (fs : List Slot) → Given fs → (i B : ℕ) (x : Str) → i < count → B ≡ getD order i 0 → B < size .slots → x ≡ upper-in B
       → x ≡ ranges fs .upper (getD (order-of fs) i 0)
@@ -268,8 +263,4 @@ module _ (file order : List ℕ) (size : Size) (count : ℕ) where
 
   -- Each sound file has a bucket.
   pub goes-none : (s : Strings) → s .count ≤ 256 → count ≤ 0 → Listed s file size order count
-  goes-none s few h = record { count-most = few; strung = λ fs r S c o. absurd (none-used (order-of fs) (order-chain S) (omega arith)) }
-    where
-      none-used : {F : Ranges} (Bs : List ℕ) → Chain F none Bs → length Bs ≤ 0 → ⊥
-      none-used {F} [] c h = chain-some F c
-      none-used (B ∷ Bs) c h = omega arith
+  goes-none s few h = record { count-most = few; strung = λ fs r S c o. absurd (omega (arith, chain-length (ranges fs) (chain-right (size .b) S))) }

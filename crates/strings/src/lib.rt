@@ -8,16 +8,10 @@ ghost use Prim.Native.Nat.{_≤_, _<_, _+_, _*_};
 ghost use lib.ListN.{length};
 ghost use Rattle.file.specs.Sizes.{Sized, Below};
 ghost use Rattle.strings.specs.Arrays.{Added, Listed, Whole, beyond};
+use digits::byte;
 use digits::index;
 use file::Size;
 use trie::Strings;
-
-fn byte(x: usize) -> u8
-    requires { ⌜ x < 256 ⌝ }
-    ensures { λ r. ⌜ r ≡ x ⌝ }
-{
-    x as u8
-}
 
 // Adds the beginnings of x that are longer than `shared` digits, the longest first. Left of x itself stands the bucket
 // that x ends, left of the others the next one.

@@ -6,12 +6,11 @@ use native.Mathlib.Omega.{arith}
 use lib.Dec.{ltb}
 use lib.ListN.{drop, getD, take}
 use borrow.Author.Tests.{not-false, not-true}
+use Rattle.model.proofs.Names.{clash}
 use Rattle.digits.specs.Keys.{keyValue}
 use Rattle.bucket.specs.Forms.{isClear}
 use Rattle.bucket.proofs.Forms.{rest}
-use Rattle.bucket.proofs.Reading.{Tested, by-bound, clash, isBound, not-read, same-entries, well-read}
-use Rattle.bucket.proofs.Reading.{Tested, by-bound, clash, isBound, not-read, same-entries, well-read}
-use Rattle.bucket.proofs.Reading.{Tested, clash, isBound, not-read, same-entries, well-read}
+use Rattle.bucket.proofs.Reading.{Tested, by-bound, isBound, not-read, same-entries, well-read}
 use borrow.Author.Needs.{needs}
 use Rattle.bucket.proofs.form_of.Statement.{statement}
 use Rattle.bucket.proofs.form_of.Tie as tie
@@ -46,7 +45,7 @@ returns-3 c =
     let xs = a .slot .now in
     let n = c .before .before .before .index in
     let r = c .before .is-clear in
-    not-read (a .b) xs (λ t. clash (r .result) (isClear xs (n .result)) (r .ensures) (not-true (r .result) (c .if3 .taken)) (ap (isClear xs) (n .ensures .0) ∙ t .clear))
+    not-read (a .b) xs (λ t. clash (isClear xs (n .result)) (ap (isClear xs) (n .ensures .0) ∙ t .clear) (sym (r .ensures) ∙ not-true (r .result) (c .if3 .taken)))
 
 shared-slice-read-index-2 : tie.Need-shared-slice-read-index-2
 shared-slice-read-index-2 c = search needs
@@ -74,8 +73,8 @@ returns-4 c =
     let n = c .before .before .before .index2 in
     let r = c .before .is-bound in
     not-read (a .b) xs (λ t.
-    clash (r .result) (isBound (n .result) (take 24 (drop 8 xs))) (r .ensures) (not-true (r .result) (c .if4 .taken))
-    (ap (λ (m : ℕ). isBound m (take 24 (drop 8 xs))) (n .ensures .0) ∙ t .lower))
+    clash (isBound (n .result) (take 24 (drop 8 xs))) (ap (λ (m : ℕ). isBound m (take 24 (drop 8 xs))) (n .ensures .0) ∙ t .lower)
+    (sym (r .ensures) ∙ not-true (r .result) (c .if4 .taken)))
 
 shared-slice-read-index-3 : tie.Need-shared-slice-read-index-3
 shared-slice-read-index-3 c = search needs
@@ -103,8 +102,8 @@ returns-5 c =
     let n = c .before .before .before .index3 in
     let r = c .before .is-bound2 in
     not-read (a .b) xs (λ t.
-    clash (r .result) (isBound (n .result) (take 24 (drop 32 xs))) (r .ensures) (not-true (r .result) (c .if5 .taken))
-    (ap (λ (m : ℕ). isBound m (take 24 (drop 32 xs))) (n .ensures .0) ∙ t .upper))
+    clash (isBound (n .result) (take 24 (drop 32 xs))) (ap (λ (m : ℕ). isBound m (take 24 (drop 32 xs))) (n .ensures .0) ∙ t .upper)
+    (sym (r .ensures) ∙ not-true (r .result) (c .if5 .taken)))
 
 low-of-requires : tie.Need-low-of-requires
 low-of-requires c κs = search needs
@@ -123,8 +122,9 @@ returns-6 c =
     let low = c .before .before .before .low-of .ensures in
     let high = c .before .before .high-of .ensures in
     not-read (a .b) xs (λ t.
-    clash (r .result) (ltb (keyValue (c .before .before .before .low-of .result)) (keyValue (c .before .before .high-of .result))) (r .ensures) (not-true (r .result) (c .if6 .taken))
-    (ap₂ ltb (by-bound 8 (getD xs 2 0) xs (t .lower) low) (by-bound 32 (getD xs 3 0) xs (t .upper) high) ∙ t .ranged))
+    clash (ltb (keyValue (c .before .before .before .low-of .result)) (keyValue (c .before .before .high-of .result)))
+    (ap₂ ltb (by-bound 8 (getD xs 2 0) xs (t .lower) low) (by-bound 32 (getD xs 3 0) xs (t .upper) high) ∙ t .ranged)
+    (sym (r .ensures) ∙ not-true (r .result) (c .if6 .taken)))
 
 sub-are-entries : tie.Need-sub-are-entries
 sub-are-entries c = search needs
@@ -147,8 +147,8 @@ returns-7 c =
     let low = c .before .before .before .before .before .before .low-of .ensures in
     let high = c .before .before .before .before .before .high-of .ensures in
     not-read (a .b) xs (λ t.
-    clash (r .result) _ (r .ensures) (not-true (r .result) (c .if7 .taken))
-    (same-entries (n .ensures .0) (rest 64 xs) (by-bound 8 (getD xs 2 0) xs (t .lower) low) (by-bound 32 (getD xs 3 0) xs (t .upper) high) ∙ t .rowed))
+    clash _ (same-entries (n .ensures .0) (rest 64 xs) (by-bound 8 (getD xs 2 0) xs (t .lower) low) (by-bound 32 (getD xs 3 0) xs (t .upper) high) ∙ t .rowed)
+    (sym (r .ensures) ∙ not-true (r .result) (c .if7 .taken)))
 
 returns-8 : tie.Need-returns-8
 unfolding isBound

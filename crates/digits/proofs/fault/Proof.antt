@@ -1,7 +1,6 @@
 -- `digits::fault` meets its contract.
 use borrow.Author.Tests.{le-leb, lt-leb}
-use mathlib.Core.Bool.{_&&_, false}
-use Rattle.digits.proofs.Laws.{and-false}
+use mathlib.Core.Bool.{_&&_, and-false, false}
 use lib.Dec.{leb}
 use Prim.Native.Nat.{ℕ, _≤_, _-_, _<_, _+_, _*_}
 use native.Mathlib.Omega.{arith}
