@@ -132,6 +132,9 @@ def create(b: int, slots: int) -> tuple[bytes, bytes]:
     Traceback (most recent call last):
     palhavento.errors.WrongSize: b = 17, slots = 1: No file has that size: b is 2 to 16, and slots is 1 to 64.
     """
+    for size in (b, slots):
+        if not isinstance(size, int):
+            raise TypeError(f"b and slots are ints, not {type(size).__name__}")
     about = f"b = {b}, slots = {slots}"
     # A number outside 64 bits would wrap on its way into the call, and a large one would ask for memory first.
     if not (0 <= b < 256 and 0 <= slots < 256):

@@ -3,6 +3,7 @@
 import json
 import os
 import pty
+import re
 import subprocess
 import sys
 import unittest
@@ -90,8 +91,10 @@ class CommandLine(InFolder):
         status, figures = said("stats", self.store)
         self.assertEqual((status, figures["entries"], figures["used"], figures["bytes"]), (0, 1, 1, 36880))
         self.assertEqual(said("rm", self.store, "oil"), (0, {"removed": "oil"}))
-        status, error = said("get", self.store, "oil")
-        self.assertEqual((status, error["status"]), (101, 101))
+        for status, words in ((101, ["get", self.store, "oil"]), (1, ["get", self.store, "a b"]), (64, ["get"]),
+                              (64, ["put", self.store, "oil", "much"]), (74, ["get", self.folder, "oil"])):
+            told, error = said(*words)
+            self.assertEqual((told, error["status"], set(error)), (status, status, {"error", "status"}))
 
     def test_import(self):
         self.done("create", self.store)
@@ -131,6 +134,8 @@ class CommandLine(InFolder):
         os.close(theirs)
         self.assertEqual((ended.returncode, ended.stdout), (0, "imported 8000\n"))
         self.assertIn(b" of 8000", os.read(ours, 1 << 16))
+        # Nobody looks at a pipe.
+        self.assertEqual(self.done("import", "--no-sync", self.store, lines), "imported 8000\n")
 
     def test_draw(self):
         self.nine_words()
@@ -232,10 +237,11 @@ class CommandLine(InFolder):
         self.refused(74, "put", self.store / "none.tkf", "a", 1)
         # A pipe that nobody writes to is told at once.
         os.mkfifo(self.folder / "pipe")
-        self.refused(74, "check", self.folder / "pipe")
-        self.refused(74, "get", self.folder / "pipe", "a")
+        for words in (["check", self.folder / "pipe"], ["get", self.folder / "pipe", "a"]):
+            self.assertIn("no regular file", self.refused(74, *words))
         for path in (self.store, self.folder, self.folder / "none" / "none.tkf"):
-            self.assertIn(str(path), self.refused(74, "create", path))
+            self.assertIn(f"palhavento: {path}: ", self.refused(74, "create", path))
+        self.assertIn("No such file", self.refused(74, "create", ""))
 
     def test_files_that_may_only_be_read(self):
         self.nine_words()
@@ -262,7 +268,17 @@ class CommandLine(InFolder):
         self.assertEqual(printed, "7\n")
 
     def test_help(self):
-        self.assertIn("examples:", self.done("--help"))
+        said = self.done("--help")
+        self.assertIn("examples:", said)
+        # The examples can be pasted, one after the other.
+        examples = re.findall(r"^  (palhavento .*?)(?:  +.*)?$", said.split("examples:")[1], re.MULTILINE)
+        self.assertGreater(len(examples), 7)
+        path = f"{PACKAGE / 'bin'}{os.pathsep}{os.environ['PATH']}"
+        ended = subprocess.run(["bash", "-e", "-o", "pipefail"], input="\n".join(examples), text=True, cwd=self.folder,
+                               capture_output=True, timeout=60, env={**os.environ, "PATH": path})
+        self.assertEqual((ended.returncode, ended.stderr), (0, ""))
+        self.assertIn('\n42\n', ended.stdout)
+        self.assertIn('{"name": "gdp.de", "value": 42}', ended.stdout)
         for command in COMMANDS:
             said = self.done(command, "--help")
             self.assertIn(f"example:\n  palhavento {command} ", said)
