@@ -50,14 +50,14 @@ PURPOSE = "An ordered file of names, each with a 64-bit value, which a kill betw
 
 EXAMPLES = """\
 examples:
-  palhavento create rates.tkf                   a new store: 64 buckets of up to 16 names
-  palhavento put rates.tkf gdp.de 42            puts a name, or replaces its value
-  palhavento get rates.tkf gdp.de               prints 42
-  palhavento ls rates.tkf gdp.a gdp.z           the names from gdp.a to gdp.z, in order
+  palhavento create rates.tkf                   # a new store: 64 buckets of up to 16 names
+  palhavento put rates.tkf gdp.de 42            # puts a name, or replaces its value
+  palhavento get rates.tkf gdp.de               # prints 42
+  palhavento ls rates.tkf gdp.a gdp.z           # the names from gdp.a to gdp.z, in order
   palhavento create copy.tkf
   palhavento ls rates.tkf | palhavento import copy.tkf -
-  palhavento draw rates.tkf rates.svg           the buckets as a picture; --trie for the trie
-  palhavento get --json rates.tkf gdp.de        {"name": "gdp.de", "value": 42}
+  palhavento draw rates.tkf rates.svg           # the buckets as a picture; --trie for the trie
+  palhavento get --json rates.tkf gdp.de        # {"name": "gdp.de", "value": 42}
 
 palhavento COMMAND --help says more about one command."""
 
