@@ -287,7 +287,15 @@ class Store(MutableMapping[str, int]):
             return self._recovered(self._disk.read())[1]
 
     def rebuild(self) -> None:
-        """Make the trie anew from the file's bounds."""
+        """Make the trie anew from the file's bounds.
+
+        >>> with palhavento.open("words.tkf", b=4, slots=8) as store:
+        ...     store.update(zip("the of and to a in that is i".split(), range(1, 10)))
+        ...     grown = store.trie().cells[0]
+        ...     store.rebuild()
+        ...     grown.digit, store.trie().cells[0].digit
+        ('o', 'i')
+        """
         with self._alone:
             self._trie = self._rebuilt(self._disk.read())
 
@@ -311,11 +319,19 @@ class Store(MutableMapping[str, int]):
         return self._ask(both)
 
     def buckets(self) -> list[layout.Bucket]:
-        """The buckets in range order."""
+        """The buckets in range order.
+
+        >>> palhavento.open("new.tkf").buckets()
+        [Bucket(slot=0, lower='', upper='', entries=0)]
+        """
         return layout.buckets(self._agreed()[0])
 
     def trie(self) -> layout.Trie:
-        """The trie in hand, which depends on the order of the puts; after `rebuild`, on the bounds alone."""
+        """The trie in hand, which depends on the order of the puts; after `rebuild`, on the bounds alone.
+
+        >>> palhavento.open("new.tkf").trie()
+        Trie(count=0, first=0, cells=[])
+        """
         return layout.trie(self._agreed()[1])
 
     def _repr_html_(self) -> drawing.Picture | None:
@@ -333,7 +349,13 @@ class Store(MutableMapping[str, int]):
     # Its life.
 
     def close(self) -> None:
-        """Close the file, and let another process write it. A second time does nothing."""
+        """Close the file, and let another process write it. A second time does nothing.
+
+        >>> store = palhavento.open("closed.tkf", b=4, slots=8)
+        >>> store.close()
+        >>> store
+        <palhavento.Store 'closed.tkf', b=4, slots=8, closed>
+        """
         with self._alone:
             self._disk.close()
 
