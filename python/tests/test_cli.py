@@ -3,6 +3,7 @@
 import json
 import os
 import pty
+import shutil
 import subprocess
 import sys
 import unittest
@@ -275,6 +276,13 @@ class CommandLine(InFolder):
         self.nine_words()
         printed = subprocess.check_output([PACKAGE / "bin" / "palhavento", "get", self.store, "that"], text=True)
         self.assertEqual(printed, "7\n")
+
+    def test_the_script_without_the_library(self):
+        for part in ("bin", "palhavento"):
+            shutil.copytree(PACKAGE / part, self.folder / part, ignore=shutil.ignore_patterns("*.so", "__pycache__"))
+        ended = subprocess.run([self.folder / "bin/palhavento", "check", "a.tkf"], capture_output=True, text=True, timeout=60)
+        self.assertEqual((ended.returncode, ended.stdout, ended.stderr.count("\n")), (74, "", 1), ended.stderr)
+        self.assertIn("run `make python`", ended.stderr)
 
     def test_help(self):
         # The examples can be pasted, one after the other.
