@@ -82,7 +82,7 @@ class Parser(argparse.ArgumentParser):
     """A parser that says what is wrong in one sentence, with a status that is no refusal number."""
 
     def __init__(self, **how: Any) -> None:
-        # An option is written out, or it is none: what is short today may be unclear tomorrow.
+        # `--json` is also looked for by hand, so no option has a shorter form.
         super().__init__(allow_abbrev=False, **how)
 
     def error(self, message: str) -> NoReturn:

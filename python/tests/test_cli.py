@@ -280,7 +280,8 @@ class CommandLine(InFolder):
     def test_the_script_without_the_library(self):
         for part in ("bin", "palhavento"):
             shutil.copytree(PACKAGE / part, self.folder / part, ignore=shutil.ignore_patterns("*.so", "__pycache__"))
-        ended = subprocess.run([self.folder / "bin/palhavento", "check", "a.tkf"], capture_output=True, text=True, timeout=60)
+        ended = subprocess.run([self.folder / "bin/palhavento", "check", "a.tkf"], capture_output=True, text=True,
+                               timeout=60)
         self.assertEqual((ended.returncode, ended.stdout, ended.stderr.count("\n")), (74, "", 1), ended.stderr)
         self.assertIn("run `make python`", ended.stderr)
 

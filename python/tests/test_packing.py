@@ -28,7 +28,7 @@ class Wheel(InFolder):
         here = {path.name for path in Path(palhavento.__file__).parent.iterdir() if path.is_file()}
         self.assertEqual({path.name for path in (self.folder / "site/palhavento").iterdir()}, here)
         self.assertIn("libpalhavento.so", here)
-        program = "import palhavento; store = palhavento.open('new.tkf'); store['a'] = 7; print(palhavento.__file__, store['a'])"
+        program = "import palhavento; store = palhavento.open('a.tkf'); store['a'] = 7; print(palhavento.__file__, store['a'])"
         printed = subprocess.check_output([sys.executable, "-c", program], text=True, cwd=self.folder,
                                           env={**os.environ, "PYTHONPATH": str(self.folder / "site")})
         self.assertEqual(printed, f"{self.folder}/site/palhavento/__init__.py 7\n")
