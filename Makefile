@@ -16,8 +16,10 @@ SECONDS ?= 60
 kill: library
 	@cd tests && PALHAVENTO_SECONDS=$(SECONDS) cargo test --release --offline --test killed -- --nocapture
 
-# The static library for C, Rust and whoever links it, in target/staticlib.
+# The static library for C, Rust and whoever links it, in target/staticlib. The crates below it are checked first, because
+# `rt check` proves side by side what `rt staticlib` would prove one after the other.
 library:
+	@rt check keeper
 	@rt staticlib capi
 
 # The same as a shared library, in the Python package.

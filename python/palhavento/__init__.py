@@ -1,4 +1,4 @@
-"""Palhavento: an ordered file of names on disk, each with a 64-bit integer, believed after a kill at any moment.
+"""Palhavento: an ordered file of names on disk, each with a 64-bit integer, believed after a kill between any two stores.
 
     >>> import palhavento
     >>> store = palhavento.open("gdp.tkf")
@@ -58,7 +58,8 @@ def open(
     """Open a file, or create it where there is none; a file that is there keeps its own b and slots.
 
     A store has one writer at a time, and any number of readers beside it (`readonly=True`), which create nothing. With
-    `sync=False` a change is not waited for until it is on disk: a kill still loses nothing, a machine that fails may.
+    `sync=False` a change is not waited for until it is on disk: that makes no difference to a kill, but a machine that
+    fails may lose it.
 
     >>> with open("prices.tkf", b=4, slots=8) as store:
     ...     store["oil"] = 71

@@ -15,7 +15,7 @@ import sys
 import time
 from collections.abc import Callable, Sequence
 from pathlib import Path
-from typing import BinaryIO, NamedTuple, NoReturn
+from typing import Any, BinaryIO, NamedTuple, NoReturn
 
 import palhavento
 from palhavento import disk, library
@@ -50,13 +50,14 @@ PURPOSE = "An ordered file of names, each with a 64-bit value, which a kill betw
 
 EXAMPLES = """\
 examples:
-  palhavento create rates.tkf                   a new store: 64 buckets of up to 16 names
-  palhavento put rates.tkf gdp.de 42            puts a name, or replaces its value
-  palhavento get rates.tkf gdp.de               prints 42
-  palhavento ls rates.tkf gdp.a gdp.z           the names from gdp.a to gdp.z, in order
+  palhavento create rates.tkf                   # a new store: 64 buckets of up to 16 names
+  palhavento put rates.tkf gdp.de 42            # puts a name, or replaces its value
+  palhavento get rates.tkf gdp.de               # prints 42
+  palhavento ls rates.tkf gdp.a gdp.z           # the names from gdp.a to gdp.z, in order
+  palhavento create copy.tkf
   palhavento ls rates.tkf | palhavento import copy.tkf -
-  palhavento draw rates.tkf rates.svg           the buckets as a picture; --trie for the trie
-  palhavento get --json rates.tkf gdp.de        {"name": "gdp.de", "value": 42}
+  palhavento draw rates.tkf rates.svg           # the buckets as a picture; --trie for the trie
+  palhavento get --json rates.tkf gdp.de        # {"name": "gdp.de", "value": 42}
 
 palhavento COMMAND --help says more about one command."""
 
@@ -78,10 +79,15 @@ class Trouble(Exception):
 
 
 class Parser(argparse.ArgumentParser):
-    """A parser that says what is wrong in one line, with a status that is no refusal number."""
+    """A parser that says what is wrong in one sentence, with a status that is no refusal number."""
+
+    def __init__(self, **how: Any) -> None:
+        # `--json` is also looked for by hand, so no option has a shorter form.
+        super().__init__(allow_abbrev=False, **how)
 
     def error(self, message: str) -> NoReturn:
-        self.exit(USAGE, f"{self.prog}: {message}; see {self.prog} --help\n")
+        command = self.prog.removeprefix("palhavento").lstrip()
+        raise Trouble(USAGE, f"{command + ': ' if command else ''}{message}; see {self.prog} --help")
 
 
 def told(error: BaseException, path: str) -> tuple[int, str]:
@@ -124,12 +130,7 @@ def reading(arguments: argparse.Namespace) -> palhavento.Store:
 
 def create(arguments: argparse.Namespace) -> Report:
     path, b, slots = arguments.store, arguments.b, arguments.slots
-    file, _ = library.create(b, slots)
-    try:
-        disk.create(path, file)
-    except OSError as error:
-        # The file that the error names may be one on the way to the store.
-        raise Trouble(NO_ACCESS, f"{path}: {error.strerror}; nothing was changed") from None
+    disk.create(path, library.create(b, slots)[0])
     return Report({"created": path, "b": b, "slots": slots}, [f"created {path}: {slots} slots of up to {b} names"])
 
 
@@ -312,25 +313,30 @@ def parser() -> Parser:
     return top
 
 
-def report_of(arguments: argparse.Namespace) -> Report:
+def report_of(words: Sequence[str]) -> Report:
     """What the command says; where it cannot be done, one sentence on standard error."""
+    store = ""
     try:
+        arguments = parser().parse_args(words)
+        store = arguments.store
         return arguments.run(arguments)
     except (PalhaventoError, Trouble, OSError, KeyboardInterrupt) as error:
-        status, sentence = told(error, arguments.store)
+        status, sentence = told(error, store)
     print(f"palhavento: {sentence}", file=sys.stderr)
     return Report({"error": sentence, "status": status}, [], status)
 
 
-def main(words: Sequence[str] | None = None) -> int:
-    """Do one command; its exit status."""
+def main() -> int:
+    """Do the command that the words say; its exit status."""
+    words = sys.argv[1:]
     logging.basicConfig(format="palhavento: %(message)s", level=logging.INFO)
     # A path may hold bytes that are no text.
     sys.stdout.reconfigure(errors="backslashreplace")
-    arguments = parser().parse_args(words)
-    report = report_of(arguments)
+    report = report_of(words)
+    # Looked for by hand, so that a script also reads as JSON what is wrong with its arguments.
+    options = words[:words.index("--")] if "--" in words else words
     try:
-        for line in [json.dumps(report.data)] if arguments.json else report.lines:
+        for line in [json.dumps(report.data)] if "--json" in options else report.lines:
             print(line)
         sys.stdout.flush()
     except OSError as error:

@@ -20,6 +20,7 @@ from __future__ import annotations
 import errno
 import fcntl
 import os
+import stat
 import struct
 from typing import Union
 
@@ -35,28 +36,35 @@ def create(path: Path, content: bytes) -> None:
     >>> create("new.tkf", b"TKF")
     >>> create("new.tkf", b"other")
     Traceback (most recent call last):
-    FileExistsError: [Errno 17] File exists: ...
+    FileExistsError: [Errno 17] File exists: 'new.tkf'
     >>> os.listdir(), os.path.getsize("new.tkf")
     (['new.tkf'], 3)
     """
-    folder, name = os.path.split(os.path.abspath(os.fsdecode(path)))
+    target = os.fsdecode(path)
+    folder, name = os.path.split(target)
+    if not name:
+        raise FileNotFoundError(errno.ENOENT, os.strerror(errno.ENOENT), target)
     # A kill may leave this one behind. It is nobody's.
     beside = os.path.join(folder, f".palhavento-{os.urandom(8).hex()}")
-    new = os.open(beside, os.O_WRONLY | os.O_CREAT | os.O_EXCL, 0o666)
     try:
-        with open(new, "wb") as file:
-            file.write(content)
-            file.flush()
-            os.fsync(new)
-        # To link, unlike to rename, never takes the place of a file that another process has put there meanwhile.
-        os.link(beside, os.path.join(folder, name))
-    finally:
-        os.unlink(beside)
-    listing = os.open(folder, os.O_RDONLY | os.O_DIRECTORY)
-    try:
-        os.fsync(listing)
-    finally:
-        os.close(listing)
+        new = os.open(beside, os.O_WRONLY | os.O_CREAT | os.O_EXCL, 0o666)
+        try:
+            with open(new, "wb") as file:
+                file.write(content)
+                file.flush()
+                os.fsync(new)
+            # To link, unlike to rename, never takes the place of a file that another process has put there meanwhile.
+            os.link(beside, target)
+        finally:
+            os.unlink(beside)
+        listing = os.open(folder or os.curdir, os.O_RDONLY | os.O_DIRECTORY)
+        try:
+            os.fsync(listing)
+        finally:
+            os.close(listing)
+    except OSError as error:
+        # It may name the file beside, of which nobody has heard.
+        raise OSError(error.errno, error.strerror, target) from None
 
 
 class Disk:
@@ -73,6 +81,11 @@ class Disk:
         # A named pipe must not keep us waiting for its other end.
         self._file = os.open(path, (os.O_RDONLY if readonly else os.O_RDWR) | os.O_NONBLOCK)
         try:
+            kind = os.fstat(self._file).st_mode
+            if stat.S_ISDIR(kind):
+                raise IsADirectoryError(errno.EISDIR, os.strerror(errno.EISDIR), self.path)
+            if not stat.S_ISREG(kind):
+                raise OSError(errno.EINVAL, "is no regular file", self.path)
             if not readonly:
                 fcntl.flock(self._file, fcntl.LOCK_EX | fcntl.LOCK_NB)
         except OSError as error:

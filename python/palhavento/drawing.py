@@ -6,48 +6,10 @@ in a notebook that would restyle the page around it.
 
 from __future__ import annotations
 
+from collections.abc import Iterator, Sequence
 from html import escape
-from typing import Iterator, Protocol, Sequence
 
-Side = tuple[str, int]
-
-
-class BucketLike(Protocol):
-    """What a picture needs to know of a bucket; an empty bound is no limit."""
-
-    @property
-    def slot(self) -> int: ...
-    @property
-    def lower(self) -> str: ...
-    @property
-    def upper(self) -> str: ...
-    @property
-    def entries(self) -> int: ...
-
-
-class CellLike(Protocol):
-    """What a picture needs to know of a cell; a side is ('slot', n) or ('cell', n)."""
-
-    @property
-    def digit(self) -> str: ...
-    @property
-    def number(self) -> int: ...
-    @property
-    def left(self) -> Side: ...
-    @property
-    def right(self) -> Side: ...
-
-
-class TrieLike(Protocol):
-    """What a picture needs to know of a trie; first is the leaf of a trie without cells."""
-
-    @property
-    def count(self) -> int: ...
-    @property
-    def first(self) -> int: ...
-    @property
-    def cells(self) -> Sequence[CellLike]: ...
-
+from palhavento.layout import Bucket, Cell, Side, Trie
 
 CARD, EDGE, TEXT, QUIET = "#ffffff", "#9aa3ad", "#1f2328", "#59636e"
 CELL_FILL, CELL_EDGE = "#dceafb", "#2f6db5"
@@ -83,9 +45,8 @@ def _box(x: float, y: float, width: float, height: float, fill: str, edge: str =
             f'stroke="{edge}"/>')
 
 
-def _line(x1: float, y1: float, x2: float, y2: float, edge: str = EDGE, dash: bool = False) -> str:
-    dashes = ' stroke-dasharray="3 3"' if dash else ""
-    return f'<line x1="{x1:g}" y1="{y1:g}" x2="{x2:g}" y2="{y2:g}" stroke="{edge}"{dashes}/>'
+def _line(x1: float, y1: float, x2: float, y2: float, edge: str = EDGE) -> str:
+    return f'<line x1="{x1:g}" y1="{y1:g}" x2="{x2:g}" y2="{y2:g}" stroke="{edge}"/>'
 
 
 def _group(kind: str, title: str, parts: Sequence[str]) -> str:
@@ -93,11 +54,19 @@ def _group(kind: str, title: str, parts: Sequence[str]) -> str:
     return f'<g class="{kind}"><title>{escape(title)}</title>{"".join(parts)}</g>'
 
 
-def _picture(width: float, height: float, title: str, parts: Sequence[str]) -> str:
+class Picture(str):
+    """SVG text, to be written to a file; a notebook draws it."""
+
+    def _repr_html_(self) -> str:
+        return str(self)
+
+
+def _picture(width: float, height: float, title: str, parts: Sequence[str]) -> Picture:
     card = _box(0.5, 0.5, width - 1, height - 1, CARD, EDGE, 8)
     body = "\n".join([card, *parts])
-    return (f'<svg xmlns="http://www.w3.org/2000/svg" width="{width:g}" height="{height:g}" '
-            f'viewBox="0 0 {width:g} {height:g}" role="img">\n<title>{escape(title)}</title>\n{body}\n</svg>\n')
+    return Picture(
+        f'<svg xmlns="http://www.w3.org/2000/svg" width="{width:g}" height="{height:g}" '
+        f'viewBox="0 0 {width:g} {height:g}" role="img">\n<title>{escape(title)}</title>\n{body}\n</svg>\n')
 
 
 # The store: a ladder of buckets, with the bounds on its rungs.
@@ -111,11 +80,9 @@ LOAD_AT = 66
 ONE_COLUMN = 16
 
 
-def buckets_svg(buckets: Sequence[BucketLike], b: int) -> str:
+def buckets_svg(buckets: Sequence[Bucket], b: int) -> Picture:
     """The buckets of a store in range order, each with its load, and their bounds between them.
 
-    >>> from collections import namedtuple
-    >>> Bucket = namedtuple("Bucket", "slot lower upper entries")
     >>> picture = buckets_svg([Bucket(0, "", "i ", 3), Bucket(1, "i ", "", 2)], 4)
     >>> picture.count('class="bucket"')
     2
@@ -161,7 +128,7 @@ def _rung(x: float, y: float, width: float, bound_width: float, bound: str) -> s
     return name + _line(x + bound_width, y, x + width, y)
 
 
-def _bucket(x: float, y: float, bucket: BucketLike, b: int) -> str:
+def _bucket(x: float, y: float, bucket: Bucket, b: int) -> str:
     fill, wide = FULL if bucket.entries == b else LOAD, _entry_width(b)
     parts = [_text(x + 4, y + 20, f"slot {bucket.slot}", size=12, font=SANS)]
     for place in range(b):
@@ -186,7 +153,7 @@ EMPTY = "empty"
 NOTES_WIDTH = 450
 
 
-def _leaves_and_cells(trie: TrieLike) -> Iterator[tuple[Side, int, str, Side | None]]:
+def _leaves_and_cells(trie: Trie) -> Iterator[tuple[Side, int, str, Side | None]]:
     """Every node from left to right: the side that leads to it, its depth, its logical path, and the parent.
 
     A trie that leads to a cell twice, or past its count, is no tree: ValueError.
@@ -209,11 +176,9 @@ def _leaves_and_cells(trie: TrieLike) -> Iterator[tuple[Side, int, str, Side | N
         waiting.append((cell.left, depth + 1, path[:cell.number] + cell.digit, side, False))
 
 
-def trie_svg(trie: TrieLike) -> str:
+def trie_svg(trie: Trie) -> Picture:
     """The trie: inner nodes with digit and digit number, leaves with their slot and the logical path to them.
 
-    >>> from collections import namedtuple
-    >>> Cell, Trie = namedtuple("Cell", "digit number left right"), namedtuple("Trie", "count first cells")
     >>> picture = trie_svg(Trie(1, 0, [Cell("o", 0, ("slot", 0), ("slot", 1))]))
     >>> picture.count('class="leaf"'), picture.count('class="cell"')
     (2, 1)
@@ -252,7 +217,7 @@ def trie_svg(trie: TrieLike) -> str:
     return _picture(width, bottom - 16 + MARGIN, title, parts)
 
 
-def _cell(x: float, y: float, number: int, cell: CellLike, path: str) -> str:
+def _cell(x: float, y: float, number: int, cell: Cell, path: str) -> str:
     left, top = x - NODE_WIDTH / 2, y - NODE_HEIGHT / 2
     string = _shown(path[:cell.number] + cell.digit)
     return _group("cell", f"cell {number}: digit {_shown(cell.digit)}, digit number {cell.number}, string {string}", [

@@ -132,6 +132,9 @@ def create(b: int, slots: int) -> tuple[bytes, bytes]:
     Traceback (most recent call last):
     palhavento.errors.WrongSize: b = 17, slots = 1: No file has that size: b is 2 to 16, and slots is 1 to 64.
     """
+    for size in (b, slots):
+        if not isinstance(size, int):
+            raise TypeError(f"b and slots are ints, not {type(size).__name__}")
     about = f"b = {b}, slots = {slots}"
     # A number outside 64 bits would wrap on its way into the call, and a large one would ask for memory first.
     if not (0 <= b < 256 and 0 <= slots < 256):
@@ -151,7 +154,16 @@ def check(file: bytes) -> int:
 
 
 def recover(file: bytes, limit: int) -> Outcome:
-    """FREED with the slot, NOTHING_TO_DO or STOPPED; there is no trie in it."""
+    """FREED with the slot, NOTHING_TO_DO or STOPPED; there is no trie in it.
+
+    >>> file, trie = create(b=2, slots=2)
+    >>> for name in (b"a", b"b"):
+    ...     _, file, trie, _ = put(file, trie, name, 1, limit=2)
+    >>> cut = put(file, trie, b"c", 1, limit=1).file
+    >>> recovered = recover(cut, limit=1)
+    >>> check(cut) == CUT, recovered.answer == FREED, recovered.word, recovered.file == file
+    (True, True, 1, True)
+    """
     changed, words = bytearray(file), _Words()
     answer = _answer(_LIBRARY.pal_recover(_lend(changed), len(changed), limit, words))
     return Outcome(answer, bytes(changed), b"", words[0])
@@ -177,7 +189,13 @@ def look_up(file: bytes, trie: bytes, name: bytes) -> int | None:
 
 
 def put(file: bytes, trie: bytes, name: bytes, value: int, limit: int) -> Outcome:
-    """ADDED, REPLACED with the old value, or STOPPED with the stores made."""
+    """ADDED, REPLACED with the old value, or STOPPED with the stores made.
+
+    >>> put_ = put(*create(b=2, slots=1), b"a", 7, limit=1)
+    >>> again = put(put_.file, put_.trie, b"a", 8, limit=1)
+    >>> put_.answer == ADDED, again.answer == REPLACED, again.word
+    (True, True, 7)
+    """
     changed, grown, words = bytearray(file), bytearray(trie), _Words()
     answer = _LIBRARY.pal_put(
         _lend(changed), len(changed), _lend(grown), len(grown), name, len(name), value, 0, limit, words
@@ -186,7 +204,11 @@ def put(file: bytes, trie: bytes, name: bytes, value: int, limit: int) -> Outcom
 
 
 def remove(file: bytes, trie: bytes, name: bytes, limit: int) -> Outcome:
-    """REMOVED, ABSENT, or STOPPED with the stores made."""
+    """REMOVED, ABSENT, or STOPPED with the stores made.
+
+    >>> remove(*create(b=2, slots=1), b"a", limit=1).answer == ABSENT
+    True
+    """
     changed, same, words = bytearray(file), bytearray(trie), _Words()
     answer = _LIBRARY.pal_remove(
         _lend(changed), len(changed), _lend(same), len(same), name, len(name), limit, words

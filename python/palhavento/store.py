@@ -26,7 +26,7 @@ from itertools import pairwise
 from types import TracebackType
 from typing import Literal, TypeVar, Union
 
-from palhavento import disk, layout, library
+from palhavento import disk, drawing, layout, library
 from palhavento.errors import BadFile, CutFile, PalhaventoError, StaleTrie, refusal
 
 Name = Union[str, bytes]
@@ -66,13 +66,19 @@ def _bytes_of(name: Name) -> bytes:
 
 
 def _value_of(value: int) -> int:
-    """A value that fits eight bytes.
+    """A value that fits eight bytes, from whatever counts as an int.
 
     >>> _value_of(-1)
     Traceback (most recent call last):
     OverflowError: a value is 0 to 2**64 - 1, not -1
+    >>> _value_of(1.5)
+    Traceback (most recent call last):
+    TypeError: a value is an int, not float
     """
-    number = operator.index(value)
+    try:
+        number = operator.index(value)
+    except TypeError:
+        raise TypeError(f"a value is an int, not {type(value).__name__}") from None
     if not 0 <= number <= LARGEST_VALUE:
         raise OverflowError(f"a value is 0 to 2**64 - 1, not {number}")
     return number
@@ -142,7 +148,10 @@ class Store(MutableMapping[str, int]):
 
     def _recovered(self, file: bytes) -> tuple[bytes, int | None]:
         """A file that is not bad made sound, on disk too by the writer; and the slot that was freed for it."""
-        outcome = library.recover(file, limit=1)
+        try:
+            outcome = library.recover(file, limit=1)
+        except BadFile:
+            raise refusal(2, self.path) from None
         if outcome.answer == library.NOTHING_TO_DO:
             return file, None
         if self._disk.readonly:
@@ -278,7 +287,15 @@ class Store(MutableMapping[str, int]):
             return self._recovered(self._disk.read())[1]
 
     def rebuild(self) -> None:
-        """Make the trie anew from the file's bounds."""
+        """Make the trie anew from the file's bounds.
+
+        >>> with palhavento.open("words.tkf", b=4, slots=8) as store:
+        ...     store.update(zip("the of and to a in that is i".split(), range(1, 10)))
+        ...     grown = store.trie().cells[0]
+        ...     store.rebuild()
+        ...     grown.digit, store.trie().cells[0].digit
+        ('o', 'i')
+        """
         with self._alone:
             self._trie = self._rebuilt(self._disk.read())
 
@@ -302,29 +319,43 @@ class Store(MutableMapping[str, int]):
         return self._ask(both)
 
     def buckets(self) -> list[layout.Bucket]:
-        """The buckets in range order."""
+        """The buckets in range order.
+
+        >>> palhavento.open("new.tkf").buckets()
+        [Bucket(slot=0, lower='', upper='', entries=0)]
+        """
         return layout.buckets(self._agreed()[0])
 
     def trie(self) -> layout.Trie:
-        """The trie in hand, which depends on the order of the puts; after `rebuild`, on the bounds alone."""
+        """The trie in hand, which depends on the order of the puts; after `rebuild`, on the bounds alone.
+
+        >>> palhavento.open("new.tkf").trie()
+        Trie(count=0, first=0, cells=[])
+        """
         return layout.trie(self._agreed()[1])
 
-    def _repr_html_(self) -> str | None:
+    def _repr_html_(self) -> drawing.Picture | None:
         """The buckets as a notebook shows them; a closed store has no picture, only its repr."""
-        from palhavento import drawing
-
         return None if self._disk.closed else drawing.buckets_svg(self.buckets(), self.b)
 
-    def trie_svg(self) -> str:
-        """The trie as an SVG, with its logical paths."""
-        from palhavento import drawing
+    def trie_svg(self) -> drawing.Picture:
+        """The trie with its logical paths: SVG text, which a notebook draws.
 
+        >>> palhavento.open("drawn.tkf").trie_svg()[:4]
+        '<svg'
+        """
         return drawing.trie_svg(self.trie())
 
     # Its life.
 
     def close(self) -> None:
-        """Close the file, and let another process write it. A second time does nothing."""
+        """Close the file, and let another process write it. A second time does nothing.
+
+        >>> store = palhavento.open("closed.tkf", b=4, slots=8)
+        >>> store.close()
+        >>> store
+        <palhavento.Store 'closed.tkf', b=4, slots=8, closed>
+        """
         with self._alone:
             self._disk.close()
 

@@ -3,9 +3,11 @@
 import json
 import os
 import pty
+import shutil
 import subprocess
 import sys
 import unittest
+from concurrent.futures import ThreadPoolExecutor
 from pathlib import Path
 
 from support import WORDS, InFolder, cut_file, sound_file
@@ -34,14 +36,20 @@ class CommandLine(InFolder):
 
     def refused(self, status: int, *words, **how) -> str:
         """The one line that a command says that must fail with this status and change nothing."""
+        return self.all_refused(status, [words], **how)[0]
+
+    def all_refused(self, status: int, commands, **how) -> list[str]:
+        """The same for several commands that take no lock, side by side."""
         before = self.everything()
-        ended = self.run_(*words, **how)
-        self.assertEqual(ended.returncode, status, ended.stderr)
-        self.assertEqual(ended.stdout, "")
-        self.assertEqual(ended.stderr.count("\n"), 1, ended.stderr)
-        self.assertTrue(ended.stderr.startswith("palhavento"), ended.stderr)
+        with ThreadPoolExecutor() as side_by_side:
+            all_ended = list(side_by_side.map(lambda words: self.run_(*words, **how), commands))
+        for ended in all_ended:
+            self.assertEqual(ended.returncode, status, ended.stderr)
+            self.assertEqual(ended.stdout, "")
+            self.assertEqual(ended.stderr.count("\n"), 1, ended.stderr)
+            self.assertTrue(ended.stderr.startswith("palhavento: "), ended.stderr)
         self.assertEqual(self.everything(), before)
-        return ended.stderr
+        return [ended.stderr for ended in all_ended]
 
     def everything(self) -> dict[str, bytes]:
         return {str(path): path.read_bytes() for path in self.folder.rglob("*") if path.is_file()}
@@ -90,8 +98,10 @@ class CommandLine(InFolder):
         status, figures = said("stats", self.store)
         self.assertEqual((status, figures["entries"], figures["used"], figures["bytes"]), (0, 1, 1, 36880))
         self.assertEqual(said("rm", self.store, "oil"), (0, {"removed": "oil"}))
-        status, error = said("get", self.store, "oil")
-        self.assertEqual((status, error["status"]), (101, 101))
+        for status, words in ((101, ["get", self.store, "oil"]), (1, ["get", self.store, "a b"]), (64, ["get"]),
+                              (64, ["put", self.store, "oil", "much"]), (74, ["get", self.folder, "oil"])):
+            told, error = said(*words)
+            self.assertEqual((told, error["status"], set(error)), (status, status, {"error", "status"}))
 
     def test_import(self):
         self.done("create", self.store)
@@ -131,6 +141,8 @@ class CommandLine(InFolder):
         os.close(theirs)
         self.assertEqual((ended.returncode, ended.stdout), (0, "imported 8000\n"))
         self.assertIn(b" of 8000", os.read(ours, 1 << 16))
+        # Nobody looks at a pipe.
+        self.assertEqual(self.done("import", "--no-sync", self.store, lines), "imported 8000\n")
 
     def test_draw(self):
         self.nine_words()
@@ -154,9 +166,8 @@ class CommandLine(InFolder):
 
     def test_illegal_names(self):
         self.nine_words()
-        for name in ("a b", "", "x" * 25, "~", "preço", "a\nb"):
-            self.refused(1, "put", self.store, name, 1)
-        for words in (["get", self.store, "a b"], ["rm", self.store, "a b"], ["ls", self.store, "a b", "z"]):
+        self.all_refused(1, [["get", self.store, name] for name in ("a b", "", "x" * 25, "~", "preço", "a\nb")])
+        for words in (["put", self.store, "a b", 1], ["rm", self.store, "a b"], ["ls", self.store, "a b", "z"]):
             self.refused(1, *words)
 
     def test_bad_files(self):
@@ -200,8 +211,8 @@ class CommandLine(InFolder):
         self.refused(6, "put", self.store, "p" * 23 + "c", 0)
 
     def test_sizes(self):
-        for size in (["--b", 1], ["--b", 17], ["--slots", 0], ["--slots", 65], ["--b", -1], ["--slots", 10**30]):
-            self.refused(8, "create", self.store, *size)
+        sizes = (["--b", 1], ["--b", 17], ["--slots", 0], ["--slots", 65], ["--b", -1], ["--slots", 10**30])
+        self.all_refused(8, [["create", self.store, *size] for size in sizes])
 
     def test_locked(self):
         self.nine_words()
@@ -214,28 +225,33 @@ class CommandLine(InFolder):
 
     def test_bad_arguments(self):
         self.nine_words()
-        for words in ([], ["grow"], ["put", self.store], ["put", self.store, "oil"], ["put", self.store, "oil", "much"],
-                      ["put", self.store, "oil", "-1"], ["put", self.store, "oil", 2**64], ["get", self.store],
-                      ["put", self.store, "oil", "9" * 5000], ["get", self.store, "a", "b"], ["check"],
-                      ["create", self.folder / "new.tkf", "--b", "four"], ["ls", self.store, "--xml"]):
-            self.refused(64, *words)
+        self.all_refused(64, [
+            [], ["grow"], ["put", self.store], ["put", self.store, "oil"], ["put", self.store, "oil", "much"],
+            ["put", self.store, "oil", "-1"], ["put", self.store, "oil", 2**64], ["get", self.store],
+            ["put", self.store, "oil", "9" * 5000], ["get", self.store, "a", "b"], ["check"],
+            ["create", self.folder / "new.tkf", "--b", "four"], ["ls", self.store, "--xml"], ["ls", self.store, "--js"],
+        ])
 
     def test_missing_files_and_folders(self):
         self.nine_words()
         text = self.folder / "lines.txt"
         text.write_text("a 1\n")
         for path in (self.folder / "none.tkf", self.folder):
-            for words in (["put", path, "a", 1], ["get", path, "a"], ["rm", path, "a"], ["ls", path], ["check", path],
-                          ["import", path, text], ["recover", path], ["stats", path],
-                          ["draw", path, self.folder / "new.svg"]):
-                self.assertIn(str(path), self.refused(74, *words))
+            said = self.all_refused(74, [
+                ["put", path, "a", 1], ["get", path, "a"], ["rm", path, "a"], ["ls", path], ["check", path],
+                ["import", path, text], ["recover", path], ["stats", path], ["draw", path, self.folder / "new.svg"],
+            ])
+            self.assertEqual(len(set(said)), 1)
+            self.assertIn(f"palhavento: {path}: ", said[0])
         self.refused(74, "put", self.store / "none.tkf", "a", 1)
         # A pipe that nobody writes to is told at once.
         os.mkfifo(self.folder / "pipe")
-        self.refused(74, "check", self.folder / "pipe")
-        self.refused(74, "get", self.folder / "pipe", "a")
-        for path in (self.store, self.folder, self.folder / "none" / "none.tkf"):
-            self.assertIn(str(path), self.refused(74, "create", path))
+        for said in self.all_refused(74, [["check", self.folder / "pipe"], ["get", self.folder / "pipe", "a"]]):
+            self.assertIn("no regular file", said)
+        paths = [self.store, self.folder, self.folder / "none" / "none.tkf"]
+        for path, said in zip(paths, self.all_refused(74, [["create", path] for path in paths])):
+            self.assertIn(f"palhavento: {path}: ", said)
+        self.assertIn("No such file", self.refused(74, "create", ""))
 
     def test_files_that_may_only_be_read(self):
         self.nine_words()
@@ -261,10 +277,26 @@ class CommandLine(InFolder):
         printed = subprocess.check_output([PACKAGE / "bin" / "palhavento", "get", self.store, "that"], text=True)
         self.assertEqual(printed, "7\n")
 
+    def test_the_script_without_the_library(self):
+        for part in ("bin", "palhavento"):
+            shutil.copytree(PACKAGE / part, self.folder / part, ignore=shutil.ignore_patterns("*.so", "__pycache__"))
+        ended = subprocess.run([self.folder / "bin/palhavento", "check", "a.tkf"], capture_output=True, text=True,
+                               timeout=60)
+        self.assertEqual((ended.returncode, ended.stdout, ended.stderr.count("\n")), (74, "", 1), ended.stderr)
+        self.assertIn("run `make python`", ended.stderr)
+
     def test_help(self):
-        self.assertIn("examples:", self.done("--help"))
-        for command in COMMANDS:
-            said = self.done(command, "--help")
+        # The examples can be pasted, one after the other.
+        examples = self.done("--help").split("examples:\n")[1].split("\n\n")[0]
+        path = f"{PACKAGE / 'bin'}{os.pathsep}{os.environ['PATH']}"
+        ended = subprocess.run(["bash", "-e", "-o", "pipefail"], input=examples, text=True, cwd=self.folder,
+                               capture_output=True, timeout=60, env={**os.environ, "PATH": path})
+        self.assertEqual((ended.returncode, ended.stderr), (0, ""))
+        self.assertIn('\n42\n', ended.stdout)
+        self.assertIn('{"name": "gdp.de", "value": 42}', ended.stdout)
+        with ThreadPoolExecutor() as side_by_side:
+            all_said = list(side_by_side.map(lambda command: self.done(command, "--help"), COMMANDS))
+        for command, said in zip(COMMANDS, all_said):
             self.assertIn(f"example:\n  palhavento {command} ", said)
             self.assertIn("exit status:", said)
 

@@ -1,5 +1,8 @@
-"""What the documents show is what the library gives: bytes, pictures, and the program for a bad file."""
+"""What the documents show is what the library gives: bytes, pictures, README's Python and its five minutes."""
 
+import ast
+import contextlib
+import os
 import re
 import subprocess
 import sys
@@ -64,6 +67,30 @@ class Documents(InFolder):
             drawn = {"store.svg": buckets_svg(store.buckets(), store.b), "trie.svg": store.trie_svg()}
         for name, picture in drawn.items():
             self.assertEqual((PROJECT / "docs" / name).read_text(encoding="utf-8"), picture)
+
+    def test_readmes_five_lines(self):
+        readme = (PROJECT / "README.md").read_text(encoding="utf-8")
+        lines = re.search(r"```python\n(.*?)```", readme, re.DOTALL)[1].splitlines()
+        self.assertEqual(len(lines), 5)
+        asked, answer = lines[3].split("#")
+        named: dict[str, object] = {}
+        with contextlib.chdir(self.folder):
+            exec("\n".join(lines[:3]), named)
+        self.assertEqual(eval(asked, named), ast.literal_eval(answer.strip()))
+        self.assertEqual(eval(lines[4], named)._repr_html_(), (PROJECT / "docs/store.svg").read_text(encoding="utf-8"))
+
+    def test_readmes_five_minutes(self):
+        readme = (PROJECT / "README.md").read_text(encoding="utf-8")
+        story = re.search(r"```sh\n(.*?)```", readme, re.DOTALL)[1]
+        ended = subprocess.run(["bash", "-c", story], cwd=PROJECT, env={**os.environ, "TMPDIR": str(self.folder)},
+                               capture_output=True, text=True, timeout=60)
+        self.assertEqual((ended.returncode, ended.stderr.count("Killed")), (0, 3), ended.stderr)
+        self.assertRegex(ended.stdout, r"^[1-9]\d* names said, 0 lost\nsound\ndrew rates.svg\n$")
+
+    def test_readmes_refusals(self):
+        readme = (PROJECT / "README.md").read_text(encoding="utf-8")
+        for number, kind in re.findall(r"^\| (\d) \| .* \| `(\w+)` \|$", readme, re.MULTILINE):
+            self.assertEqual(getattr(palhavento, kind).number, int(number))
 
     def test_what_is_left_of_a_bad_file(self):
         operations = (PROJECT / "docs/OPERATIONS.md").read_text(encoding="utf-8")

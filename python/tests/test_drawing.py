@@ -124,6 +124,12 @@ class Tries(unittest.TestCase):
 
 
 class InANotebook(InFolder):
+    def test_both_pictures_are_shown_and_not_printed(self):
+        with palhavento.open(self.path) as store:
+            for picture in (store._repr_html_(), store.trie_svg()):
+                self.assertIsInstance(picture, str)
+                self.assertEqual(picture._repr_html_(), str(picture))
+
     def test_fig_1_of_document_000(self):
         with palhavento.open(self.path, b=4, slots=16, sync=False) as store:
             store.update({name: 0 for name in FIG_1})

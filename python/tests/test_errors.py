@@ -2,6 +2,7 @@
 
 from __future__ import annotations
 
+import contextlib
 import io
 import os
 import pickle
@@ -89,6 +90,9 @@ class Raised(InFolder):
                 self.refused(errors.BadFile, store.__len__)
                 self.refused(errors.BadFile, store.rebuild)
                 self.assertEqual(store.check(), "bad")
+                for call in (store.__len__, store.rebuild, store.stats, *([] if readonly else [store.recover])):
+                    with self.assertRaisesRegex(errors.BadFile, "store.tkf: "):
+                        call()
 
     def test_cut_file(self) -> None:
         store = self.open(b=2, slots=3)
@@ -190,13 +194,26 @@ class OfPython(InFolder):
             (FileNotFoundError, self.folder / "none" / "store.tkf", {}),
             (IsADirectoryError, self.folder, {}),
             (IsADirectoryError, self.folder, {"readonly": True}),
+            (OSError, self.folder / ("x" * 256), {}),
+            (NotADirectoryError, pipe / "store.tkf", {}),
             (OSError, pipe, {}),
             (OSError, pipe, {"readonly": True}),
         ]
         for kind, path, words in cases:
-            with self.subTest(path=path, words=words), self.assertRaises(kind):
+            with self.subTest(path=path, words=words), self.assertRaises(kind) as caught:
                 palhavento.open(path, **words)  # type: ignore[arg-type]
+            # The file that was asked for, and none on the way to it.
+            self.assertEqual(caught.exception.filename, str(path))
+            self.assertIsNone(caught.exception.filename2)
         self.assertEqual(os.listdir(self.folder), ["pipe"])
+
+    def test_a_path_without_a_name_touches_no_other_folder(self) -> None:
+        inner = self.folder / "inner"
+        inner.mkdir()
+        with contextlib.chdir(inner), mock.patch("os.link", side_effect=AssertionError) as link:
+            with self.assertRaises(FileNotFoundError):
+                palhavento.open("")
+        link.assert_not_called()
 
 
 if __name__ == "__main__":

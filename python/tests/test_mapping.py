@@ -97,9 +97,22 @@ class AsADict(InFolder):
                 with self.assertRaises(OverflowError):
                     store["n"] = value
             for value in (1.0, "1", None):
-                with self.assertRaises(TypeError):
+                with self.assertRaisesRegex(TypeError, f"a value is an int, not {type(value).__name__}"):
                     store["n"] = value  # type: ignore[assignment]
             self.assertEqual(store["n"], 1)
+
+    def test_a_file_that_is_there_keeps_its_sizes(self) -> None:
+        palhavento.open(self.path, b=2, slots=3).close()
+        for b, slots in ((16, 64), (4, 8), (99, 0)):
+            with palhavento.open(self.path, b=b, slots=slots) as store:
+                self.assertEqual((store.b, store.slots), (2, 3))
+
+    def test_sizes_are_ints(self) -> None:
+        for size in (4.0, "4", None):
+            for words in ({"b": size}, {"slots": size}):
+                with self.assertRaisesRegex(TypeError, f"b and slots are ints, not {type(size).__name__}"):
+                    palhavento.open(self.path, **words)  # type: ignore[arg-type]
+        self.assertFalse(self.path.exists())
 
     def test_names_are_str_or_bytes(self) -> None:
         with palhavento.open(self.path, sync=False) as store:
@@ -149,8 +162,7 @@ class ForTheMaintainer(InFolder):
         self.assertEqual(trie.cells[2], palhavento.Cell("o", 0, ("slot", 2), ("slot", 1)))
 
     def test_pictures_are_drawn_from_buckets_and_trie(self) -> None:
-        drawing = mock.Mock()
-        with mock.patch.object(palhavento, "drawing", drawing, create=True):
+        with mock.patch("palhavento.store.drawing") as drawing:
             self.assertIs(self.store._repr_html_(), drawing.buckets_svg.return_value)
             self.assertIs(self.store.trie_svg(), drawing.trie_svg.return_value)
         drawing.buckets_svg.assert_called_once_with(self.store.buckets(), 4)
@@ -158,8 +170,7 @@ class ForTheMaintainer(InFolder):
 
     def test_a_closed_store_has_no_picture(self) -> None:
         self.store.close()
-        with mock.patch.object(palhavento, "drawing", mock.Mock(), create=True):
-            self.assertIsNone(self.store._repr_html_())
+        self.assertIsNone(self.store._repr_html_())
 
     def test_a_store_shows_itself(self) -> None:
         self.assertEqual((self.store.path, self.store.b, self.store.slots), (str(self.path), 4, 8))
