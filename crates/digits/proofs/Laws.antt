@@ -174,23 +174,6 @@ module _ (x y : Key) (xc : x .c < 2 ^ 64) (yc : y .c < 2 ^ 64) (e : keyValue x �
     | no h ↦ elim (decLt (y .b) (x .b)) [ yes k ↦ absurd (omega (arith, lt-second y x (sym a) k yc)) | no k ↦ omega arith ]
   ]
 
--- No blank is followed by more than a blank, from i on.
-pub blank-next : (s : List ℕ) (i : ℕ) → 1 ≤ i → i < length s
-    → blankEnds (drop (i - 1) s) ≡ ((ltb 0x20 (getD s (i - 1) 0) || ltb (getD s i 0) 0x21) && blankEnds (drop (i + 1 - 1) s))
-unfolding blankEnds
-blank-next s zero h k = absurd (omega arith)
-blank-next s (suc j) h k =
-    let e : suc j - 1 ≡ j = omega arith in
-    let f : suc j + 1 - 1 ≡ suc j = omega arith in
-    rw (e, f, drop-cons s j 0 (omega arith), drop-cons s (suc j) 0 k)
-
-pub blank-last : (s : List ℕ) (i : ℕ) → i ≡ 24 → length s ≡ 24 → blankEnds (drop (i - 1) s) ≡ true
-unfolding blankEnds
-blank-last s i e h =
-    let k : length s ≤ 24 = omega arith in
-    let f : drop 24 s ≡ [] = drop-of-length-le s k in
-    rw (e, drop-cons s 23 0 (omega arith), f)
-
 -- A blank is followed by blanks alone; any other digit, by an end of blanks.
 blanks-is : (n : List ℕ) → blanks n ≡ (areDigits 0x20 n && blankEnds (0x20 ∷ n))
 unfolding areDigits blankEnds blanks

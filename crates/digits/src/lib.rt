@@ -5,12 +5,13 @@
 ghost use mathlib.Core.Bool.{_&&_, _||_, true};
 ghost use mathlib.Core.Logic.{_⊎_};
 ghost use mathlib.Core.Path.{_≡_};
-ghost use mathlib.Core.List.{[]};
-ghost use Prim.Native.Nat.{_≤_, _<_, _+_, _-_, _^_, min};
+ghost use mathlib.Core.List.{[], _++_};
+ghost use Prim.Native.Nat.{_≤_, _<_, _+_, _-_, _^_, min, ℕ};
 ghost use lib.Dec.{eqb, leb, ltb};
 ghost use lib.ListN.{drop, length, take};
 ghost use Rattle.model.specs.Names as names;
-ghost use Rattle.model.specs.Order.{diff};
+ghost use Rattle.model.specs.Order.{Str, diff};
+ghost use Rattle.digits.specs.Words.{Word, after, mark, marked};
 ghost use Rattle.digits.specs.Keys.{blankEnds, continued, isZero, keyValue, naming, value};
 
 // A string of digits as it is compared.
@@ -258,34 +259,56 @@ pub fn filled(name: &[u8]) -> [u8; 24]
     digits
 }
 
-// 1 where a blank is followed by more than a blank, else 0.
-fn fault_after(y: u8, x: u8) -> u8
-    ensures { λ r. ⌜ eqb r 0 ≡ (ltb 0x20 y || ltb x 0x21) ⌝ }
+// Whether the eight bytes of a word are digits, 0x20 to 0x7D. Of a byte below 0x80 the highest bit says, when 2 is added,
+// whether it is above 0x7D, and when 0x60 is added, whether it is 0x20 or above; and no sum reaches the next byte.
+fn is_of_digits(word: u64) -> bool
+    ensures { λ r. ⌜ ((x : Str) → Word x → word ≡ value x → r ≡ names.areDigits 0x20 x) ⌝ }
 {
-    if 0x20 < y {
-        return 0;
+    if word & 0x8080_8080_8080_8080 != 0 {
+        return false;
     }
-    if x < 0x21 {
-        return 0;
+    let above = std::num::wrapping_add_u64(word, 0x0202_0202_0202_0202);
+    if above & 0x8080_8080_8080_8080 != 0 {
+        return false;
     }
-    1
+    let from = std::num::wrapping_add_u64(word, 0x6060_6060_6060_6060);
+    from & 0x8080_8080_8080_8080 == 0x8080_8080_8080_8080
 }
 
-// Whether no blank is followed by more than a blank.
-fn is_filled(s: &[u8]) -> bool
-    requires { ⌜ length (now s) ≡ 24 ⌝ }
-    ensures { λ r. ⌜ r ≡ blankEnds (now (s .entry)) ⌝ }
+// The highest bit of each byte that is more than a blank.
+fn marks_of(word: u64) -> u64
+    ensures { λ r. ⌜ ((x : Str) → Word x → names.areDigits 0x20 x ≡ true → word ≡ value x → r ≡ value (marked x)) ⌝ }
 {
-    let mut most = 0u8;
-    let mut i = 1;
-    while i < 24 {
-        most = larger(most, fault_after(s[i - 1], s[i]));
-        i += 1;
-    }
-    most == 0
+    std::num::wrapping_add_u64(word, 0x5F5F_5F5F_5F5F_5F5F) & 0x8080_8080_8080_8080
 }
 
-// Whether these 24 bytes are a legal name, filled.
+// Whether each byte that is marked has one that is marked before it; the byte before the first is given.
+fn follow(before: u64, marks: u64) -> bool
+    requires { ⌜ before < 256 ⌝ }
+    ensures { λ r. ⌜ ((q : ℕ) (x : Str) → Word x → before ≡ mark q → marks ≡ value (marked x) → r ≡ after q x) ⌝ }
+{
+    let moved = marks / 256 + before * 0x100_0000_0000_0000;
+    marks & moved == marks
+}
+
+// Whether no blank is followed by more than a blank, in three words of digits.
+fn is_filled(a: u64, b: u64, c: u64) -> bool
+    ensures { λ r.
+        ⌜ ((x y z : Str) → Word x → Word y → Word z → names.areDigits 0x20 x ≡ true → names.areDigits 0x20 y ≡ true → names.areDigits 0x20 z ≡ true
+        → a ≡ value x → b ≡ value y → c ≡ value z → r ≡ blankEnds (x ++ (y ++ z))) ⌝ }
+{
+    let first = marks_of(a);
+    if !follow(0x80, first) {
+        return false;
+    }
+    let second = marks_of(b);
+    if !follow(first % 256, second) {
+        return false;
+    }
+    follow(second % 256, marks_of(c))
+}
+
+// Whether these 24 bytes are a legal name, filled. Eight bytes at a time: most of a put's time is spent here.
 pub fn is_filled_name(s: &[u8]) -> bool
     requires { ⌜ length (now s) ≡ 24 ⌝ }
     ensures { λ r. ⌜ r ≡ names.legalFilled (now (s .entry)) ⌝ }
@@ -293,10 +316,19 @@ pub fn is_filled_name(s: &[u8]) -> bool
     if s[0] == 0x20 {
         return false;
     }
-    if !are_digits(s, 0x20) {
+    let a = word(s, 0);
+    if !is_of_digits(a) {
         return false;
     }
-    is_filled(s)
+    let b = word(s, 8);
+    if !is_of_digits(b) {
+        return false;
+    }
+    let c = word(s, 16);
+    if !is_of_digits(c) {
+        return false;
+    }
+    is_filled(a, b, c)
 }
 
 // Whether these 24 bytes are a bound of `len` digits: each 0x20 to 0x7D, and zero behind them.

@@ -1,77 +1,66 @@
--- `digits::is_filled` meets its contract.
-use mathlib.Core.Bool.{_&&_, _||_}
-use lib.Dec.{eqb, ltb}
-use Rattle.digits.specs.Keys.{blankEnds}
-use Rattle.digits.proofs.Laws.{blank-last, blank-next, gathered, gathers, larger-zero}
-use Prim.Native.Nat.{ℕ, _≤_, _-_, _<_, _+_, _*_}
+-- `digits::is_filled` meets its contract: each word follows the last digit of the one before, the first a digit that is no blank.
+use mathlib.Core.Path.{_∙_, refl, sym}
+use mathlib.Core.Bool.{and-false}
 use native.Mathlib.Omega.{arith}
-use mathlib.Core.Path.{_≡_, refl, sym, _∙_}
-use lib.ListN.{length, take, drop, getD}
 use borrow.Author.Needs.{needs}
+use borrow.Author.Tests.{not-false, not-true}
+use Rattle.digits.specs.Words.{after}
+use Rattle.digits.proofs.Words.{last-from, marks-last, three-after}
 use Rattle.digits.proofs.is_filled.Statement.{statement}
 use Rattle.digits.proofs.is_filled.Tie as tie
-use Rattle.digits.proofs.is_filled.Reads as reads
-use Rattle.digits.proofs.is_filled.Lts as lts
-use Rattle.digits.proofs.fault_after.Reads as fault-after-reads
-use Rattle.digits.proofs.larger.Reads as larger-reads
 
-abbrev Inv-loop : tie.InvT-loop
-Inv-loop s most₀ i₀ most i = (1 ≤ i) × (i ≤ 24) × (blankEnds s ≡ (eqb most 0 && blankEnds (drop (i - 1) s)))
+marks-of-requires : tie.Need-marks-of-requires
+marks-of-requires c κs = search needs
 
-abbrev μ-loop : tie.MeasureT-loop
-μ-loop s most₀ i₀ most i = 24 - i
+follow-requires : tie.Need-follow-requires
+follow-requires c κs = search needs
 
-loop-holds : tie.Need-loop-holds Inv-loop μ-loop
-loop-holds c = (search needs, search needs, refl)
+returns : tie.Need-returns
+returns c x y z X Y Z dx dy dz ex ey ez =
+    let m = c .before .before .marks-of .ensures x X dx ex in
+    let f = c .before .follow .ensures 0x21 x X refl m in
+    sym (three-after 0x21 x y z (omega arith) ∙ rw (← f, not-true (c .before .follow .result) (c .if1 .taken)))
 
-sub-fault-after : tie.Need-sub-fault-after Inv-loop μ-loop
-sub-fault-after c = search needs
+marks-of-requires-2 : tie.Need-marks-of-requires-2
+marks-of-requires-2 c κs = search needs
 
-shared-slice-read-fault-after : tie.Need-shared-slice-read-fault-after Inv-loop μ-loop
-shared-slice-read-fault-after c = search needs
+follow-requires-2 : tie.Need-follow-requires-2
+follow-requires-2 c κs = search needs
 
-shared-slice-read-fault-after-2 : tie.Need-shared-slice-read-fault-after-2 Inv-loop μ-loop
-shared-slice-read-fault-after-2 c = search needs
+returns-2 : tie.Need-returns-2
+returns-2 c x y z X Y Z dx dy dz ex ey ez =
+    let m = c .before .before .before .before .before .marks-of .ensures x X dx ex in
+    let n = c .before .before .marks-of2 .ensures y Y dy ey in
+    let g = c .before .follow2 .ensures (last-from 0x21 x) y Y (marks-last 0x21 x X m) n in
+    sym (three-after 0x21 x y z (omega arith) ∙ rw (← g, not-true (c .before .follow2 .result) (c .if2 .taken)) (and-false (after 0x21 x)))
 
-fault-after-requires : tie.Need-fault-after-requires Inv-loop μ-loop
-fault-after-requires c κs = search needs
+marks-of-requires-3 : tie.Need-marks-of-requires-3
+marks-of-requires-3 c κs = search needs
 
-larger-requires : tie.Need-larger-requires Inv-loop μ-loop
-larger-requires c κs = search needs
+follow-requires-3 : tie.Need-follow-requires-3
+follow-requires-3 c κs = search needs
 
-add-i : tie.Need-add-i Inv-loop μ-loop
-add-i c = search needs
-
-loop-less : tie.Need-loop-less Inv-loop μ-loop
-loop-less c = search needs
-
-loop-again : tie.Need-loop-again Inv-loop μ-loop
-loop-again c =
-    let l = c .before .before .before .before .before in
-    let s = l .before .before .args .s .now in
-    let i = l .loop .i in
-    let g = c .larger .ensures in
-    (search needs, search needs, gathers (blankEnds s) (eqb (l .loop .most) 0) (blankEnds (drop (i - 1) s)) (ltb 0x20 (getD s (i - 1) 0) || ltb (getD s i 0) 0x21) (blankEnds (drop (i + 1 - 1) s)) (eqb (c .larger .result) 0) (l .loop .inv .2) (blank-next s i (omega arith) (omega arith)) (larger-zero (l .loop .most) (c .before .fault-after .result) (c .larger .result) (g .0) (g .1) (g .2) ∙ rw (c .before .fault-after .ensures)))
-
-returns : tie.Need-returns Inv-loop μ-loop
-returns c =
-    let l = c .before in
-    let s = l .before .before .args .s .now in
-    gathered (blankEnds s) (eqb (l .loop .most) 0) (blankEnds (drop (l .loop .i - 1) s)) (l .loop .inv .2) (blank-last s (l .loop .i) (omega arith) (omega arith))
+returns-3 : tie.Need-returns-3
+returns-3 c x y z X Y Z dx dy dz ex ey ez =
+    let m = c .before .before .before .before .before .before .before .marks-of .ensures x X dx ex in
+    let n = c .before .before .before .before .marks-of2 .ensures y Y dy ey in
+    let o = c .before .marks-of3 .ensures z Z dz ez in
+    let f = c .before .before .before .before .before .before .follow .ensures 0x21 x X refl m in
+    let g = c .before .before .before .follow2 .ensures (last-from 0x21 x) y Y (marks-last 0x21 x X m) n in
+    let h = c .follow3 .ensures (last-from (last-from 0x21 x) y) z Z (marks-last (last-from 0x21 x) y Y n) o in
+    h
+    ∙ sym (three-after 0x21 x y z (omega arith) ∙ rw (← f, ← g, not-false (c .before .before .before .before .before .before .follow .result) (c .before .before .before .before .before .if1 .left), not-false (c .before .before .before .follow2 .result) (c .before .before .if2 .left)))
 
 pub is-filled-spec : {M : Type 1} → statement M
 is-filled-spec =
     tie.close
     (tie.spec
-    Inv-loop
-    μ-loop
-    loop-holds
-    sub-fault-after
-    shared-slice-read-fault-after
-    shared-slice-read-fault-after-2
-    fault-after-requires
-    larger-requires
-    add-i
-    loop-less
-    loop-again
-    returns)
+    marks-of-requires
+    follow-requires
+    returns
+    marks-of-requires-2
+    follow-requires-2
+    returns-2
+    marks-of-requires-3
+    follow-requires-3
+    returns-3)

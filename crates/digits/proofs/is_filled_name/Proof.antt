@@ -1,41 +1,81 @@
--- `digits::is_filled_name` meets its contract.
-use borrow.Author.Tests.{not-false, not-true}
-use Rattle.digits.proofs.Laws.{filled-name, not-blank}
-use Prim.Native.Nat.{ℕ, _≤_, _-_, _<_, _+_, _*_}
+-- `digits::is_filled_name` meets its contract, word by word.
+use mathlib.Core.Path.{_∙_, sym}
+use Prim.Native.Nat.{_<_, ℕ}
 use native.Mathlib.Omega.{arith}
-use mathlib.Core.Path.{_≡_, refl, sym, _∙_}
-use lib.ListN.{length, take, drop, getD}
+use lib.ListN.{getD}
 use borrow.Author.Needs.{needs}
+use borrow.Author.Tests.{not-false, not-true}
+use Rattle.digits.proofs.Laws.{not-blank}
+use Rattle.digits.proofs.Words.{first-ill, name-filled, second-ill, third-ill, word-part}
 use Rattle.digits.proofs.is_filled_name.Statement.{statement}
 use Rattle.digits.proofs.is_filled_name.Tie as tie
-use Rattle.digits.proofs.is_filled_name.Reads as reads
-use Rattle.digits.proofs.is_filled_name.Lts as lts
-use Rattle.digits.proofs.are_digits.Reads as are-digits-reads
-use Rattle.digits.proofs.is_filled.Reads as is-filled-reads
 
 shared-slice-read-if1 : tie.Need-shared-slice-read-if1
 shared-slice-read-if1 c = search needs
 
 returns : tie.Need-returns
-returns c =
-    let s = c .before .before .before .args .s .now in
-    sym (not-blank s (c .if1 .taken) (omega arith))
+returns c = sym (not-blank (c .before .before .before .args .s .now) (c .if1 .taken) (omega arith))
 
-are-digits-requires : tie.Need-are-digits-requires
-are-digits-requires c κs = search needs
+word-requires : tie.Need-word-requires
+word-requires c κs = search needs
+
+is-of-digits-requires : tie.Need-is-of-digits-requires
+is-of-digits-requires c κs = search needs
 
 returns-2 : tie.Need-returns-2
 returns-2 c =
-    let s = c .before .before .before .before .before .args .s .now in
-    sym (filled-name s (c .before .before .if1 .left) (omega arith) ∙ rw (← c .before .are-digits .ensures, not-true (c .before .are-digits .result) (c .if2 .taken)))
+    let a = c .before .before .before .before .before .before in
+    let s = a .args .s .now in
+    let f : (i : ℕ) → getD s i 0 < 256 = λ i. omega (arith, c .before .before .before .before .before .shared-slice-known .given i) in
+    let e = c .before .is-of-digits .ensures _ (word-part s 0 (omega (arith, a .pre)) f) (c .before .before .word .ensures) in
+    first-ill s (a .pre) (c .before .before .before .if1 .left) (sym e ∙ not-true _ (c .if2 .taken))
+
+word-requires-2 : tie.Need-word-requires-2
+word-requires-2 c κs = search needs
+
+is-of-digits-requires-2 : tie.Need-is-of-digits-requires-2
+is-of-digits-requires-2 c κs = search needs
+
+returns-3 : tie.Need-returns-3
+returns-3 c =
+    let a = c .before .before .before .before .before .before .before .before .before in
+    let s = a .args .s .now in
+    let f : (i : ℕ) → getD s i 0 < 256 = λ i. omega (arith, c .before .before .before .before .before .before .before .before .shared-slice-known .given i) in
+    let e = c .before .is-of-digits2 .ensures _ (word-part s 8 (omega (arith, a .pre)) f) (c .before .before .word2 .ensures) in
+    second-ill s (a .pre) (c .before .before .before .before .before .before .if1 .left) (sym e ∙ not-true _ (c .if3 .taken))
+
+word-requires-3 : tie.Need-word-requires-3
+word-requires-3 c κs = search needs
+
+is-of-digits-requires-3 : tie.Need-is-of-digits-requires-3
+is-of-digits-requires-3 c κs = search needs
+
+returns-4 : tie.Need-returns-4
+returns-4 c =
+    let a = c .before .before .before .before .before .before .before .before .before .before .before .before in
+    let s = a .args .s .now in
+    let f : (i : ℕ) → getD s i 0 < 256 = λ i. omega (arith, c .before .before .before .before .before .before .before .before .before .before .before .shared-slice-known .given i) in
+    let e = c .before .is-of-digits3 .ensures _ (word-part s 16 (omega (arith, a .pre)) f) (c .before .before .word3 .ensures) in
+    third-ill s (a .pre) (c .before .before .before .before .before .before .before .before .before .if1 .left) (sym e ∙ not-true _ (c .if4 .taken))
 
 is-filled-requires : tie.Need-is-filled-requires
 is-filled-requires c κs = search needs
 
-returns-3 : tie.Need-returns-3
-returns-3 c =
-    let s = c .before .before .before .before .before .before .args .s .now in
-    sym (filled-name s (c .before .before .before .if1 .left) (omega arith) ∙ rw (← c .before .before .are-digits .ensures, not-false (c .before .before .are-digits .result) (c .before .if2 .left)) (sym (c .is-filled .ensures)))
+returns-5 : tie.Need-returns-5
+returns-5 c =
+    let a = c .before .before .before .before .before .before .before .before .before .before .before .before .before in
+    let s = a .args .s .now in
+    let f : (i : ℕ) → getD s i 0 < 256 = λ i. omega (arith, c .before .before .before .before .before .before .before .before .before .before .before .before .shared-slice-known .given i) in
+    let x = word-part s 0 (omega (arith, a .pre)) f in
+    let y = word-part s 8 (omega (arith, a .pre)) f in
+    let z = word-part s 16 (omega (arith, a .pre)) f in
+    let i = c .before .before .before .before .before .before .before .before .before .word .ensures in
+    let j = c .before .before .before .before .before .before .word2 .ensures in
+    let k = c .before .before .before .word3 .ensures in
+    let dx = sym (c .before .before .before .before .before .before .before .before .is-of-digits .ensures _ x i) ∙ not-false _ (c .before .before .before .before .before .before .before .if2 .left) in
+    let dy = sym (c .before .before .before .before .before .is-of-digits2 .ensures _ y j) ∙ not-false _ (c .before .before .before .before .if3 .left) in
+    let dz = sym (c .before .before .is-of-digits3 .ensures _ z k) ∙ not-false _ (c .before .if4 .left) in
+    name-filled s (a .pre) (c .before .before .before .before .before .before .before .before .before .before .if1 .left) dx dy dz (c .is-filled .ensures _ _ _ x y z dx dy dz i j k)
 
 pub is-filled-name-spec : {M : Type 1} → statement M
 is-filled-name-spec =
@@ -43,7 +83,14 @@ is-filled-name-spec =
     (tie.spec
     shared-slice-read-if1
     returns
-    are-digits-requires
+    word-requires
+    is-of-digits-requires
     returns-2
+    word-requires-2
+    is-of-digits-requires-2
+    returns-3
+    word-requires-3
+    is-of-digits-requires-3
+    returns-4
     is-filled-requires
-    returns-3)
+    returns-5)

@@ -1,0 +1,442 @@
+-- Eight digits in one word: sums and marks that work on each byte apart.
+use mathlib.Core.Path.{_∙_, _≡_, ap, ap₂, refl, sym}
+use mathlib.Core.Bool.{Bool, _&&_, _||_, and-assoc, and-false, and-true, cond, false, true}
+use mathlib.Core.List.{List, [], _++_, _∷_}
+use Prim.Native.Nat.{_%_, _*_, _+_, _-_, _/_, _<_, _^_, _≤_, suc, zero, ℕ}
+use native.Mathlib.Decide.{decLe, decLt, ℕ-discrete}
+use native.Mathlib.Nat.{add-mul, mul-assoc, pow-suc}
+use native.Mathlib.Omega.{arith}
+use lib.Bits.{and-block, and-high, and-le-l, bitAnd}
+use lib.Dec.{eqb, leb, ltb}
+use lib.ListN.{drop, getD, length, length-drop, replicate, take, take-append-drop}
+use lib.Seq.{drop-drop, take-all}
+use lib.Pow.{pow-add}
+use borrow.Author.Tests.{eq-eqb, eqb-true, le-leb, le-ltb, leb-true, lt-leb, lt-ltb, ltb-true, ne-eqb}
+use Rattle.model.specs.Names.{areDigits, legalFilled}
+use Rattle.model.specs.Format.{Bytes}
+use Rattle.model.proofs.Names.{both-true}
+use Rattle.digits.specs.Keys.{blankEnds, value}
+use Rattle.digits.specs.Words.{Word, after, mark, marked}
+use Rattle.digits.proofs.Keys.{bytes-part, length-part, value-lt}
+use Rattle.digits.proofs.Laws.{filled-name, pair-lt}
+
+byte-powers : (n : ℕ) → 256 ^ n ≡ 2 ^ (8 * n)
+byte-powers zero = refl
+byte-powers (suc n) =
+    let e : 8 * suc n ≡ 8 * n + 8 = omega arith in
+    rw (e, pow-add 2 (8 * n) 8, ← byte-powers n) (omega (arith, pow-suc 256 n))
+
+-- `&`, byte by byte.
+abbrev pub ands : List ℕ → List ℕ → List ℕ
+ands [] y = []
+ands (d ∷ x) [] = []
+ands (d ∷ x) (e ∷ y) = bitAnd d e ∷ ands x y
+
+length-ands : (x y : List ℕ) → length x ≡ length y → length (ands x y) ≡ length x
+length-ands [] y h = refl
+length-ands (d ∷ x) [] h = absurd (omega arith)
+length-ands (d ∷ x) (e ∷ y) h = ap suc (length-ands x y (omega arith))
+
+value-ands : (x y : List ℕ) → Bytes x → Bytes y → length x ≡ length y → bitAnd (value x) (value y) ≡ value (ands x y)
+unfolding value
+value-ands [] [] f g h = refl
+value-ands [] (e ∷ y) f g h = absurd (omega arith)
+value-ands (d ∷ x) [] f g h = absurd (omega arith)
+value-ands (d ∷ x) (e ∷ y) f g h =
+    let l : length y ≡ length x = omega arith in
+    let p = byte-powers (length x) in
+    let v : value x < 2 ^ (8 * length x) = rw p at (value-lt x (f .1)) in
+    let w : value y < 2 ^ (8 * length x) = rw (l, p) at (value-lt y (g .1)) in
+    rw (l, length-ands x y (sym l), p)
+    (and-block (8 * length x) d e (value x) (value y) v w ∙ ap (λ (r : ℕ). bitAnd d e * 2 ^ (8 * length x) + r) (value-ands x y (f .1) (g .1) (sym l)))
+
+-- Words are equal where their bytes are.
+abbrev pub sames : List ℕ → List ℕ → Bool
+sames [] [] = true
+sames [] (e ∷ y) = false
+sames (d ∷ x) [] = false
+sames (d ∷ x) (e ∷ y) = eqb d e && sames x y
+
+eqb-add : (k a b : ℕ) → eqb (k + a) (k + b) ≡ eqb a b
+eqb-add k a b = elim (ℕ-discrete a b) [
+  | yes e ↦ eq-eqb (k + a) (k + b) (omega arith) ∙ sym (eq-eqb a b e)
+  | no n ↦ ne-eqb (k + a) (k + b) (λ e. n (omega arith)) ∙ sym (ne-eqb a b n)
+]
+
+value-sames : (x y : List ℕ) → Bytes x → Bytes y → length x ≡ length y → eqb (value x) (value y) ≡ sames x y
+unfolding value
+value-sames [] [] f g h = refl
+value-sames [] (e ∷ y) f g h = absurd (omega arith)
+value-sames (d ∷ x) [] f g h = absurd (omega arith)
+value-sames (d ∷ x) (e ∷ y) f g h =
+    let l : length x ≡ length y = omega arith in
+    rw l (go (decLt d e) (decLt e d) l (value-sames x y (f .1) (g .1) l))
+  where
+    go : Dec (d < e) → Dec (e < d) → length x ≡ length y → eqb (value x) (value y) ≡ sames x y
+        → eqb (d * 256 ^ length y + value x) (e * 256 ^ length y + value y) ≡ (eqb d e && sames x y)
+    go (yes i) m l r =
+        let v : value x < 256 ^ length y = rw l at (value-lt x (f .1)) in
+        let p = pair-lt (256 ^ length y) d (value x) e (value y) i v in
+        rw (ne-eqb (d * 256 ^ length y + value x) (e * 256 ^ length y + value y) (λ q. omega arith), ne-eqb d e (λ q. omega arith))
+    go (no n) (yes i) l r =
+        let p = pair-lt (256 ^ length y) e (value y) d (value x) i (value-lt y (g .1)) in
+        rw (ne-eqb (d * 256 ^ length y + value x) (e * 256 ^ length y + value y) (λ q. omega arith), ne-eqb d e (λ q. omega arith))
+    go (no n) (no m) l r = let q : d ≡ e = omega arith in rw (q, eqb-add, eq-eqb e e refl) r
+
+-- One sum adds to each byte.
+abbrev pub raised : ℕ → List ℕ → List ℕ
+raised c [] = []
+raised c (d ∷ x) = (d + c) ∷ raised c x
+
+abbrev times : ℕ → List ℕ → List ℕ
+times c [] = []
+times c (d ∷ x) = c ∷ times c x
+
+length-raised : (c : ℕ) (x : List ℕ) → length (raised c x) ≡ length x
+length-raised c [] = refl
+length-raised c (d ∷ x) = ap suc (length-raised c x)
+
+length-times : (c : ℕ) (x : List ℕ) → length (times c x) ≡ length x
+length-times c [] = refl
+length-times c (d ∷ x) = ap suc (length-times c x)
+
+bytes-times : (c : ℕ) (x : List ℕ) → c < 256 → Bytes (times c x)
+bytes-times c [] h = tt
+bytes-times c (d ∷ x) h = (h, bytes-times c x h)
+
+value-raised : (c : ℕ) (x : List ℕ) → value x + value (times c x) ≡ value (raised c x)
+unfolding value
+value-raised c [] = refl
+value-raised c (d ∷ x) = go (length (times c x)) (length (raised c x)) (length-times c x) (length-raised c x) (value-raised c x)
+  where
+    go : (n m : ℕ) → n ≡ length x → m ≡ length x → value x + value (times c x) ≡ value (raised c x)
+        → d * 256 ^ length x + value x + (c * 256 ^ n + value (times c x)) ≡ (d + c) * 256 ^ m + value (raised c x)
+    go n m a b r = rw (a, b) (omega (arith, r, add-mul d c (256 ^ length x)))
+
+-- One byte in each place of a word.
+times-are : (c : ℕ) (x : List ℕ) → times c x ≡ replicate (length x) c
+times-are c [] = refl
+times-are c (d ∷ x) = ap (λ (r : List ℕ). c ∷ r) (times-are c x)
+
+times-word : (c : ℕ) (x : List ℕ) → length x ≡ 8 → value (times c x) ≡ value (replicate 8 c)
+times-word c x h = rw (times-are c x, h)
+
+tops : value (replicate 8 0x80) ≡ 0x8080808080808080
+unfolding value
+tops = refl
+
+zeros : value (replicate 8 0) ≡ 0
+unfolding value
+zeros = refl
+
+twos : value (replicate 8 2) ≡ 0x0202020202020202
+unfolding value
+twos = refl
+
+sixties : value (replicate 8 0x60) ≡ 0x6060606060606060
+unfolding value
+sixties = refl
+
+blanks : value (replicate 8 0x5F) ≡ 0x5F5F5F5F5F5F5F5F
+unfolding value
+blanks = refl
+
+-- A byte's highest bit.
+top-low : (d : ℕ) → d < 0x80 → bitAnd d 0x80 ≡ 0
+top-low d h = and-high d 1 7 ∙ omega arith
+
+top-high : (d : ℕ) → 0x80 ≤ d → d < 256 → bitAnd d 0x80 ≡ 0x80
+top-high d h l = and-high d 1 7 ∙ omega arith
+
+-- Each byte below 0x80, at most 0x7D, at least 0x20.
+abbrev lows : List ℕ → Bool
+lows [] = true
+lows (d ∷ x) = ltb d 0x80 && lows x
+
+abbrev mosts : List ℕ → Bool
+mosts [] = true
+mosts (d ∷ x) = leb d 0x7D && mosts x
+
+abbrev leasts : List ℕ → Bool
+leasts [] = true
+leasts (d ∷ x) = leb 0x20 d && leasts x
+
+low-test : (x : List ℕ) → Bytes x → sames (ands x (times 0x80 x)) (times 0 x) ≡ lows x
+low-test [] f = refl
+low-test (d ∷ x) f = ap₂ _&&_ (go (decLt d 0x80)) (low-test x (f .1))
+  where
+    go : Dec (d < 0x80) → eqb (bitAnd d 0x80) 0 ≡ ltb d 0x80
+    go (yes h) = rw (top-low d h, lt-ltb d 0x80 h)
+    go (no h) = rw (top-high d (omega arith) (f .0), le-ltb d 0x80 (omega arith))
+
+most-test : (x : List ℕ) → lows x ≡ true → sames (ands (raised 2 x) (times 0x80 x)) (times 0 x) ≡ mosts x
+most-test [] f = refl
+most-test (d ∷ x) f =
+    let p = both-true (ltb d 0x80) (lows x) f in
+    ap₂ _&&_ (go (decLe d 0x7D) (ltb-true d 0x80 (p .0))) (most-test x (p .1))
+  where
+    go : Dec (d ≤ 0x7D) → d < 0x80 → eqb (bitAnd (d + 2) 0x80) 0 ≡ leb d 0x7D
+    go (yes h) l = rw (top-low (d + 2) (omega arith), le-leb d 0x7D h)
+    go (no h) l = rw (top-high (d + 2) (omega arith) (omega arith), lt-leb d 0x7D (omega arith))
+
+least-test : (x : List ℕ) → lows x ≡ true → sames (ands (raised 0x60 x) (times 0x80 x)) (times 0x80 x) ≡ leasts x
+least-test [] f = refl
+least-test (d ∷ x) f =
+    let p = both-true (ltb d 0x80) (lows x) f in
+    ap₂ _&&_ (go (decLe 0x20 d) (ltb-true d 0x80 (p .0))) (least-test x (p .1))
+  where
+    go : Dec (0x20 ≤ d) → d < 0x80 → eqb (bitAnd (d + 0x60) 0x80) 0x80 ≡ leb 0x20 d
+    go (yes h) l = rw (top-high (d + 0x60) (omega arith) (omega arith), le-leb 0x20 d h)
+    go (no h) l = rw (top-low (d + 0x60) (omega arith), lt-leb 0x20 d (omega arith))
+
+digits-are : (x : List ℕ) → areDigits 0x20 x ≡ (leasts x && mosts x)
+unfolding areDigits
+digits-are [] = refl
+digits-are (d ∷ x) = rw (digits-are x) (go (leb 0x20 d) (leb d 0x7D) (leasts x) (mosts x))
+  where
+    go : (a b c e : Bool) → (a && b && (c && e)) ≡ ((a && c) && (b && e))
+    go true true c e = refl
+    go true false c e = sym (and-false c)
+    go false b c e = refl
+
+most-low : (x : List ℕ) → mosts x ≡ true → lows x ≡ true
+most-low [] h = refl
+most-low (d ∷ x) h = let p = both-true (leb d 0x7D) (mosts x) h in rw (lt-ltb d 0x80 (omega (arith, leb-true d 0x7D (p .0))), most-low x (p .1))
+
+not-low : (x : List ℕ) → lows x ≡ false → areDigits 0x20 x ≡ false
+not-low x h = digits-are x ∙ go (mosts x) refl
+  where
+    go : (m : Bool) → mosts x ≡ m → (leasts x && m) ≡ false
+    go true e = let q : true ≡ false = sym (most-low x e) ∙ h in let z : _≡_ {A = ℕ} 0 1 = cc in absurd (omega arith)
+    go false e = and-false (leasts x)
+
+not-most : (x : List ℕ) → mosts x ≡ false → areDigits 0x20 x ≡ false
+not-most x h = digits-are x ∙ rw h (and-false (leasts x))
+
+bytes-raised : (c : ℕ) (x : List ℕ) → c ≤ 0x80 → lows x ≡ true → Bytes (raised c x)
+bytes-raised c [] h l = tt
+bytes-raised c (d ∷ x) h l = let p = both-true (ltb d 0x80) (lows x) l in (omega (arith, ltb-true d 0x80 (p .0)), bytes-raised c x h (p .1))
+
+bytes-ands : (x y : List ℕ) → Bytes x → Bytes (ands x y)
+bytes-ands [] y f = tt
+bytes-ands (d ∷ x) [] f = tt
+bytes-ands (d ∷ x) (e ∷ y) f = (omega (arith, f .0, and-le-l d e), bytes-ands x y (f .1))
+
+-- What the code computes of a word.
+module _ (x : List ℕ) (W : Word x) where
+  top-bits : 0x8080808080808080 ≡ value (times 0x80 x)
+  top-bits = sym (times-word 0x80 x (W .eight) ∙ tops)
+
+  no-bits : 0 ≡ value (times 0 x)
+  no-bits = sym (times-word 0 x (W .eight) ∙ zeros)
+
+  masked : (y : List ℕ) (c t : ℕ) → Bytes y → length y ≡ length x → c < 256 → t ≡ value (times c x)
+      → eqb (bitAnd (value y) 0x8080808080808080) t ≡ sames (ands y (times 0x80 x)) (times c x)
+  masked y c t f l h q =
+      let m : length y ≡ length (times 0x80 x) = l ∙ sym (length-times 0x80 x) in
+      ap (λ (k : ℕ). eqb (bitAnd (value y) k) t) top-bits
+      ∙ ap (λ (k : ℕ). eqb k t) (value-ands y (times 0x80 x) f (bytes-times 0x80 x (omega arith)) m)
+      ∙ ap (eqb (value (ands y (times 0x80 x)))) q
+      ∙ value-sames (ands y (times 0x80 x)) (times c x) (bytes-ands y (times 0x80 x) f) (bytes-times c x h) (length-ands y (times 0x80 x) m ∙ l ∙ sym (length-times c x))
+
+  raised-word : (c k w r : ℕ) → c ≤ 0x80 → lows x ≡ true → k ≡ value (times c x) → w ≡ value x → r ≡ (w + k) % 2 ^ 64 → r ≡ value (raised c x)
+  raised-word c k w r h l q e m =
+      let v : value (raised c x) < 256 ^ 8 = rw (length-raised c x, W .eight) at (value-lt (raised c x) (bytes-raised c x h l)) in
+      omega (arith, value-raised c x)
+
+  module _ {w : ℕ} (e : w ≡ value x) where
+    pub are-low : eqb (bitAnd w 0x8080808080808080) 0 ≡ lows x
+    are-low = rw e (masked x 0 0 (W .bytes) refl (omega arith) no-bits ∙ low-test x (W .bytes))
+
+    module _ (l : lows x ≡ true) {r : ℕ} where
+      pub are-most : r ≡ (w + 0x0202020202020202) % 2 ^ 64 → eqb (bitAnd r 0x8080808080808080) 0 ≡ mosts x
+      are-most m =
+          let q = raised-word 2 0x0202020202020202 w r (omega arith) l (sym (times-word 2 x (W .eight) ∙ twos)) e m in
+          rw q (masked (raised 2 x) 0 0 (bytes-raised 2 x (omega arith) l) (length-raised 2 x) (omega arith) no-bits ∙ most-test x l)
+
+      pub are-least : r ≡ (w + 0x6060606060606060) % 2 ^ 64 → eqb (bitAnd r 0x8080808080808080) 0x8080808080808080 ≡ leasts x
+      are-least m =
+          let q = raised-word 0x60 0x6060606060606060 w r (omega arith) l (sym (times-word 0x60 x (W .eight) ∙ sixties)) e m in
+          rw q (masked (raised 0x60 x) 0x80 0x8080808080808080 (bytes-raised 0x60 x (omega arith) l) (length-raised 0x60 x) (omega arith) top-bits ∙ least-test x l)
+
+    pub not-low-word : (bitAnd w 0x8080808080808080 ≡ 0 → ⊥) → false ≡ areDigits 0x20 x
+    not-low-word n = sym (not-low x (sym are-low ∙ ne-eqb (bitAnd w 0x8080808080808080) 0 n))
+
+    module _ (low : bitAnd w 0x8080808080808080 ≡ 0) {r : ℕ} (m : r ≡ (w + 0x0202020202020202) % 2 ^ 64) where
+      is-low : lows x ≡ true
+      is-low = sym are-low ∙ eq-eqb (bitAnd w 0x8080808080808080) 0 low
+
+      pub not-most-word : (bitAnd r 0x8080808080808080 ≡ 0 → ⊥) → false ≡ areDigits 0x20 x
+      not-most-word n = sym (not-most x (sym (are-most is-low m) ∙ ne-eqb (bitAnd r 0x8080808080808080) 0 n))
+
+      pub digits-word : bitAnd r 0x8080808080808080 ≡ 0 → {k : ℕ} → k ≡ (w + 0x6060606060606060) % 2 ^ 64
+          → eqb (bitAnd k 0x8080808080808080) 0x8080808080808080 ≡ areDigits 0x20 x
+      digits-word z {k} n =
+          let o : mosts x ≡ true = sym (are-most is-low m) ∙ eq-eqb (bitAnd r 0x8080808080808080) 0 z in
+          are-least is-low n ∙ sym (digits-are x ∙ rw o (and-true (leasts x)))
+
+-- The marks of a word of digits.
+mark-test : (x : List ℕ) → areDigits 0x20 x ≡ true → ands (raised 0x5F x) (times 0x80 x) ≡ marked x
+unfolding areDigits
+mark-test [] h = refl
+mark-test (d ∷ x) h =
+    let p = both-true (leb 0x20 d && leb d 0x7D) (areDigits 0x20 x) h in
+    let q = both-true (leb 0x20 d) (leb d 0x7D) (p .0) in
+    ap₂ (λ (m : ℕ) (r : List ℕ). m ∷ r) (go (decLt d 0x21) (leb-true 0x20 d (q .0)) (leb-true d 0x7D (q .1))) (mark-test x (p .1))
+  where
+    go : Dec (d < 0x21) → 0x20 ≤ d → d ≤ 0x7D → bitAnd (d + 0x5F) 0x80 ≡ mark d
+    go (yes h) l m = rw (top-low (d + 0x5F) (omega arith), lt-ltb d 0x21 h)
+    go (no h) l m = rw (top-high (d + 0x5F) (omega arith) (omega arith), le-ltb d 0x21 (omega arith))
+
+digits-low : (x : List ℕ) → areDigits 0x20 x ≡ true → lows x ≡ true
+digits-low x h = most-low x (both-true (leasts x) (mosts x) (sym (digits-are x) ∙ h) .1)
+
+pub marks-are : (x : List ℕ) → Word x → areDigits 0x20 x ≡ true → {w r m : ℕ} → w ≡ value x → r ≡ (w + 0x5F5F5F5F5F5F5F5F) % 2 ^ 64 → m ≡ bitAnd r 0x8080808080808080
+    → m ≡ value (marked x)
+marks-are x W h {w} {r} e q g =
+    let l = digits-low x h in
+    let k = raised-word x W 0x5F 0x5F5F5F5F5F5F5F5F w r (omega arith) l (sym (times-word 0x5F x (W .eight) ∙ blanks)) e q in
+    g
+    ∙ ap₂ bitAnd k (top-bits x W)
+    ∙ value-ands (raised 0x5F x) (times 0x80 x) (bytes-raised 0x5F x (omega arith) l) (bytes-times 0x80 x (omega arith)) (length-raised 0x5F x ∙ sym (length-times 0x80 x))
+    ∙ ap value (mark-test x h)
+
+-- The marks moved on by one byte, behind another.
+abbrev shifted : ℕ → List ℕ → List ℕ
+shifted p [] = []
+shifted p (d ∷ x) = p ∷ shifted d x
+
+length-shifted : (p : ℕ) (x : List ℕ) → length (shifted p x) ≡ length x
+length-shifted p [] = refl
+length-shifted p (d ∷ x) = ap suc (length-shifted d x)
+
+bytes-shifted : (p : ℕ) (x : List ℕ) → p < 256 → Bytes x → Bytes (shifted p x)
+bytes-shifted p [] h f = tt
+bytes-shifted p (d ∷ x) h f = (h, bytes-shifted d x (f .0) (f .1))
+
+first-part : (d n : ℕ) → d * 256 ^ suc n ≡ 256 * (d * 256 ^ n)
+first-part d n = rw (pow-suc 256 n) (omega (arith, mul-assoc d 256 (256 ^ n), mul-assoc d (256 ^ n) 256))
+
+value-shifted : (p d : ℕ) (x : List ℕ) → Bytes (d ∷ x) → value (shifted p (d ∷ x)) ≡ value (d ∷ x) / 256 + p * 256 ^ length x
+unfolding value
+value-shifted p d [] f = omega (arith, f .0)
+value-shifted p d (e ∷ x) f = go (length (shifted e x)) (length-shifted e x) (value-shifted d e x (f .1))
+  where
+    go : (n : ℕ) → n ≡ length x → value (shifted d (e ∷ x)) ≡ value (e ∷ x) / 256 + d * 256 ^ length x
+        → p * 256 ^ suc n + value (shifted d (e ∷ x)) ≡ (d * 256 ^ suc (length x) + value (e ∷ x)) / 256 + p * 256 ^ suc (length x)
+    go n q r = rw q (omega (arith, r, first-part d (length x)))
+
+-- The last of them.
+abbrev pub last-from : ℕ → List ℕ → ℕ
+last-from q [] = q
+last-from q (d ∷ x) = last-from d x
+
+value-last : (d : ℕ) (x : List ℕ) → Bytes (d ∷ x) → value (d ∷ x) % 256 ≡ last-from d x
+unfolding value
+value-last d [] f = omega (arith, f .0)
+value-last d (e ∷ x) f = let r = value-last e x (f .1) in omega (arith, r, first-part d (length x))
+
+last-marked : (q : ℕ) (x : List ℕ) → last-from (mark q) (marked x) ≡ mark (last-from q x)
+last-marked q [] = refl
+last-marked q (d ∷ x) = last-marked d x
+
+length-marked : (x : List ℕ) → length (marked x) ≡ length x
+length-marked [] = refl
+length-marked (d ∷ x) = ap suc (length-marked x)
+
+mark-byte : (d : ℕ) → mark d < 256
+mark-byte d = go (ltb d 0x21)
+  where
+    go : (t : Bool) → cond t 0 0x80 < 256
+    go true = omega arith
+    go false = omega arith
+
+bytes-marked : (x : List ℕ) → Bytes (marked x)
+bytes-marked [] = tt
+bytes-marked (d ∷ x) = (mark-byte d, bytes-marked x)
+
+pub marks-last : (q : ℕ) (x : List ℕ) → Word x → {m : ℕ} → m ≡ value (marked x) → m % 256 ≡ mark (last-from q x)
+marks-last q [] W e = let h : _≡_ {A = ℕ} 0 8 = W .eight in absurd (omega arith)
+marks-last q (d ∷ x) W e = rw e (value-last (mark d) (marked x) (bytes-marked (d ∷ x)) ∙ last-marked d x)
+
+-- Each mark has one before it.
+follow-test : (q : ℕ) (x : List ℕ) → sames (ands (marked x) (shifted (mark q) (marked x))) (marked x) ≡ after q x
+follow-test q [] = refl
+follow-test q (d ∷ x) = ap₂ _&&_ (go (decLt d 0x21) (decLt q 0x21)) (follow-test d x)
+  where
+    go : Dec (d < 0x21) → Dec (q < 0x21) → eqb (bitAnd (mark d) (mark q)) (mark d) ≡ (ltb 0x20 q || ltb d 0x21)
+    go (yes h) (yes k) = rw (lt-ltb d 0x21 h, le-ltb 0x20 q (omega arith))
+    go (yes h) (no k) = rw (lt-ltb d 0x21 h, lt-ltb 0x20 q (omega arith))
+    go (no h) (yes k) = rw (le-ltb d 0x21 (omega arith), lt-ltb q 0x21 k, le-ltb 0x20 q (omega arith))
+    go (no h) (no k) = rw (le-ltb d 0x21 (omega arith), le-ltb q 0x21 (omega arith), lt-ltb 0x20 q (omega arith))
+
+pub marks-follow : (q : ℕ) (x : List ℕ) → Word x → {b m s r : ℕ} → b ≡ mark q → m ≡ value (marked x) → s ≡ m / 256 + b * 2 ^ 56 → r ≡ bitAnd m s → eqb r m ≡ after q x
+marks-follow q [] W e g h k = let z : _≡_ {A = ℕ} 0 8 = W .eight in absurd (omega arith)
+marks-follow q (d ∷ x) W {b} {m} {s} {r} e g h k =
+    let ms = marked (d ∷ x) in
+    let n : length x ≡ 7 = omega (arith, W .eight) in
+    let v : value (shifted (mark q) ms) ≡ value ms / 256 + mark q * 256 ^ length (marked x) = value-shifted (mark q) (mark d) (marked x) (bytes-marked (d ∷ x)) in
+    let v′ : value (shifted (mark q) ms) ≡ value ms / 256 + mark q * 2 ^ 56 = rw (length-marked x, n) at v in
+    let i : s ≡ value (shifted (mark q) ms) = h ∙ rw (g, e) (sym v′) in
+    rw (k, g, i, value-ands ms (shifted (mark q) ms) (bytes-marked (d ∷ x)) (bytes-shifted (mark q) ms (mark-byte q) (bytes-marked (d ∷ x))) (sym (length-shifted (mark q) ms)))
+    (value-sames (ands ms (shifted (mark q) ms)) ms (bytes-ands ms (shifted (mark q) ms) (bytes-marked (d ∷ x))) (bytes-marked (d ∷ x)) (length-ands ms (shifted (mark q) ms) (sym (length-shifted (mark q) ms))) ∙ follow-test q (d ∷ x))
+
+-- A string of three words.
+pub digits-append : (x y : List ℕ) → areDigits 0x20 (x ++ y) ≡ (areDigits 0x20 x && areDigits 0x20 y)
+unfolding areDigits
+digits-append [] y = refl
+digits-append (d ∷ x) y = rw (digits-append x y) (sym (and-assoc (leb 0x20 d && leb d 0x7D) (areDigits 0x20 x) (areDigits 0x20 y)))
+
+after-append : (q : ℕ) (x y : List ℕ) → after q (x ++ y) ≡ (after q x && after (last-from q x) y)
+after-append q [] y = refl
+after-append q (d ∷ x) y = rw (after-append d x y) (sym (and-assoc (ltb 0x20 q || ltb d 0x21) (after d x) (after (last-from d x) y)))
+
+blank-after : (d : ℕ) (x : List ℕ) → blankEnds (d ∷ x) ≡ after d x
+unfolding blankEnds
+blank-after d [] = refl
+blank-after d (e ∷ x) = ap (λ (t : Bool). (ltb 0x20 d || ltb e 0x21) && t) (blank-after e x)
+
+pub three-after : (q : ℕ) (x y z : List ℕ) → 0x20 < q → blankEnds (x ++ (y ++ z)) ≡ (after q x && (after (last-from q x) y && after (last-from (last-from q x) y) z))
+unfolding blankEnds
+three-after q x y z h = whole (x ++ (y ++ z)) ∙ after-append q x (y ++ z) ∙ rw (after-append (last-from q x) y z)
+  where
+    whole : (s : List ℕ) → blankEnds s ≡ after q s
+    whole [] = refl
+    whole (d ∷ s) = rw (lt-ltb 0x20 q h) (blank-after d s)
+
+-- 24 bytes as three words.
+pub word-part : (s : List ℕ) (at : ℕ) → at + 8 ≤ length s → ((i : ℕ) → getD s i 0 < 256) → Word (take 8 (drop at s))
+word-part s at h f = record { bytes = bytes-part s 8 at f; eight = length-part s at 8 h }
+
+module _ (s : List ℕ) (full : length s ≡ 24) (first : getD s 0 0 ≡ 0x20 → ⊥) where
+  abbrev x : List ℕ
+  x = take 8 (drop 0 s)
+
+  abbrev y : List ℕ
+  y = take 8 (drop 8 s)
+
+  abbrev z : List ℕ
+  z = take 8 (drop 16 s)
+
+  three : s ≡ x ++ (y ++ z)
+  three =
+      sym (take-append-drop 8 s)
+      ∙ ap (λ (r : List ℕ). take 8 s ++ r) (sym (take-append-drop 8 (drop 8 s)) ∙ rw (drop-drop 8 8 s) (ap (λ (r : List ℕ). y ++ r) (sym (take-all 8 (drop 16 s) (omega (arith, length-drop 16 s))))))
+
+  name-words : legalFilled s ≡ ((areDigits 0x20 x && (areDigits 0x20 y && areDigits 0x20 z)) && blankEnds (x ++ (y ++ z)))
+  name-words =
+      filled-name s first full
+      ∙ ap (λ (r : List ℕ). areDigits 0x20 r && blankEnds r) three
+      ∙ rw (digits-append x (y ++ z), digits-append y z)
+
+  pub first-ill : areDigits 0x20 x ≡ false → false ≡ legalFilled s
+  first-ill h = sym (name-words ∙ rw h)
+
+  pub second-ill : areDigits 0x20 y ≡ false → false ≡ legalFilled s
+  second-ill h = sym (name-words ∙ rw (h, and-false (areDigits 0x20 x)))
+
+  pub third-ill : areDigits 0x20 z ≡ false → false ≡ legalFilled s
+  third-ill h = sym (name-words ∙ rw (h, and-false (areDigits 0x20 y), and-false (areDigits 0x20 x)))
+
+  pub name-filled : areDigits 0x20 x ≡ true → areDigits 0x20 y ≡ true → areDigits 0x20 z ≡ true → {r : Bool} → r ≡ blankEnds (x ++ (y ++ z)) → r ≡ legalFilled s
+  name-filled f g h e = e ∙ sym (name-words ∙ rw (f, g, h))
