@@ -3,6 +3,7 @@ use mathlib.Core.Path.{_∙_, _≡_, ap, refl, sym}
 use mathlib.Core.Logic.{_⊎_, inl, inr}
 use mathlib.Core.Bool.{Bool, _&&_, _||_, false, not, true}
 use mathlib.Core.List.{List}
+use mathlib.Core.Option.{some}
 use Prim.Native.Nat.{_*_, _+_, _-_, _<_, _≤_, ℕ}
 use native.Mathlib.Omega.{arith}
 use lib.Dec.{eqb, ltb}
@@ -99,37 +100,50 @@ pub bytes-at : (b B : ℕ) (xs : List ℕ) → bytesAt b B xs ≡ slotAt b B xs
 unfolding slotAt slotSize
 bytes-at b B xs = refl
 
-module _ {b : ℕ} {xs : List ℕ} {fs : List Slot} (K : Known b xs fs) (B : ℕ) (ys : List ℕ) (e : ys ≡ bytesAt b B xs) (v : ℕ) where
-  known-reads : IsUsed (head (slot-at fs B)) → Reads b ys (lower-of (head (slot-at fs B))) (upper-of (head (slot-at fs B))) (entries-of (slot-at fs B))
-  known-reads k =
-      let s = slot-at fs B in
-      used-reads b ys s k (used-read b ys s k (ap (readSlot b) (e ∙ bytes-at b B xs) ∙ K .read B k)) (K .well B)
+-- The ends of a used slot's range.
+module _ (b : ℕ) (ys : List ℕ) (s : Slot) (k : IsUsed (head s)) (r : readSlot b ys ≡ some s) (w : Well b s) (v : ℕ) where
+  slot-reads : Reads b ys (lower-of (head s)) (upper-of (head s)) (entries-of s)
+  slot-reads = used-reads b ys s k (used-read b ys s k r) w
 
-  pub known-high : IsUsed (head (slot-at fs B))
+  pub slot-high : (getD ys 3 0 ≤ 24 → isZero (take (24 - getD ys 3 0) (drop (32 + getD ys 3 0) ys)) ≡ true → v ≡ value (continued (take (getD ys 3 0) (drop 32 ys))))
+      → v ≡ value (continued (upper-of (head s)))
+  slot-high f = read-high b ys v slot-reads f
+
+  pub slot-low : (getD ys 2 0 ≤ 24 → isZero (take (24 - getD ys 2 0) (drop (8 + getD ys 2 0) ys)) ≡ true → v ≡ lowValue (lowOf (take (getD ys 2 0) (drop 8 ys))))
+      → v ≡ lowValue (lower-of (head s))
+  slot-low f = read-low b ys v slot-reads f
+
+module _ {b : ℕ} {xs : List ℕ} {fs : List Slot} (K : Known b xs fs) (B : ℕ) (ys : List ℕ) (e : ys ≡ bytesAt b B xs) where
+  known-read : IsUsed (head (slot-at fs B)) → readSlot b ys ≡ some (slot-at fs B)
+  known-read k = ap (readSlot b) (e ∙ bytes-at b B xs) ∙ K .read B k
+
+  pub known-high : (v : ℕ) → IsUsed (head (slot-at fs B))
       → (getD ys 3 0 ≤ 24 → isZero (take (24 - getD ys 3 0) (drop (32 + getD ys 3 0) ys)) ≡ true → v ≡ value (continued (take (getD ys 3 0) (drop 32 ys))))
       → v ≡ value (continued (upper-of (head (slot-at fs B))))
-  known-high k f = read-high b ys v (known-reads k) f
+  known-high v k f = slot-high b ys (slot-at fs B) k (known-read k) (K .well B) v f
 
-  pub known-low : IsUsed (head (slot-at fs B))
+  pub known-low : (v : ℕ) → IsUsed (head (slot-at fs B))
       → (getD ys 2 0 ≤ 24 → isZero (take (24 - getD ys 2 0) (drop (8 + getD ys 2 0) ys)) ≡ true → v ≡ lowValue (lowOf (take (getD ys 2 0) (drop 8 ys))))
       → v ≡ lowValue (lower-of (head (slot-at fs B)))
-  known-low k f = read-low b ys v (known-reads k) f
+  known-low v k f = slot-low b ys (slot-at fs B) k (known-read k) (K .well B) v f
 
-pub stands-by : (r t : Bool) (h l p q : ℕ) (s : Slot) → r ≡ ahead h l p q → p ≡ value (continued (upper-of (head s))) → q ≡ lowValue (lower-of (head s))
-    → r ≡ t → stands h l s ≡ t
+pub stands-by : (r : Bool) (h l p q : ℕ) (s : Slot) → r ≡ ahead h l p q → p ≡ value (continued (upper-of (head s))) → q ≡ lowValue (lower-of (head s)) → r ≡ stands h l s
 unfolding stands
-stands-by r t h l p q s e f g i = rw (← f, ← g) (sym e ∙ i)
+stands-by r h l p q s e f g = rw (← f, ← g) e
 
 module _ {b : ℕ} {xs : List ℕ} {fs : List Slot} (K : Known b xs fs) (order : List ℕ) (count : ℕ) (L : Listed fs order count)
-    (j : ℕ) (i : j < count) (k : ℕ) (e : k ≡ getD order j 0) (ys : List ℕ) (f : ys ≡ bytesAt b k xs) (v : ℕ) where
-  -- The ends of the range of the slot at a place of the order.
-  pub place-high : (getD ys 3 0 ≤ 24 → isZero (take (24 - getD ys 3 0) (drop (32 + getD ys 3 0) ys)) ≡ true → v ≡ value (continued (take (getD ys 3 0) (drop 32 ys))))
-      → v ≡ value (continued (upper-of (head (placed fs order j))))
-  place-high g = known-high K (getD order j 0) ys (f ∙ ap (λ B. bytesAt b B xs) e) v (L j i) g
+    (j : ℕ) (i : j < count) (k : ℕ) (e : k ≡ getD order j 0) (ys : List ℕ) (f : ys ≡ bytesAt b k xs) where
+  -- What the slot at a place of the order reads as, and the ends of its range.
+  pub place-read : readSlot b ys ≡ some (placed fs order j)
+  place-read = known-read K (getD order j 0) ys (f ∙ ap (λ B. bytesAt b B xs) e) (L j i)
 
-  pub place-low : (getD ys 2 0 ≤ 24 → isZero (take (24 - getD ys 2 0) (drop (8 + getD ys 2 0) ys)) ≡ true → v ≡ lowValue (lowOf (take (getD ys 2 0) (drop 8 ys))))
+  pub place-high : (v : ℕ) → (getD ys 3 0 ≤ 24 → isZero (take (24 - getD ys 3 0) (drop (32 + getD ys 3 0) ys)) ≡ true → v ≡ value (continued (take (getD ys 3 0) (drop 32 ys))))
+      → v ≡ value (continued (upper-of (head (placed fs order j))))
+  place-high v g = known-high K (getD order j 0) ys (f ∙ ap (λ B. bytesAt b B xs) e) v (L j i) g
+
+  pub place-low : (v : ℕ) → (getD ys 2 0 ≤ 24 → isZero (take (24 - getD ys 2 0) (drop (8 + getD ys 2 0) ys)) ≡ true → v ≡ lowValue (lowOf (take (getD ys 2 0) (drop 8 ys))))
       → v ≡ lowValue (lower-of (head (placed fs order j)))
-  place-low g = known-low K (getD order j 0) ys (f ∙ ap (λ B. bytesAt b B xs) e) v (L j i) g
+  place-low v g = known-low K (getD order j 0) ys (f ∙ ap (λ B. bytesAt b B xs) e) v (L j i) g
 
 -- What the code's comparisons say together.
 module _ (h l p q : ℕ) where

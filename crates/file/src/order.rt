@@ -3,27 +3,31 @@ ghost use mathlib.Core.Path.{_≡_};
 ghost use mathlib.Core.List.{List, _++_, _∷_};
 ghost use Prim.Native.Nat.{ℕ, _≤_, _<_, _+_, _-_, _*_, suc};
 ghost use lib.ListN.{drop, length, take};
-ghost use Rattle.model.specs.Files.{Slot};
+ghost use mathlib.Core.Option.{some};
+ghost use Rattle.model.specs.Files.{IsUsed, Slot, Well, head};
+ghost use Rattle.model.specs.Format.{readSlot};
 ghost use Rattle.digits.specs.Keys.{keyValue};
 ghost use Rattle.file.specs.Sizes.{Sized, Below};
-ghost use Rattle.file.specs.Orders.{Known, Listed, Placed, ahead};
+ghost use Rattle.file.specs.Orders.{Known, Listed, Placed, stands};
 ghost use Rattle.file.specs.Holders.{HolderTold};
 use crate::Size;
 use crate::slot_at;
 use digits::Key;
 use digits::index;
 
-// Whether the first range stands before the second.
-fn is_before(high: Key, low: Key, other_high: Key, other_low: Key) -> bool
-    ensures { λ r. ⌜ r ≡ ahead (keyValue high) (keyValue low) (keyValue «other_high») (keyValue «other_low») ⌝ }
+// Whether the range (low, high] stands before that of a slot. The low ends matter only where the high ends are equal.
+fn is_before(high: Key, low: Key, slot: &[u8]) -> bool
+    requires { ⌜ 64 ≤ length (now slot) ⌝ }
+    ensures { λ r. ⌜ ((b : ℕ) (s : Slot) → IsUsed (head s) → readSlot b (now (slot .entry)) ≡ some s → Well b s → r ≡ stands (keyValue high) (keyValue low) s) ⌝ }
 {
-    if digits::is_below(high, other_high) {
+    let other = bucket::high_of(slot);
+    if digits::is_below(high, other) {
         return true;
     }
-    if !digits::is_same(high, other_high) {
+    if !digits::is_same(high, other) {
         return false;
     }
-    digits::is_below(low, other_low)
+    digits::is_below(low, bucket::low_of(slot))
 }
 
 // How many of the slots in order stand before the range (low, high] or are equal to it.
@@ -45,7 +49,7 @@ pub fn place_of(
     while least < most {
         let middle = least + (most - least) / 2;
         let slot = slot_at(file, size, index(order[middle]));
-        if is_before(high, low, bucket::high_of(slot), bucket::low_of(slot)) {
+        if is_before(high, low, slot) {
             most = middle;
         } else {
             least = middle + 1;

@@ -1,13 +1,14 @@
 -- `place_of` meets its contract: the halves close in on a place not above the count.
 use Prim.Native.Nat.{_<_, _≤_, _-_, _+_, _/_, suc, ℕ}
 use native.Mathlib.Omega.{arith}
-use mathlib.Core.Path.{_≡_, subst}
+use mathlib.Core.Path.{_∙_, _≡_, subst, sym}
 use mathlib.Core.Bool.{false, true}
 use mathlib.Core.List.{List}
+use lib.ListN.{getD}
 use Rattle.model.specs.Files.{Slot}
 use Rattle.digits.specs.Keys.{keyValue}
 use Rattle.file.specs.Orders.{Known, Listed, placed, stands}
-use Rattle.file.proofs.Comparing.{place-high, place-low, stands-by}
+use Rattle.file.proofs.Comparing.{place-read}
 use borrow.Author.Needs.{needs}
 use Rattle.file.proofs.order.place_of.Statement.{statement}
 use Rattle.file.proofs.order.place_of.Tie as tie
@@ -43,12 +44,6 @@ slot-at-requires c κs =
     let l = c .before .before .before .loop in
     (s .pre .0, omega (arith, s .pre .1 (l .least + (l .most - l .least) / 2)))
 
-high-of-requires : tie.Need-high-of-requires Inv-loop μ-loop
-high-of-requires c κs = search needs
-
-low-of-requires : tie.Need-low-of-requires Inv-loop μ-loop
-low-of-requires c κs = search needs
-
 is-before-requires : tie.Need-is-before-requires Inv-loop μ-loop
 is-before-requires c κs = search needs
 
@@ -57,19 +52,14 @@ loop-less c = search needs
 
 loop-again : tie.Need-loop-again Inv-loop μ-loop
 loop-again c =
-    let l = c .before .before .before .before .before .before .before .before .loop in
-    let s = c .before .before .before .before .before .before .before .before .before .before in
+    let l = c .before .before .before .before .before .before .loop in
+    let s = c .before .before .before .before .before .before .before .before in
     let m = l .least + (l .most - l .least) / 2 in
     let told : (fs : List Slot) → Known (s .args .size .b) (s .args .file .now) fs → Listed fs (s .args .order .now) (s .args .count)
     → stands (keyValue (s .args .high)) (keyValue (s .args .low)) (placed fs (s .args .order .now) m) ≡ true =
     λ fs. λ K. λ L.
-    let k = c .before .before .before .before .before .index .ensures .0 in
-    let y = c .before .before .before .before .slot-at .ensures .0 in
-    stands-by (c .before .is-before .result) true (keyValue (s .args .high)) (keyValue (s .args .low)) (keyValue (c .before .before .before .high-of .result)) (keyValue (c .before .before .low-of .result)) (placed fs (s .args .order .now) m)
-    (c .before .is-before .ensures)
-    (place-high K (s .args .order .now) (s .args .count) L m (omega arith) _ k _ y _ (c .before .before .before .high-of .ensures))
-    (place-low K (s .args .order .now) (s .args .count) L m (omega arith) _ k _ y _ (c .before .before .low-of .ensures))
-    (c .if1 .taken) in
+    let y = place-read K (s .args .order .now) (s .args .count) L m (omega arith) _ (c .before .before .before .index .ensures .0) _ (c .before .before .slot-at .ensures .0) in
+    sym (c .before .is-before .ensures (s .args .size .b) (placed fs (s .args .order .now) m) (L m (omega arith)) y (K .well (getD (s .args .order .now) m 0))) ∙ c .if1 .taken in
     (omega arith, omega arith, λ fs. λ K. λ L. (l .inv .2 fs K L .0, λ h. told fs K L))
 
 add-least : tie.Need-add-least Inv-loop μ-loop
@@ -80,19 +70,14 @@ loop-less-2 c = search needs
 
 loop-again-2 : tie.Need-loop-again-2 Inv-loop μ-loop
 loop-again-2 c =
-    let l = c .before .before .before .before .before .before .before .before .loop in
-    let s = c .before .before .before .before .before .before .before .before .before .before in
+    let l = c .before .before .before .before .before .before .loop in
+    let s = c .before .before .before .before .before .before .before .before in
     let m = l .least + (l .most - l .least) / 2 in
     let told : (fs : List Slot) → Known (s .args .size .b) (s .args .file .now) fs → Listed fs (s .args .order .now) (s .args .count)
     → stands (keyValue (s .args .high)) (keyValue (s .args .low)) (placed fs (s .args .order .now) m) ≡ false =
     λ fs. λ K. λ L.
-    let k = c .before .before .before .before .before .index .ensures .0 in
-    let y = c .before .before .before .before .slot-at .ensures .0 in
-    stands-by (c .before .is-before .result) false (keyValue (s .args .high)) (keyValue (s .args .low)) (keyValue (c .before .before .before .high-of .result)) (keyValue (c .before .before .low-of .result)) (placed fs (s .args .order .now) m)
-    (c .before .is-before .ensures)
-    (place-high K (s .args .order .now) (s .args .count) L m (omega arith) _ k _ y _ (c .before .before .before .high-of .ensures))
-    (place-low K (s .args .order .now) (s .args .count) L m (omega arith) _ k _ y _ (c .before .before .low-of .ensures))
-    (c .if1 .left) in
+    let y = place-read K (s .args .order .now) (s .args .count) L m (omega arith) _ (c .before .before .before .index .ensures .0) _ (c .before .before .slot-at .ensures .0) in
+    sym (c .before .is-before .ensures (s .args .size .b) (placed fs (s .args .order .now) m) (L m (omega arith)) y (K .well (getD (s .args .order .now) m 0))) ∙ c .if1 .left in
     (omega arith, omega arith, λ fs. λ K. λ L. (λ j. λ e. subst (λ (n : ℕ). stands (keyValue (s .args .high)) (keyValue (s .args .low)) (placed fs (s .args .order .now) n) ≡ false) (omega arith) (told fs K L), l .inv .2 fs K L .1))
 
 returns : tie.Need-returns Inv-loop μ-loop
@@ -118,8 +103,6 @@ place-of-spec =
     element-copy-out-index
     index-requires
     slot-at-requires
-    high-of-requires
-    low-of-requires
     is-before-requires
     loop-less
     loop-again
