@@ -1,6 +1,6 @@
 -- Where cells, leaves and the walk's end stand among the strings.
-use mathlib.Core.Path.{_∙_, _≡_, refl, sym}
-use mathlib.Core.List.{List, List·Memᴰ, List·Memᴰ·head, List·Memᴰ·tail, [], _++_, _∷_}
+use mathlib.Core.Path.{_∙_, _≡_, refl}
+use mathlib.Core.List.{List, [], _++_, _∷_}
 use Prim.Native.Nat.{_+_, _-_, _<_, _≤_, suc, zero, ℕ}
 use native.Mathlib.Decide.{decLt, ℕ-discrete}
 use native.Mathlib.Omega.{arith}
@@ -10,7 +10,7 @@ use Rattle.model.specs.declared.Cell.{Cell}
 use Rattle.model.specs.declared.Side.{Side}
 use Rattle.model.specs.declared.Side.the-variants.{Slot as slot}
 use Rattle.model.specs.Order.{Asc, Low, Str, _≺_, _⊑_, _◁_, above, at, end, le?, over, step, top}
-use Rattle.model.specs.Tries.{Reads, Spans, Tree, at-cell, cut, here, size, there, tip}
+use Rattle.model.specs.Tries.{Reads, Spans, Tree, at-cell, cut, here, there, tip}
 use Rattle.model.specs.Growth.{Spot, left, right}
 use Rattle.model.proofs.Order.{le-refl, low-at, low-lower, lt-le, lt-trans}
 use Rattle.model.proofs.Strings.{trie-asc}
@@ -37,15 +37,6 @@ module _ {A : Type 0} where
   any-default [] d e j h = absurd (omega arith)
   any-default (x ∷ xs) d e zero h = refl
   any-default (x ∷ xs) d e (suc j) h = any-default xs d e j (omega arith)
-
-  pub mem-at : {x : A} {xs : List A} (d : A) → List·Memᴰ x xs → (j : ℕ) × (j < length xs) × (getD xs j d ≡ x)
-  mem-at d (List·Memᴰ·head e) = (0, omega arith, sym e)
-  mem-at d (List·Memᴰ·tail m) = let r = mem-at d m in (suc (r .0), omega (arith, r .1), r .2)
-
-  pub at-mem : (xs : List A) (d : A) (j : ℕ) → j < length xs → List·Memᴰ (getD xs j d) xs
-  at-mem [] d j h = absurd (omega arith)
-  at-mem (x ∷ xs) d zero h = List·Memᴰ·head refl
-  at-mem (x ∷ xs) d (suc j) h = List·Memᴰ·tail (at-mem xs d j (omega arith))
 
 -- Strings ascend from place to place, and behind the last stands the upper end.
 asc-low : {l : Low} {ss : List Str} {u : Str} → Asc l ss u → l ◁ u → (j : ℕ) → l ◁ getD ss j u
