@@ -14,7 +14,7 @@ use Rattle.model.specs.Checks.{is-bad, is-cut, is-sound}
 use Rattle.model.specs.Agreeing.{isAgreeing, slotsBetween}
 use Rattle.model.specs.Format.{SoundFile, checkFile, readFile, readSlots, sized}
 use Rattle.model.specs.Calls.{fine, lookedBy, lookedOf, refusing}
-use Rattle.model.proofs.CheckedFiles.{CheckedFile, checkFile-right}
+use Rattle.model.proofs.CheckedFiles.{checkFile-right}
 use Rattle.model.proofs.Agreeing.{isAgreeing-agrees}
 use Rattle.file.specs.declared.Size.{Size}
 use Rattle.file.specs.declared.survey.Survey.{Survey}
@@ -27,7 +27,7 @@ use Rattle.agreement.specs.declared.Agreement.{Agreement}
 use Rattle.agreement.specs.Decides.{Decided, Decides}
 use Rattle.agreement.proofs.Laws.{agreed-count}
 use Rattle.keeper.specs.declared.checks.Checked.{Checked}
-use Rattle.keeper.specs.Ready.{Agreed, Ready}
+use Rattle.keeper.specs.Ready.{Agreed}
 use Rattle.keeper.proofs.Surveying.{said-read}
 
 -- A sound file, as it is read with its sizes.

@@ -18,7 +18,7 @@ use Rattle.model.specs.Names.{Legal, atMost, filled, legalName}
 use Rattle.model.specs.Entries.{Entry, Row, entry, name-at, no-entries}
 use Rattle.model.specs.Files.{IsUsed, Slot, Well, entries-of, free, head, lower-of, order-of, slot-at, upper-of, used}
 use Rattle.model.specs.Format.{entriesBytes, entryBytes}
-use Rattle.model.specs.Calls.{Looked, between, entriesIn, fine, listEntries, listLooked, listOf, lookedOf, refusing}
+use Rattle.model.specs.Calls.{between, entriesIn, fine, listEntries, listLooked, listOf, lookedOf, refusing}
 use Rattle.model.proofs.Order.{le-trans, low-lower}
 use Rattle.model.proofs.Names.{le-atMost, lt-atMost}
 use Rattle.model.proofs.Entries.{row-at}
@@ -30,7 +30,7 @@ use Rattle.bucket.proofs.Laws.{length-entryBytes}
 use Rattle.bucket.proofs.Finding.{count-is, part-between}
 use Rattle.file.specs.declared.Size.{Size}
 use Rattle.file.specs.Holders.{Holder, Ordered, placed, upper-at}
-use Rattle.file.proofs.Holding.{place-number, place-reads, place-used, places-apart}
+use Rattle.file.proofs.Holding.{place-reads, place-used, places-apart}
 use Rattle.keeper.specs.declared.checks.Checked.{Checked}
 use Rattle.keeper.specs.Ready.{Ready}
 use Rattle.keeper.specs.Outcomes.{listed}

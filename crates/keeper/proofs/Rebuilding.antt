@@ -1,9 +1,8 @@
 -- Rebuild, by its order of refusals, and the trie that it gives.
-use mathlib.Core.Path.{_∙_, _≡_, ap, sym}
-use mathlib.Core.Bool.{Bool, cond, false, true}
-use mathlib.Core.Option.{some}
+use mathlib.Core.Path.{_∙_, _≡_, sym}
+use mathlib.Core.Bool.{Bool, false, true}
 use mathlib.Core.List.{List}
-use Prim.Native.Nat.{_<_, _≤_, ℕ}
+use Prim.Native.Nat.{_≤_, ℕ}
 use borrow.Author.Tests.{leb-true}
 use lib.Dec.{leb}
 use lib.ListN.{length, take}
@@ -11,11 +10,11 @@ use Rattle.model.specs.declared.Cause.the-variants.{BadFile, CutFile, ManyStrin
 use Rattle.model.specs.declared.TrieAnswer.the-variants.{Given, Refused as TrieRefused}
 use Rattle.model.specs.declared.TrieGiven.{TrieGiven}
 use Rattle.model.specs.Order.{none}
-use Rattle.model.specs.Files.{Slot, order-of, string-count, strings-of}
+use Rattle.model.specs.Files.{order-of, string-count, strings-of}
 use Rattle.model.specs.Rebuilding.{rebuilt-trie}
 use Rattle.model.specs.Checks.{is-bad, is-cut, is-sound}
 use Rattle.model.specs.Agreeing.{slotsBetween}
-use Rattle.model.specs.Format.{checkFile, readFile}
+use Rattle.model.specs.Format.{checkFile}
 use Rattle.model.specs.Calls.{new-trie, rebuildBy, rebuildOf}
 use Rattle.file.specs.declared.Size.{Size}
 use Rattle.file.specs.declared.survey.Survey.{Survey}
