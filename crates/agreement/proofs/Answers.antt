@@ -13,8 +13,8 @@ use Rattle.model.specs.declared.Trie.{Trie}
 use Rattle.model.specs.Tries.{root-side}
 use Rattle.model.specs.Agreeing.{areZeroCells}
 use Rattle.model.proofs.Agreeing.{past-zeros}
+use Rattle.model.proofs.GrownTries.{root-further}
 use Rattle.trie.specs.declared.Strings.{Strings}
-use Rattle.trie.proofs.Laws.{root-further}
 use Rattle.agreement.specs.declared.Agreement.{Agreement}
 use Rattle.agreement.specs.Decides.{Decides}
 use Rattle.agreement.specs.Passes.{Passed, ends}

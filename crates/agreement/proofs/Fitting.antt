@@ -12,7 +12,7 @@ use Rattle.model.specs.Rebuilding.{last-digit}
 use Rattle.model.proofs.Shapes.{shapes}
 use Rattle.model.proofs.Tries.{cell-length}
 use Rattle.trie.specs.declared.Strings.{Strings}
-use Rattle.trie.specs.Strung.{Holds, last-digits, lengths}
+use Rattle.trie.specs.Strung.{Holds}
 use Rattle.trie.proofs.Strung.{last-digits-at, lengths-at}
 use Rattle.agreement.proofs.Parts.{Fits, Numbered}
 

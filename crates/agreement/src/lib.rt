@@ -11,6 +11,7 @@ ghost use lib.ListN.{drop};
 ghost use Rattle.model.specs.Agreeing.{areZeroCells, sameSide};
 ghost use Rattle.agreement.specs.Decides.{Decides};
 ghost use Rattle.agreement.specs.Passes.{Passed};
+use digits::byte;
 use digits::index;
 use model::Cell;
 use model::Side;
@@ -83,13 +84,6 @@ fn is_clear_past(trie: Trie, count: usize) -> bool
         i += 1;
     }
     true
-}
-
-fn byte(x: usize) -> u8
-    requires { ⌜ x < 256 ⌝ }
-    ensures { λ r. ⌜ r ≡ x ⌝ }
-{
-    x as u8
 }
 
 // The pass itself, over a trie whose count is the number of strings and not 0.

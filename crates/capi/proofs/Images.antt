@@ -3,13 +3,13 @@ use mathlib.Core.Path.{_∙_, _≡_, ap, refl, sym}
 use mathlib.Core.Bool.{cond}
 use mathlib.Core.List.{List, [], _++_, _∷_, append-assoc}
 use Prim.Native.Nat.{_%_, _*_, _+_, _-_, _/_, _<_, _≤_, suc, zero, ℕ}
-use native.Mathlib.Decide.{decLe, decLt}
+use native.Mathlib.Decide.{decLt}
 use native.Mathlib.Nat.{add-zero}
 use native.Mathlib.Omega.{arith}
 use lib.Dec.{ltb}
-use borrow.Author.Tests.{le-leb, le-ltb, lt-leb, lt-ltb}
-use lib.ListN.{List·getD-append, drop, getD, length, length-append, length-drop, replicate, take}
-use lib.Seq.{getD-append-add, getD-append-seam, getD-drop, take-add, take-all, take-append-le, take-suc}
+use borrow.Author.Tests.{le-ltb, lt-ltb}
+use lib.ListN.{List·getD-append, drop, getD, length, length-append, length-drop, take}
+use lib.Seq.{getD-append-add, getD-append-seam, getD-drop, take-add, take-all, take-suc}
 use Rattle.model.specs.declared.Cell.{Cell}
 use Rattle.model.specs.declared.Side.{Side}
 use Rattle.model.specs.declared.Side.the-variants.{Cell as further, Slot as slot}

@@ -4,7 +4,7 @@
 // side. A side is a signed 16-bit little-endian number: 0 and above is that slot, below 0 is the cell of that number's
 // negative.
 ghost use mathlib.Core.Path.{_≡_};
-ghost use Prim.Native.Nat.{_≤_, _<_, _+_, _*_, _%_, _/_};
+ghost use Prim.Native.Nat.{_<_, _+_, _*_, _%_, _/_};
 ghost use lib.ListN.{length};
 ghost use lib.Seq.{sets};
 ghost use Rattle.trie.specs.Walks.{Walks, walkOf};

@@ -6,6 +6,7 @@ use native.Mathlib.Decide.{decLt, ℕ-discrete}
 use native.Mathlib.Omega.{arith}
 use lib.ListN.{drop, getD, length, length-append, length-drop, length-set, set, take, List·getD-append}
 use lib.Seq.{ext-getD, getD-append-add, getD-at, getD-drop, getD-set-other, getD-set-same, getD-take, length-take-le}
+use Rattle.model.proofs.Lists.{at-behind}
 
 -- Those from j on have moved up by one.
 pub record Raised (o m : List ℕ) (count j : ℕ) : Type 0 where
@@ -27,16 +28,6 @@ raised-next o m count j r p q = record {
   where
     before : (i : ℕ) → suc i ≡ j → j - 1 ≡ i
     before i e = omega arith
-
--- What stands before, at and behind a place that is put in.
-module _ (xs : List ℕ) (k : ℕ) (ys : List ℕ) (n : ℕ) (e : length xs ≡ n) where
-  at-front : (i : ℕ) → i < n → getD (xs ++ (k ∷ ys)) i 0 ≡ getD xs i 0
-  at-front i h = List·getD-append xs (k ∷ ys) 0 i (omega arith)
-
-  at-back : (i m : ℕ) → i ≡ suc (n + m) → getD (xs ++ (k ∷ ys)) i 0 ≡ getD ys m 0
-  at-back i m h =
-      let g : i ≡ length xs + suc m = omega arith in
-      ap (λ j. getD (xs ++ (k ∷ ys)) j 0) g ∙ getD-append-add xs (k ∷ ys) (suc m) 0
 
 part-at : (o : List ℕ) (place count m : ℕ) → place + m < count → getD (drop place (take count o)) m 0 ≡ getD o (place + m) 0
 part-at o place count m h = getD-drop place (take count o) m 0 ∙ getD-take count o (place + m) 0 h
@@ -70,7 +61,7 @@ raised-end o m count place k r p q h g = ext-getD 0 (take (count + 1) (set m pla
           | yes e ↦ ap (λ n. getD (set m place k) n 0) e ∙ getD-set-same m place k 0 (omega arith)
               ∙ sym (ap (λ n. getD (xs ++ (k ∷ ys)) n 0) e ∙ getD-at xs k ys 0 place front)
           | no n ↦ getD-set-other m place i k 0 n ∙ elim (decLt i place) [
-            | yes b ↦ r .kept i b ∙ sym (at-front xs k ys place front i b ∙ getD-take place o i 0 b)
+            | yes b ↦ r .kept i b ∙ sym (List·getD-append xs (k ∷ ys) 0 i (omega (arith, front)) ∙ getD-take place o i 0 b)
             | no b ↦ behind i u n b
           ]
         ]
@@ -80,7 +71,7 @@ raised-end o m count place k r p q h g = ext-getD 0 (take (count + 1) (set m pla
         behind (suc i) u n b =
             let e : place + (i - place) ≡ i = omega arith in
             let d : place + (i - place) < count = omega arith in
-            r .raised i (omega arith) (omega arith) ∙ sym (at-back xs k ys place front (suc i) (i - place) (omega arith)
+            r .raised i (omega arith) (omega arith) ∙ sym (at-behind xs k ys 0 (i - place) (suc i) (omega (arith, front))
             ∙ part-at o place count (i - place) d ∙ ap (λ n. getD o n 0) e)
 
 -- Where each stands after one was put in.
@@ -93,7 +84,7 @@ module _ (o m : List ℕ) (count place k : ℕ) (p : length o ≡ 64) (h : place
   within i l = sym (getD-take (count + 1) m i 0 (omega arith)) ∙ ap (λ xs. getD xs i 0) e
 
   pub put-front : (i : ℕ) → i < place → getD m i 0 ≡ getD o i 0
-  put-front i l = within i (omega arith) ∙ at-front (take place o) k (drop place (take count o)) place front i l ∙ getD-take place o i 0 l
+  put-front i l = within i (omega arith) ∙ List·getD-append (take place o) (k ∷ drop place (take count o)) 0 i (omega (arith, front)) ∙ getD-take place o i 0 l
 
   pub put-here : getD m place 0 ≡ k
   put-here = within place h ∙ getD-at (take place o) k (drop place (take count o)) 0 place front
@@ -102,7 +93,7 @@ module _ (o m : List ℕ) (count place k : ℕ) (p : length o ≡ 64) (h : place
   put-back i l n =
       let d : place + (i - place) ≡ i = omega arith in
       let f : place + (i - place) < count = omega arith in
-      within (suc i) n ∙ at-back (take place o) k (drop place (take count o)) place front (suc i) (i - place) (omega arith)
+      within (suc i) n ∙ at-behind (take place o) k (drop place (take count o)) 0 (i - place) (suc i) (omega (arith, front))
       ∙ part-at o place count (i - place) f ∙ ap (λ j. getD o j 0) d
 
 -- Those behind the place and before j have moved down by one.

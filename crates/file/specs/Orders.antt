@@ -8,7 +8,7 @@ use Prim.Native.Nat.{_<_, _≤_, suc, ℕ}
 use lib.Dec.{eqb, ltb}
 use lib.ListN.{drop, getD, length, take}
 use Rattle.model.specs.Order.{_≺_, _⊴_, none}
-use Rattle.model.specs.Files.{Chain, IsUsed, Ranges, Slot, Well, free, head, lower-of, ranges, slot-at, upper-of}
+use Rattle.model.specs.Files.{Chain, IsUsed, Ranges, Slot, Well, free, head, lower-of, slot-at, upper-of}
 use Rattle.model.specs.Tries.{occ}
 use Rattle.model.specs.Format.{readSlot, slotAt}
 use Rattle.digits.specs.Keys.{continued, value}

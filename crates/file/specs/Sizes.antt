@@ -13,10 +13,6 @@ use Rattle.file.specs.declared.Header.the-variants.{Right, Wrong}
 use Rattle.file.specs.declared.Room.{Room}
 use Rattle.file.specs.declared.Room.the-variants.{At, Full}
 
--- a slot's bytes: 64 + 32 × b
-abbrev pub slotSize : Size → ℕ
-slotSize s = 64 + 32 * s .b
-
 -- b is 2 to 16, slots is 1 to 64
 pub record Legal (s : Size) : Type 0 where
   pub b-least : 2 ≤ s .b

@@ -10,7 +10,7 @@ ghost use Rattle.model.specs.Files.{created};
 ghost use Rattle.model.specs.Checks.{sameStr};
 ghost use Rattle.model.specs.Format.{fileBytes, headerBytes};
 ghost use Rattle.file.specs.Maps.{RoomTold};
-ghost use Rattle.file.specs.Sizes.{Legal, Sized, Fitting, Told, Below};
+ghost use Rattle.file.specs.Sizes.{Legal, Sized, Fitting, Told};
 use digits::byte;
 use digits::index;
 

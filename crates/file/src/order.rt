@@ -1,7 +1,7 @@
 // The used slots in range order: by upper bound, and where two are equal by lower bound.
 ghost use mathlib.Core.Path.{_≡_};
 ghost use mathlib.Core.List.{List, _++_, _∷_};
-ghost use Prim.Native.Nat.{ℕ, _≤_, _<_, _+_, _-_, _*_, suc};
+ghost use Prim.Native.Nat.{ℕ, _≤_, _<_, _+_, _-_, suc};
 ghost use lib.ListN.{drop, length, take};
 ghost use mathlib.Core.Option.{some};
 ghost use Rattle.model.specs.Files.{IsUsed, Slot, Well, head};

@@ -3,16 +3,15 @@ use mathlib.Core.Path.{_∙_, _≡_, ap, sym}
 use mathlib.Core.List.{List, []}
 use Prim.Native.Nat.{_<_, suc, ℕ}
 use native.Mathlib.Omega.{arith}
-use lib.ListN.{drop, length, take, take-append-drop}
-use lib.Seq.{length-take-le}
+use lib.ListN.{length, take}
 use Rattle.model.specs.declared.Trie.{Trie}
 use Rattle.model.specs.Order.{Str, diff}
 use Rattle.model.specs.Files.{In, Slot, Sound, head, slot-at, strings-of}
-use Rattle.model.specs.Tries.{Agrees, Reads, walk-cells, walk-trie}
+use Rattle.model.specs.Tries.{Agrees, walk-cells, walk-trie}
 use Rattle.model.specs.Growth.{path-cells, root, spot-cells}
-use Rattle.model.proofs.Cells.{reads-append, visits-count, walk-reads}
+use Rattle.model.proofs.Cells.{walk-reads}
 use Rattle.model.proofs.Files.{one-range}
-use Rattle.model.proofs.Agreement.{agrees-walk}
+use Rattle.model.proofs.Agreement.{agrees-walk, live-count, visit-count, whole-walk}
 use Rattle.trie.specs.declared.Walk.{Walk}
 use Rattle.trie.specs.Places.{Placed}
 use Rattle.trie.specs.Strung.{lengths}
@@ -24,16 +23,7 @@ module _ {b : ℕ} {fs : List Slot} (S : Sound b fs) {t : Trie} (A : Agrees fs t
   -- The walk meets no cell past the count.
   walk-live : (c : Str) → walk-trie t c ≡ walk-cells (live-cells t) c (suc (length (live-cells t))) [] (top-side t)
   walk-live c =
-      walk-reads c (suc (t .count)) [] whole (omega (arith, visits, live)) ∙ sym (walk-reads c (suc (length (live-cells t))) [] (A .reads) (omega (arith, visits)))
-    where
-      live : length (live-cells t) ≡ t .count
-      live = length-take-le (t .count) (t .cells) (omega (arith, A .few, A .whole))
-
-      visits : length (A .visits) ≡ length (live-cells t)
-      visits = visits-count (A .reads) (λ i h. A .once i (omega (arith, live, h)))
-
-      whole : Reads (t .cells) (top-side t) (A .tree) (A .visits)
-      whole = rw take-append-drop at (reads-append (drop (t .count) (t .cells)) (A .reads))
+      whole-walk A c ∙ sym (walk-reads c (suc (length (live-cells t))) [] (A .reads) (omega (arith, visit-count A, live-count A)))
 
   pub asked : (r : Walk) {places lens : List ℕ} {c s : Str} {shared a : ℕ} → Placed t places → take (length (strings-of fs)) lens ≡ lengths (strings-of fs)
       → length c ≡ 24 → 0 < length s → s ≡ take (length s) c → In (head (slot-at fs a)) c → Walks r (walkOf t c)

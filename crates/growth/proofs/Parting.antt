@@ -1,23 +1,23 @@
 -- The place up to which leaves' paths are not above s.
-use mathlib.Core.Path.{_∙_, _≡_, ap, refl, subst, sym}
+use mathlib.Core.Path.{_∙_, _≡_, ap, subst, sym}
 use mathlib.Core.Logic.{_⊎_, inl, inr}
 use mathlib.Core.Bool.{false, true}
-use mathlib.Core.List.{List, List·Memᴰ, [], _∷_}
-use Prim.Native.Nat.{_<_, _≤_, suc, zero, ℕ}
+use mathlib.Core.List.{List, List·Memᴰ, []}
+use Prim.Native.Nat.{_<_, _≤_, suc, ℕ}
 use native.Mathlib.Decide.{decLt}
 use native.Mathlib.Numerals.{add-one}
 use native.Mathlib.Omega.{arith}
 use borrow.Author.Tests.{lt-leb}
 use lib.ListN.{List·getD-eq-default, getD, length, length-take, take}
 use lib.Seq.{getD-take, length-take-le, take-all, take-length}
-use Rattle.model.specs.declared.Cell.{Cell}
 use Rattle.model.specs.declared.Trie.{Trie}
 use Rattle.model.specs.Order.{Asc, Str, _⊑_, diff, least, none, top}
 use Rattle.model.specs.Files.{all, bounds, ranges}
 use Rattle.model.specs.Tries.{walk, walk-cells}
 use Rattle.model.specs.Growth.{Spot, left, path-cells, root, spot-cells}
+use Rattle.model.proofs.Lists.{mem-place}
 use Rattle.model.proofs.Order.{diff-le-right, le-refl, le-take, le-trans, lt-le, sandwich, take-diff}
-use Rattle.model.proofs.Strings.{all-closed, not-top, trie-asc}
+use Rattle.model.proofs.Strings.{all-closed, mem-at, not-top, trie-asc}
 use Rattle.model.proofs.Tries.{cells-count}
 use Rattle.model.proofs.Cells.{reads-size, visits-count, walk-reads}
 use Rattle.model.proofs.Files.{strings-right}
@@ -29,7 +29,7 @@ use Rattle.trie.specs.Walks.{By}
 use Rattle.trie.proofs.Strung.{lengths-at, order-size}
 use Rattle.growth.specs.Grows.{Asked, live-cells, top-side}
 use Rattle.growth.specs.Parts.{FirstPlace, leaf-place}
-use Rattle.growth.proofs.Standing.{Ends, Side-by, asc-le, asc-lt, at-mem, left-of, mem-at, no-cell, order-below, right-of, walk-stands}
+use Rattle.growth.proofs.Standing.{Ends, Side-by, asc-le, asc-lt, left-of, no-cell, order-below, right-of, walk-stands}
 
 leaf-on-left : (w : Walk) (places : List ℕ) (m : ℕ) → w .cell ≡ m → w .left ≡ true → m < 256 → leaf-place w places ≡ getD places m 0
 unfolding leaf-place
@@ -132,7 +132,7 @@ module _ {t : Trie} {places lens : List ℕ} {w : Walk} {c s : Str} {shared a : 
     some-cells = omega (arith, inside, strings-count)
 
     mine : (j : ℕ) × (j < length ss) × (getD ss j [] ≡ s)
-    mine = mem-at [] (go (all-closed (bounds (ranges (K .fs)) (K .sound .order)) path (rw (ends .path-is) at (at-mem ss [] (ends .place) inside)) (length s)))
+    mine = mem-place [] ss (go (all-closed (bounds (ranges (K .fs)) (K .sound .order)) path (rw (ends .path-is) at (mem-at [] ss (ends .place) inside)) (length s)))
       where
         go : List·Memᴰ (take (length s) path) ss ⊎ ([] ⊑ take (length s) path) → List·Memᴰ s ss
         go (inl m) = rw begin at m

@@ -1,17 +1,17 @@
 -- Where cells, leaves and the walk's end stand among the strings.
-use mathlib.Core.Path.{_∙_, _≡_, refl, sym}
-use mathlib.Core.List.{List, List·Memᴰ, List·Memᴰ·head, List·Memᴰ·tail, [], _++_, _∷_}
+use mathlib.Core.Path.{_∙_, _≡_, refl}
+use mathlib.Core.List.{List, [], _++_, _∷_}
 use Prim.Native.Nat.{_+_, _-_, _<_, _≤_, suc, zero, ℕ}
 use native.Mathlib.Decide.{decLt, ℕ-discrete}
 use native.Mathlib.Omega.{arith}
 use lib.ListN.{List·getD-eq-default, getD, length, length-append}
-use lib.Seq.{getD-append-add}
 use Rattle.model.specs.declared.Cell.{Cell}
 use Rattle.model.specs.declared.Side.{Side}
 use Rattle.model.specs.declared.Side.the-variants.{Slot as slot}
 use Rattle.model.specs.Order.{Asc, Low, Str, _≺_, _⊑_, _◁_, above, at, end, le?, over, step, top}
-use Rattle.model.specs.Tries.{Reads, Spans, Tree, at-cell, cut, here, size, there, tip}
+use Rattle.model.specs.Tries.{Reads, Spans, Tree, at-cell, cut, here, there, tip}
 use Rattle.model.specs.Growth.{Spot, left, right}
+use Rattle.model.proofs.Lists.{at-behind}
 use Rattle.model.proofs.Order.{le-refl, low-at, low-lower, lt-le, lt-trans}
 use Rattle.model.proofs.Strings.{trie-asc}
 use Rattle.model.proofs.Tries.{cells-count}
@@ -20,7 +20,7 @@ use Rattle.trie.specs.Places.{InOrder, cells, no-cells}
 use Rattle.trie.proofs.Strung.{order-size}
 use Rattle.growth.proofs.Meeting.{Met, at-once, on-left, on-right, string-of}
 
--- A list that goes on with q: up to its end q is what comes next; behind q the rest.
+-- A list that goes on with q: up to its end q is what comes next.
 module _ {A : Type 0} where
   pub up-to : (xs : List A) (q : A) (ys : List A) (d : A) (j : ℕ) → j ≤ length xs → getD (xs ++ (q ∷ ys)) j d ≡ getD xs j q
   up-to [] q ys d zero h = refl
@@ -28,24 +28,10 @@ module _ {A : Type 0} where
   up-to (x ∷ xs) q ys d zero h = refl
   up-to (x ∷ xs) q ys d (suc j) h = up-to xs q ys d j (omega arith)
 
-  pub behind : (xs : List A) (q : A) (ys : List A) (d : A) (j i : ℕ) → i ≡ suc (length xs + j) → getD (xs ++ (q ∷ ys)) i d ≡ getD ys j d
-  behind xs q ys d j i e =
-      let g : i ≡ length xs + suc j = omega arith in
-      rw g (getD-append-add xs (q ∷ ys) (suc j) d)
-
   pub any-default : (xs : List A) (d e : A) (j : ℕ) → j < length xs → getD xs j d ≡ getD xs j e
   any-default [] d e j h = absurd (omega arith)
   any-default (x ∷ xs) d e zero h = refl
   any-default (x ∷ xs) d e (suc j) h = any-default xs d e j (omega arith)
-
-  pub mem-at : {x : A} {xs : List A} (d : A) → List·Memᴰ x xs → (j : ℕ) × (j < length xs) × (getD xs j d ≡ x)
-  mem-at d (List·Memᴰ·head e) = (0, omega arith, sym e)
-  mem-at d (List·Memᴰ·tail m) = let r = mem-at d m in (suc (r .0), omega (arith, r .1), r .2)
-
-  pub at-mem : (xs : List A) (d : A) (j : ℕ) → j < length xs → List·Memᴰ (getD xs j d) xs
-  at-mem [] d j h = absurd (omega arith)
-  at-mem (x ∷ xs) d zero h = List·Memᴰ·head refl
-  at-mem (x ∷ xs) d (suc j) h = List·Memᴰ·tail (at-mem xs d j (omega arith))
 
 -- Strings ascend from place to place, and behind the last stands the upper end.
 asc-low : {l : Low} {ss : List Str} {u : Str} → Asc l ss u → l ◁ u → (j : ℕ) → l ◁ getD ss j u
@@ -73,7 +59,7 @@ order-below {cs} (cells {m = m} {vs = ns} {ws = ks} k x y) j h = go (decLt j (le
         → getD (ns ++ (m ∷ ks)) j 0 < length cs
     go (yes b) d f g = rw (up-to ns m ks 0 j (omega arith), any-default ns m 0 j b) (f b)
     go (no b) (yes e) f g = rw (up-to ns m ks 0 j (omega arith), List·getD-eq-default ns m {n = j} (omega arith)) k
-    go (no b) (no e) f g = rw (behind ns m ks 0 (j - suc (length ns)) j (omega arith)) (g (omega (arith, h, length-append ns (m ∷ ks))))
+    go (no b) (no e) f g = rw (at-behind ns m ks 0 (j - suc (length ns)) j (omega arith)) (g (omega (arith, h, length-append ns (m ∷ ks))))
 
 -- A leaf has no strings.
 none-below : {P : Low → Str → ℕ → Type 0} {cs : List Cell} {a : Side} {t : Tree} {vs : List ℕ} {l : Low} {u : Str} {ss : List Str} (s : ℕ)
@@ -99,7 +85,7 @@ met-stands {cs = cs} {u = u} (there {n = m} h x y) (cut {xs = xs} {ys = ys} i a 
       fits = omega (arith, length-append xs (q ∷ ys));
       is = rw (up-to ns m ks 0 (length xs) (omega arith)) (List·getD-eq-default ns m (omega arith));
       string = rw (up-to xs q ys u (length xs) (omega arith)) (List·getD-eq-default xs q (omega arith));
-      next = λ s e. rw (behind xs q ys u 0 (suc (length xs)) (omega arith), none-below s e y Y);
+      next = λ s e. rw (at-behind xs q ys u 0 (suc (length xs)) (omega arith), none-below s e y Y);
     }
 met-stands {cs = cs} {u = u} (there {n = m} h x y) (cut {xs = xs} {ys = ys} i a b X Y) (cells {vs = ns} {ws = ks} k o o′) (on-left z) =
     let len : length ns ≡ length xs = order-size x o ∙ cells-count X in
@@ -120,9 +106,9 @@ met-stands {cs = cs} {u = u} (there {n = m} h x y) (cut {xs = xs} {ys = ys} i a 
     record {
       place = at;
       fits = omega (arith, S .fits, length-append xs (q ∷ ys));
-      is = rw (behind ns m ks 0 (S .place) at (omega arith)) (S .is);
-      string = rw (behind xs q ys u (S .place) at (omega arith)) (S .string);
-      next = λ s e. rw (behind xs q ys u (suc (S .place)) (suc at) (omega arith)) (S .next s e);
+      is = rw (at-behind ns m ks 0 (S .place) at (omega arith)) (S .is);
+      string = rw (at-behind xs q ys u (S .place) at (omega arith)) (S .string);
+      next = λ s e. rw (at-behind xs q ys u (suc (S .place)) (suc at) (omega arith)) (S .next s e);
     }
 
 -- The spot that the walk comes by, from the place of its leaf.
@@ -156,7 +142,7 @@ module _ (cs : List Cell) (u q : Str) (xs ys : List Str) (ns ks : List ℕ) (m :
   first j h = up-to ns m ks 0 j (omega arith) ∙ any-default ns m 0 j (omega arith)
 
   second : (j i : ℕ) → i ≡ suc (length xs + j) → getD (ns ++ (m ∷ ks)) i 0 ≡ getD ks j 0
-  second j i e = behind ns m ks 0 j i (omega arith)
+  second j i e = at-behind ns m ks 0 j i (omega arith)
 
   by-first : {k sp : Spot} {j : ℕ} → Side-by (left m) ns j sp → Side-by k (ns ++ (m ∷ ks)) j sp
   by-first (no-cell e) = left-as 0 m (omega (arith, length-append ns (m ∷ ks))) (middle 0 (omega arith))
@@ -189,10 +175,10 @@ module _ (cs : List Cell) (u q : Str) (xs ys : List Str) (ns ks : List ℕ) (m :
   ends-right only low E = record {
     place = suc (length xs + E .place);
     fits = omega (arith, E .fits, length-append xs (q ∷ ys));
-    path-is = rw (behind xs q ys u (E .place) (suc (length xs + E .place)) refl) (E .path-is);
+    path-is = rw (at-behind xs q ys u (E .place) (suc (length xs + E .place)) refl) (E .path-is);
     within = E .within;
     before = λ j h. elim (decLt (length xs) j) [
-      | yes b ↦ rw (behind xs q ys u (j - suc (length xs)) j (omega arith)) (E .before (j - suc (length xs)) (omega arith))
+      | yes b ↦ rw (at-behind xs q ys u (j - suc (length xs)) j (omega arith)) (E .before (j - suc (length xs)) (omega arith))
       | no b ↦ rw (up-to xs q ys u j (omega arith)) (low j (omega arith))
     ];
     by = by-second (E .by);

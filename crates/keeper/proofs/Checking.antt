@@ -14,7 +14,7 @@ use Rattle.model.specs.Checks.{is-bad, is-cut, is-sound}
 use Rattle.model.specs.Agreeing.{isAgreeing, slotsBetween}
 use Rattle.model.specs.Format.{SoundFile, checkFile, readFile, readSlots, sized}
 use Rattle.model.specs.Calls.{fine, lookedBy, lookedOf, refusing}
-use Rattle.model.proofs.CheckedFiles.{CheckedFile, checkFile-right}
+use Rattle.model.proofs.CheckedFiles.{checkFile-right}
 use Rattle.model.proofs.Agreeing.{isAgreeing-agrees}
 use Rattle.file.specs.declared.Size.{Size}
 use Rattle.file.specs.declared.survey.Survey.{Survey}
@@ -27,7 +27,7 @@ use Rattle.agreement.specs.declared.Agreement.{Agreement}
 use Rattle.agreement.specs.Decides.{Decided, Decides}
 use Rattle.agreement.proofs.Laws.{agreed-count}
 use Rattle.keeper.specs.declared.checks.Checked.{Checked}
-use Rattle.keeper.specs.Ready.{Agreed, Ready}
+use Rattle.keeper.specs.Ready.{Agreed}
 use Rattle.keeper.proofs.Surveying.{said-read}
 
 -- A sound file, as it is read with its sizes.
@@ -72,20 +72,22 @@ looked-by : (xs : List ℕ) (t : Trie) {b : ℕ} {fs : List Slot} → checkFile 
 unfolding lookedOf lookedBy
 looked-by xs t e f = rw (e, f)
 
--- The strings and the agreement of a sound file.
+-- The order and the strings of a sound file.
+module _ {xs : List ℕ} {s : Size} {v : Survey} (R : Read s xs) (z : Surveyed v xs s) where
+  counted : (v .count ≡ length (order-of (R .slots))) × (take (v .count) (v .order) ≡ order-of (R .slots))
+  counted = z .order-is (R .listed) (R .sound)
+
+  pub strung : {g : Strings} → Listed g xs s (v .order) (v .count) → Strung g (strings-of (R .slots)) (slotsBetween (R .slots) none (strings-of (R .slots)))
+  strung l = l .strung (R .slots) (R .listed) (R .sound) (counted .0) (counted .1)
+
+-- The agreement with a sound file.
 module _ (xs : List ℕ) (t : Trie) (s : Size) (v : Survey) (g : Strings) (a : Agreement)
     (h : Said s xs) (e : checkFile xs ≡ is-sound) (z : Surveyed v xs s) (l : Listed g xs s (v .order) (v .count)) (d : Decides t g a) where
   R : Read s xs
   R = sound-read xs s h e
 
-  counted : (v .count ≡ length (order-of (R .slots))) × (take (v .count) (v .order) ≡ order-of (R .slots))
-  counted = z .order-is (R .listed) (R .sound)
-
-  strung : Strung g (strings-of (R .slots)) (slotsBetween (R .slots) none (strings-of (R .slots)))
-  strung = l .strung (R .slots) (R .listed) (R .sound) (counted .0) (counted .1)
-
   decided : Decided (R .slots) t a
-  decided = d (s .b) (R .slots) (R .sound) strung
+  decided = d (s .b) (R .slots) (R .sound) (strung R z l)
 
   pub agreed-not : a .agrees ≡ false → lookedOf xs t ≡ refusing StaleTrie
   agreed-not f = looked-by xs t e (R .is) ∙ ap (λ (x : Bool). cond x (fine (s .b) (R .slots)) (refusing StaleTrie)) (sym (decided .agrees-is) ∙ f)
@@ -103,12 +105,12 @@ module _ (xs : List ℕ) (t : Trie) (s : Size) (v : Survey) (g : Strings) (a : A
           sound = rw p (R .sound);
           slots-inside = rw (p, q) (z .slots-inside);
           count-most = rw q (z .count-most);
-          count-is = rw q (counted .0);
-          order-is = rw q (counted .1);
+          count-is = rw q (counted R z .0);
+          order-is = rw q (counted R z .1);
           used-is = rw q (z .used-is (R .listed) (R .sound));
           strings-most = rw r (l .count-most);
           few = few;
-          strings-held = rw r (strung .holds few);
+          strings-held = rw r (strung R z l .holds few);
         };
         agrees = A;
         placed = rw u (decided .placed f);

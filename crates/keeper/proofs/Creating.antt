@@ -1,8 +1,8 @@
 -- Create, put together from the sizes that it takes.
-use mathlib.Core.Path.{_∙_, _≡_, ap, refl, sym}
-use mathlib.Core.Bool.{Bool, _&&_, cond, false, true}
+use mathlib.Core.Path.{_∙_, _≡_, refl}
+use mathlib.Core.Bool.{Bool, _&&_, false, true}
 use mathlib.Core.List.{List}
-use Prim.Native.Nat.{_*_, _+_, _<_, _≤_, ℕ}
+use Prim.Native.Nat.{_*_, _+_, _<_, ℕ}
 use native.Mathlib.Decide.{decLe}
 use native.Mathlib.Omega.{arith}
 use borrow.Author.Tests.{eq-eqb, ne-eqb}
@@ -12,8 +12,8 @@ use Rattle.model.specs.declared.Cause.the-variants.{WrongSize}
 use Rattle.model.specs.declared.TrieAnswer.the-variants.{Given, Refused as TrieRefused}
 use Rattle.model.specs.declared.TrieGiven.{TrieGiven}
 use Rattle.model.specs.Files.{created as new-file}
-use Rattle.model.specs.Format.{Sizes, fileBytes, fileSize, legalSizes, slotSize, version}
-use Rattle.model.specs.Calls.{Created, createOf, new-trie}
+use Rattle.model.specs.Format.{fileBytes, fileSize, legalSizes, slotSize, version}
+use Rattle.model.specs.Calls.{createOf, new-trie}
 use Rattle.model.proofs.Format.{legalSizes-sizes, sizes-legalSizes}
 use Rattle.file.specs.declared.Size.{Size}
 use Rattle.file.specs.Sizes.{Sized}

@@ -1,6 +1,5 @@
 -- Put into a full bucket: what refuses the split, and what its two stores leave.
 use mathlib.Core.Path.{_∙_, _≡_, ap, ap₂, subst, sym}
-use mathlib.Core.Bool.{false, not, true}
 use mathlib.Core.Option.{Option, some}
 use mathlib.Core.List.{List, []}
 use Prim.Native.Nat.{_*_, _+_, _-_, _/_, _<_, _≤_, suc, ℕ}
@@ -24,8 +23,8 @@ use Rattle.model.specs.Format.{headerOf, readFile, storeBytes}
 use Rattle.model.specs.Calls.{PutDone, putMade, refusalOf, storesBytes, trieAfter}
 use Rattle.model.proofs.Entries.{chosen-no, chosen-yes, row-at, row-insert}
 use Rattle.model.proofs.Names.{legal-length}
-use Rattle.model.proofs.Files.{first-before, first-passes}
 use Rattle.model.proofs.Format.{headed-headerOf, readFile-read}
+use Rattle.model.proofs.Calls.{free-lowest}
 use Rattle.bucket.specs.Slots.{lowerAt, upperAt, writtenBytes}
 use Rattle.bucket.proofs.Rows.{Reads}
 use Rattle.bucket.proofs.Changing.{length-new}
@@ -193,9 +192,6 @@ room-at fs k e = elim (decLt (first free? fs) (length fs)) [
   | no h ↦ let q : _≡_ {A = Room} NoRoom (At k) = rw (le-ltb (first free? fs) (length fs) (omega arith)) at e in
       let z : _≡_ {A = ℕ} 0 1 = cc in absurd (omega arith)
 ]
-
-free-lowest : (fs : List Slot) → first free? fs < length fs → Lowest fs (first free? fs)
-free-lowest fs h = record { inside = h; is-free = first-passes free? fs h; lowest = λ B k. first-before free? fs B k }
 
 -- Of a file and a trie that passed the checks.
 module _ {c : Checked} {xs : List ℕ} {t : Trie} (G : Agreed c xs t) where

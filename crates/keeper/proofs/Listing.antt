@@ -16,13 +16,13 @@ use Rattle.model.specs.declared.Trie.{Trie}
 use Rattle.model.specs.Order.{Low, Str, _⊑_, le?, over}
 use Rattle.model.specs.Names.{Legal, atMost, filled, legalName}
 use Rattle.model.specs.Entries.{Entry, Row, entry, name-at, no-entries}
-use Rattle.model.specs.Files.{IsUsed, Slot, Well, entries-of, free, head, lower-of, order-of, slot-at, upper-of, used}
+use Rattle.model.specs.Files.{Slot, entries-of, head, lower-of, order-of, slot-at}
 use Rattle.model.specs.Format.{entriesBytes, entryBytes}
-use Rattle.model.specs.Calls.{Looked, between, entriesIn, fine, listEntries, listLooked, listOf, lookedOf, refusing}
+use Rattle.model.specs.Calls.{between, entriesIn, fine, listEntries, listLooked, listOf, lookedOf, refusing}
 use Rattle.model.proofs.Order.{le-trans, low-lower}
 use Rattle.model.proofs.Names.{le-atMost, lt-atMost}
 use Rattle.model.proofs.Entries.{row-at}
-use Rattle.model.proofs.Files.{well-parts}
+use Rattle.model.proofs.Files.{slot-row}
 use Rattle.digits.specs.Keys.{value}
 use Rattle.bucket.specs.Forms.{partBetween}
 use Rattle.bucket.specs.Slots.{countAt}
@@ -30,7 +30,7 @@ use Rattle.bucket.proofs.Laws.{length-entryBytes}
 use Rattle.bucket.proofs.Finding.{count-is, part-between}
 use Rattle.file.specs.declared.Size.{Size}
 use Rattle.file.specs.Holders.{Holder, Ordered, placed, upper-at}
-use Rattle.file.proofs.Holding.{place-number, place-reads, place-used, places-apart}
+use Rattle.file.proofs.Holding.{place-reads, place-used, places-apart}
 use Rattle.keeper.specs.declared.checks.Checked.{Checked}
 use Rattle.keeper.specs.Ready.{Ready}
 use Rattle.keeper.specs.Outcomes.{listed}
@@ -87,11 +87,7 @@ in-none n m fs (B ∷ Bs) f =
 
 module _ {xs : List ℕ} {s : Size} {order : List ℕ} {count : ℕ} {fs : List Slot} (O : Ordered xs s order count fs) where
   place-row : (i : ℕ) → i < count → Row (lower-of (head (placed fs i))) (entries-of (placed fs i)) (upper-at fs i)
-  place-row i h = go (placed fs i) (place-used O i h) (O .sound .well (getD (order-of fs) i 0))
-    where
-      go : (x : Slot) → IsUsed (head x) → Well (s .b) x → Row (lower-of (head x)) (entries-of x) (upper-of (head x))
-      go free u w = absurd u
-      go (used l v es) u w = well-parts (s .b) w .3
+  place-row i h = slot-row (s .b) (placed fs i) (O .sound .well (getD (order-of fs) i 0)) (place-used O i h)
 
   module _ (n m : Str) (f : Legal n) (g : Legal m) where
     -- The bytes of the slots at places one after another are the entries there.

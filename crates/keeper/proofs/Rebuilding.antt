@@ -1,33 +1,29 @@
 -- Rebuild, by its order of refusals, and the trie that it gives.
-use mathlib.Core.Path.{_∙_, _≡_, ap, sym}
-use mathlib.Core.Bool.{Bool, cond, false, true}
-use mathlib.Core.Option.{some}
+use mathlib.Core.Path.{_∙_, _≡_, sym}
+use mathlib.Core.Bool.{Bool, false, true}
 use mathlib.Core.List.{List}
-use Prim.Native.Nat.{_<_, _≤_, ℕ}
+use Prim.Native.Nat.{_≤_, ℕ}
 use borrow.Author.Tests.{leb-true}
 use lib.Dec.{leb}
-use lib.ListN.{length, take}
+use lib.ListN.{length}
 use Rattle.model.specs.declared.Cause.the-variants.{BadFile, CutFile, ManyStrings}
 use Rattle.model.specs.declared.TrieAnswer.the-variants.{Given, Refused as TrieRefused}
 use Rattle.model.specs.declared.TrieGiven.{TrieGiven}
-use Rattle.model.specs.Order.{none}
-use Rattle.model.specs.Files.{Slot, order-of, string-count, strings-of}
+use Rattle.model.specs.Files.{string-count, strings-of}
 use Rattle.model.specs.Rebuilding.{rebuilt-trie}
 use Rattle.model.specs.Checks.{is-bad, is-cut, is-sound}
-use Rattle.model.specs.Agreeing.{slotsBetween}
-use Rattle.model.specs.Format.{checkFile, readFile}
+use Rattle.model.specs.Format.{checkFile}
 use Rattle.model.specs.Calls.{new-trie, rebuildBy, rebuildOf}
 use Rattle.file.specs.declared.Size.{Size}
 use Rattle.file.specs.declared.survey.Survey.{Survey}
 use Rattle.file.specs.Sizes.{Said}
 use Rattle.file.specs.Surveys.{Surveyed}
 use Rattle.trie.specs.declared.Strings.{Strings}
-use Rattle.trie.specs.Strung.{Strung}
 use Rattle.strings.specs.Arrays.{Listed}
 use Rattle.rebuilding.specs.Runs.{rebuilt-of}
 use Rattle.rebuilding.proofs.Right.{rebuilt-right}
 use Rattle.keeper.specs.Outcomes.{rebuilt}
-use Rattle.keeper.proofs.Checking.{Read, sound-read}
+use Rattle.keeper.proofs.Checking.{Read, sound-read, strung}
 
 pub rebuild-bad : (xs : List ℕ) (r : TrieGiven) → (r .answer ≡ TrieRefused BadFile) × (r .trie ≡ new-trie) → checkFile xs ≡ is-bad → rebuilt r ≡ rebuildOf xs
 unfolding rebuildOf rebuildBy
@@ -43,15 +39,9 @@ module _ (xs : List ℕ) (s : Size) (v : Survey) (g : Strings) (h : Said s xs) (
   R : Read s xs
   R = sound-read xs s h e
 
-  counted : (v .count ≡ length (order-of (R .slots))) × (take (v .count) (v .order) ≡ order-of (R .slots))
-  counted = z .order-is (R .listed) (R .sound)
-
-  strung : Strung g (strings-of (R .slots)) (slotsBetween (R .slots) none (strings-of (R .slots)))
-  strung = l .strung (R .slots) (R .listed) (R .sound) (counted .0) (counted .1)
-
   few-is : {t : Bool} → g .few ≡ t → leb (string-count (R .slots)) 256 ≡ t
   unfolding string-count
-  few-is f = sym (strung .few-is) ∙ f
+  few-is f = sym (strung R z l .few-is) ∙ f
 
   pub rebuild-many : (r : TrieGiven) → (r .answer ≡ TrieRefused ManyStrings) × (r .trie ≡ new-trie) → g .few ≡ false → rebuilt r ≡ rebuildOf xs
   unfolding rebuildOf rebuildBy
@@ -60,6 +50,6 @@ module _ (xs : List ℕ) (s : Size) (v : Survey) (g : Strings) (h : Said s xs) (
   pub rebuild-given : (r : TrieGiven) → r .answer ≡ Given → r .trie ≡ rebuilt-of (g .lens) (g .digits) (g .slots) (g .count) → g .few ≡ true → rebuilt r ≡ rebuildOf xs
   unfolding rebuildOf rebuildBy string-count
   rebuild-given r a t f =
-      let few : length (strings-of (R .slots)) ≤ 256 = leb-true (length (strings-of (R .slots))) 256 (sym (strung .few-is) ∙ f) in
-      let u : r .trie ≡ rebuilt-trie (R .slots) = t ∙ rebuilt-right (R .sound) g (strung .holds few) few in
-      rw (e, R .is, sym (strung .few-is) ∙ f, a, u)
+      let few : length (strings-of (R .slots)) ≤ 256 = leb-true (length (strings-of (R .slots))) 256 (sym (strung R z l .few-is) ∙ f) in
+      let u : r .trie ≡ rebuilt-trie (R .slots) = t ∙ rebuilt-right (R .sound) g (strung R z l .holds few) few in
+      rw (e, R .is, sym (strung R z l .few-is) ∙ f, a, u)

@@ -1,6 +1,6 @@
 -- The spot of a name in a file that is read and sound, and the bytes of one whole-slot store.
 use mathlib.Core.Path.{_∙_, _≡_, ap, refl, subst, sym}
-use mathlib.Core.Bool.{Bool, cond, false, true}
+use mathlib.Core.Bool.{Bool, false, true}
 use mathlib.Core.Option.{Option, none as nothing, some}
 use mathlib.Core.List.{List, []}
 use Prim.Native.Nat.{_*_, _+_, _-_, _<_, _≤_, suc, zero, ℕ}
@@ -14,8 +14,7 @@ use Rattle.model.specs.Names.{Legal}
 use Rattle.model.specs.Entries.{Entry, find, insert, without}
 use Rattle.model.specs.Files.{In, Slot, Sound, free, head, order-of, slot-at, used}
 use Rattle.model.specs.Changes.{holds?}
-use Rattle.model.specs.Checks.{sameStr}
-use Rattle.model.specs.Format.{entriesBytes, entriesOf, padded, readFile, readSlot, readUsed, slotAt, slotBytes, slotSize, storeBytes, usedOf, valueOf}
+use Rattle.model.specs.Format.{entriesBytes, entriesOf, padded, readFile, readUsed, slotAt, slotBytes, slotSize, storeBytes, usedOf, valueOf}
 use Rattle.model.proofs.Names.{both-true, legal-length}
 use Rattle.model.proofs.Entries.{row-insert}
 use Rattle.model.proofs.Files.{first-right, one-range, used-inside}
@@ -29,6 +28,7 @@ use Rattle.bucket.proofs.Rows.{Reads, read-written, reads}
 use Rattle.bucket.proofs.Finding.{below-place, count-is, place-found}
 use Rattle.bucket.proofs.Changing.{is-held, length-held, length-new, not-held, put-held-part, put-new, removed-part, rewritten-is, row-without}
 use Rattle.file.specs.Holders.{Holder, Ordered}
+use Rattle.file.proofs.Readings.{used-read}
 use Rattle.keeper.specs.declared.checks.Checked.{Checked}
 use Rattle.keeper.specs.declared.changes.Spot.{Spot}
 use Rattle.keeper.specs.Ready.{Ready}
@@ -61,15 +61,6 @@ module _ {c : Checked} {xs : List ℕ} {fs : List Slot} (R : Ready c xs) (e : re
       ap (λ (l : List ℕ). getD l r 0) (sym ready-order) ∙ getD-take (c .survey .count) (c .survey .order) r 0 (omega (arith, H .inside, ready-count)) ∙ sym i in
       subst (λ (j : ℕ). In (head (slot-at fs j)) n) q (H .range)
 
--- A slot that is not free is read as used.
-used-read : (b : ℕ) (xs : List ℕ) {l : Low} {u : Str} {es : List Entry} → readSlot b xs ≡ some (used l u es) → readUsed b xs ≡ some (used l u es)
-unfolding readSlot
-used-read b xs {l} {u} {es} = go (sameStr xs (slotBytes b free))
-  where
-    go : (t : Bool) → cond t (some free) (readUsed b xs) ≡ some (used l u es) → readUsed b xs ≡ some (used l u es)
-    go true h = let z : _≡_ {A = ℕ} 0 1 = cc in absurd (omega arith)
-    go false h = h
-
 -- The values are the bytes as they are read.
 entriesOf-at : (n i : ℕ) (xs : List ℕ) → i < n → getD (entriesOf n xs) i ([], 0) .1 ≡ valueOf (take 8 (drop (32 * i + 24) xs))
 unfolding entriesOf
@@ -93,7 +84,7 @@ module _ (xs : List ℕ) {b : ℕ} {fs : List Slot} (e : readFile xs ≡ some (b
 
   slot-used : (k : ℕ) {l : Low} {u : Str} {es : List Entry} → slot-at fs k ≡ used l u es → readUsed b (bytes k) ≡ some (used l u es)
   unfolding slotAt slotSize
-  slot-used k i = used-read b (bytes k) (readSlot-readFile xs e k (used-inside fs k (rw i tt)) ∙ ap some i)
+  slot-used k {l} {u} {es} i = used-read b (bytes k) (used l u es) tt (readSlot-readFile xs e k (used-inside fs k (rw i tt)) ∙ ap some i)
 
   pub slot-reads : (k : ℕ) {l : Low} {u : Str} {es : List Entry} → slot-at fs k ≡ used l u es → Reads b (bytes k) l u es
   slot-reads k i = reads b (bytes k) (slot-used k i) (rw i at (S .well k))

@@ -1,21 +1,17 @@
 -- What check, recover and the other calls learn from a look at the whole file.
-use mathlib.Core.Path.{_∙_, _≡_, ap, refl, subst, sym}
-use mathlib.Core.Bool.{Bool, cond, false, true}
-use mathlib.Core.Option.{Option, none as nothing, some}
+use mathlib.Core.Path.{_∙_, _≡_, ap, refl, sym}
+use mathlib.Core.Option.{none as nothing}
 use mathlib.Core.List.{List, _++_}
 use Prim.Native.Nat.{_*_, _+_, _-_, _<_, _≤_, ℕ}
 use native.Mathlib.Omega.{arith}
 use borrow.Author.Tests.{le-ltb, lt-ltb}
-use lib.Dec.{ltb}
-use lib.ListN.{getD, length, length-replicate, replicate, replicate-append-replicate, take}
+use lib.ListN.{getD, length-replicate, replicate, replicate-append-replicate, take}
 use lib.Seq.{paste, take-at}
 use Rattle.model.specs.declared.Cause.the-variants.{BadFile, WrongSize}
-use Rattle.model.specs.declared.RecoverAnswer.{RecoverAnswer}
 use Rattle.model.specs.declared.RecoverAnswer.the-variants.{Freed, Nothing, Refused as RecoverRefused, Stopped as RecoverStopped}
-use Rattle.model.specs.Files.{free}
-use Rattle.model.specs.Checks.{Kind, is-bad, is-cut, is-sound}
+use Rattle.model.specs.Checks.{is-bad, is-cut, is-sound}
 use Rattle.model.specs.Format.{checkFile, checkRead, headerOf, readBy, readFile, readSlots, sized, slotBytes, slotSize, storeBytes}
-use Rattle.model.specs.Calls.{Recovered, recoverBy, recoverOf}
+use Rattle.model.specs.Calls.{recoverBy, recoverOf}
 use Rattle.model.proofs.Format.{headed-b, headerOf-headed}
 use Rattle.file.specs.declared.Size.{Size}
 use Rattle.file.specs.declared.survey.Kind.{Kind as Found}

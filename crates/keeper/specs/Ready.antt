@@ -4,7 +4,6 @@ use mathlib.Core.Option.{some}
 use mathlib.Core.List.{List}
 use Prim.Native.Nat.{_≤_, ℕ}
 use lib.ListN.{length, take}
-use Rattle.model.specs.declared.Cause.{Cause}
 use Rattle.model.specs.declared.Trie.{Trie}
 use Rattle.model.specs.Order.{none}
 use Rattle.model.specs.Files.{Slot, Sound, order-of, strings-of}

@@ -8,7 +8,7 @@ ghost use Rattle.digits.specs.Keys.{keyValue};
 ghost use Rattle.model.specs.Calls.{putOf, removeOf};
 ghost use Rattle.bucket.specs.Entries.{changedValue, withoutEntry};
 ghost use Rattle.bucket.specs.Slots.{lowerAt, upperAt, writtenBytes};
-ghost use Rattle.file.specs.Sizes.{Sized, Below};
+ghost use Rattle.file.specs.Sizes.{Sized};
 ghost use Rattle.growth.specs.Grows.{Grows};
 ghost use Rattle.keeper.specs.Divides.{DivideTold};
 ghost use Rattle.keeper.specs.Outcomes.{put as putDone, removed as removeDone};

@@ -1,6 +1,5 @@
 // What put, remove and list check alike: the whole file and full agreement.
 ghost use mathlib.Core.Path.{_≡_};
-ghost use Prim.Native.Nat.{_≤_, _<_, _+_, _*_};
 ghost use Rattle.model.specs.Checks.{is-sound};
 ghost use Rattle.model.specs.Format.{checkFile};
 ghost use Rattle.file.specs.Sizes.{Said};

@@ -1,8 +1,8 @@
 // The split of a bucket of b + 1 entries: the split string, what stays and what moves, and the cells to be added.
 ghost use mathlib.Core.Bool.{true};
 ghost use mathlib.Core.Path.{_≡_};
-ghost use Prim.Native.Nat.{_≤_, _<_, _+_, _-_, _*_};
-ghost use lib.ListN.{drop, length, take};
+ghost use Prim.Native.Nat.{_≤_, _+_, _-_, _*_};
+ghost use lib.ListN.{drop, take};
 ghost use Rattle.model.specs.Order.{diff};
 ghost use Rattle.model.specs.Format.{padded};
 ghost use Rattle.digits.specs.Keys.{continued, isZero, value};

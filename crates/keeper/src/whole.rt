@@ -1,6 +1,6 @@
 // The calls on a whole file: create, check, recover, rebuild.
 ghost use mathlib.Core.Path.{_≡_};
-ghost use Prim.Native.Nat.{_≤_, _<_, _+_, _*_};
+ghost use Prim.Native.Nat.{_<_};
 ghost use Rattle.model.specs.Calls.{createOf, new-trie, rebuildOf, recoverOf};
 ghost use Rattle.model.specs.Format.{checkFile};
 ghost use Rattle.keeper.specs.Outcomes.{created, found, rebuilt, recovered};

@@ -11,8 +11,8 @@ use Rattle.model.specs.Names.{Legal}
 use Rattle.model.specs.Entries.{Entry, chosen, find, insert, without}
 use Rattle.model.specs.Files.{In, Slot, Sound, entries-of, first, free, head, slot-at, string-count, used}
 use Rattle.model.specs.Changes.{Change, Denied, Lowest, Request, Result, Store, absent, call, fits, free?, halves, holds?, no-room, put, put-in, refuse, remove, remove-in, removes, splits, stored, stores, stores-if, too-many}
-use Rattle.model.proofs.Entries.{chosen-no, chosen-yes, insert-held}
-use Rattle.model.proofs.Files.{bucket, first-before, first-passes, first-right, one-range, well-parts}
+use Rattle.model.proofs.Entries.{chosen-no, chosen-yes}
+use Rattle.model.proofs.Files.{bucket, first-before, first-passes, first-right, one-range}
 
 pub lowest-unique : {fs : List Slot} {M N : ℕ} → Lowest fs M → Lowest fs N → M ≡ N
 lowest-unique {fs} {M} {N} L K = elim (decLt M N) [
@@ -73,15 +73,6 @@ module _ (b : ℕ) where
     denied-one (no-room A es is lo up h f) (too-many A′ N es′ is′ lo′ up′ h′ L k) = absurd (f N (L .inside) (L .is-free))
     denied-one (too-many A N es is lo up h L k) (no-room A′ es′ is′ lo′ up′ h′ f) = absurd (f N (L .inside) (L .is-free))
     denied-one (too-many A N es is lo up h L k) (too-many A′ N′ es′ is′ lo′ up′ h′ L′ k′) = refl
-
-    -- A put on a held name is one store.
-    pub held-one : (A : ℕ) {l : Low} {u : Str} {es : List Entry} {n : Str} {v w : ℕ} {ss : List Store} → slot-at fs A ≡ used l u es → l ◁ n → n ⊑ u
-        → find n es ≡ some w → Change b fs (put n v) ss → length ss ≡ 1
-    held-one A is lo up e (fits is′ g′ lo′ up′ h′) = refl
-    held-one A {es = es} {n = n} {v = v} {w = w} is lo up e (splits {es = gs} is′ g′ lo′ up′ h′ L few) =
-        let p = well-parts b (rw is at (S .well A)) in
-        let h : length (insert n v es) ≤ b = omega (arith, insert-held n v w (p .3) e, p .4) in
-        unlike n v (one-bucket is lo up is′ lo′ up′ .1) h h′
 
 module _ (b : ℕ) (fs : List Slot) where
   pub data Answered (q : Request) : Result → Type 0 where

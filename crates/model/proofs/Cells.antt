@@ -1,5 +1,5 @@
 -- What a side reads from cells: determined, kept by appended and changed cells, met by the walk; cells in a row.
-use mathlib.Core.Path.{_∙_, _≡_, ap₂, refl, sym}
+use mathlib.Core.Path.{_∙_, _≡_, refl, sym}
 use mathlib.Core.Logic.{_≢_}
 use mathlib.Core.List.{List, List·Memᴰ, List·Memᴰ·head, List·Memᴰ·tail, [], _++_, _∷_}
 use Prim.Native.Nat.{_+_, _<_, _≤_, suc, zero, ℕ}
@@ -65,11 +65,6 @@ walk-reads {cs} n (suc fuel) p (there {n = m} {L = L} {R = R} {vs = vs} {ws = ws
         → _≡_ {A = ℕ} (elim d [ yes h ↦ walk-cells cs n fuel q (at-cell cs m .left) | no h ↦ walk-cells cs n fuel p (at-cell cs m .right) ]) (elim d [ yes h ↦ walk n q L | no h ↦ walk n p R ])
     go (yes h) e f = e
     go (no h) e f = f
-
--- What a side reads is unique.
-pub reads-tree : {cs : List Cell} {a : Side} {t t′ : Tree} {vs vs′ : List ℕ} → Reads cs a t vs → Reads cs a t′ vs′ → t ≡ t′
-reads-tree here here = refl
-reads-tree {cs} (there {n = m} h l r) (there h′ l′ r′) = ap₂ (λ (x y : Tree). node (at-cell cs m .digit) (at-cell cs m .number) x y) (reads-tree l l′) (reads-tree r r′)
 
 pub reads-size : {cs : List Cell} {a : Side} {t : Tree} {vs : List ℕ} → Reads cs a t vs → length vs ≡ size t
 reads-size here = refl

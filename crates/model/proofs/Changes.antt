@@ -2,7 +2,6 @@
 -- recovers to what it was.
 use mathlib.Core.Path.{_∙_, _≡_, ap, fun-ext, refl, subst, sym}
 use mathlib.Core.Logic.{_≢_, _⊎_, inl, inr}
-use mathlib.Core.Option.{none as nothing}
 use mathlib.Core.List.{List, List·Memᴰ, List·Memᴰ·head, List·Memᴰ·tail, Memᴰ·append-right, _++_, _∷_}
 use Prim.Native.Nat.{_/_, _<_, _≤_, suc, zero, ℕ}
 use native.Mathlib.Decide.{ℕ-discrete}
@@ -12,12 +11,12 @@ use lib.Seq.{getD-set-other, getD-set-same, set-getD, set-set}
 use Rattle.model.specs.Order.{Low, Str, _≺_, _⊑_, _◁_, above, at, le?, none, over, str?}
 use Rattle.model.specs.Names.{Bound, BoundLow, Legal, limit}
 use Rattle.model.specs.Entries.{Entry, Row, find, insert, move, name-at, not?, stay, without}
-use Rattle.model.specs.Files.{Bad, Chain, Copied, Cut, In, IsUsed, Slot, Sound, Well, all, bounds, by-heads, entries-of, exactly, free, head, one-more, range, ranges, slot-at, string-count, used, well-used}
+use Rattle.model.specs.Files.{Chain, Copied, Cut, In, IsUsed, Slot, Sound, Well, all, bounds, by-heads, entries-of, exactly, free, head, one-more, range, ranges, slot-at, string-count, used, well-used}
 use Rattle.model.specs.Changes.{Change, Lowest, Map, Means, Request, Store, absent, fits, meant, put, remove, removes, split-string, splits, stored}
 use Rattle.model.proofs.Lists.{mem-insert, mem-parts}
 use Rattle.model.proofs.Order.{le-trans, low-at, low-lower, lt-le}
-use Rattle.model.proofs.Entries.{chosen-no, chosen-yes, find-at, find-drop, find-insert-other, find-insert-same, find-keep, insert-new, keep-comm, keep-insert-out, keep-parts, keep-some, length-insert, length-keep, row-at, row-insert, row-keep, split-bound, split-key, split-last, split-over, split-under}
-use Rattle.model.proofs.Files.{bucket, count-right, one-range, slot-freed, used-inside, well-parts}
+use Rattle.model.proofs.Entries.{chosen-no, chosen-yes, find-at, find-drop, find-insert-other, find-insert-same, find-keep, insert-new, keep-comm, keep-insert-out, keep-parts, keep-some, length-insert, length-keep, row-insert, row-keep, split-bound, split-key, split-last, split-over, split-under}
+use Rattle.model.proofs.Files.{count-right, one-range, used-inside, well-parts}
 use Rattle.model.proofs.Splitting.{SplitAt, chain-split}
 
 -- What a store at A leaves: the new slot at A, the old ones elsewhere.
@@ -269,39 +268,3 @@ module _ (b : ℕ) where
     change-stopped F (splits is g lo up big low few) (suc (suc j)) h = absurd (omega arith)
     change-stopped F (removes is lo up e) (suc j) h = absurd (omega arith)
     change-stopped F (absent A is lo up e) (suc j) h = absurd (omega arith)
-
-  -- The one more entry of a cut file is new to A.
-  pub one-more-new : {fs : List Slot} {N : ℕ} (C : Cut b fs N) (i : ℕ) → i < length (C .new)
-      → without (name-at (C .new) i) (C .new) ≡ move (C .low) (C .old) → find (name-at (C .new) i) (C .old) ≡ nothing
-  one-more-new C i h e =
-      let n : Str = name-at (C .new) i in
-      let row = well-parts b (rw (C .n-is) at (C .n-well)) .3 in
-      sym (find-keep (λ k. not? (le? k (C .low))) n (C .old) (over (row-at row i h .1))) ∙ ap (find n) (sym e) ∙ find-drop (λ k. not? (str? k n)) n (C .new) (λ d. d refl)
-
-  -- "Cutting A down before storing the new slot: a stop between loses the moved names." That file is bad.
-  module _ (fs : List Slot) (S : Sound b fs) (A : ℕ) (l : Low) (u : Str) (es : List Entry) (is : slot-at fs A ≡ used l u es)
-      (n : Str) (v : ℕ) (legal : Legal n) (lo : l ◁ n) (up : n ⊑ u) (big : b < length (insert n v es)) (i : ℕ) (i-lt : i < b) (N : ℕ) (lowest : Lowest fs N) where
-    abbrev cut-first : List Slot
-    cut-first = set fs A (old-slot fs S A l u es is n v legal lo up big i i-lt N lowest)
-
-    abbrev z : Str
-    z = name-at (insert n v es) b
-
-    -- No bucket holds the last name.
-    homeless : (B : ℕ) → ¬ In (head (slot-at cut-first B)) z
-    homeless = at-set (λ B x. ¬ In (head x) z) fs A (old-slot fs S A l u es is n v legal lo up big i i-lt N lowest) (inside-a fs S A l u es is)
-        (λ h. s-last fs S A l u es is n v legal lo up big i i-lt N lowest (h .2))
-        (λ B d h. d (one-range b S z h (rw is (tt, k .1, k .2))))
-      where
-        k : Legal z × (l ◁ z) × (z ⊑ u)
-        k = row-at (row-all fs S A l u es is n v legal lo up big i i-lt N lowest) b (omega (arith, length-all fs S A l u es is n v legal lo up big i i-lt N lowest))
-
-    pub cut-first-bad : Bad b cut-first
-    cut-first-bad = (
-      λ T. let B = bucket b T z in homeless (B .0) (B .1),
-      λ M C. let B = bucket b (C .freed) z in
-          elim (ℕ-discrete (B .0) M) [
-            | yes e ↦ (rw (e, slot-freed b cut-first M) at (B .1)) .0
-            | no e ↦ homeless (B .0) (rw (getD-set-other cut-first M (B .0) free free e) at (B .1))
-          ],
-    )

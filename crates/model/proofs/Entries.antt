@@ -1,10 +1,9 @@
 -- What is found after an insertion and in a part that was kept; parts and their lengths; rows of a range.
-use mathlib.Core.Path.{_∙_, _≡_, ap, refl, sym}
+use mathlib.Core.Path.{_∙_, _≡_, refl, sym}
 use mathlib.Core.Logic.{_≢_}
-use mathlib.Core.Option.{Option, none as nothing, some}
+use mathlib.Core.Option.{none as nothing, some}
 use mathlib.Core.List.{List, [], _∷_}
 use Prim.Native.Nat.{_+_, _<_, _≤_, suc, zero, ℕ}
-use native.Mathlib.Decide.{decLt}
 use native.Mathlib.Omega.{arith}
 use lib.ListN.{getD, length, take}
 use Rattle.model.specs.Order.{Low, Str, _≺_, _⊑_, _◁_, above, at, diff, le?, over, str?}
@@ -180,13 +179,6 @@ insert-new n v (entry {e = e} {es = es} g a b r) h = elim (le? n (e .0)) [
 
     no-longer : suc (length es) < suc (length es) → ⊥
     no-longer h = omega arith
-
-pub insert-held : {l : Low} {u : Str} {es : List Entry} (n : Str) (v w : ℕ) → Row l es u → find n es ≡ some w → length (insert n v es) ≤ length es
-insert-held {es = es} n v w r e = elim (decLt (length es) (length (insert n v es))) [
-  | no h ↦ omega arith
-  | yes h ↦ let z : _≡_ {A = Option ℕ} nothing (some w) = sym (find-drop (λ k. not? (str? k n)) n es (λ q. q refl)) ∙ ap (find n) (insert-new n v r h) ∙ e in
-      let y : _≡_ {A = ℕ} 0 1 = cc in absurd (omega arith)
-]
 
 pub find-at : (n : Str) (es : List Entry) (v : ℕ) → find n es ≡ some v → (i : ℕ) × (i < length es) × (name-at es i ≡ n)
 unfolding find

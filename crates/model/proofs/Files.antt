@@ -10,7 +10,7 @@ use lib.Seq.{getD-set-other, getD-set-same, set-out}
 use Rattle.model.specs.Order.{Asc, Low, Str, _≺_, _◁_, at, le?, nil-not-le, none, over, str?}
 use Rattle.model.specs.Names.{Bound, BoundLow}
 use Rattle.model.specs.Entries.{Entry, Row}
-use Rattle.model.specs.Files.{Begins, BoundOf, Chain, Cut, Head, In, IsString, IsUsed, Ranges, Slot, Sound, Starts, Well, all, bounds, first, free, head, last, lower-bound, lower-of, next, no-range, order-from, order-of, range, ranges, slot-at, starts?, string-count, strings-of, upper-bound, upper-of, used, well-free, well-used}
+use Rattle.model.specs.Files.{Begins, BoundOf, Chain, Cut, Head, In, IsString, IsUsed, Ranges, Slot, Sound, Starts, Well, all, bounds, entries-of, first, free, head, last, lower-bound, lower-of, next, no-range, order-from, order-of, range, ranges, slot-at, starts?, string-count, strings-of, upper-bound, upper-of, used, well-free, well-used}
 use Rattle.model.specs.Tries.{occ, one-if, walk}
 use Rattle.model.specs.Rebuilding.{rebuilt}
 use Rattle.model.specs.Changes.{Map, Means}
@@ -95,6 +95,10 @@ module _ (b : ℕ) where
 
   pub well-parts : {l : Low} {u : Str} {es : List Entry} → Well b (used l u es) → BoundLow l × Bound u × (l ◁ u) × Row l es u × (length es ≤ b)
   well-parts (well-used a c h r k) = (a, c, h, r, k)
+
+  pub slot-row : (x : Slot) → Well b x → IsUsed (head x) → Row (lower-of (head x)) (entries-of x) (upper-of (head x))
+  slot-row free w h = absurd h
+  slot-row (used l u es) w h = well-parts w .3
 
   module _ {fs : List Slot} {N : ℕ} (C : Cut b fs N) where
     pub other : C .A ≢ N

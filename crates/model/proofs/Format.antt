@@ -10,7 +10,7 @@ use native.Mathlib.Decide.{decLt}
 use native.Mathlib.Omega.{arith}
 use lib.Dec.{eqb, leb}
 use lib.ListN.{List·getD-eq-default, drop, drop-of-length-le, getD, length, length-append, length-replicate, length-set, replicate, set, take, take-append-drop}
-use lib.Seq.{drop-at, drop-cons, drop-drop, drop-nil, drop-paste, length-paste, length-take-le, paste, take-all, take-append-le, take-append-seam, take-at, take-take}
+use lib.Seq.{drop-at, drop-cons, drop-drop, drop-nil, drop-paste, length-take-le, paste, take-all, take-append-le, take-append-seam, take-at, take-take}
 use borrow.Author.Tests.{eq-eqb, eqb-true, le-leb, leb-true}
 use Rattle.model.specs.Order.{Low, Str, _◁_, above, at, least, top}
 use Rattle.model.specs.Names.{BoundLow, Digits, Legal, filled, limit, unlimited}
@@ -465,19 +465,12 @@ storeBytes-fileBytes b k s fs h =
 
 -- The same of any bytes that are long enough to hold slot k.
 module _ (b k : ℕ) (s : Slot) (xs : List ℕ) (fits : 16 + k * slotSize b + slotSize b ≤ length xs) where
-  pub length-storeBytes : length (storeBytes b k s xs) ≡ length xs
-  unfolding storeBytes
-  length-storeBytes = length-paste xs (16 + k * slotSize b) (slotBytes b s) (slotSize b) fits (omega (arith, length-slotBytes b s))
-
   take-stored : (n : ℕ) → n ≤ 16 + k * slotSize b → take n (storeBytes b k s xs) ≡ take n xs
   unfolding storeBytes
   take-stored n h =
       let m = 16 + k * slotSize b in
       let z = slotSize b in
       rw append-assoc (take-append-le n (take m xs) (take z (slotBytes b s) ++ drop (m + z) xs) (omega (arith, length-take-le m xs (omega arith))) ∙ take-take n m xs h)
-
-  pub header-storeBytes : take 16 (storeBytes b k s xs) ≡ take 16 xs
-  header-storeBytes = take-stored 16 (omega arith)
 
   pub slotAt-storeBytes : slotAt b k (storeBytes b k s xs) ≡ slotBytes b s
   unfolding slotAt storeBytes

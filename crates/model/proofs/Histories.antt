@@ -9,7 +9,7 @@ use native.Mathlib.Decide.{decLt}
 use native.Mathlib.Omega.{arith}
 use lib.Dec.{leb}
 use lib.ListN.{length, length-replicate, set}
-use borrow.Author.Tests.{le-leb, le-ltb, lt-ltb}
+use borrow.Author.Tests.{le-ltb, lt-ltb}
 use Rattle.model.specs.Order.{at, least}
 use Rattle.model.specs.Names.{Legal, legalFilled, unlimited}
 use Rattle.model.specs.Entries.{find, no-entries}
@@ -130,21 +130,6 @@ module _ (b slots : ℕ) where
     unfolding run
     run-good [] = created-fine
     run-good (a ∷ acts) = act-good a (run b slots acts) (run-good acts)
-
-    -- A recovery with limit 1 or 2 completes, and no file is bad on the way.
-    pub recovery-completes : (fs : List Slot) (m : Map) (j : ℕ) → 1 ≤ j → j ≤ 2 → Good (down fs m)
-        → (gs : List Slot) × (act b slots (recover j) (down fs m) ≡ ready gs m) × Fine b gs m
-    unfolding act recovered
-    recovery-completes fs m j k h g = rw (le-leb j 2 h) (go j k (check b fs) (check-right b fs) g)
-      where
-        go : (j : ℕ) → 1 ≤ j → (x : Kind) → Checked b fs x → Good (down fs m) → (gs : List Slot) × (recovered fs m j x ≡ ready gs m) × Fine b gs m
-        go zero k x c g = absurd (omega arith)
-        go (suc j) k is-sound S (inl F) = (fs, refl, F)
-        go (suc j) k is-sound S (inr (N, C, F)) = absurd (cut-not-sound b C S)
-        go (suc j) k (is-cut N) C (inl F) = absurd (cut-not-sound b C (F .sound))
-        go (suc j) k (is-cut N) C (inr (M, D, F)) = (set fs N free, refl, rw (cut-unique b C D) F)
-        go (suc j) k is-bad B (inl F) = absurd (B .0 (F .sound))
-        go (suc j) k is-bad B (inr (N, C, F)) = absurd (B .1 N C)
 
     -- Every list of acts that ends with a trie: each name looks up as the calls that count as made say.
     pub run-demand-3 : (acts : List Act) (fs : List Slot) (m : Map) → run b slots acts ≡ ready fs m → Demand3 b slots m fs

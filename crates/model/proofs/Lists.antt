@@ -7,7 +7,7 @@ use native.Mathlib.Nat.{sub-zero}
 use native.Mathlib.Numerals.{unary-clauses}
 use native.Mathlib.Omega.{arith}
 use lib.ListN.{drop, getD, length, length-append, length-replicate, length-take, replicate, take}
-use lib.Seq.{drop-append-add, getD-take, take-append-add, take-nil}
+use lib.Seq.{drop-append-add, getD-append-add, getD-take, take-append-add, take-nil}
 
 -- One thing many times.
 pub take-replicate : {A : Type 0} (k m : ℕ) (a : A) → k ≤ m → take k (replicate m a) ≡ replicate k a
@@ -50,6 +50,12 @@ module _ (k a : ℕ) (xs : List ℕ) where
 
   pub made-short : length xs ≤ k → take k (xs ++ replicate k a) ≡ xs ++ replicate (k - length xs) a
   made-short h = take-past xs (replicate k a) k (k - length xs) (omega arith) ∙ ap (λ (r : List ℕ). xs ++ r) (take-replicate (k - length xs) k a (omega arith))
+
+-- Behind one that stands between two parts comes the second.
+pub at-behind : {A : Type 0} (xs : List A) (q : A) (ys : List A) (d : A) (j i : ℕ) → i ≡ suc (length xs + j) → getD (xs ++ (q ∷ ys)) i d ≡ getD ys j d
+at-behind xs q ys d j i e =
+    let g : i ≡ length xs + suc j = omega arith in
+    rw g (getD-append-add xs (q ∷ ys) (suc j) d)
 
 -- What is in a list stands at a place, and between two parts of the list.
 pub mem-place : {A : Type 0} (d : A) {x : A} (xs : List A) → List·Memᴰ x xs → (i : ℕ) × (i < length xs) × (getD xs i d ≡ x)

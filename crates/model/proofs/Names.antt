@@ -77,9 +77,6 @@ within-atMost n p h = go n p h
     go [] (b ∷ p) h = absurd (omega arith)
     go (a ∷ n) (b ∷ p) h = rw (go n p (omega arith))
 
-pub within-le : (n p : Str) → length p ≤ length n → within n p ≡ true → n ⊑ p
-within-le n p h e = atMost-le n p (sym (within-atMost n p h) ∙ e)
-
 pub le-within : (n p : Str) → length p ≤ length n → n ⊑ p → within n p ≡ true
 le-within n p h q = within-atMost n p h ∙ le-atMost n p q
 

@@ -113,10 +113,7 @@ diff-lt-left (a ∷ c) (b ∷ z) p = go (ℕ-discrete a b) (diff-lt-left c z)
     go (yes e) r = let h : b ≤ a = omega arith in omega (arith, r (λ t. p (digit h (λ e′. t))))
     go (no n) r = omega arith
 
--- The split string is the shortest beginning that is smaller than as many digits.
-pub split-smaller : (c z : Str) → c ≺ z → take (suc (diff c z)) c ≺ take (suc (diff c z)) z
-split-smaller c z p = lt-le-trans (split-lt c z p) (le-take (suc (diff c z)) z)
-
+-- No shorter beginning than the split string is smaller than as many digits: they are the same.
 pub split-shortest : (c z : Str) (i : ℕ) → i ≤ diff c z → take i c ≡ take i z
 split-shortest c z i h = sym (take-take i (diff c z) c h) ∙ ap (take i) (take-diff c z) ∙ take-take i (diff c z) z h
 

@@ -1,8 +1,8 @@
 -- A trie's strings are determined by a number and a digit a cell, in order, if no number in the right part of a cell is
 -- smaller than the cell's own: so a pass that compares these two alone decides which strings a trie has.
 use mathlib.Core.Path.{_∙_, _≡_, ap, refl, sym}
-use mathlib.Core.List.{List, List·Memᴰ, List·Memᴰ·head, List·Memᴰ·tail, Memᴰ·append-left, Memᴰ·append-right, [], _++_, _∷_}
-use Prim.Native.Nat.{_<_, _≤_, suc, ℕ}
+use mathlib.Core.List.{List, List·Memᴰ, List·Memᴰ·head, Memᴰ·append-left, Memᴰ·append-right, [], _++_, _∷_}
+use Prim.Native.Nat.{_<_, _≤_, ℕ}
 use native.Mathlib.Decide.{decLt}
 use native.Mathlib.Omega.{arith}
 use lib.ListN.{length, take}

@@ -1,16 +1,14 @@
 -- The stores of a change on the bytes of a file are its stores on the file's slots, and what they leave reads back.
-use mathlib.Core.Path.{_∙_, _≡_, ap, refl}
-use mathlib.Core.Logic.{_≢_}
+use mathlib.Core.Path.{_∙_, _≡_, refl}
 use mathlib.Core.List.{List, [], _∷_}
-use Prim.Native.Nat.{_/_, _<_, _^_, _≤_, suc, zero, ℕ}
+use Prim.Native.Nat.{_<_, _^_, suc, zero, ℕ}
 use native.Mathlib.Decide.{ℕ-discrete}
-use native.Mathlib.Omega.{arith}
 use lib.ListN.{getD, length, length-set, set, take}
 use lib.Seq.{getD-set-other, getD-set-same}
 use mathlib.Core.Option.{some}
 use Rattle.model.specs.declared.Trie.{Trie}
 use Rattle.model.specs.Order.{Str, le?, str?}
-use Rattle.model.specs.Entries.{Entry, chosen, insert, keep, not?}
+use Rattle.model.specs.Entries.{Entry, insert, keep}
 use Rattle.model.specs.Files.{Cut, IsUsed, Slot, Sound, Well, entries-of, free, head, slot-at}
 use Rattle.model.specs.Changes.{Change, Request, Store, absent, fits, put, remove, removes, splits, stored, trie-after}
 use Rattle.model.specs.Format.{Bytes, Sizes, Values, fileBytes, readFile, storeBytes}

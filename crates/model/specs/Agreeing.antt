@@ -4,14 +4,14 @@ use mathlib.Core.Option.{Option, none as nothing, some}
 use mathlib.Core.List.{List, [], _++_, _∷_}
 use Prim.Native.Nat.{_-_, suc, zero, ℕ}
 use lib.Dec.{eqb, leb, ltb}
-use lib.ListN.{drop, length, replicate, take}
+use lib.ListN.{drop, length, take}
 use Rattle.model.specs.declared.Cell.{Cell}
 use Rattle.model.specs.declared.Side.{Side}
 use Rattle.model.specs.declared.Side.the-variants.{Cell as further, Slot as slot}
 use Rattle.model.specs.declared.Trie.{Trie}
 use Rattle.model.specs.Order.{Low, Str, at, none}
 use Rattle.model.specs.Files.{Slot, order-of, ranges, strings-of}
-use Rattle.model.specs.Tries.{Tree, at-cell, cell, leaf, leaves, node, root-side, strings, zero-cell}
+use Rattle.model.specs.Tries.{Tree, at-cell, cell, leaf, leaves, node, root-side, strings}
 use Rattle.model.specs.Rebuilding.{label}
 use Rattle.model.specs.Checks.{sameStr}
 

@@ -1,5 +1,5 @@
 -- The public calls on bytes: for every file, trie and name, the answer, the trie and all bytes lent.
-use mathlib.Core.Bool.{Bool, _&&_, cond}
+use mathlib.Core.Bool.{_&&_, cond}
 use mathlib.Core.Option.{Option, none as nothing, some}
 use mathlib.Core.List.{List, [], _++_, _∷_}
 use Prim.Native.Nat.{_*_, _/_, suc, zero, ℕ}

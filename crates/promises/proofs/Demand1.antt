@@ -30,7 +30,7 @@ use Rattle.model.specs.Checks.{Kind, is-bad, is-cut, is-sound, isAbove, isWell,
 use Rattle.model.specs.Agreeing.{isAgreeing}
 use Rattle.model.specs.Format.{BadFile, SoundFile, checkFile, entriesBytes, entrySize, fileBytes, fileSize, headerBytes, headerOf, legalSizes, readFile, readSlot, rightHeader, slotAt, slotBytes, storeBytes, version}
 use Rattle.model.specs.Calls.{Created, ListDone, Looked, PutDone, Rebuilt, Recovered, RemoveDone, arrivedAnswer, between, createOf, entriesIn, fine, headedAnswer, heldAnswer, listEntries, listLooked, listOf, lookUpOf, lookedBy, lookedOf, new-trie, no-rebuilt, putAnswer, putLooked, putMade, putOf, rebuildBy, rebuildOf, recoverBy, recoverOf, refusalOf, refusing, removeAnswer, removeLooked, removeMade, removeOf, slotAnswer, storesBytes, trieAfter}
-use Rattle.model.proofs.Names.{areDigits-digits, atMost-le, both-true, digits-areDigits, le-atMost, legalName-legal}
+use Rattle.model.proofs.Names.{areDigits-digits, atMost-le, both-true, clash, digits-areDigits, le-atMost, legalName-legal}
 use Rattle.model.proofs.Checks.{above-isAbove, both-join, isAbove-above, isWell-well, sameStr-equal, sameStr-self, well-isWell}
 use Rattle.model.proofs.Agreeing.{agrees-isAgreeing}
 use Rattle.model.proofs.Calls.{Answered, denied-not-made, denied-one, is-denied, is-made, put-right, remove-right}
@@ -40,7 +40,7 @@ use Rattle.promises.specs.Demand1.{Creatable, Demand1, Ends, IsCut, IsEl
 use Rattle.promises.proofs.Leading.{Passed, looked-passed}
 use Rattle.promises.proofs.Listings.{listed-right, listings-same}
 use Rattle.promises.proofs.Tables.{Verdict, exactly, leaves, pass, skip, stop}
-use Rattle.promises.proofs.Walking.{arrives-walked, clash, strays-walked, walked, walked-right}
+use Rattle.promises.proofs.Walking.{arrives-walked, strays-walked, walked, walked-right}
 
 -- The tests of names and headers say what is so.
 legal-name : (name : List ℕ) → legalName name ≡ true → LegalName name

@@ -1,29 +1,28 @@
 -- Demand 2: with a sound file and any trie at all, a lookup of a legal name tells the truth or refuses as stale.
-use mathlib.Core.Path.{_∙_, _≡_, ap, refl, subst, sym}
+use mathlib.Core.Path.{_≡_, refl}
 use mathlib.Core.Bool.{Bool, _&&_, cond, false, true}
 use mathlib.Core.Option.{Option, none as nothing, some}
 use mathlib.Core.List.{List, []}
-use Prim.Native.Nat.{_<_, _≤_, suc, zero, ℕ}
+use Prim.Native.Nat.{_<_, suc, zero, ℕ}
 use native.Mathlib.Omega.{arith}
 use borrow.Author.Tests.{ltb-true}
 use lib.Dec.{leb, ltb}
 use lib.ListN.{length}
 use Rattle.model.specs.declared.Cell.{Cell}
 use Rattle.model.specs.declared.Cause.the-variants.{StaleTrie}
-use Rattle.model.specs.declared.LookUpAnswer.{LookUpAnswer}
 use Rattle.model.specs.declared.LookUpAnswer.the-variants.{Refused}
 use Rattle.model.specs.declared.Side.{Side}
 use Rattle.model.specs.declared.Side.the-variants.{Cell as further, Slot as slot}
 use Rattle.model.specs.declared.Trie.{Trie}
-use Rattle.model.specs.Order.{Low, Str}
+use Rattle.model.specs.Order.{Str}
 use Rattle.model.specs.Names.{atMost, filled, legalName, within}
-use Rattle.model.specs.Entries.{Entry, find}
+use Rattle.model.specs.Entries.{find}
 use Rattle.model.specs.Files.{In, Slot, Sound, entries-of, free, head, slot-at, used}
 use Rattle.model.specs.Tries.{at-cell, cell, root-side}
 use Rattle.model.specs.Checks.{isAbove, isWell}
-use Rattle.model.specs.Format.{SoundFile, headerOf, readBy, readFile, readSlot, sized, slotAt}
+use Rattle.model.specs.Format.{SoundFile, headerOf}
 use Rattle.model.specs.Calls.{arrive, arrivedAnswer, headedAnswer, heldAnswer, lookUpOf, slotAnswer}
-use Rattle.model.proofs.Names.{atMost-le, both-true}
+use Rattle.model.proofs.Names.{atMost-le}
 use Rattle.model.proofs.Checks.{isAbove-above, well-isWell}
 use Rattle.model.proofs.Format.{headed-headerOf, readFile-read, readSlot-readFile}
 use Rattle.promises.specs.Demand2.{Tells, stale, true-entry, truly-absent}

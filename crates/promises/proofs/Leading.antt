@@ -2,7 +2,7 @@
 use mathlib.Core.Path.{_∙_, _≡_, ap, refl, sym}
 use mathlib.Core.Bool.{Bool, cond, false, true}
 use mathlib.Core.Option.{Option, none as nothing, some}
-use mathlib.Core.List.{List, []}
+use mathlib.Core.List.{List}
 use Prim.Native.Nat.{_/_, _<_, _^_, _≤_, ℕ}
 use native.Mathlib.Omega.{arith}
 use borrow.Author.Tests.{leb-true}
@@ -15,10 +15,10 @@ use Rattle.model.specs.declared.Trie.{Trie}
 use Rattle.model.specs.Order.{Str}
 use Rattle.model.specs.Names.{Legal, filled, legalName}
 use Rattle.model.specs.Entries.{find, insert}
-use Rattle.model.specs.Files.{In, Slot, Sound, entries-of, first, head, slot-at, string-count}
-use Rattle.model.specs.Tries.{Agrees, walk-trie}
+use Rattle.model.specs.Files.{Slot, Sound, entries-of, first, slot-at, string-count}
+use Rattle.model.specs.Tries.{Agrees}
 use Rattle.model.specs.Rebuilding.{rebuilt-trie}
-use Rattle.model.specs.Changes.{Change, Result, Store, call, fits, holds?, put, refuse, splits, stored, stores}
+use Rattle.model.specs.Changes.{Change, Result, Store, fits, holds?, put, splits, stored}
 use Rattle.model.specs.Checks.{Kind, is-bad, is-cut, is-sound}
 use Rattle.model.specs.Agreeing.{isAgreeing}
 use Rattle.model.specs.Format.{Bytes, SoundFile, checkFile, readFile}

@@ -11,7 +11,7 @@ use Rattle.model.specs.Files.{Chain, IsUsed, Slot, Sound, Well, entries-of, fre
 use Rattle.model.specs.Calls.{between, entriesIn}
 use Rattle.model.proofs.Order.{le-refl, le-trans, low-at, low-lower, lt-le}
 use Rattle.model.proofs.Names.{atMost-le, both-true, le-atMost}
-use Rattle.model.proofs.Files.{order-right, well-head, well-parts}
+use Rattle.model.proofs.Files.{order-right, slot-row, well-head}
 use Rattle.promises.specs.Demand1.{Listing}
 
 row-lower : {l m : Low} {u : Str} {es : List Entry} → l ⊴ m → Row m es u → Row l es u
@@ -120,13 +120,9 @@ module _ (fs : List Slot) where
   holder-used (used l u es) e m = tt
 
   module _ (b : ℕ) (well : (B : ℕ) → Well b (slot-at fs B)) where
-    slot-row : (x : Slot) → Well b x → IsUsed (head x) → Row (lower-of (head x)) (entries-of x) (upper-of (head x))
-    slot-row free w h = absurd h
-    slot-row (used l u es) w h = well-parts b w .3
-
     bucket-row : (B : ℕ) {gs : List Entry} → IsUsed (head (slot-at fs B)) → Row (at (upper-of (head (slot-at fs B)))) gs []
         → Row (lower-of (head (slot-at fs B))) (entries-of (slot-at fs B) ++ gs) []
-    bucket-row B h r = row-append (slot-row (slot-at fs B) (well B) h) (low-at (well-head b (well B) h)) top r
+    bucket-row B h r = row-append (slot-row b (slot-at fs B) (well B) h) (low-at (well-head b (well B) h)) top r
 
     chain-row : {l : Low} {Bs : List ℕ} → Chain (ranges fs) l Bs → Row l (entriesIn fs Bs) []
     unfolding entriesIn

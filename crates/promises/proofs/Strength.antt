@@ -25,7 +25,7 @@ use Rattle.model.specs.Checks.{Kind, allWell, check, cutBelow, hasTwin, is-bad,
 use Rattle.model.specs.Agreeing.{areNumbers, areZeroCells, eachOnce, isAgreeing, isTrieOf, joinTrees, readTree, sameSide, sameStrs, slotsBetween, times}
 use Rattle.model.specs.Format.{checkFile, checkRead, entriesBytes, entriesOf, entryBytes, fileBytes, fileSize, headerBytes, headerOf, joined, legalSizes, littleEndian, lowDigits, lowOf, padded, readBy, readFile, readSlot, readSlots, readUsed, rightHeader, sized, slotAt, slotBytes, slotSize, slotsBytes, storeBytes, usedOf, valueBytes, valueOf}
 use Rattle.model.specs.Calls.{Looked, PutDone, Recovered, RemoveDone, arrive, arrivedAnswer, between, createOf, entriesIn, fine, headedAnswer, listEntries, listLooked, listOf, lookUpOf, lookedBy, lookedOf, new-trie, putAnswer, putLooked, putMade, putOf, rebuildBy, rebuildOf, recoverBy, recoverOf, refusalOf, refusing, removeLooked, removeMade, removeOf, slotAnswer, storesBytes, trieAfter}
-use Rattle.model.proofs.Names.{legalName-legal}
+use Rattle.model.proofs.Names.{clash, legalName-legal}
 use Rattle.model.proofs.Checks.{sameStr-self}
 use Rattle.model.proofs.Calls.{Answered, is-denied, is-made, put-right, remove-right}
 use Rattle.promises.specs.Texts.{bytes}
@@ -34,7 +34,6 @@ use Rattle.promises.specs.Situations.{a-cell, entries, names, rates-slot
 use Rattle.promises.specs.Strength.{Answers, BothAtOnce, CutsFirst, KeepsInner, LookUp, LookUpMeets, OneResult, Put, PutMeets, Recover, RecoverMeets, RefusesAll, StoppedAfter, StoresNothing, Strength, bare-cells, cut-down, five, full-file, new-file, one-turned, split-file, stopped-file}
 use Rattle.promises.specs.Demand2.{Made}
 use Rattle.promises.proofs.Leading.{Passed, looked-passed}
-use Rattle.promises.proofs.Walking.{clash}
 
 -- What computes.
 record Computed : Type 0 where

@@ -16,13 +16,9 @@ use Rattle.model.specs.Order.{Str}
 use Rattle.model.specs.Names.{within}
 use Rattle.model.specs.Tries.{at-cell, cell}
 use Rattle.model.specs.Calls.{arrive}
-use Rattle.model.proofs.Names.{both-true}
+use Rattle.model.proofs.Names.{both-true, clash}
 use Rattle.promises.specs.Demand1.{Arrives, Strays}
 use Rattle.promises.specs.Demand1 as D
-
--- One test does not say both.
-pub clash : (b : Bool) → b ≡ true → b ≡ false → ⊥
-clash b p q = let z : _≡_ {A = ℕ} 0 1 = cc in absurd (omega arith)
 
 module _ (slots : ℕ) (t : Trie) (n : Str) where
   abbrev the-cell : ℕ → Cell

@@ -1,6 +1,6 @@
 -- A text as its bytes, and the name that it spells.
 use mathlib.Core.List.{List, [], _∷_}
-use Prim.Native.Char.{Char, code}
+use Prim.Native.Char.{code}
 use Prim.Native.Nat.{ℕ}
 use Prim.Native.String.{String}
 use Prim.Native.String as S

@@ -1,13 +1,12 @@
 -- A run is its first number and the rest, and how the definitions over runs go from one number to the next.
-use mathlib.Core.Path.{_≡_, refl}
+use mathlib.Core.Path.{_≡_}
 use mathlib.Core.Bool.{cond}
 use mathlib.Core.List.{List, [], _∷_}
-use Prim.Native.Nat.{_+_, _-_, _/_, _<_, _≤_, suc, zero, ℕ}
+use Prim.Native.Nat.{_+_, _-_, _/_, _<_, _≤_, suc, ℕ}
 use native.Mathlib.Numerals.{add-one}
 use native.Mathlib.Omega.{arith}
 use lib.Dec.{eqb, ltb}
-use lib.ListN.{drop, getD, length, take}
-use lib.Seq.{drop-cons}
+use lib.ListN.{getD}
 use borrow.Author.Tests.{eq-eqb, ne-eqb}
 use Rattle.rebuilding.specs.Roots.{least, many, middle, part, place, run}
 
@@ -18,12 +17,6 @@ run-cons from to xs h = let e : to - from ≡ suc (to - (from + 1)) = omega arit
 pub run-end : (from to : ℕ) (xs : List ℕ) → to ≤ from → run from to xs ≡ []
 unfolding part
 run-end from to xs h = let e : to - from ≡ 0 = omega arith in rw e
-
--- A part that lies in the list is what its name says.
-pub part-is : (n from : ℕ) (xs : List ℕ) → from + n ≤ length xs → part n from xs ≡ take n (drop from xs)
-unfolding part
-part-is zero from xs h = refl
-part-is (suc n) from xs h = rw (drop-cons xs from 0 (omega arith), part-is n (suc from) xs (omega arith))
 
 module _ (n from to : ℕ) (xs : List ℕ) where
   pub least-next : from < to

@@ -14,9 +14,9 @@ use Rattle.model.specs.Agreeing.{slotsBetween}
 use Rattle.model.proofs.Strings.{mem-at}
 use Rattle.model.proofs.Files.{strings-only}
 use Rattle.model.proofs.Rebuilding.{pick-fits}
+use Rattle.model.proofs.LookUps.{string-fits}
 use Rattle.trie.specs.declared.Strings.{Strings}
-use Rattle.trie.specs.Strung.{Holds, last-digits, lengths}
-use Rattle.trie.proofs.Agreed.{string-short}
+use Rattle.trie.specs.Strung.{Holds}
 use Rattle.trie.proofs.Strung.{last-digits-at, lengths-at}
 use Rattle.rebuilding.specs.Roots.{middle, part, run}
 use Rattle.rebuilding.specs.Runs.{rebuilt-of, run-tree}
@@ -144,5 +144,5 @@ rebuilt-right {b} {fs} S s H few =
       digit-at = λ i h. rw (place i) (sym (getD-take n (s .digits) i 0 h) ∙ ap (λ (xs : List ℕ). getD xs i 0) (H .digits-are) ∙ last-digits-at ss i);
       left-at = slots-at 0 (omega arith) ∙ between-first fs none ss;
       right-at = λ i h. rw (place i) (slots-at (suc i) (omega arith) ∙ between-at fs none ss i h);
-      short = λ i h. omega (arith, string-short S (strings-only b S (getD ss i []) (mem-at [] ss i h)));
+      short = λ i h. omega (arith, string-fits b S (getD ss i []) (strings-only b S (getD ss i []) (mem-at [] ss i h)));
     }

@@ -4,10 +4,10 @@ use mathlib.Core.Bool.{cond}
 use mathlib.Core.List.{List, [], _++_, _∷_, append-assoc, append-nil}
 use Prim.Native.Nat.{_+_, _-_, _<_, _≤_, suc, zero, ℕ}
 use native.Mathlib.Omega.{arith}
-use native.Mathlib.Nat.{sub-zero, suc-sub-suc, zero-add, zero-sub}
+use native.Mathlib.Nat.{sub-zero, zero-add}
 use native.Mathlib.Numerals.{add-one}
 use lib.Dec.{ltb}
-use lib.ListN.{drop, getD, length, length-replicate, length-set, replicate, set}
+use lib.ListN.{getD, length, length-replicate, length-set, replicate, set}
 use lib.Seq.{getD-set-same, sets, sets-eq}
 use borrow.Author.Tests.{lt-ltb}
 use Rattle.model.specs.declared.Cell.{Cell}
@@ -15,6 +15,7 @@ use Rattle.model.specs.declared.Side.the-variants.{Cell as further, Slot as slo
 use Rattle.model.specs.declared.Trie.{Trie}
 use Rattle.model.specs.Tries.{trie-of, zero-cell}
 use Rattle.model.specs.Rebuilding.{lay, side-of}
+use Rattle.model.proofs.Lists.{drop-replicate}
 use Rattle.model.proofs.Cells.{length-lay}
 use Rattle.rebuilding.specs.declared.Run.{Run}
 use Rattle.rebuilding.specs.Roots.{middle, run}
@@ -24,11 +25,6 @@ use Rattle.rebuilding.proofs.Stacks.{Fine, at-run, fine-pushed, fine-to
 
 abbrev pub blank : List Cell
 blank = replicate 256 zero-cell
-
-drop-replicate : {A : Type 0} (k m : ℕ) (a : A) → drop k (replicate m a) ≡ replicate (m - k) a
-drop-replicate zero m a = rw (sub-zero m)
-drop-replicate (suc k) zero a = rw (zero-sub (suc k))
-drop-replicate (suc k) (suc m) a = rw (suc-sub-suc m k) (drop-replicate k m a)
 
 sets-one : {A : Type 0} (xs : List A) (i : ℕ) (a : A) (ys : List A) → sets (set xs i a) (i + 1) ys ≡ sets xs i (a ∷ ys)
 sets-one xs i a ys = rw (add-one i)

@@ -4,12 +4,10 @@
 // written, and no cell is written twice.
 ghost use mathlib.Core.Path.{_≡_};
 ghost use Prim.Native.Nat.{_≤_, _<_, _+_, _-_};
-ghost use lib.ListN.{length};
 ghost use mathlib.Core.Bool.{cond};
 ghost use lib.Dec.{ltb, eqb};
 ghost use Rattle.rebuilding.specs.Roots.{run, least, many, place, middle};
 ghost use Rattle.rebuilding.specs.Runs.{cell-at, rebuilt-of, side-at};
-use digits::index;
 use model::Cell;
 use model::Side;
 use model::Trie;

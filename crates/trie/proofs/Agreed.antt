@@ -6,19 +6,20 @@ use Prim.Native.Nat.{_<_, _≤_, suc, zero, ℕ}
 use native.Mathlib.Decide.{decLt}
 use native.Mathlib.Omega.{arith}
 use borrow.Author.Tests.{le-leb}
-use lib.ListN.{drop, length, length-append, length-take, take, take-append-drop}
+use lib.ListN.{length, length-append, take}
 use lib.Seq.{getD-take, length-take-le}
 use Rattle.model.specs.declared.Cell.{Cell}
 use Rattle.model.specs.declared.Side.{Side}
 use Rattle.model.specs.declared.Side.the-variants.{Cell as further, Slot as slot}
 use Rattle.model.specs.declared.Trie.{Trie}
-use Rattle.model.specs.Order.{Str, _⊑_, at, le?}
-use Rattle.model.specs.Names.{limit}
-use Rattle.model.specs.Files.{BoundOf, IsString, Slot, Sound, Well, head, lower-bound, slot-at, upper-bound, used, well-used}
+use Rattle.model.specs.Order.{Str, _⊑_, le?}
+use Rattle.model.specs.Files.{Slot, Sound}
 use Rattle.model.specs.Tries.{Agrees, Numbers, Reads, Tree, at-cell, cell, here, root-side, strings, there, walk-cells, walk-trie, zero-cell}
 use Rattle.model.specs.Growth.{Spot, left, path-cells, right, root, spot-cells}
 use Rattle.model.proofs.Names.{le-within, lt-atMost, within-atMost}
-use Rattle.model.proofs.Cells.{reads-append, visits-count, walk-reads}
+use Rattle.model.proofs.Cells.{walk-reads}
+use Rattle.model.proofs.Agreement.{live-count, visit-count, whole-walk}
+use Rattle.model.proofs.LookUps.{string-fits}
 use Rattle.trie.specs.Walks.{walkOf, walkRun}
 use Rattle.trie.proofs.Laws.{run-count, run-left, run-right, run-slot}
 
@@ -39,17 +40,6 @@ run-live (suc f) count cs n p k (further m) =
         → walkRun (suc f) count cs n p k (further m) ≡ walkRun (suc f) count (take count cs) n p k (further m)
     go (yes h) e g = rw (getD-take count cs m zero-cell h, e, g)
     go (no h) e g = run-count count cs n p k (suc f) m (omega arith) ∙ sym (run-count count (take count cs) n p k (suc f) m (omega arith))
-
--- A bound of a sound file has at most 24 digits, and so has each beginning of it.
-module _ {b : ℕ} {fs : List Slot} (S : Sound b fs) where
-  well-short : (x : Slot) {y : Str} → Well b x → BoundOf (head x) y → length y ≤ 24
-  well-short (used (at l) u es) (well-used (limit g) h a r k) lower-bound = g .fits
-  well-short (used l u es) (well-used g h a r k) upper-bound = h .fits
-
-  pub string-short : {x : Str} → IsString fs x → length x ≤ 24
-  string-short {x} I =
-      let h : length (I .bound) ≤ 24 = well-short (slot-at fs (I .bucket)) (S .well (I .bucket)) (I .is-bound) in
-      rw (I .begins .is) (omega (arith, length-take (I .begins .count) (I .bound), h))
 
 module _ (n : Str) (full : length n ≡ 24) where
   -- A walk over cells that read as a tree ends.
@@ -94,23 +84,9 @@ module _ {b : ℕ} {fs : List Slot} (S : Sound b fs) {t : Trie} (A : Agrees fs t
   )
   unfolding walkOf
   agreed-walk =
-      rw (le-leb _ _ (A .few), live, slots)
-      (run-live (t .count) (t .count) (t .cells) n [] root a ∙ run-reads n full (t .count) (t .count) [] root (A .reads) (omega (arith, live)) (omega (arith, visits)) (A .numbers) (λ x m. string-short S (A .only x m)))
+      rw (le-leb _ _ (A .few), live-count A, slots)
+      (run-live (t .count) (t .count) (t .cells) n [] root (root-side (t .count) (t .first))
+      ∙ run-reads n full (t .count) (t .count) [] root (A .reads) (omega (arith, live-count A)) (omega (arith, visit-count A)) (A .numbers) (λ x m. string-fits b S x (A .only x m)))
     where
-      cs : List Cell
-      cs = take (t .count) (t .cells)
-
-      a : Side
-      a = root-side (t .count) (t .first)
-
-      live : length (take (t .count) (t .cells)) ≡ t .count
-      live = length-take-le (t .count) (t .cells) (omega (arith, A .few, A .whole))
-
-      visits : length (A .visits) ≡ t .count
-      visits = visits-count (A .reads) (λ i h. A .once i (omega (arith, live, h))) ∙ live
-
-      whole : Reads (t .cells) a (A .tree) (A .visits)
-      whole = rw take-append-drop at (reads-append (drop (t .count) (t .cells)) (A .reads))
-
       slots : walk-trie t n ≡ walk-cells (take (t .count) (t .cells)) n (suc (t .count)) [] (root-side (t .count) (t .first))
-      slots = walk-reads n (suc (t .count)) [] whole (omega (arith, visits)) ∙ sym (walk-reads n (suc (t .count)) [] (A .reads) (omega (arith, visits)))
+      slots = whole-walk A n ∙ sym (walk-reads n (suc (t .count)) [] (A .reads) (omega (arith, visit-count A)))

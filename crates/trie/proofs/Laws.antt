@@ -1,9 +1,9 @@
 -- The walk cell by cell: the definition, the code's walk of it, and where it arrives.
 use mathlib.Core.Path.{_∙_, _≡_, ap, refl, subst, sym}
-use mathlib.Core.Bool.{Bool, cond, false, not, true}
+use mathlib.Core.Bool.{Bool, cond, false, true}
 use mathlib.Core.Logic.{_⊎_, inl, inr}
 use mathlib.Core.Option.{Option, none as nothing, some}
-use mathlib.Core.List.{List, []}
+use mathlib.Core.List.{List}
 use Prim.Native.Nat.{_+_, _-_, _<_, _≤_, suc, zero, ℕ}
 use native.Mathlib.Numerals.{add-one}
 use native.Mathlib.Decide.{decLe, ℕ-discrete}
@@ -21,15 +21,11 @@ use Rattle.model.specs.Names.{within}
 use Rattle.model.specs.Tries.{at-cell, cell, root-side}
 use Rattle.model.specs.Growth.{Spot, left, right, root}
 use Rattle.model.specs.Calls.{arrive}
+use Rattle.model.proofs.GrownTries.{root-further}
 use Rattle.trie.specs.declared.Walk.{Walk}
 use Rattle.trie.specs.declared.Place.{Place}
 use Rattle.trie.specs.declared.Place.the-variants.{Cell as before-cell, Slot as at-slot, Stale as stale}
 use Rattle.trie.specs.Walks.{Ahead, Strayed, Underway, Walks, placeOf, walkOf, walkRun}
-
--- Cell 0 is the root unless the count is 0.
-pub root-further : (count first : ℕ) → (count ≡ 0 → ⊥) → further 0 ≡ root-side count first
-root-further zero first h = absurd (h refl)
-root-further (suc count) first h = refl
 
 module _ (count : ℕ) (cs : List Cell) (n p : Str) (k : Spot) where
   pub run-slot : (f s : ℕ) → walkRun f count cs n p k (slot s) ≡ some (p, k, s)

@@ -1,6 +1,5 @@
 -- The strings of a file, as the arrays hold them.
 use mathlib.Core.Path.{_≡_}
-use mathlib.Core.Bool.{true}
 use mathlib.Core.List.{List, [], _∷_}
 use Prim.Native.Nat.{_≤_, suc, ℕ}
 use lib.Dec.{leb}

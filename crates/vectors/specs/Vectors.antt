@@ -2,7 +2,7 @@
 use mathlib.Core.Bool.{Bool, _&&_, false, true}
 use mathlib.Core.Option.{Option, none as nothing, some}
 use mathlib.Core.List.{List, [], _++_, _∷_}
-use Prim.Native.Char.{Char, code}
+use Prim.Native.Char.{code}
 use Prim.Native.Nat.{_-_, suc, ℕ}
 use Prim.Native.String.{String}
 use Prim.Native.String as S

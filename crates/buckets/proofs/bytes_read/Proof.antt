@@ -1,14 +1,10 @@
 -- `bytes_read` meets its contract.
-use Prim.Native.Nat.{ℕ, _≤_, _-_, _<_, _+_, _*_}
-use native.Mathlib.Omega.{arith}
-use mathlib.Core.Path.{_≡_, refl, sym, _∙_}
-use lib.ListN.{length, take, drop, getD}
+use Prim.Native.Nat.{_≤_, _-_}
+use mathlib.Core.Path.{_≡_}
+use lib.ListN.{length}
 use borrow.Author.Needs.{needs}
 use Rattle.buckets.proofs.bytes_read.Statement.{statement}
 use Rattle.buckets.proofs.bytes_read.Tie as tie
-use Rattle.buckets.proofs.bytes_read.Reads as reads
-use Rattle.buckets.proofs.bytes_read.Lts as lts
-use Rattle.buckets.proofs.byte_read.Reads as byte-read-reads
 
 abbrev Inv-loop : tie.InvT-loop
 Inv-loop file₀ bytes s₀ i₀ file s i = (length file ≡ length file₀) × (i ≤ length bytes) × (s .line .len ≤ 25)

@@ -1,20 +1,8 @@
 -- `print_bucket` meets its contract.
-use Prim.Native.Nat.{ℕ, _≤_, _-_, _<_, _+_, _*_}
-use native.Mathlib.Omega.{arith}
-use mathlib.Core.Path.{_≡_, refl, sym, _∙_}
-use lib.ListN.{length, take, drop, getD}
+use Prim.Native.Nat.{_≤_, _-_}
 use borrow.Author.Needs.{needs}
 use Rattle.buckets.proofs.print_bucket.Statement.{statement}
 use Rattle.buckets.proofs.print_bucket.Tie as tie
-use Rattle.buckets.proofs.print_bucket.Reads as reads
-use Rattle.buckets.proofs.print_bucket.Lts as lts
-use Rattle.bucket.proofs.count_of.Reads as count-of-reads
-use Rattle.bucket.proofs.lower_of.Reads as lower-of-reads
-use Rattle.bucket.proofs.upper_of.Reads as upper-of-reads
-use Rattle.buckets.proofs.print_bound.Reads as print-bound-reads
-use Rattle.buckets.proofs.print_name.Reads as print-name-reads
-use Rattle.buckets.proofs.say.Reads as say-reads
-use Rattle.io.proofs.print_decimal.Reads as print-decimal-reads
 
 abbrev Inv-loop : tie.InvT-loop
 Inv-loop slot b number count i₀ t6 i = (i ≤ count) × (count ≤ b)

@@ -1,18 +1,9 @@
 -- `print_buckets` meets its contract.
-use Prim.Native.Nat.{ℕ, _≤_, _-_, _<_, _+_, _*_}
+use Prim.Native.Nat.{_≤_, _-_}
 use native.Mathlib.Omega.{arith}
-use mathlib.Core.Path.{_≡_, refl, sym, _∙_}
-use lib.ListN.{length, take, drop, getD}
 use borrow.Author.Needs.{needs}
 use Rattle.buckets.proofs.print_buckets.Statement.{statement}
 use Rattle.buckets.proofs.print_buckets.Tie as tie
-use Rattle.buckets.proofs.print_buckets.Reads as reads
-use Rattle.buckets.proofs.print_buckets.Lts as lts
-use Rattle.buckets.proofs.print_bucket.Reads as print-bucket-reads
-use Rattle.buckets.proofs.say.Reads as say-reads
-use Rattle.digits.proofs.index.Reads as index-reads
-use Rattle.digits.proofs.wide.Reads as wide-reads
-use Rattle.file.proofs.slot_at.Reads as slot-at-reads
 
 abbrev Inv-loop : tie.InvT-loop
 Inv-loop file size order count j₀ j = j ≤ count

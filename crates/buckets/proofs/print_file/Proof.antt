@@ -1,17 +1,9 @@
 -- `print_file` meets its contract.
 use Rattle.keeper.proofs.Laws.{right-sized}
-use Prim.Native.Nat.{ℕ, _≤_, _-_, _<_, _+_, _*_}
-use native.Mathlib.Omega.{arith}
-use mathlib.Core.Path.{_≡_, refl, sym, _∙_}
-use lib.ListN.{length, take, drop, getD}
+use Prim.Native.Nat.{_-_}
 use borrow.Author.Needs.{needs}
 use Rattle.buckets.proofs.print_file.Statement.{statement}
 use Rattle.buckets.proofs.print_file.Tie as tie
-use Rattle.buckets.proofs.print_file.Reads as reads
-use Rattle.buckets.proofs.print_file.Lts as lts
-use Rattle.buckets.proofs.print_buckets.Reads as print-buckets-reads
-use Rattle.file.proofs.header_of.Reads as header-of-reads
-use Rattle.file.proofs.survey_of.Reads as survey-of-reads
 
 header-of-requires : tie.Need-header-of-requires
 header-of-requires c κs = search needs

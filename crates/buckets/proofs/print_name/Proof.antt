@@ -1,14 +1,8 @@
 -- `print_name` meets its contract.
-use Prim.Native.Nat.{ℕ, _≤_, _-_, _<_, _+_, _*_}
-use native.Mathlib.Omega.{arith}
-use mathlib.Core.Path.{_≡_, refl, sym, _∙_}
-use lib.ListN.{length, take, drop, getD}
+use Prim.Native.Nat.{_≤_, _-_}
 use borrow.Author.Needs.{needs}
 use Rattle.buckets.proofs.print_name.Statement.{statement}
 use Rattle.buckets.proofs.print_name.Tie as tie
-use Rattle.buckets.proofs.print_name.Reads as reads
-use Rattle.buckets.proofs.print_name.Lts as lts
-use Rattle.buckets.proofs.say.Reads as say-reads
 
 abbrev Inv-loop : tie.InvT-loop
 Inv-loop entries at n₀ t5 n = n ≤ 24

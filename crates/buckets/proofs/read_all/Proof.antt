@@ -1,17 +1,10 @@
 -- `read_all` meets its contract.
-use Prim.Native.Nat.{ℕ, _≤_, _-_, _<_, _+_, _*_}
-use native.Mathlib.Omega.{arith}
-use mathlib.Core.Path.{_≡_, refl, sym, _∙_}
-use lib.ListN.{length, take, drop, getD}
+use Prim.Native.Nat.{_≤_, _-_}
+use mathlib.Core.Path.{_≡_}
+use lib.ListN.{length}
 use borrow.Author.Needs.{needs}
 use Rattle.buckets.proofs.read_all.Statement.{statement}
 use Rattle.buckets.proofs.read_all.Tie as tie
-use Rattle.buckets.proofs.read_all.Reads as reads
-use Rattle.buckets.proofs.read_all.Lts as lts
-use Rattle.buckets.proofs.bytes_read.Reads as bytes-read-reads
-use Rattle.io.proofs.buffer.Reads as buffer-reads
-use Rattle.io.proofs.count.Reads as count-reads
-use Rattle.libc.proofs.read.Reads as read-reads
 
 abbrev Inv-loop : tie.InvT-loop
 Inv-loop file₀ s₀ turns₀ file s turns = (length file ≡ length file₀) × (s .line .len ≤ 25)

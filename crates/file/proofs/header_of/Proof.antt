@@ -1,18 +1,12 @@
 -- `header_of` meets its contract: the length, the mark and the sizes are those of the header that is right.
-use Prim.Native.Nat.{ℕ, _≤_, _-_, _<_, _+_, _*_}
+use Prim.Native.Nat.{_-_}
 use native.Mathlib.Omega.{arith}
-use mathlib.Core.Path.{_≡_, refl, sym, _∙_}
-use lib.ListN.{length, take, drop, getD}
+use mathlib.Core.Path.{sym, _∙_}
 use borrow.Author.Needs.{needs}
 use borrow.Author.Tests.{not-false, not-true}
 use Rattle.file.proofs.Headers.{ill-marked, told, too-short}
 use Rattle.file.proofs.header_of.Statement.{statement}
 use Rattle.file.proofs.header_of.Tie as tie
-use Rattle.file.proofs.header_of.Reads as reads
-use Rattle.file.proofs.header_of.Lts as lts
-use Rattle.digits.proofs.index.Reads as index-reads
-use Rattle.file.proofs.is_marked.Reads as is-marked-reads
-use Rattle.file.proofs.sizes.Reads as sizes-reads
 
 returns : tie.Need-returns
 returns c = too-short (c .before .before .args .file .now) (omega arith)

@@ -1,16 +1,12 @@
 -- `is_marked` meets its contract.
-use Prim.Native.Nat.{ℕ, _≤_, _-_, _<_, _+_, _*_}
+use Prim.Native.Nat.{_-_}
 use native.Mathlib.Omega.{arith}
-use mathlib.Core.Path.{_≡_, refl, sym, _∙_}
-use lib.ListN.{length, take, drop, getD}
+use mathlib.Core.Path.{refl, sym, _∙_}
 use borrow.Author.Needs.{needs}
 use Rattle.model.specs.Format.{headerBytes}
 use Rattle.file.proofs.Headers.{marked-last, not-marked}
 use Rattle.file.proofs.is_marked.Statement.{statement}
 use Rattle.file.proofs.is_marked.Tie as tie
-use Rattle.file.proofs.is_marked.Reads as reads
-use Rattle.file.proofs.is_marked.Lts as lts
-use Rattle.digits.proofs.is_zero.Reads as is-zero-reads
 
 shared-slice-read-if1 : tie.Need-shared-slice-read-if1
 shared-slice-read-if1 c = search needs

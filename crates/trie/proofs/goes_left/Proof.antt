@@ -3,9 +3,6 @@ use native.Mathlib.Nat.{sub-zero}
 use borrow.Author.Needs.{needs}
 use Rattle.trie.proofs.goes_left.Statement.{statement}
 use Rattle.trie.proofs.goes_left.Tie as tie
-use Rattle.trie.proofs.goes_left.Reads as reads
-use Rattle.trie.proofs.goes_left.Lts as lts
-use Rattle.digits.proofs.within.Reads as within-reads
 
 sub-within : tie.Need-sub-within
 sub-within c = search needs

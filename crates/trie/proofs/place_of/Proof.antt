@@ -4,8 +4,6 @@ use borrow.Author.Needs.{needs}
 use Rattle.trie.proofs.Laws.{place-cell, place-none, place-past, place-slot}
 use Rattle.trie.proofs.place_of.Statement.{statement}
 use Rattle.trie.proofs.place_of.Tie as tie
-use Rattle.trie.proofs.place_of.Reads as reads
-use Rattle.trie.proofs.place_of.Lts as lts
 
 enum-known-side : tie.Need-enum-known-side
 enum-known-side c = search needs

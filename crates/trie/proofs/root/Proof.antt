@@ -5,8 +5,6 @@ use Rattle.trie.specs.Walks.{placeOf}
 use Rattle.trie.proofs.Laws.{root-begins}
 use Rattle.trie.proofs.root.Statement.{statement}
 use Rattle.trie.proofs.root.Tie as tie
-use Rattle.trie.proofs.root.Reads as reads
-use Rattle.trie.proofs.root.Lts as lts
 
 returns : tie.Need-returns
 returns c = rw (lt-leb (c .before .args .count) 256 (omega arith))

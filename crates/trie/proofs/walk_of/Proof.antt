@@ -7,11 +7,6 @@ use Rattle.trie.specs.Walks.{Underway, walkOf}
 use Rattle.trie.proofs.Laws.{before, ends, no-cell}
 use Rattle.trie.proofs.walk_of.Statement.{statement}
 use Rattle.trie.proofs.walk_of.Tie as tie
-use Rattle.trie.proofs.walk_of.Reads as reads
-use Rattle.trie.proofs.walk_of.Lts as lts
-use Rattle.trie.proofs.Walk.begin.Reads as begin-reads
-use Rattle.trie.proofs.Walk.step.Reads as step-reads
-use Rattle.trie.proofs.number.Reads as number-reads
 
 abbrev Inv-loop : tie.InvT-loop
 Inv-loop name trie walk₀ walk = Underway (walkOf trie name) (trie .cells) name walk

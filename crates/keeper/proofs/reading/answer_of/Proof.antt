@@ -5,8 +5,7 @@ use Prim.Native.Nat.{ℕ}
 use lib.ListN.{drop}
 use native.Mathlib.Omega.{arith}
 use Rattle.digits.specs.Keys.{keyValue}
-use Rattle.bucket.specs.declared.Form.{Form}
-use Rattle.bucket.specs.Forms.{Formed, heldUnder}
+use Rattle.bucket.specs.Forms.{heldUnder}
 use Rattle.bucket.proofs.Forms.{rest}
 use Rattle.bucket.proofs.Finding.{vacant-free, vacant-taken}
 use Rattle.keeper.proofs.Laws.{ill-formed, well-formed}

@@ -1,8 +1,6 @@
 -- `write_between` meets its contract: what is written and what is to come are all that is to be listed.
-use mathlib.Core.Path.{_≡_}
-use Prim.Native.Nat.{_+_, _-_, _≤_}
+use Prim.Native.Nat.{_-_}
 use native.Mathlib.Omega.{arith}
-use lib.ListN.{length}
 use Rattle.digits.specs.Keys.{keyValue}
 use Rattle.keeper.proofs.Writing.{Writing, rest, rest-length, rest-none, rest-step, writing-end, writing-length, writing-rest, writing-start, writing-step}
 use borrow.Author.Needs.{needs}

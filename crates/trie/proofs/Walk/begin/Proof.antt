@@ -1,13 +1,9 @@
 -- `begin` meets its contract: the path is empty, and the place is the root's.
-use mathlib.Core.Path.{refl, sym}
-use lib.ListN.{length-map}
+use mathlib.Core.Path.{refl}
 use borrow.Author.Needs.{needs}
 use Rattle.trie.proofs.Laws.{begins}
 use Rattle.trie.proofs.Walk.begin.Statement.{statement}
 use Rattle.trie.proofs.Walk.begin.Tie as tie
-use Rattle.trie.proofs.Walk.begin.Reads as reads
-use Rattle.trie.proofs.Walk.begin.Lts as lts
-use Rattle.trie.proofs.root.Reads as root-reads
 
 root-requires : tie.Need-root-requires
 root-requires c κs = search needs

@@ -5,12 +5,6 @@ use borrow.Author.Needs.{needs}
 use Rattle.trie.proofs.Laws.{goes-left, goes-right, last-strays, number-strays, strays}
 use Rattle.trie.proofs.Walk.step.Statement.{statement}
 use Rattle.trie.proofs.Walk.step.Tie as tie
-use Rattle.trie.proofs.Walk.step.Reads as reads
-use Rattle.trie.proofs.Walk.step.Lts as lts
-use Rattle.digits.proofs.index.Reads as index-reads
-use Rattle.trie.proofs.goes_left.Reads as goes-left-reads
-use Rattle.trie.proofs.place_of.Reads as place-of-reads
-use Rattle.trie.proofs.strayed.Reads as strayed-reads
 
 index-requires : tie.Need-index-requires
 index-requires c κs = search needs
