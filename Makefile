@@ -11,9 +11,9 @@ run:
 test:
 	@scripts/test
 
-# Processes killed over a file on disk, for so many seconds.
+# Processes killed over a file on disk, the library's and then the Python package's, for so many seconds each.
 SECONDS ?= 60
-kill: library
+kill: python
 	@cd tests && PALHAVENTO_SECONDS=$(SECONDS) cargo test --release --offline --test killed -- --nocapture
 
 # The static library for C, Rust and whoever links it, in target/staticlib. The crates below it are checked first, because

@@ -1,6 +1,6 @@
-"""Several processes over one file: one writer, readers beside it, and kills at every moment, with nothing lost.
+"""Several processes over one file: one writer, readers beside it, and kills while it is created.
 
-The file of these tests lies within one page, so that no kill leaves a slot in part (see `palhavento.disk`).
+Kills at every moment of the stores are tried by `tests/src/killer.rs`, over `life.py`.
 """
 
 from __future__ import annotations
@@ -20,8 +20,6 @@ import palhavento
 from palhavento import errors, library
 
 B, SLOTS = 2, 30
-NAMES = [f"{letter}{number}" for letter in ("r", "ra", "rate.of.exchange.") for number in range(25)]
-OPENED, MADE, REFUSED = b"o", b"m", b"r"
 
 
 def forked(work: Callable[[int], None]) -> tuple[int, int]:
@@ -46,119 +44,7 @@ def heard(listen: int) -> bytes:
         return told.read()
 
 
-class Request:
-    """The nth change of a world: a put of n, or a remove."""
-
-    def __init__(self, seed: int, number: int) -> None:
-        chance = random.Random(f"{seed} {number}")
-        self.name = chance.choice(NAMES)
-        self.value = number if chance.random() < 0.7 else None
-
-    def change(self, mapping: dict[str, int] | palhavento.Store) -> None:
-        """Make it, on the store or on the journal."""
-        if self.value is None:
-            mapping.pop(self.name, None)
-        else:
-            mapping[self.name] = self.value
-
-
 class Killed(InFolder):
-    """Children write and are killed; the parent keeps the journal of what counts."""
-
-    def setUp(self) -> None:
-        super().setUp()
-        self.journal: dict[str, int] = {}
-        self.next = 0
-        self.cut = 0
-        self.in_flight_counted = 0
-
-    def life(
-        self, seed: int, moment: int | None = None, after: float = 0, opened: bool = False, sync: bool = False
-    ) -> None:
-        """One child until its kill: by itself at a moment of its stores, or by the parent after a while.
-
-        The while begins with the child, or when it has opened the file.
-        """
-
-        def work(tell: int) -> None:
-            moments = moment
-
-            def pass_moment() -> None:
-                nonlocal moments
-                if moments is not None:
-                    if moments == 0:
-                        os.kill(os.getpid(), signal.SIGKILL)
-                    moments -= 1
-
-            def pwrite(file: int, content: bytes, offset: int) -> int:
-                pass_moment()
-                written = os_pwrite(file, content, offset)
-                pass_moment()
-                return written
-
-            os_pwrite, os.pwrite = os.pwrite, pwrite
-            store = palhavento.open(self.path, B, SLOTS, sync=sync)
-            os.write(tell, OPENED)
-            number = self.next
-            while True:
-                try:
-                    Request(seed, number).change(store)
-                    os.write(tell, MADE)
-                except errors.FileFull:
-                    os.write(tell, REFUSED)
-                number += 1
-
-        child, listen = forked(work)
-        if opened:
-            self.assertEqual(os.read(listen, 1), OPENED)
-        if moment is None:
-            time.sleep(after)
-            os.kill(child, signal.SIGKILL)
-        _, status = os.waitpid(child, 0)
-        self.assertEqual(os.waitstatus_to_exitcode(status), -signal.SIGKILL)
-        self.settle(seed, heard(listen).removeprefix(OPENED))
-
-    def settle(self, seed: int, told: bytes) -> None:
-        """Hold the file against the journal: what was told as made counts; the request in flight may."""
-        for answer in told:
-            if bytes([answer]) == MADE:
-                Request(seed, self.next).change(self.journal)
-            self.next += 1
-        self.cut += library.check(self.path.read_bytes()) == library.CUT
-        with palhavento.open(self.path, sync=False) as store:
-            found = dict(store)
-            self.assertEqual({name: store.get(name) for name in NAMES}, {name: found.get(name) for name in NAMES})
-        if found != self.journal:
-            Request(seed, self.next).change(self.journal)
-            self.next += 1
-            self.in_flight_counted += 1
-        self.assertEqual(found, self.journal)
-
-    def start(self) -> None:
-        """Begin with a new file."""
-        self.path.unlink(missing_ok=True)
-        palhavento.open(self.path, B, SLOTS).close()
-        self.journal, self.next = {}, 0
-
-    def test_at_every_moment_of_the_stores(self) -> None:
-        with self.assertLogs("palhavento"):
-            for seed in range(2):
-                self.start()
-                for turn in range(100):
-                    self.life(seed, moment=turn % 8, sync=turn % 10 == 0)
-                self.assertGreater(self.next, 100)
-        self.assertGreater(self.cut, 10)
-        self.assertGreater(self.in_flight_counted, 10)
-
-    def test_at_random(self) -> None:
-        chance = random.Random()
-        with self.assertNoLogs("palhavento", "ERROR"):
-            for seed in range(10, 14):
-                self.start()
-                for turn in range(40):
-                    after = 0.0001 * 2 ** chance.uniform(0, 7)
-                    self.life(seed, after=after, opened=chance.random() < 0.75, sync=turn % 4 == 0)
-
     def test_while_creating(self) -> None:
         for turn in range(60):
             child, listen = forked(lambda tell: palhavento.open(self.path, B, SLOTS).close())

@@ -11,8 +11,9 @@
 use std::collections::BTreeMap;
 use std::io::BufReader;
 use std::os::unix::process::ExitStatusExt;
-use std::path::{Path, PathBuf};
+use std::path::PathBuf;
 use std::process::{Command, Stdio};
+use std::sync::atomic::{AtomicU64, Ordering};
 use std::time::{Duration, Instant};
 
 use crate::chance::Chance;
@@ -20,6 +21,14 @@ use crate::door::{by_model, Call, Outcome, CALLS, IMAGE};
 use crate::library::{by_library, Grounds};
 use crate::lives::{call_for, Said, World, ABOUT_TO, MOMENTS, SIGKILL, STOPPED};
 use crate::model::file::file_length;
+
+/// A program that opens the file, makes requests and says so, as `lives.rs` does.
+pub struct Victim {
+    /// The program and its first arguments.
+    pub program: Vec<PathBuf>,
+    /// It takes long, above all to start. Then it is killed less often and later, and never before its first word.
+    pub slow: bool,
+}
 
 /// How often each thing happened.
 #[derive(Default)]
@@ -44,7 +53,7 @@ pub struct Tally {
 enum Kill {
     /// By itself, at this moment of its stores.
     Moment(u64),
-    /// From outside, so long after its start.
+    /// From outside, so long after its start; of a slow one, after its first word.
     Started(Duration),
     /// From outside, so long after it has opened the file.
     Opened(Duration),
@@ -59,10 +68,18 @@ enum Flight {
     Nothing,
 }
 
+/// More requests than any file is asked for.
+const REQUESTS: u64 = 10_000;
+
+/// The files so far, so that each has a name of its own.
+static FILES: AtomicU64 = AtomicU64::new(0);
+
 /// One file on disk with its journal.
 struct Trial<'a> {
-    program: &'a Path,
+    victim: &'a Victim,
     path: PathBuf,
+    /// The world in words, beside the file.
+    told: PathBuf,
     seed: u64,
     world: World,
     /// What the file holds, by the model.
@@ -75,17 +92,21 @@ struct Trial<'a> {
 }
 
 impl<'a> Trial<'a> {
-    fn new(program: &'a Path, seed: u64, tally: &'a mut Tally) -> Trial<'a> {
+    fn new(victim: &'a Victim, seed: u64, tally: &'a mut Tally) -> Trial<'a> {
         let world = World::new(seed);
         let (b, slots) = (world.b as u64, world.slots as u64);
         let file = vec![0xA5; file_length(world.b, world.slots)];
         let create = Call::Create { file, version: 1, b, slots, trie: vec![0; IMAGE] };
         let created = by_library(&create, &mut Grounds::default(), 0).expect("nothing beside is written");
         assert!(created == by_model(&create), "create differs from the model");
-        let path = std::env::temp_dir().join(format!("palhavento-killed-{}-{seed}", std::process::id()));
+        let number = FILES.fetch_add(1, Ordering::Relaxed);
+        let path = std::env::temp_dir().join(format!("palhavento-killed-{}-{number}", std::process::id()));
+        let told = path.with_extension("world");
         std::fs::write(&path, &created.file).expect("the folder for temporary files can be written");
+        std::fs::write(&told, world.text(REQUESTS)).expect("the folder for temporary files can be written");
         tally.files += 1;
-        Trial { program, path, seed, world, file: created.file, journal: BTreeMap::new(), next: 0, refused: 0, tally }
+        let (file, journal) = (created.file, BTreeMap::new());
+        Trial { victim, path, told, seed, world, file, journal, next: 0, refused: 0, tally }
     }
 
     fn is_cut(&self) -> bool {
@@ -100,7 +121,8 @@ impl<'a> Trial<'a> {
             Kill::Never => (self.next, u64::MAX),
             _ => (u64::MAX, u64::MAX),
         };
-        let mut process = Command::new(self.program)
+        let mut process = Command::new(&self.victim.program[0])
+            .args(&self.victim.program[1..])
             .arg(&self.path)
             .args([self.seed, self.next, end, moment].map(|number| number.to_string()))
             .stdin(Stdio::null())
@@ -120,9 +142,11 @@ impl<'a> Trial<'a> {
         match kill {
             Kill::Moment(_) | Kill::Never => listen(""),
             Kill::Started(after) | Kill::Opened(after) => {
-                // To list is the last step of opening.
+                // To check is the first step of opening, to list the last.
                 if matches!(kill, Kill::Opened(_)) {
                     listen("list");
+                } else if self.victim.slow {
+                    listen("check");
                 }
                 std::thread::scope(|scope| {
                     scope.spawn(|| listen(""));
@@ -281,7 +305,8 @@ impl<'a> Trial<'a> {
     /// Kills at random moments, from microseconds to milliseconds, until the file is full or the time is over.
     fn at_random(&mut self, chance: &mut Chance, end: Instant) {
         while self.refused < 5 && Instant::now() < end {
-            let most = 1 << chance.between(0, 14);
+            let (shortest, longest) = if self.victim.slow { (8, 17) } else { (0, 14) };
+            let most = 1 << chance.between(shortest, longest);
             let after = Duration::from_micros(chance.between(0, most) as u64);
             self.life(if chance.percent(25) { Kill::Started(after) } else { Kill::Opened(after) });
         }
@@ -295,6 +320,7 @@ impl Drop for Trial<'_> {
             println!("world {}, request {}, the file: {}", self.seed, self.next, self.path.display());
         } else {
             std::fs::remove_file(&self.path).expect("the file can be removed");
+            std::fs::remove_file(&self.told).expect("the file can be removed");
         }
     }
 }
@@ -307,7 +333,7 @@ pub enum Moments {
 }
 
 /// Tries one file after another until the time is over, and at least three: so each size of bucket is tried.
-pub fn try_files(program: &Path, moments: Moments, time: Duration) -> Tally {
+pub fn try_files(victim: &Victim, moments: Moments, time: Duration) -> Tally {
     let end = Instant::now() + time;
     let first = if moments == Moments::Every { 0 } else { 900_000 };
     let mut tally = Tally::default();
@@ -315,9 +341,15 @@ pub fn try_files(program: &Path, moments: Moments, time: Duration) -> Tally {
         if seed - first >= 3 && Instant::now() >= end {
             break;
         }
-        let mut trial = Trial::new(program, seed, &mut tally);
+        let mut trial = Trial::new(victim, seed, &mut tally);
+        let b = trial.world.b as u64;
         match moments {
-            Moments::Every => trial.at_every_moment(8 * trial.world.b as u64),
+            Moments::Every if victim.slow => {
+                // One process fills the first bucket, so that a split is near.
+                trial.life(Kill::Moment(MOMENTS * b));
+                trial.at_every_moment(trial.next + 4);
+            }
+            Moments::Every => trial.at_every_moment(8 * b),
             Moments::Random => trial.at_random(&mut Chance::new(seed), end.min(Instant::now() + time / 3)),
         }
         // The last kill, too, is followed by a process that finds every name.

@@ -3,6 +3,8 @@
 //! Each store is one `pwrite` of exactly the slot's bytes, then `fdatasync`; nothing else of the file is ever written. The
 //! library works on copies in memory; what it would store, and in which order, is seen by making the call with the limits
 //! 0, 1 and 2. So every call, recovery too, is first stopped and then made again.
+//!
+//! `python/tests/life.py` is another such process: it says the same of the same requests, over the Python package.
 
 use std::fs::{File, OpenOptions};
 use std::io::{Read, Write};
@@ -47,6 +49,18 @@ impl World {
         let mut chance = Chance::new(self.seed ^ ((number + 1) << 32));
         let name = chance.pick(&self.names);
         Request { name, value: chance.percent(85).then_some(number + 1) }
+    }
+
+    /// The world in words, with so many of its requests, for a process without this `Chance`: each name on a line, an
+    /// empty line, then on a line each request's name, and after a space the value that is put.
+    pub fn text(&self, requests: u64) -> String {
+        let word = |name: &[u8]| String::from_utf8(name.to_vec()).expect("digits are ASCII");
+        let names = self.names.iter().map(|name| word(name) + "\n");
+        let requests = (0..requests).map(|number| self.request(number)).map(|request| match request.value {
+            Some(value) => format!("{} {value}\n", word(request.name)),
+            None => format!("{}\n", word(request.name)),
+        });
+        names.chain(["\n".to_string()]).chain(requests).collect()
     }
 }
 
