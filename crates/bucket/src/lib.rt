@@ -14,7 +14,6 @@ ghost use Rattle.bucket.specs.Slots.{countAt, lowerAt, upperAt, writtenB
 use digits::Key;
 use digits::byte;
 use digits::index;
-use digits::wide;
 
 mod entries;
 

@@ -11,7 +11,7 @@ use lib.Dec.{eqb, leb, ltb}
 use lib.ListN.{drop, getD, length, length-drop, replicate, take, take-append-drop}
 use lib.Seq.{drop-drop, take-all}
 use lib.Pow.{pow-add}
-use borrow.Author.Tests.{eq-eqb, eqb-true, le-leb, le-ltb, leb-true, lt-leb, lt-ltb, ltb-true, ne-eqb}
+use borrow.Author.Tests.{eq-eqb, le-leb, le-ltb, leb-true, lt-leb, lt-ltb, ltb-true, ne-eqb}
 use Rattle.model.specs.Names.{areDigits, legalFilled}
 use Rattle.model.specs.Format.{Bytes}
 use Rattle.model.proofs.Names.{both-true}

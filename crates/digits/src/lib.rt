@@ -2,7 +2,7 @@
 //
 // A string of at most 24 digits is compared as three words, the first digit highest. A filled name has 24 digits; a bound
 // is continued by 0xFF, a digit above all others. So "name within bound" and "bound below bound" are one comparison.
-ghost use mathlib.Core.Bool.{_&&_, _||_, true};
+ghost use mathlib.Core.Bool.{_&&_, true};
 ghost use mathlib.Core.Logic.{_⊎_};
 ghost use mathlib.Core.Path.{_≡_};
 ghost use mathlib.Core.List.{[], _++_};

@@ -3,17 +3,13 @@ use mathlib.Core.Bool.{_&&_}
 use lib.Dec.{eqb, leb}
 use Rattle.model.specs.Names.{areDigits}
 use Rattle.digits.proofs.Laws.{digits-end, digits-next, gathered, gathers, larger-zero}
-use Prim.Native.Nat.{ℕ, _≤_, _-_, _<_, _+_, _*_}
+use Prim.Native.Nat.{_≤_, _-_, _+_}
 use native.Mathlib.Omega.{arith}
-use mathlib.Core.Path.{_≡_, refl, sym, _∙_}
-use lib.ListN.{length, take, drop, getD}
+use mathlib.Core.Path.{_≡_, _∙_}
+use lib.ListN.{length, drop, getD}
 use borrow.Author.Needs.{needs}
 use Rattle.digits.proofs.are_digits.Statement.{statement}
 use Rattle.digits.proofs.are_digits.Tie as tie
-use Rattle.digits.proofs.are_digits.Reads as reads
-use Rattle.digits.proofs.are_digits.Lts as lts
-use Rattle.digits.proofs.fault.Reads as fault-reads
-use Rattle.digits.proofs.larger.Reads as larger-reads
 
 abbrev Inv-loop : tie.InvT-loop
 Inv-loop s least most₀ i₀ most i = (i ≤ length s) × (areDigits least s ≡ (eqb most 0 && areDigits least (drop i s)))

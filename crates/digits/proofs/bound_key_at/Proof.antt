@@ -1,16 +1,11 @@
 -- `digits::bound_key_at` meets its contract.
 use Rattle.digits.specs.Keys.{keyValue}
 use Rattle.digits.proofs.Keys.{bound-key}
-use Prim.Native.Nat.{ℕ, _≤_, _-_, _<_, _+_, _*_}
+use Prim.Native.Nat.{_-_}
 use native.Mathlib.Omega.{arith}
-use mathlib.Core.Path.{_≡_, refl, sym, _∙_}
-use lib.ListN.{length, take, drop, getD}
 use borrow.Author.Needs.{needs}
 use Rattle.digits.proofs.bound_key_at.Statement.{statement}
 use Rattle.digits.proofs.bound_key_at.Tie as tie
-use Rattle.digits.proofs.bound_key_at.Reads as reads
-use Rattle.digits.proofs.bound_key_at.Lts as lts
-use Rattle.digits.proofs.continued.Reads as continued-reads
 
 continued-requires : tie.Need-continued-requires
 continued-requires c κs = search needs

@@ -4,18 +4,13 @@ use mathlib.Core.Path.{ap}
 use Prim.Native.Nat.{_^_}
 use native.Mathlib.Nat.{zero-add}
 use Rattle.digits.proofs.Keys.{areFills, bytes-part, fill-at, length-part, word-filled}
-use Prim.Native.Nat.{ℕ, _≤_, _-_, _<_, _+_, _*_}
+use Prim.Native.Nat.{ℕ, _-_, _<_, _+_}
 use native.Mathlib.Omega.{arith}
-use mathlib.Core.Path.{_≡_, refl, sym, _∙_}
-use lib.ListN.{length, take, drop, getD}
+use mathlib.Core.Path.{_≡_, refl, _∙_}
+use lib.ListN.{take, drop, getD}
 use borrow.Author.Needs.{needs}
 use Rattle.digits.proofs.continued.Statement.{statement}
 use Rattle.digits.proofs.continued.Tie as tie
-use Rattle.digits.proofs.continued.Reads as reads
-use Rattle.digits.proofs.continued.Lts as lts
-use Rattle.digits.proofs.behind.Reads as behind-reads
-use Rattle.digits.proofs.word.Reads as word-reads
-use Rattle.std.proofs.num.wrapping_add_u64.Reads as wrapping-add-u64-reads
 
 behind-requires : tie.Need-behind-requires
 behind-requires c κs = search needs

@@ -1,16 +1,12 @@
 -- `digits::fault` meets its contract.
 use borrow.Author.Tests.{le-leb, lt-leb}
-use mathlib.Core.Bool.{_&&_, and-false, false}
+use mathlib.Core.Bool.{and-false}
 use lib.Dec.{leb}
-use Prim.Native.Nat.{ℕ, _≤_, _-_, _<_, _+_, _*_}
+use Prim.Native.Nat.{_-_}
 use native.Mathlib.Omega.{arith}
-use mathlib.Core.Path.{_≡_, refl, sym, _∙_}
-use lib.ListN.{length, take, drop, getD}
-use borrow.Author.Needs.{needs}
+use mathlib.Core.Path.{sym}
 use Rattle.digits.proofs.fault.Statement.{statement}
 use Rattle.digits.proofs.fault.Tie as tie
-use Rattle.digits.proofs.fault.Reads as reads
-use Rattle.digits.proofs.fault.Lts as lts
 
 returns : tie.Need-returns
 returns c = rw (lt-leb (c .before .args .least) (c .before .args .x) (omega arith))

@@ -1,15 +1,13 @@
 -- `digits::filled` meets its contract.
 use Rattle.digits.proofs.Laws.{filled-all, filled-full, filled-next}
 use Rattle.digits.proofs.Laws.{filledTo}
-use Prim.Native.Nat.{ℕ, _≤_, _-_, _<_, _+_, _*_}
+use Prim.Native.Nat.{_≤_, _-_}
 use native.Mathlib.Omega.{arith}
-use mathlib.Core.Path.{_≡_, refl, sym, _∙_}
-use lib.ListN.{length, take, drop, getD}
+use mathlib.Core.Path.{_≡_, refl, _∙_}
+use lib.ListN.{length}
 use borrow.Author.Needs.{needs}
 use Rattle.digits.proofs.filled.Statement.{statement}
 use Rattle.digits.proofs.filled.Tie as tie
-use Rattle.digits.proofs.filled.Reads as reads
-use Rattle.digits.proofs.filled.Lts as lts
 
 abbrev Inv-loop : tie.InvT-loop
 Inv-loop name digits₀ i₀ digits i = (i ≤ 24) × (i ≤ length name) × (digits ≡ filledTo name i)

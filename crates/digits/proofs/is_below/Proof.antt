@@ -2,15 +2,11 @@
 use Rattle.digits.proofs.Laws.{below-last, lt-first, lt-second}
 use borrow.Author.Tests.{le-ltb, lt-ltb}
 use Rattle.digits.specs.Keys.{keyValue}
-use Prim.Native.Nat.{ℕ, _≤_, _-_, _<_, _+_, _*_}
+use Prim.Native.Nat.{_-_}
 use native.Mathlib.Omega.{arith}
-use mathlib.Core.Path.{_≡_, refl, sym, _∙_}
-use lib.ListN.{length, take, drop, getD}
-use borrow.Author.Needs.{needs}
+use mathlib.Core.Path.{sym}
 use Rattle.digits.proofs.is_below.Statement.{statement}
 use Rattle.digits.proofs.is_below.Tie as tie
-use Rattle.digits.proofs.is_below.Reads as reads
-use Rattle.digits.proofs.is_below.Lts as lts
 
 returns : tie.Need-returns
 returns c =

@@ -6,17 +6,13 @@ use Rattle.digits.specs.Keys.{isZero}
 use borrow.Author.Tests.{le-leb, lt-leb, not-false, not-true}
 use native.Mathlib.Nat.{sub-zero}
 use Rattle.digits.proofs.Laws.{legal-part}
-use Prim.Native.Nat.{ℕ, _≤_, _-_, _<_, _+_, _*_}
+use Prim.Native.Nat.{_-_}
 use native.Mathlib.Omega.{arith}
-use mathlib.Core.Path.{_≡_, refl, sym, _∙_}
-use lib.ListN.{length, take, drop, getD}
+use mathlib.Core.Path.{_∙_}
+use lib.ListN.{length, drop}
 use borrow.Author.Needs.{needs}
 use Rattle.digits.proofs.is_bound.Statement.{statement}
 use Rattle.digits.proofs.is_bound.Tie as tie
-use Rattle.digits.proofs.is_bound.Reads as reads
-use Rattle.digits.proofs.is_bound.Lts as lts
-use Rattle.digits.proofs.are_digits.Reads as are-digits-reads
-use Rattle.digits.proofs.is_zero.Reads as is-zero-reads
 
 returns : tie.Need-returns
 returns c =

@@ -3,15 +3,11 @@ use Rattle.digits.proofs.Laws.{same-first, same-second}
 use Rattle.digits.proofs.Laws.{same-last}
 use borrow.Author.Tests.{ne-eqb}
 use Rattle.digits.specs.Keys.{keyValue}
-use Prim.Native.Nat.{ℕ, _≤_, _-_, _<_, _+_, _*_}
+use Prim.Native.Nat.{_-_}
 use native.Mathlib.Omega.{arith}
-use mathlib.Core.Path.{_≡_, refl, sym, _∙_}
-use lib.ListN.{length, take, drop, getD}
-use borrow.Author.Needs.{needs}
+use mathlib.Core.Path.{sym}
 use Rattle.digits.proofs.is_same.Statement.{statement}
 use Rattle.digits.proofs.is_same.Tie as tie
-use Rattle.digits.proofs.is_same.Reads as reads
-use Rattle.digits.proofs.is_same.Lts as lts
 
 returns : tie.Need-returns
 returns c =

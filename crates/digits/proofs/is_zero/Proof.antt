@@ -3,16 +3,13 @@ use mathlib.Core.Bool.{_&&_}
 use lib.Dec.{eqb}
 use Rattle.digits.specs.Keys.{isZero}
 use Rattle.digits.proofs.Laws.{gathered, gathers, larger-zero, zero-end, zero-next}
-use Prim.Native.Nat.{ℕ, _≤_, _-_, _<_, _+_, _*_}
+use Prim.Native.Nat.{_≤_, _-_, _+_}
 use native.Mathlib.Omega.{arith}
-use mathlib.Core.Path.{_≡_, refl, sym, _∙_}
-use lib.ListN.{length, take, drop, getD}
+use mathlib.Core.Path.{_≡_}
+use lib.ListN.{length, drop, getD}
 use borrow.Author.Needs.{needs}
 use Rattle.digits.proofs.is_zero.Statement.{statement}
 use Rattle.digits.proofs.is_zero.Tie as tie
-use Rattle.digits.proofs.is_zero.Reads as reads
-use Rattle.digits.proofs.is_zero.Lts as lts
-use Rattle.digits.proofs.larger.Reads as larger-reads
 
 abbrev Inv-loop : tie.InvT-loop
 Inv-loop s most₀ i₀ most i = (i ≤ length s) × (isZero s ≡ (eqb most 0 && isZero (drop i s)))

@@ -1,16 +1,12 @@
 -- `digits::key_at` meets its contract.
 use Rattle.digits.specs.Keys.{keyValue}
 use Rattle.digits.proofs.Keys.{value-words}
-use Prim.Native.Nat.{ℕ, _≤_, _-_, _<_, _+_, _*_}
+use Prim.Native.Nat.{_-_}
 use native.Mathlib.Omega.{arith}
-use mathlib.Core.Path.{_≡_, refl, sym, _∙_}
-use lib.ListN.{length, take, drop, getD}
+use mathlib.Core.Path.{sym}
 use borrow.Author.Needs.{needs}
 use Rattle.digits.proofs.key_at.Statement.{statement}
 use Rattle.digits.proofs.key_at.Tie as tie
-use Rattle.digits.proofs.key_at.Reads as reads
-use Rattle.digits.proofs.key_at.Lts as lts
-use Rattle.digits.proofs.word.Reads as word-reads
 
 word-requires : tie.Need-word-requires
 word-requires c κs = search needs

@@ -1,14 +1,10 @@
 -- `digits::larger` meets its contract.
 use mathlib.Core.Logic.{inl, inr}
-use Prim.Native.Nat.{ℕ, _≤_, _-_, _<_, _+_, _*_}
-use native.Mathlib.Omega.{arith}
-use mathlib.Core.Path.{_≡_, refl, sym, _∙_}
-use lib.ListN.{length, take, drop, getD}
+use Prim.Native.Nat.{_-_}
+use mathlib.Core.Path.{refl}
 use borrow.Author.Needs.{needs}
 use Rattle.digits.proofs.larger.Statement.{statement}
 use Rattle.digits.proofs.larger.Tie as tie
-use Rattle.digits.proofs.larger.Reads as reads
-use Rattle.digits.proofs.larger.Lts as lts
 
 returns : tie.Need-returns
 returns c = (search needs, search needs, inr refl)

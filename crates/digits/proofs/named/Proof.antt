@@ -2,16 +2,12 @@
 use borrow.Author.Tests.{not-false, not-true}
 use borrow.Author.Tests.{le-leb, lt-leb}
 use Rattle.model.specs.Names.{legalName}
-use Prim.Native.Nat.{ℕ, _≤_, _-_, _<_, _+_, _*_}
+use Prim.Native.Nat.{_-_}
 use native.Mathlib.Omega.{arith}
-use mathlib.Core.Path.{_≡_, refl, sym, _∙_}
-use lib.ListN.{length, take, drop, getD}
+use lib.ListN.{length}
 use borrow.Author.Needs.{needs}
 use Rattle.digits.proofs.named.Statement.{statement}
 use Rattle.digits.proofs.named.Tie as tie
-use Rattle.digits.proofs.named.Reads as reads
-use Rattle.digits.proofs.named.Lts as lts
-use Rattle.digits.proofs.are_digits.Reads as are-digits-reads
 
 returns : tie.Need-returns
 unfolding legalName

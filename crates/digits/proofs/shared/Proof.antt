@@ -1,15 +1,13 @@
 -- `digits::shared` meets its contract.
 use Rattle.model.specs.Order.{diff}
 use Rattle.digits.proofs.Laws.{diff-differ, diff-end, diff-same, diff-short}
-use Prim.Native.Nat.{ℕ, _≤_, _-_, _<_, _+_, _*_}
+use Prim.Native.Nat.{_≤_, _-_, _+_}
 use native.Mathlib.Omega.{arith}
-use mathlib.Core.Path.{_≡_, refl, sym, _∙_}
-use lib.ListN.{length, take, drop, getD}
+use mathlib.Core.Path.{_≡_}
+use lib.ListN.{length, drop}
 use borrow.Author.Needs.{needs}
 use Rattle.digits.proofs.shared.Statement.{statement}
 use Rattle.digits.proofs.shared.Tie as tie
-use Rattle.digits.proofs.shared.Reads as reads
-use Rattle.digits.proofs.shared.Lts as lts
 
 abbrev Inv-loop : tie.InvT-loop
 Inv-loop x y count₀ count = (count ≤ length x) × (count ≤ length y) × (diff x y ≡ count + diff (drop count x) (drop count y))

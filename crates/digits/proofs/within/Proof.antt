@@ -1,15 +1,13 @@
 -- `digits::within` meets its contract.
 use Rattle.model.specs.Names.{within}
 use Rattle.digits.proofs.Laws.{within-end, within-equal, within-less, within-more, within-short}
-use Prim.Native.Nat.{ℕ, _≤_, _-_, _<_, _+_, _*_}
+use Prim.Native.Nat.{_≤_, _-_}
 use native.Mathlib.Omega.{arith}
-use mathlib.Core.Path.{_≡_, refl, sym, _∙_}
-use lib.ListN.{length, take, drop, getD}
+use mathlib.Core.Path.{_≡_, sym, _∙_}
+use lib.ListN.{length, drop}
 use borrow.Author.Needs.{needs}
 use Rattle.digits.proofs.within.Statement.{statement}
 use Rattle.digits.proofs.within.Tie as tie
-use Rattle.digits.proofs.within.Reads as reads
-use Rattle.digits.proofs.within.Lts as lts
 
 abbrev Inv-loop : tie.InvT-loop
 Inv-loop name p i₀ i = (i ≤ length p) × (within name p ≡ within (drop i name) (drop i p))

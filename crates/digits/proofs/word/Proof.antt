@@ -1,15 +1,10 @@
 -- `digits::word` meets its contract.
 use Rattle.digits.proofs.Keys.{value-word}
-use Prim.Native.Nat.{ℕ, _≤_, _-_, _<_, _+_, _*_}
+use Prim.Native.Nat.{_-_}
 use native.Mathlib.Omega.{arith}
-use mathlib.Core.Path.{_≡_, refl, sym, _∙_}
-use lib.ListN.{length, take, drop, getD}
 use borrow.Author.Needs.{needs}
 use Rattle.digits.proofs.word.Statement.{statement}
 use Rattle.digits.proofs.word.Tie as tie
-use Rattle.digits.proofs.word.Reads as reads
-use Rattle.digits.proofs.word.Lts as lts
-use Rattle.digits.proofs.wide.Reads as wide-reads
 
 add-wide : tie.Need-add-wide
 add-wide c = search needs

@@ -1,16 +1,12 @@
 -- `copy` meets its contract.
-use mathlib.Core.Path.{_≡_, refl, sym, ap, _∙_}
-use Prim.Native.Nat.{_≤_, _-_, _<_, _+_}
+use mathlib.Core.Path.{_≡_, refl}
+use Prim.Native.Nat.{_≤_, _-_}
 use native.Mathlib.Omega.{arith}
-use native.Mathlib.Nat.{add-zero, le-antisymm}
 use native.Mathlib.Numerals.{add-one}
-use borrow.Author.Needs.{needs}
-use lib.ListN.{length, drop, take, getD, set, length-set}
-use lib.Seq.{paste, paste-zero, paste-suc, length-paste}
+use lib.ListN.{length, length-set}
+use lib.Seq.{paste, paste-zero, paste-suc}
 use Rattle.bucket.proofs.entries.copy.Statement.{statement}
 use Rattle.bucket.proofs.entries.copy.Tie as tie
-use Rattle.bucket.proofs.entries.copy.Reads as reads
-use Rattle.bucket.proofs.entries.copy.Lts as lts
 
 abbrev Inv-loop : tie.InvT-loop
 Inv-loop d₀ at s i₀ d i = (i ≤ length s) × (d ≡ paste d₀ at s i) × (length d ≡ length d₀)
