@@ -17,7 +17,8 @@ use Rattle.model.specs.Order.{diff, diff-at}
 use Rattle.model.proofs.Lists.{drop-replicate}
 use Rattle.model.proofs.Names.{filled-short}
 use Rattle.digits.specs.declared.Key.{Key}
-use Rattle.digits.specs.Keys.{blankEnds, isZero, keyValue}
+use Rattle.digits.specs.Keys.{isZero, keyValue}
+use Rattle.digits.specs.Words.{after}
 
 -- A check that gathers: w of the whole is a so far and b of what is left.
 pub gathers : (w a b c d r : Bool) → w ≡ (a && b) → b ≡ (c && d) → r ≡ (a && c) → w ≡ (r && d)
@@ -175,42 +176,42 @@ module _ (x y : Key) (xc : x .c < 2 ^ 64) (yc : y .c < 2 ^ 64) (e : keyValue x �
   ]
 
 -- A blank is followed by blanks alone; any other digit, by an end of blanks.
-blanks-is : (n : List ℕ) → blanks n ≡ (areDigits 0x20 n && blankEnds (0x20 ∷ n))
-unfolding areDigits blankEnds blanks
+blanks-is : (n : List ℕ) → blanks n ≡ (areDigits 0x20 n && after 0x20 n)
+unfolding areDigits blanks
 blanks-is [] = refl
 blanks-is (e ∷ n) = go (ℕ-discrete e 0x20) (decLt e 0x20) (blanks-is n)
   where
-    go : Dec (e ≡ 0x20) → Dec (e < 0x20) → blanks n ≡ (areDigits 0x20 n && blankEnds (0x20 ∷ n))
-        → (eqb e 0x20 && blanks n) ≡ (leb 0x20 e && leb e 0x7D && areDigits 0x20 n && (ltb e 0x21 && blankEnds (e ∷ n)))
+    go : Dec (e ≡ 0x20) → Dec (e < 0x20) → blanks n ≡ (areDigits 0x20 n && after 0x20 n)
+        → (eqb e 0x20 && blanks n) ≡ (leb 0x20 e && leb e 0x7D && areDigits 0x20 n && (ltb e 0x21 && after e n))
     go (yes q) d r = rw (eq-eqb e 0x20 q, le-leb 0x20 e (omega arith), le-leb e 0x7D (omega arith), lt-ltb e 0x21 (omega arith), q) r
     go (no q) (yes h) r = rw (ne-eqb e 0x20 q, lt-leb 0x20 e h)
     go (no q) (no h) r = rw (ne-eqb e 0x20 q, le-ltb e 0x21 (omega arith)) (sym (and-false (leb 0x20 e && leb e 0x7D && areDigits 0x20 n)))
 
-ended-is : (d : ℕ) (n : List ℕ) → 0x20 < d → blankEnded n ≡ (areDigits 0x20 n && blankEnds (d ∷ n))
-unfolding areDigits blankEnded blankEnds
+ended-is : (d : ℕ) (n : List ℕ) → 0x20 < d → blankEnded n ≡ (areDigits 0x20 n && after d n)
+unfolding areDigits blankEnded
 ended-is d [] k = refl
 ended-is d (e ∷ n) k = rw (lt-ltb 0x20 d k) (go (ℕ-discrete e 0x20) (decLt e 0x20) (ended-is e n))
   where
-    go : Dec (e ≡ 0x20) → Dec (e < 0x20) → (0x20 < e → blankEnded n ≡ (areDigits 0x20 n && blankEnds (e ∷ n)))
-        → cond (eqb e 0x20) (blanks n) (leb 0x21 e && leb e 0x7D && blankEnded n) ≡ (leb 0x20 e && leb e 0x7D && areDigits 0x20 n && blankEnds (e ∷ n))
+    go : Dec (e ≡ 0x20) → Dec (e < 0x20) → (0x20 < e → blankEnded n ≡ (areDigits 0x20 n && after e n))
+        → cond (eqb e 0x20) (blanks n) (leb 0x21 e && leb e 0x7D && blankEnded n) ≡ (leb 0x20 e && leb e 0x7D && areDigits 0x20 n && after e n)
     go (yes q) d r = rw (eq-eqb e 0x20 q, le-leb 0x20 e (omega arith), le-leb e 0x7D (omega arith), q) (blanks-is n)
     go (no q) (yes h) r = rw (ne-eqb e 0x20 q, lt-leb 0x20 e h, lt-leb 0x21 e (omega arith))
     go (no q) (no h) r =
         rw (ne-eqb e 0x20 q, le-leb 0x20 e (omega arith), le-leb 0x21 e (omega arith), r (omega arith))
-        (sym (and-assoc (leb e 0x7D) (areDigits 0x20 n) (blankEnds (e ∷ n))))
+        (sym (and-assoc (leb e 0x7D) (areDigits 0x20 n) (after e n)))
 
 pub not-blank : (s : List ℕ) → getD s 0 0 ≡ 0x20 → length s ≡ 24 → legalFilled s ≡ false
 unfolding legalFilled
 not-blank [] e h = refl
 not-blank (d ∷ n) e h = rw (eq-eqb (length n) 23 (omega arith), lt-leb 0x21 d (omega arith))
 
-pub filled-name : (s : List ℕ) → (getD s 0 0 ≡ 0x20 → ⊥) → length s ≡ 24 → legalFilled s ≡ (areDigits 0x20 s && blankEnds s)
+pub filled-name : (s : List ℕ) → (getD s 0 0 ≡ 0x20 → ⊥) → length s ≡ 24 → legalFilled s ≡ (areDigits 0x20 s && after 0x21 s)
 unfolding areDigits legalFilled
 filled-name [] e h = absurd (omega arith)
 filled-name (d ∷ n) e h = elim (decLt d 0x20) [
   | yes k ↦ rw (eq-eqb (length n) 23 (omega arith), lt-leb 0x20 d k, lt-leb 0x21 d (omega arith))
   | no k ↦ let g : 0x21 ≤ d = above e k in
-      rw (eq-eqb (length n) 23 (omega arith), le-leb 0x20 d (omega arith), le-leb 0x21 d g, ended-is d n g) (sym (and-assoc (leb d 0x7D) (areDigits 0x20 n) (blankEnds (d ∷ n))))
+      rw (eq-eqb (length n) 23 (omega arith), le-leb 0x20 d (omega arith), le-leb 0x21 d g, ended-is d n g) (sym (and-assoc (leb d 0x7D) (areDigits 0x20 n) (after d n)))
 ]
   where
     above : (d ≡ 0x20 → ⊥) → (d < 0x20 → ⊥) → 0x21 ≤ d

@@ -15,7 +15,7 @@ use borrow.Author.Tests.{eq-eqb, le-leb, le-ltb, leb-true, lt-leb, lt-ltb, ltb-t
 use Rattle.model.specs.Names.{areDigits, legalFilled}
 use Rattle.model.specs.Format.{Bytes}
 use Rattle.model.proofs.Names.{both-true}
-use Rattle.digits.specs.Keys.{blankEnds, value}
+use Rattle.digits.specs.Keys.{value}
 use Rattle.digits.specs.Words.{Word, after, mark, marked}
 use Rattle.digits.proofs.Keys.{bytes-part, length-part, value-lt}
 use Rattle.digits.proofs.Laws.{filled-name, pair-lt}
@@ -391,18 +391,8 @@ after-append : (q : ℕ) (x y : List ℕ) → after q (x ++ y) ≡ (after q x &&
 after-append q [] y = refl
 after-append q (d ∷ x) y = rw (after-append d x y) (sym (and-assoc (ltb 0x20 q || ltb d 0x21) (after d x) (after (last-from d x) y)))
 
-blank-after : (d : ℕ) (x : List ℕ) → blankEnds (d ∷ x) ≡ after d x
-unfolding blankEnds
-blank-after d [] = refl
-blank-after d (e ∷ x) = ap (λ (t : Bool). (ltb 0x20 d || ltb e 0x21) && t) (blank-after e x)
-
-pub three-after : (q : ℕ) (x y z : List ℕ) → 0x20 < q → blankEnds (x ++ (y ++ z)) ≡ (after q x && (after (last-from q x) y && after (last-from (last-from q x) y) z))
-unfolding blankEnds
-three-after q x y z h = whole (x ++ (y ++ z)) ∙ after-append q x (y ++ z) ∙ rw (after-append (last-from q x) y z)
-  where
-    whole : (s : List ℕ) → blankEnds s ≡ after q s
-    whole [] = refl
-    whole (d ∷ s) = rw (lt-ltb 0x20 q h) (blank-after d s)
+pub three-after : (q : ℕ) (x y z : List ℕ) → after q (x ++ (y ++ z)) ≡ (after q x && (after (last-from q x) y && after (last-from (last-from q x) y) z))
+three-after q x y z = after-append q x (y ++ z) ∙ rw (after-append (last-from q x) y z)
 
 -- 24 bytes as three words.
 pub word-part : (s : List ℕ) (at : ℕ) → at + 8 ≤ length s → ((i : ℕ) → getD s i 0 < 256) → Word (take 8 (drop at s))
@@ -423,10 +413,10 @@ module _ (s : List ℕ) (full : length s ≡ 24) (first : getD s 0 0 ≡ 0x20 �
       sym (take-append-drop 8 s)
       ∙ ap (λ (r : List ℕ). take 8 s ++ r) (sym (take-append-drop 8 (drop 8 s)) ∙ rw (drop-drop 8 8 s) (ap (λ (r : List ℕ). y ++ r) (sym (take-all 8 (drop 16 s) (omega (arith, length-drop 16 s))))))
 
-  name-words : legalFilled s ≡ ((areDigits 0x20 x && (areDigits 0x20 y && areDigits 0x20 z)) && blankEnds (x ++ (y ++ z)))
+  name-words : legalFilled s ≡ ((areDigits 0x20 x && (areDigits 0x20 y && areDigits 0x20 z)) && after 0x21 (x ++ (y ++ z)))
   name-words =
       filled-name s first full
-      ∙ ap (λ (r : List ℕ). areDigits 0x20 r && blankEnds r) three
+      ∙ ap (λ (r : List ℕ). areDigits 0x20 r && after 0x21 r) three
       ∙ rw (digits-append x (y ++ z), digits-append y z)
 
   pub first-ill : areDigits 0x20 x ≡ false → false ≡ legalFilled s
@@ -438,5 +428,5 @@ module _ (s : List ℕ) (full : length s ≡ 24) (first : getD s 0 0 ≡ 0x20 �
   pub third-ill : areDigits 0x20 z ≡ false → false ≡ legalFilled s
   third-ill h = sym (name-words ∙ rw (h, and-false (areDigits 0x20 y), and-false (areDigits 0x20 x)))
 
-  pub name-filled : areDigits 0x20 x ≡ true → areDigits 0x20 y ≡ true → areDigits 0x20 z ≡ true → {r : Bool} → r ≡ blankEnds (x ++ (y ++ z)) → r ≡ legalFilled s
+  pub name-filled : areDigits 0x20 x ≡ true → areDigits 0x20 y ≡ true → areDigits 0x20 z ≡ true → {r : Bool} → r ≡ after 0x21 (x ++ (y ++ z)) → r ≡ legalFilled s
   name-filled f g h e = e ∙ sym (name-words ∙ rw (f, g, h))

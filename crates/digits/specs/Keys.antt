@@ -1,8 +1,8 @@
 -- Strings of digits as numbers, as the code compares them.
-use mathlib.Core.Bool.{Bool, _&&_, _||_, false, true}
+use mathlib.Core.Bool.{Bool, _&&_, false, true}
 use mathlib.Core.List.{List, [], _++_, _∷_}
 use Prim.Native.Nat.{_*_, _+_, _^_, ℕ}
-use lib.Dec.{eqb, ltb}
+use lib.Dec.{eqb}
 use lib.ListN.{length, replicate, take}
 use Rattle.digits.specs.declared.Key.{Key}
 use Rattle.digits.specs.declared.Naming.{Naming}
@@ -24,12 +24,6 @@ continued p = take 24 (p ++ replicate 24 0xFF)
 unfoldable pub isZero : List ℕ → Bool
 isZero [] = true
 isZero (d ∷ x) = eqb d 0 && isZero x
-
--- No blank is followed by more than a blank.
-unfoldable pub blankEnds : List ℕ → Bool
-blankEnds [] = true
-blankEnds (d ∷ []) = true
-blankEnds (d ∷ e ∷ x) = (ltb 0x20 d || ltb e 0x21) && blankEnds (e ∷ x)
 
 abbrev pub naming : Bool → Naming
 naming true = Legal

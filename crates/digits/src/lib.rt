@@ -12,7 +12,7 @@ ghost use lib.ListN.{drop, length, take};
 ghost use Rattle.model.specs.Names as names;
 ghost use Rattle.model.specs.Order.{Str, diff};
 ghost use Rattle.digits.specs.Words.{Word, after, mark, marked};
-ghost use Rattle.digits.specs.Keys.{blankEnds, continued, isZero, keyValue, naming, value};
+ghost use Rattle.digits.specs.Keys.{continued, isZero, keyValue, naming, value};
 
 // A string of digits as it is compared.
 pub struct Key {
@@ -291,11 +291,11 @@ fn follow(before: u64, marks: u64) -> bool
     marks & moved == marks
 }
 
-// Whether no blank is followed by more than a blank, in three words of digits.
+// Whether no blank is followed by more than a blank, in three words of digits. What stands before them is no blank.
 fn is_filled(a: u64, b: u64, c: u64) -> bool
     ensures { λ r.
         ⌜ ((x y z : Str) → Word x → Word y → Word z → names.areDigits 0x20 x ≡ true → names.areDigits 0x20 y ≡ true → names.areDigits 0x20 z ≡ true
-        → a ≡ value x → b ≡ value y → c ≡ value z → r ≡ blankEnds (x ++ (y ++ z))) ⌝ }
+        → a ≡ value x → b ≡ value y → c ≡ value z → r ≡ after 0x21 (x ++ (y ++ z))) ⌝ }
 {
     let first = marks_of(a);
     if !follow(0x80, first) {
@@ -308,7 +308,7 @@ fn is_filled(a: u64, b: u64, c: u64) -> bool
     follow(second % 256, marks_of(c))
 }
 
-// Whether these 24 bytes are a legal name, filled. Eight bytes at a time: most of a put's time is spent here.
+// Whether these 24 bytes are a legal name, filled. Eight bytes at a time: no other function has as large a part in a put.
 pub fn is_filled_name(s: &[u8]) -> bool
     requires { ⌜ length (now s) ≡ 24 ⌝ }
     ensures { λ r. ⌜ r ≡ names.legalFilled (now (s .entry)) ⌝ }

@@ -1,7 +1,6 @@
 -- `digits::is_filled` meets its contract: each word follows the last digit of the one before, the first a digit that is no blank.
 use mathlib.Core.Path.{_∙_, refl, sym}
 use mathlib.Core.Bool.{and-false}
-use native.Mathlib.Omega.{arith}
 use borrow.Author.Needs.{needs}
 use borrow.Author.Tests.{not-false, not-true}
 use Rattle.digits.specs.Words.{after}
@@ -19,7 +18,7 @@ returns : tie.Need-returns
 returns c x y z X Y Z dx dy dz ex ey ez =
     let m = c .before .before .marks-of .ensures x X dx ex in
     let f = c .before .follow .ensures 0x21 x X refl m in
-    sym (three-after 0x21 x y z (omega arith) ∙ rw (← f, not-true (c .before .follow .result) (c .if1 .taken)))
+    sym (three-after 0x21 x y z ∙ rw (← f, not-true (c .before .follow .result) (c .if1 .taken)))
 
 marks-of-requires-2 : tie.Need-marks-of-requires-2
 marks-of-requires-2 c κs = search needs
@@ -32,7 +31,7 @@ returns-2 c x y z X Y Z dx dy dz ex ey ez =
     let m = c .before .before .before .before .before .marks-of .ensures x X dx ex in
     let n = c .before .before .marks-of2 .ensures y Y dy ey in
     let g = c .before .follow2 .ensures (last-from 0x21 x) y Y (marks-last 0x21 x X m) n in
-    sym (three-after 0x21 x y z (omega arith) ∙ rw (← g, not-true (c .before .follow2 .result) (c .if2 .taken)) (and-false (after 0x21 x)))
+    sym (three-after 0x21 x y z ∙ rw (← g, not-true (c .before .follow2 .result) (c .if2 .taken)) (and-false (after 0x21 x)))
 
 marks-of-requires-3 : tie.Need-marks-of-requires-3
 marks-of-requires-3 c κs = search needs
@@ -49,7 +48,7 @@ returns-3 c x y z X Y Z dx dy dz ex ey ez =
     let g = c .before .before .before .follow2 .ensures (last-from 0x21 x) y Y (marks-last 0x21 x X m) n in
     let h = c .follow3 .ensures (last-from (last-from 0x21 x) y) z Z (marks-last (last-from 0x21 x) y Y n) o in
     h
-    ∙ sym (three-after 0x21 x y z (omega arith) ∙ rw (← f, ← g, not-false (c .before .before .before .before .before .before .follow .result) (c .before .before .before .before .before .if1 .left), not-false (c .before .before .before .follow2 .result) (c .before .before .if2 .left)))
+    ∙ sym (three-after 0x21 x y z ∙ rw (← f, ← g, not-false (c .before .before .before .before .before .before .follow .result) (c .before .before .before .before .before .if1 .left), not-false (c .before .before .before .follow2 .result) (c .before .before .if2 .left)))
 
 pub is-filled-spec : {M : Type 1} → statement M
 is-filled-spec =
