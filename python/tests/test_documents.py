@@ -85,7 +85,7 @@ class Documents(InFolder):
         ended = subprocess.run(["bash", "-c", story], cwd=PROJECT, env={**os.environ, "TMPDIR": str(self.folder)},
                                capture_output=True, text=True, timeout=60)
         self.assertEqual((ended.returncode, ended.stderr.count("Killed")), (0, 3), ended.stderr)
-        self.assertRegex(ended.stdout, r"^[1-9]\d* names said, 0 lost\nsound\ndrew rates.svg\n$")
+        self.assertRegex(ended.stdout, r"^[1-9]\d* names said, 0 lost\nsound\ndrew rates.svg\n$", ended.stderr)
 
     def test_readmes_refusals(self):
         readme = (PROJECT / "README.md").read_text(encoding="utf-8")
