@@ -4,7 +4,7 @@ use mathlib.Core.Logic.{_⊎_, inl, inr}
 use mathlib.Core.Bool.{Bool, _&&_, cond, false, true}
 use mathlib.Core.Option.{none as nothing}
 use mathlib.Core.List.{List, List·Memᴰ, List·Memᴰ·head, [], _∷_}
-use Prim.Native.Nat.{_-_, _≤_, suc, zero, ℕ}
+use Prim.Native.Nat.{_-_, _<_, _≤_, suc, zero, ℕ}
 use native.Mathlib.Decide.{decLt}
 use native.Mathlib.Omega.{arith}
 use lib.Dec.{leb}
@@ -12,7 +12,7 @@ use lib.ListN.{length, length-replicate, set}
 use borrow.Author.Tests.{le-ltb, lt-ltb}
 use Rattle.model.specs.Order.{at, least}
 use Rattle.model.specs.Names.{Legal, legalFilled, unlimited}
-use Rattle.model.specs.Entries.{find, no-entries}
+use Rattle.model.specs.Entries.{Entry, find, no-entries}
 use Rattle.model.specs.Files.{Cut, IsUsed, Slot, Sound, Well, created, entries-of, free, head, last, order-of, slot-at, well-free, well-used}
 use Rattle.model.specs.Tries.{Agrees, walk-trie}
 use Rattle.model.specs.Changes.{Map, Means, Request, Result, call, put, remove}
@@ -80,17 +80,17 @@ module _ (b slots : ℕ) where
   Good (ready fs m) = Fine b fs m
   Good (down fs m) = Fine b fs m ⊎ ((N : ℕ) × Cut b fs N × Fine b (set fs N free) m)
 
-  module _ (b-two : 2 ≤ b) where
-    call-right : {fs : List Slot} {m : Map} → Fine b fs m → (q : Request) → Legal (asked-name q) → Answered b fs q (call b fs q)
-    call-right {fs} F (put n v) g = put-right b fs (F .sound) n v g
-    call-right {fs} F (remove n) g = remove-right b fs (F .sound) n
+  module _ (place : List Entry → ℕ) (place-lt : (ws : List Entry) → place ws < b) where
+    call-right : {fs : List Slot} {m : Map} → Fine b fs m → (q : Request) → Legal (asked-name q) → Answered b place fs q (call b place fs q)
+    call-right {fs} F (put n v) g = put-right b place fs (F .sound) n v g
+    call-right {fs} F (remove n) g = remove-right b place fs (F .sound) n
 
-    answered-good : {fs : List Slot} {m : Map} (q : Request) (j : ℕ) {r : Result} → Fine b fs m → Answered b fs q r → Good (answered q j fs m r)
+    answered-good : {fs : List Slot} {m : Map} (q : Request) (j : ℕ) {r : Result} → Fine b fs m → Answered b place fs q r → Good (answered q j fs m r)
     unfolding answered
     answered-good q j F (is-denied d) = F
     answered-good {fs} {m} q j F (is-made {ss = ss} c) = elim (decLt j (length ss)) [
-      | no h ↦ rw (le-ltb j (length ss) (omega arith)) (change-made b b-two F c)
-      | yes h ↦ rw (lt-ltb j (length ss) h) (elim (change-stopped b b-two F c j h) [
+      | no h ↦ rw (le-ltb j (length ss) (omega arith)) (change-made b place place-lt F c)
+      | yes h ↦ rw (lt-ltb j (length ss) h) (elim (change-stopped b place place-lt F c j h) [
         | inl e ↦ inl (rw e F)
         | inr x ↦ inr (x .0, x .1, rw (x .2) F)
       ])
@@ -108,11 +108,11 @@ module _ (b slots : ℕ) where
     recovered-good fs m zero is-bad B g = g
     recovered-good fs m (suc j) is-bad B g = g
 
-    act-good : (a : Act) (w : World) → Good w → Good (act b slots a w)
+    act-good : (a : Act) (w : World) → Good w → Good (act b slots place a w)
     unfolding act
     act-good (ask q j) (ready fs m) F = go (leb j 2 && legalFilled (asked-name q)) refl
       where
-        go : (t : Bool) → (leb j 2 && legalFilled (asked-name q)) ≡ t → Good (cond t (answered q j fs m (call b fs q)) (ready fs m))
+        go : (t : Bool) → (leb j 2 && legalFilled (asked-name q)) ≡ t → Good (cond t (answered q j fs m (call b place fs q)) (ready fs m))
         go true e = answered-good q j F (call-right F q (legalFilled-legal (asked-name q) (both-true (leb j 2) (legalFilled (asked-name q)) e .1)))
         go false e = F
     act-good (ask q j) (down fs m) g = g
@@ -126,11 +126,11 @@ module _ (b slots : ℕ) where
         go false = g
 
     -- Whatever was done.
-    pub run-good : (acts : List Act) → Good (run b slots acts)
+    pub run-good : (acts : List Act) → Good (run b slots place acts)
     unfolding run
     run-good [] = created-fine
-    run-good (a ∷ acts) = act-good a (run b slots acts) (run-good acts)
+    run-good (a ∷ acts) = act-good a (run b slots place acts) (run-good acts)
 
     -- Every list of acts that ends with a trie: each name looks up as the calls that count as made say.
-    pub run-demand-3 : (acts : List Act) (fs : List Slot) (m : Map) → run b slots acts ≡ ready fs m → Demand3 b slots m fs
+    pub run-demand-3 : (acts : List Act) (fs : List Slot) (m : Map) → run b slots place acts ≡ ready fs m → Demand3 b slots m fs
     run-demand-3 acts fs m e = fine-demand (rw e at (run-good acts))

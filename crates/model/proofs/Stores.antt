@@ -73,15 +73,15 @@ Asked (remove n) = Unit {0}
 there : (fs : List Slot) (A : ℕ) {x : Slot} → slot-at fs A ≡ x → IsUsed (head x) → A < length fs
 there fs A e u = used-inside fs A (rw e u)
 
-pub change-legal : (b : ℕ) {fs : List Slot} {q : Request} {ss : List Store} → Change b fs q ss → Asked q → ((B : ℕ) → Values (entries-of (slot-at fs B)))
+pub change-legal : (b : ℕ) (place : List Entry → ℕ) {fs : List Slot} {q : Request} {ss : List Store} → Change b place fs q ss → Asked q → ((B : ℕ) → Values (entries-of (slot-at fs B)))
     → Legal (length fs) ss
-change-legal b {fs} (fits {A = A} {es = es} {n = n} {v = v} is g lo up k) h w =
+change-legal b place {fs} (fits {A = A} {es = es} {n = n} {v = v} is g lo up k) h w =
     (there fs A is tt, values-insert n v es h (rw is at (w A)), tt)
-change-legal b {fs} (splits {A = A} {N = N} {es = es} {n = n} {v = v} is g lo up k f c) h w =
+change-legal b place {fs} (splits {A = A} {N = N} {es = es} {n = n} {v = v} is g lo up k f c) h w =
     let r = values-insert n v es h (rw is at (w A)) in
     (f .inside, values-keep _ (insert n v es) r, (there fs A is tt, values-keep _ (insert n v es) r, tt))
-change-legal b {fs} (removes {A = A} {es = es} is lo up e) h w = (there fs A is tt, values-keep _ es (rw is at (w A)), tt)
-change-legal b (absent A is lo up e) h w = tt
+change-legal b place {fs} (removes {A = A} {es = es} is lo up e) h w = (there fs A is tt, values-keep _ es (rw is at (w A)), tt)
+change-legal b place (absent A is lo up e) h w = tt
 
 -- The first ones of a change's stores are no less legal.
 pub legal-take : (n k : ℕ) (ss : List Store) → Legal n ss → Legal n (take k ss)
@@ -103,8 +103,8 @@ module _ (b : ℕ) (xs : List ℕ) {fs : List Slot} (bytes : Bytes xs) (e : read
       rw (r .0, storesBytes-fileBytes b ss fs g) (record { is = readFile-fileBytes b (stored ss fs) k well (values-stored ss fs g w); bytes = bytes-fileBytes b (stored ss fs) k well })
 
   -- What a change leaves, all of its stores made.
-  pub read-stored : {q : Request} {ss : List Store} → Change b fs q ss → Asked q → Sound b (stored ss fs) → readFile (storesBytes b ss xs) ≡ some (b, stored ss fs)
-  read-stored {ss = ss} c h S = left-stored ss (change-legal b c h (values-readFile xs bytes e)) (S .well) .is
+  pub read-stored : (place : List Entry → ℕ) {q : Request} {ss : List Store} → Change b place fs q ss → Asked q → Sound b (stored ss fs) → readFile (storesBytes b ss xs) ≡ some (b, stored ss fs)
+  read-stored place {ss = ss} c h S = left-stored ss (change-legal b place c h (values-readFile xs bytes e)) (S .well) .is
 
   -- What a recovery leaves of a cut file. The header's byte 5 is b.
   pub left-freed : {N : ℕ} → Cut b fs N → Left b (set fs N free) (storeBytes (getD xs 5 0) N free xs)
@@ -112,8 +112,8 @@ module _ (b : ℕ) (xs : List ℕ) {fs : List Slot} (bytes : Bytes xs) (e : read
   left-freed {N} C = rw (headed-b (readFile-read xs e .headed)) (left-stored ((N, free) ∷ []) (cut-inside b C, tt, tt) (C .freed .well))
 
 -- The trie after a change, by its stores and by its kind.
-pub trieAfter-is : (b : ℕ) {fs : List Slot} (n : Str) (v : ℕ) {ss : List Store} (c : Change b fs (put n v) ss) (t : Trie)
-    → trieAfter b fs n v ss t ≡ trie-after b c t
+pub trieAfter-is : (b : ℕ) (place : List Entry → ℕ) {fs : List Slot} (n : Str) (v : ℕ) {ss : List Store} (c : Change b place fs (put n v) ss) (t : Trie)
+    → trieAfter b place fs n v ss t ≡ trie-after b place c t
 unfolding trieAfter trie-after
-trieAfter-is b n v (fits is g lo up k) t = refl
-trieAfter-is b n v (splits is g lo up k f c) t = rw is
+trieAfter-is b place n v (fits is g lo up k) t = refl
+trieAfter-is b place n v (splits is g lo up k f c) t = rw is

@@ -2,7 +2,7 @@
 use mathlib.Core.Bool.{_&&_, cond}
 use mathlib.Core.Option.{Option, none as nothing, some}
 use mathlib.Core.List.{List, [], _++_, _∷_}
-use Prim.Native.Nat.{_*_, _/_, suc, zero, ℕ}
+use Prim.Native.Nat.{_*_, suc, zero, ℕ}
 use lib.Dec.{eqb, leb, ltb}
 use lib.ListN.{drop, getD, length, replicate, take}
 use Rattle.model.specs.declared.Cause.{Cause}
@@ -31,6 +31,7 @@ use Rattle.model.specs.Tries.{at-cell, cell, root-side, zero-cell}
 use Rattle.model.specs.Rebuilding.{rebuilt-trie}
 use Rattle.model.specs.Growth.{grown-trie}
 use Rattle.model.specs.Changes.{Result, Store, call, holds?, put, refuse, remove, split-of, stores}
+use Rattle.model.specs.Places.{middle}
 use Rattle.model.specs.Checks.{Kind, is-bad, is-cut, is-sound, isAbove, isWell}
 use Rattle.model.specs.Agreeing.{isAgreeing}
 use Rattle.model.specs.Format.{checkFile, entriesBytes, entrySize, fileBytes, fileSize, headerOf, legalSizes, readFile, readSlot, slotAt, storeBytes, version}
@@ -157,12 +158,12 @@ storesBytes b [] xs = xs
 storesBytes b (s ∷ ss) xs = storesBytes b ss (storeBytes b (s .0) (s .1) xs)
 
 -- "The trie grows with the last store": two stores are a split, the new slot first and then A.
-unfoldable pub trieAfter : ℕ → List Slot → Str → ℕ → List Store → Trie → Trie
-trieAfter b fs n v [] t = t
-trieAfter b fs n v (x ∷ []) t = t
-trieAfter b fs n v (x ∷ y ∷ ss) t =
+unfoldable pub trieAfter : ℕ → (List Entry → ℕ) → List Slot → Str → ℕ → List Store → Trie → Trie
+trieAfter b place fs n v [] t = t
+trieAfter b place fs n v (x ∷ []) t = t
+trieAfter b place fs n v (x ∷ y ∷ ss) t =
     let ws = insert n v (entries-of (slot-at fs (y .0))) in
-    grown-trie t (name-at ws (b / 2)) (split-of b ws) (y .0) (x .0)
+    grown-trie t (name-at ws (place ws)) (split-of b place ws) (y .0) (x .0)
 
 -- What put leaves.
 pub record PutDone : Type 0 where
@@ -189,12 +190,12 @@ putMade xs t b fs n v limit (stores ss) =
     (record {
       answer = putAnswer (find n (entries-of (slot-at fs (first (holds? n) fs))));
       file = storesBytes b ss xs;
-      trie = trieAfter b fs n v ss t;
+      trie = trieAfter b (middle b) fs n v ss t;
     })
 
 unfoldable pub putLooked : List ℕ → Trie → Str → ℕ → ℕ → Looked → PutDone
 putLooked xs t n v limit (refusing c) = record { answer = PutRefused c; file = xs; trie = t }
-putLooked xs t n v limit (fine b fs) = putMade xs t b fs n v limit (call b fs (put n v))
+putLooked xs t n v limit (fine b fs) = putMade xs t b fs n v limit (call b (middle b) fs (put n v))
 
 -- Put, in the order 8, 1, 2, 3, 4, 5, 6.
 unfoldable pub putOf : List ℕ → Trie → List ℕ → ℕ → ℕ → PutDone
@@ -221,7 +222,7 @@ removeMade xs b limit (stores ss) =
 
 unfoldable pub removeLooked : List ℕ → Str → ℕ → Looked → RemoveDone
 removeLooked xs n limit (refusing c) = record { answer = RemoveRefused c; file = xs }
-removeLooked xs n limit (fine b fs) = removeMade xs b limit (call b fs (remove n))
+removeLooked xs n limit (fine b fs) = removeMade xs b limit (call b (middle b) fs (remove n))
 
 -- Remove, in the order 8, 1, 2, 3, 4.
 unfoldable pub removeOf : List ℕ → Trie → List ℕ → ℕ → RemoveDone

@@ -9,7 +9,7 @@ use lib.ListN.{length, set, take}
 use Rattle.model.specs.declared.Trie.{Trie}
 use Rattle.model.specs.Order.{Str}
 use Rattle.model.specs.Names.{legalFilled}
-use Rattle.model.specs.Entries.{find}
+use Rattle.model.specs.Entries.{Entry, find}
 use Rattle.model.specs.Files.{Slot, Sound, created, entries-of, free, slot-at, string-count}
 use Rattle.model.specs.Tries.{Agrees, walk-trie}
 use Rattle.model.specs.Rebuilding.{rebuilt-trie}
@@ -45,21 +45,22 @@ recovered fs m (suc j) (is-cut N) = ready (set fs N free) m
 recovered fs m j is-bad = down fs m
 
 module _ (b slots : ℕ) where
-  -- Refused: a store limit above 2, an illegal name, and every change while there is no trie.
-  unfoldable pub act : Act → World → World
-  act (ask q j) (ready fs m) =
-      let w = answered q j fs m (call b fs q) in
-      cond (leb j 2 && legalFilled (asked-name q)) w (ready fs m)
-  act (ask q j) (down fs m) = down fs m
-  act lose (ready fs m) = down fs m
-  act lose (down fs m) = down fs m
-  act (recover j) (ready fs m) = ready fs m
-  act (recover j) (down fs m) = let w = recovered fs m j (check b fs) in cond (leb j 2) w (down fs m)
+  module _ (place : List Entry → ℕ) where
+    -- Refused: a store limit above 2, an illegal name, and every change while there is no trie.
+    unfoldable pub act : Act → World → World
+    act (ask q j) (ready fs m) =
+        let w = answered q j fs m (call b place fs q) in
+        cond (leb j 2 && legalFilled (asked-name q)) w (ready fs m)
+    act (ask q j) (down fs m) = down fs m
+    act lose (ready fs m) = down fs m
+    act lose (down fs m) = down fs m
+    act (recover j) (ready fs m) = ready fs m
+    act (recover j) (down fs m) = let w = recovered fs m j (check b fs) in cond (leb j 2) w (down fs m)
 
-  -- Acts, the latest first. "Start from a new file."
-  unfoldable pub run : List Act → World
-  run [] = ready (created slots) (λ k. nothing)
-  run (a ∷ acts) = act a (run acts)
+    -- Acts, the latest first. "Start from a new file."
+    unfoldable pub run : List Act → World
+    run [] = ready (created slots) (λ k. nothing)
+    run (a ∷ acts) = act a (run acts)
 
   -- "Every legal name then looks up as that history says .. and .. rebuilding after it never refuse": the rebuilt trie
   -- agrees, and any trie that agrees leads each name to what was said of it.
