@@ -10,6 +10,7 @@ use native.Mathlib.Omega.{arith}
 use lib.Dec.{leb}
 use lib.ListN.{length, length-replicate, set}
 use borrow.Author.Tests.{le-ltb, lt-ltb}
+use Rattle.model.specs.declared.Layout.{Layout}
 use Rattle.model.specs.Order.{at, least}
 use Rattle.model.specs.Names.{Legal, legalFilled, unlimited}
 use Rattle.model.specs.Entries.{Entry, find, no-entries}
@@ -17,7 +18,7 @@ use Rattle.model.specs.Files.{Cut, IsUsed, Slot, Sound, Well, created, e
 use Rattle.model.specs.Tries.{Agrees, walk-trie}
 use Rattle.model.specs.Changes.{Map, Means, Request, Result, call, put, remove}
 use Rattle.model.specs.Checks.{Kind, check, is-bad, is-cut, is-sound}
-use Rattle.model.specs.Format.{Sizes, Values, fileBytes}
+use Rattle.model.specs.Format.{Contents, Sizes, entrySize, fileBytes}
 use Rattle.model.specs.Calls.{new-trie}
 use Rattle.model.specs.Histories.{Act, Demand3, World, act, answered, ask, asked-name, down, lose, ready, recover, recovered, run}
 use Rattle.model.proofs.Lists.{at-replicate}
@@ -50,17 +51,7 @@ module _ (b slots : ℕ) where
       means k zero h = refl
       means k (suc B) h = rw (at-replicate free (slots - 1) B)
 
-  -- The file that create writes reads so, and the trie that it gives agrees with it.
-  pub created-left : Sizes b slots → Left b (created slots) (fileBytes b (created slots))
-  created-left g =
-      let n : length (created slots) ≡ slots = omega (arith, g .slots-least, length-replicate (slots - 1) free) in
-      let k : Sizes b (length (created slots)) = rw n g in
-      record { is = readFile-fileBytes b (created slots) k created-well values; bytes = bytes-fileBytes b (created slots) k created-well }
-    where
-      values : (B : ℕ) → Values (entries-of (slot-at (created slots) B))
-      values zero = tt
-      values (suc B) = rw (at-replicate free (slots - 1) B) tt
-
+  -- The trie that create gives agrees with the file that it writes.
   pub created-agrees : Agrees (created slots) new-trie
   unfolding created-sound
   created-agrees =
@@ -134,3 +125,15 @@ module _ (b slots : ℕ) where
     -- Every list of acts that ends with a trie: each name looks up as the calls that count as made say.
     pub run-demand-3 : (acts : List Act) (fs : List Slot) (m : Map) → run b slots place acts ≡ ready fs m → Demand3 b slots m fs
     run-demand-3 acts fs m e = fine-demand (rw e at (run-good acts))
+
+-- The file that create writes reads so.
+pub created-left : (y : Layout) (slots : ℕ) → Sizes y slots → Left y (created slots) (fileBytes y (created slots))
+created-left y slots g =
+    let n : length (created slots) ≡ slots = omega (arith, g .slots-least, length-replicate (slots - 1) free) in
+    let k : Sizes y (length (created slots)) = rw n g in
+    let w = created-well (y .b) slots in
+    record { is = readFile-fileBytes y (created slots) k w contents; bytes = bytes-fileBytes y (created slots) k w }
+  where
+    contents : (B : ℕ) → Contents (entrySize y) (entries-of (slot-at (created slots) B))
+    contents zero = tt
+    contents (suc B) = rw (at-replicate free (slots - 1) B) tt

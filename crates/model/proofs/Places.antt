@@ -1,9 +1,10 @@
 -- The place of the split key is below b, which is all that the laws of splitting ask of it.
 use mathlib.Core.List.{List}
-use Prim.Native.Nat.{_<_, _≤_, ℕ}
+use Prim.Native.Nat.{_<_, _≤_}
 use native.Mathlib.Omega.{arith}
+use Rattle.model.specs.declared.Layout.{Layout}
 use Rattle.model.specs.Entries.{Entry}
-use Rattle.model.specs.Places.{middle}
+use Rattle.model.specs.Places.{place-of}
 
-pub middle-lt : (b : ℕ) → 2 ≤ b → (ws : List Entry) → middle b ws < b
-middle-lt b two ws = omega arith
+pub place-lt : (y : Layout) → 2 ≤ y .b → (ws : List Entry) → place-of y ws < y .b
+place-lt y two ws = omega arith
