@@ -8,6 +8,7 @@ use native.Mathlib.Omega.{arith}
 use borrow.Author.Tests.{ltb-true}
 use lib.Dec.{leb, ltb}
 use lib.ListN.{length}
+use Rattle.model.specs.declared.Layout.{Layout}
 use Rattle.model.specs.declared.Cell.{Cell}
 use Rattle.model.specs.declared.Cause.the-variants.{StaleTrie}
 use Rattle.model.specs.declared.LookUpAnswer.the-variants.{Refused}
@@ -53,13 +54,13 @@ arrive-inside (suc f) slots count cs n p (further m) k e =
     go false w l r g h e = let z : _≡_ {A = ℕ} 0 1 = cc in absurd (omega arith)
 
 -- A slot of a sound file tells the truth of a name, or that it is not its own.
-slot-tells : (b : ℕ) (fs : List Slot) → Sound b fs → (n : Str) (k : ℕ) (x : Slot) → slot-at fs k ≡ x → Tells fs n (slotAnswer b n (some x))
+slot-tells : (y : Layout) (fs : List Slot) → Sound (y .b) fs → (n : Str) (k : ℕ) (x : Slot) → slot-at fs k ≡ x → Tells fs n (slotAnswer (y .b) n (some x))
 unfolding slotAnswer
-slot-tells b fs S n k free e = stale
-slot-tells b fs S n k (used l u es) e = rw well (go (isAbove l n) (atMost n u) refl refl)
+slot-tells y fs S n k free e = stale
+slot-tells y fs S n k (used l u es) e = rw well (go (isAbove l n) (atMost n u) refl refl)
   where
-    well : isWell b (used l u es) ≡ true
-    well = well-isWell b (rw e at (S .well k))
+    well : isWell (y .b) (used l u es) ≡ true
+    well = well-isWell (y .b) (rw e at (S .well k))
 
     held : In (head (slot-at fs k)) n → (f : Option ℕ) → find n es ≡ f → Tells fs n (heldAnswer f)
     held i nothing h = truly-absent k i (rw e h)
@@ -80,18 +81,18 @@ lookup-tells xs t name S legal = rw (legal, header) (few (leb (t .count) 256))
     n : Str
     n = filled name
 
-    header : headerOf xs ≡ some (S .b, length (S .slots))
+    header : headerOf xs ≡ some (S .layout, length (S .slots))
     header = headed-headerOf (readFile-read xs (S .is) .headed)
 
     walk : Option ℕ
     walk = arrive (t .count) (length (S .slots)) (t .count) (t .cells) n [] (root-side (t .count) (t .first))
 
-    arrived : (a : Option ℕ) → walk ≡ a → Tells (S .slots) n (arrivedAnswer xs (S .b) n a)
+    arrived : (a : Option ℕ) → walk ≡ a → Tells (S .slots) n (arrivedAnswer xs (S .layout) n a)
     arrived nothing e = stale
     arrived (some k) e =
         let k-inside : k < length (S .slots) = arrive-inside (t .count) (length (S .slots)) (t .count) (t .cells) n [] (root-side (t .count) (t .first)) k e in
-        rw (readSlot-readFile xs (S .is) k k-inside) (slot-tells (S .b) (S .slots) (S .sound) n k (slot-at (S .slots) k) refl)
+        rw (readSlot-readFile xs (S .is) k k-inside) (slot-tells (S .layout) (S .slots) (S .sound) n k (slot-at (S .slots) k) refl)
 
-    few : (c : Bool) → Tells (S .slots) n (cond c (arrivedAnswer xs (S .b) n walk) (Refused StaleTrie))
+    few : (c : Bool) → Tells (S .slots) n (cond c (arrivedAnswer xs (S .layout) n walk) (Refused StaleTrie))
     few true = arrived walk refl
     few false = stale

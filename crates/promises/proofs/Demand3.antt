@@ -10,6 +10,7 @@ use native.Mathlib.Omega.{arith}
 use borrow.Author.Tests.{le-leb, le-ltb, lt-ltb, ltb-true}
 use lib.Dec.{eqb, ltb}
 use lib.ListN.{getD, length, set, take}
+use Rattle.model.specs.declared.Layout.{Layout}
 use Rattle.model.specs.declared.Cause.{Cause}
 use Rattle.model.specs.declared.Cause.the-variants.{IllegalName, WrongSize}
 use Rattle.model.specs.declared.PutAnswer.the-variants.{Refused as PutRefused, Stopped as PutStopped}
@@ -24,15 +25,17 @@ use Rattle.model.specs.Entries.{find}
 use Rattle.model.specs.Files.{Cut, Slot, Well, created, entries-of, first, free, slot-at, string-count}
 use Rattle.model.specs.Tries.{Agrees, walk-trie}
 use Rattle.model.specs.Changes.{Change, Map, Request, Result, Store, absent, call, holds?, meant, put as to-put, refuse, remove as to-remove, removes, stored, stores, trie-after}
-use Rattle.model.specs.Format.{CutFile, SoundFile, checkFile, fileBytes, fileSize, legalSizes, readFile, storeBytes}
+use Rattle.model.specs.Format.{CutFile, SoundFile, checkFile, entrySize, fileBytes, fileSize, layoutOf, legalSizes, readFile, storeBytes}
+use Rattle.model.specs.Places.{place-of}
 use Rattle.model.specs.Calls.{Created, Looked, PutDone, Recovered, RemoveDone, createOf, fine, heldAnswer, lookedOf, new-trie, putAnswer, putLooked, putMade, putOf, rebuildBy, rebuildOf, recoverBy, recoverOf, refusing, removeAnswer, removeLooked, removeMade, removeOf, storesBytes, trieAfter}
 use Rattle.model.proofs.Names.{both-true, legalName-legal}
 use Rattle.model.proofs.Files.{cut-well}
 use Rattle.model.proofs.Agreement.{agrees-walk, rebuilt-trie-agrees}
 use Rattle.model.proofs.LookUps.{lookup-agrees}
+use Rattle.model.proofs.Places.{place-lt}
 use Rattle.model.proofs.Changes.{Fine, change-made, change-stopped}
 use Rattle.model.proofs.Calls.{Answered, is-denied, is-made, put-right, remove-right}
-use Rattle.model.proofs.Format.{fileBytes-readFile, legalSizes-sizes, values-readFile}
+use Rattle.model.proofs.Format.{contents-readFile, fileBytes-readFile, legalSizes-sizes, value-fits}
 use Rattle.model.proofs.CheckedFiles.{checkFile-cut, checkFile-sound}
 use Rattle.model.proofs.Stores.{Asked, Left, change-legal, left-freed, left-stored, legal-take, trieAfter-is}
 use Rattle.model.proofs.GrownTries.{change-agrees}
@@ -42,18 +45,18 @@ use Rattle.promises.proofs.Leading.{Passed, leads, looked-passed}
 
 -- With a trie: the file reads as slots that are fine, and the trie agrees with them.
 pub record Up (xs : List ℕ) (t : Trie) (m : Map) : Type 0 where
-  pub b : ℕ
+  pub layout : Layout
   pub slots : List Slot
-  pub left : Left b slots xs
-  pub good : Fine b slots m
+  pub left : Left layout slots xs
+  pub good : Fine (layout .b) slots m
   pub agrees : Agrees slots t
 
 -- Without: they are fine, or freeing one slot makes them so.
 pub record Fallen (xs : List ℕ) (m : Map) : Type 0 where
-  pub b : ℕ
+  pub layout : Layout
   pub slots : List Slot
-  pub left : Left b slots xs
-  pub near : Fine b slots m ⊎ ((N : ℕ) × Cut b slots N × Fine b (set slots N free) m)
+  pub left : Left layout slots xs
+  pub near : Fine (layout .b) slots m ⊎ ((N : ℕ) × Cut (layout .b) slots N × Fine (layout .b) (set slots N free) m)
 
 abbrev pub Good : State → Type 0
 Good (running xs t m) = Up xs t m
@@ -62,42 +65,44 @@ Good (down xs m) = Fallen xs m
 up-kept : {xs : List ℕ} {t : Trie} {m : Map} → Up xs t m → Kept xs t m
 unfolding leads
 up-kept {xs} {t} U =
-    let S : SoundFile xs = record { b = U .b; slots = U .slots; is = U .left .is; sound = U .good .sound } in
+    let S : SoundFile xs = record { layout = U .layout; slots = U .slots; is = U .left .is; sound = U .good .sound } in
     record {
       leads = leads xs t S (U .agrees);
       few = U .good .few;
       means = U .good .means;
-      looks-up = λ name g. lookup-agrees xs t name S (U .agrees) g ∙ ap heldAnswer (U .good .means (filled name) (walk-trie t (filled name)) (agrees-walk (U .b) (U .good .sound) (U .agrees) (filled name)));
+      looks-up = λ name g. lookup-agrees xs t name S (U .agrees) g ∙ ap heldAnswer (U .good .means (filled name) (walk-trie t (filled name)) (agrees-walk (U .layout .b) (U .good .sound) (U .agrees) (filled name)));
     }
 
 up-down : {xs : List ℕ} {t : Trie} {m : Map} → Up xs t m → Fallen xs m
-up-down U = record { b = U .b; slots = U .slots; left = U .left; near = inl (U .good) }
+up-down U = record { layout = U .layout; slots = U .slots; left = U .left; near = inl (U .good) }
 
 -- Create.
 created-up : (xs : List ℕ) (version b slots : ℕ) → createOf xs version b slots .answer ≡ Given → Good (start (createOf xs version b slots))
 unfolding createOf
-created-up xs version b slots = go (eqb version 1 && legalSizes b slots && eqb (length xs) (fileSize b slots)) refl
+created-up xs version b slots = go (legalSizes y slots && eqb (length xs) (fileSize y slots)) refl
   where
+    y : Layout
+    y = record { version = version; b = b }
+
     made : Created
-    made = record { answer = Given; file = fileBytes b (created slots); trie = new-trie }
+    made = record { answer = Given; file = fileBytes y (created slots); trie = new-trie }
 
     denied : Created
     denied = record { answer = TrieRefused WrongSize; file = xs; trie = new-trie }
 
-    go : (c : Bool) → (eqb version 1 && legalSizes b slots && eqb (length xs) (fileSize b slots)) ≡ c → cond c made denied .answer ≡ Given → Good (start (cond c made denied))
+    go : (c : Bool) → (legalSizes y slots && eqb (length xs) (fileSize y slots)) ≡ c → cond c made denied .answer ≡ Given → Good (start (cond c made denied))
     go true e h =
-        let p = both-true (eqb version 1 && legalSizes b slots) (eqb (length xs) (fileSize b slots)) e in
-        let q = both-true (eqb version 1) (legalSizes b slots) (p .0) in
-        record { b = b; slots = created slots; left = created-left b slots (legalSizes-sizes b slots (q .1)); good = created-fine b slots; agrees = created-agrees b slots }
+        let p = both-true (legalSizes y slots) (eqb (length xs) (fileSize y slots)) e in
+        record { layout = y; slots = created slots; left = created-left y slots (legalSizes-sizes y slots (p .0)); good = created-fine b slots; agrees = created-agrees b slots }
     go false e h = let z : _≡_ {A = ℕ} 0 1 = cc in absurd (omega arith)
 
 -- Rebuild.
-rebuilt-up : (xs : List ℕ) (m : Map) (b : ℕ) (fs : List Slot) → Left b fs xs → Fine b fs m → (rebuildOf xs .answer ≡ Given) × Up xs (rebuildOf xs .trie) m
+rebuilt-up : (xs : List ℕ) (m : Map) (y : Layout) (fs : List Slot) → Left y fs xs → Fine (y .b) fs m → (rebuildOf xs .answer ≡ Given) × Up xs (rebuildOf xs .trie) m
 unfolding rebuildOf rebuildBy
-rebuilt-up xs m b fs L F =
-    let S : SoundFile xs = record { b = b; slots = fs; is = L .is; sound = F .sound } in
+rebuilt-up xs m y fs L F =
+    let S : SoundFile xs = record { layout = y; slots = fs; is = L .is; sound = F .sound } in
     rw (checkFile-sound xs S, L .is, le-leb (string-count fs) 256 (F .few))
-    (refl, record { b = b; slots = fs; left = L; good = F; agrees = rebuilt-trie-agrees b (F .sound) (F .few) })
+    (refl, record { layout = y; slots = fs; left = L; good = F; agrees = rebuilt-trie-agrees (y .b) (F .sound) (F .few) })
 
 -- Recover, with a legal limit: the file is fine then and has its trie, or nothing was stored.
 data Back (xs : List ℕ) (m : Map) (limit : ℕ) : Recovered → Type 0 where
@@ -113,22 +118,22 @@ module _ (xs : List ℕ) (m : Map) (D : Fallen xs m) (limit : ℕ) where
   unfolding recoverOf recoverBy
   comes-back h = rw (le-ltb 2 limit h) (go (D .near))
     where
-      freed : (N : ℕ) → Cut (D .b) (D .slots) N → Fine (D .b) (set (D .slots) N free) m → (c : Bool) → ltb limit 1 ≡ c
-          → Back xs m limit (cond c (record { answer = RecoverStopped 0; file = xs }) (record { answer = Freed N; file = storeBytes (getD xs 5 0) N free xs }))
+      freed : (N : ℕ) → Cut (D .layout .b) (D .slots) N → Fine (D .layout .b) (set (D .slots) N free) m → (c : Bool) → ltb limit 1 ≡ c
+          → Back xs m limit (cond c (record { answer = RecoverStopped 0; file = xs }) (record { answer = Freed N; file = storeBytes (layoutOf xs) N free xs }))
       freed N C F true e = waiting (omega (arith, ltb-true limit 1 e)) refl refl
       freed N C F false e =
-          let L = left-freed (D .b) xs (D .left .bytes) (D .left .is) C in
-          let u = rebuilt-up (storeBytes (getD xs 5 0) N free xs) m (D .b) (set (D .slots) N free) L F in
+          let L = left-freed (D .layout) xs (D .left .bytes) (D .left .is) C in
+          let u = rebuilt-up (storeBytes (layoutOf xs) N free xs) m (D .layout) (set (D .slots) N free) L F in
           back tt (u .0) (u .1)
 
-      go : Fine (D .b) (D .slots) m ⊎ ((N : ℕ) × Cut (D .b) (D .slots) N × Fine (D .b) (set (D .slots) N free) m)
+      go : Fine (D .layout .b) (D .slots) m ⊎ ((N : ℕ) × Cut (D .layout .b) (D .slots) N × Fine (D .layout .b) (set (D .slots) N free) m)
           → Back xs m limit (recoverBy xs limit (checkFile xs))
       go (inl F) =
-          let S : SoundFile xs = record { b = D .b; slots = D .slots; is = D .left .is; sound = F .sound } in
-          let u = rebuilt-up xs m (D .b) (D .slots) (D .left) F in
+          let S : SoundFile xs = record { layout = D .layout; slots = D .slots; is = D .left .is; sound = F .sound } in
+          let u = rebuilt-up xs m (D .layout) (D .slots) (D .left) F in
           rw (checkFile-sound xs S) (back tt (u .0) (u .1))
       go (inr (N, C, F)) =
-          let K : CutFile xs N = record { b = D .b; slots = D .slots; is = D .left .is; cut = C } in
+          let K : CutFile xs N = record { layout = D .layout; slots = D .slots; is = D .left .is; cut = C } in
           rw (checkFile-cut xs K) (freed N C F (ltb limit 1) refl)
 
   rebuilt-good : (ys : List ℕ) → rebuildOf ys .answer ≡ Given → Up ys (rebuildOf ys .trie) m → Good (after-rebuild m ys (rebuildOf ys .answer) (rebuildOf ys .trie))
@@ -156,42 +161,42 @@ module _ (xs : List ℕ) (m : Map) (D : Fallen xs m) (limit : ℕ) where
 
 -- A change of a file that has its trie.
 module _ (xs : List ℕ) (t : Trie) (m : Map) (U : Up xs t m) where
-  same-file : {b : ℕ} {fs : List Slot} → readFile xs ≡ some (b, fs) → Fine b fs m
-  same-file {b} {fs} e =
-      let o : _≡_ {A = Option (ℕ × List Slot)} (some (U .b, U .slots)) (some (b, fs)) = sym (U .left .is) ∙ e in
-      let p : _≡_ {A = ℕ × List Slot} (U .b, U .slots) (b, fs) = cc in
-      subst (λ (f : ℕ × List Slot). Fine (f .0) (f .1) m) p (U .good)
+  same-file : {y : Layout} {fs : List Slot} → readFile xs ≡ some (y, fs) → Fine (y .b) fs m
+  same-file {y} {fs} e =
+      let o : _≡_ {A = Option (Layout × List Slot)} (some (U .layout, U .slots)) (some (y, fs)) = sym (U .left .is) ∙ e in
+      let p : _≡_ {A = Layout × List Slot} (U .layout, U .slots) (y, fs) = cc in
+      subst (λ (f : Layout × List Slot). Fine (f .0 .b) (f .1) m) p (U .good)
 
-  module _ (b : ℕ) (fs : List Slot) (p : Passed xs t b fs) {q : Request} {ss : List Store} (c : Change b fs q ss) (asked : Asked q) where
-    two : 2 ≤ b
+  module _ (y : Layout) (fs : List Slot) (p : Passed xs t y fs) {q : Request} {ss : List Store} (c : Change (y .b) (place-of y) fs q ss) (asked : Asked (entrySize y) q) where
+    two : 2 ≤ y .b
     two = fileBytes-readFile xs (p .is) .1 .b-least
 
     -- All its stores made,
-    made-up : Up (storesBytes b ss xs) (trie-after b c t) (meant q m)
+    made-up : Up (storesBytes y ss xs) (trie-after (y .b) (place-of y) c t) (meant q m)
     made-up =
-        let F = change-made b two (same-file (p .is)) c in
-        let g = change-legal b c asked (values-readFile xs (U .left .bytes) (p .is)) in
+        let F = change-made (y .b) (place-of y) (place-lt y two) (same-file (p .is)) c in
+        let g = change-legal (entrySize y) (y .b) (place-of y) c asked (contents-readFile xs (U .left .bytes) (p .is)) in
         record {
-          b = b;
+          layout = y;
           slots = stored ss fs;
-          left = left-stored b xs (U .left .bytes) (p .is) ss g (F .sound .well);
+          left = left-stored y xs (U .left .bytes) (p .is) ss g (F .sound .well);
           good = F;
-          agrees = change-agrees b two (p .sound) c (p .agrees);
+          agrees = change-agrees (y .b) (place-of y) (place-lt y two) (p .sound) c (p .agrees);
         }
 
     -- or some of them.
-    stopped-down : (k : ℕ) → k < length ss → Fallen (storesBytes b (take k ss) xs) m
-    stopped-down k h = go (change-stopped b two F c k h)
+    stopped-down : (k : ℕ) → k < length ss → Fallen (storesBytes y (take k ss) xs) m
+    stopped-down k h = go (change-stopped (y .b) (place-of y) (place-lt y two) F c k h)
       where
-        F : Fine b fs m
+        F : Fine (y .b) fs m
         F = same-file (p .is)
 
-        left : ((B : ℕ) → Well b (slot-at (stored (take k ss) fs) B)) → Left b (stored (take k ss) fs) (storesBytes b (take k ss) xs)
-        left = left-stored b xs (U .left .bytes) (p .is) (take k ss) (legal-take (length fs) k ss (change-legal b c asked (values-readFile xs (U .left .bytes) (p .is))))
+        left : ((B : ℕ) → Well (y .b) (slot-at (stored (take k ss) fs) B)) → Left y (stored (take k ss) fs) (storesBytes y (take k ss) xs)
+        left = left-stored y xs (U .left .bytes) (p .is) (take k ss) (legal-take (entrySize y) (length fs) k ss (change-legal (entrySize y) (y .b) (place-of y) c asked (contents-readFile xs (U .left .bytes) (p .is))))
 
-        go : (stored (take k ss) fs ≡ fs) ⊎ ((N : ℕ) × Cut b (stored (take k ss) fs) N × (set (stored (take k ss) fs) N free ≡ fs)) → Fallen (storesBytes b (take k ss) xs) m
-        go (inl e) = record { b = b; slots = stored (take k ss) fs; left = left (rw e (F .sound .well)); near = inl (rw e F) }
-        go (inr (N, C, e)) = record { b = b; slots = stored (take k ss) fs; left = left (cut-well b C); near = inr (N, C, rw e F) }
+        go : (stored (take k ss) fs ≡ fs) ⊎ ((N : ℕ) × Cut (y .b) (stored (take k ss) fs) N × (set (stored (take k ss) fs) N free ≡ fs)) → Fallen (storesBytes y (take k ss) xs) m
+        go (inl e) = record { layout = y; slots = stored (take k ss) fs; left = left (rw e (F .sound .well)); near = inl (rw e F) }
+        go (inr (N, C, e)) = record { layout = y; slots = stored (take k ss) fs; left = left (cut-well (y .b) C); near = inr (N, C, rw e F) }
 
   -- Put.
   module _ (name : List ℕ) (v limit : ℕ) (small : v < 2 ^ 64) where
@@ -201,21 +206,21 @@ module _ (xs : List ℕ) (t : Trie) (m : Map) (U : Up xs t m) where
     abbrev Fit : PutDone → Type 0
     Fit d = Good (after-put n v m (d .answer) (d .file) (d .trie))
 
-    put-made : (b : ℕ) (fs : List Slot) → Passed xs t b fs → {r : Result} → Answered b fs (to-put n v) r → Fit (putMade xs t b fs n v limit r)
+    put-made : (y : Layout) (fs : List Slot) → Passed xs t y fs → {r : Result} → Answered (y .b) (place-of y) fs (to-put n v) r → Fit (putMade xs t y fs n v limit r)
     unfolding putMade after-put
-    put-made b fs p (is-denied d) = U
-    put-made b fs p (is-made {ss = ss} c) = go (ltb limit (length ss)) refl (find n (entries-of (slot-at fs (first (holds? n) fs))))
+    put-made y fs p (is-denied d) = U
+    put-made y fs p (is-made {ss = ss} c) = go (ltb limit (length ss)) refl (find n (entries-of (slot-at fs (first (holds? n) fs))))
       where
         go : (s : Bool) → ltb limit (length ss) ≡ s → (o : Option ℕ)
-            → Fit (cond s (record { answer = PutStopped limit; file = storesBytes b (take limit ss) xs; trie = t }) (record { answer = putAnswer o; file = storesBytes b ss xs; trie = trieAfter b fs n v ss t }))
-        go true e o = stopped-down b fs p c small limit (ltb-true limit (length ss) e)
-        go false e nothing = rw (trieAfter-is b n v c t) (made-up b fs p c small)
-        go false e (some w) = rw (trieAfter-is b n v c t) (made-up b fs p c small)
+            → Fit (cond s (record { answer = PutStopped limit; file = storesBytes y (take limit ss) xs; trie = t }) (record { answer = putAnswer o; file = storesBytes y ss xs; trie = trieAfter (y .b) (place-of y) fs n v ss t }))
+        go true e o = stopped-down y fs p c (value-fits y v small) limit (ltb-true limit (length ss) e)
+        go false e nothing = rw (trieAfter-is (y .b) (place-of y) n v c t) (made-up y fs p c (value-fits y v small))
+        go false e (some w) = rw (trieAfter-is (y .b) (place-of y) n v c t) (made-up y fs p c (value-fits y v small))
 
     put-looked : (l : Looked) → lookedOf xs t ≡ l → Legal n → Fit (putLooked xs t n v limit l)
     unfolding putLooked after-put
     put-looked (refusing c) e g = U
-    put-looked (fine b fs) e g = let p = looked-passed xs t b fs e in put-made b fs p (put-right b fs (p .sound) n v g)
+    put-looked (fine y fs) e g = let p = looked-passed xs t y fs e in put-made y fs p (put-right (y .b) (place-of y) fs (p .sound) n v g)
 
     put-good : Good (step (put name v small limit) (running xs t m))
     unfolding step putOf after-put
@@ -235,24 +240,24 @@ module _ (xs : List ℕ) (t : Trie) (m : Map) (U : Up xs t m) where
     abbrev Fits : RemoveDone → Type 0
     Fits d = Good (after-remove k m (d .answer) (d .file) t)
 
-    remove-made : (b : ℕ) (fs : List Slot) → Passed xs t b fs → {r : Result} → Answered b fs (to-remove k) r → Fits (removeMade xs b limit r)
+    remove-made : (y : Layout) (fs : List Slot) → Passed xs t y fs → {r : Result} → Answered (y .b) (place-of y) fs (to-remove k) r → Fits (removeMade xs y limit r)
     unfolding removeMade after-remove storesBytes trie-after
-    remove-made b fs p (is-denied d) = U
-    remove-made b fs p (is-made (absent A is lo up e)) = rw (le-ltb limit 0 (omega arith)) U
-    remove-made b fs p (is-made {ss = ss} (removes is lo up e)) = go (ltb limit 1) refl
+    remove-made y fs p (is-denied d) = U
+    remove-made y fs p (is-made (absent A is lo up e)) = rw (le-ltb limit 0 (omega arith)) U
+    remove-made y fs p (is-made {ss = ss} (removes is lo up e)) = go (ltb limit 1) refl
       where
-        c : Change b fs (to-remove k) ss
+        c : Change (y .b) (place-of y) fs (to-remove k) ss
         c = removes is lo up e
 
         go : (s : Bool) → ltb limit 1 ≡ s
-            → Fits (cond s (record { answer = RemoveStopped limit; file = storesBytes b (take limit ss) xs }) (record { answer = Removed; file = storesBytes b ss xs }))
-        go true e = stopped-down b fs p c tt limit (ltb-true limit 1 e)
-        go false e = made-up b fs p c tt
+            → Fits (cond s (record { answer = RemoveStopped limit; file = storesBytes y (take limit ss) xs }) (record { answer = Removed; file = storesBytes y ss xs }))
+        go true e = stopped-down y fs p c tt limit (ltb-true limit 1 e)
+        go false e = made-up y fs p c tt
 
     remove-looked : (l : Looked) → lookedOf xs t ≡ l → Fits (removeLooked xs k limit l)
     unfolding removeLooked after-remove
     remove-looked (refusing c) e = U
-    remove-looked (fine b fs) e = let p = looked-passed xs t b fs e in remove-made b fs p (remove-right b fs (p .sound) k)
+    remove-looked (fine y fs) e = let p = looked-passed xs t y fs e in remove-made y fs p (remove-right (y .b) (place-of y) fs (p .sound) k)
 
     remove-good : Good (step (remove name limit) (running xs t m))
     unfolding step removeOf after-remove
@@ -319,13 +324,13 @@ module _ (xs : List ℕ) (t : Trie) (m : Map) (name : List ℕ) where
   abbrev PutStays : Str → ℕ → PutDone → Type 0
   PutStays n v d = (c : Cause) → d .answer ≡ PutRefused c → after-put n v m (d .answer) (d .file) (d .trie) ≡ running xs t m
 
-  put-stays : (n : Str) (v limit b : ℕ) (fs : List Slot) (r : Result) → PutStays n v (putMade xs t b fs n v limit r)
+  put-stays : (n : Str) (v limit : ℕ) (y : Layout) (fs : List Slot) (r : Result) → PutStays n v (putMade xs t y fs n v limit r)
   unfolding putMade after-put
-  put-stays n v limit b fs (refuse r) = λ c e. refl
-  put-stays n v limit b fs (stores ss) = go (ltb limit (length ss)) (find n (entries-of (slot-at fs (first (holds? n) fs))))
+  put-stays n v limit y fs (refuse r) = λ c e. refl
+  put-stays n v limit y fs (stores ss) = go (ltb limit (length ss)) (find n (entries-of (slot-at fs (first (holds? n) fs))))
     where
       go : (s : Bool) (o : Option ℕ)
-          → PutStays n v (cond s (record { answer = PutStopped limit; file = storesBytes b (take limit ss) xs; trie = t }) (record { answer = putAnswer o; file = storesBytes b ss xs; trie = trieAfter b fs n v ss t }))
+          → PutStays n v (cond s (record { answer = PutStopped limit; file = storesBytes y (take limit ss) xs; trie = t }) (record { answer = putAnswer o; file = storesBytes y ss xs; trie = trieAfter (y .b) (place-of y) fs n v ss t }))
       go true o c e = let z : _≡_ {A = ℕ} 0 1 = cc in absurd (omega arith)
       go false nothing c e = let z : _≡_ {A = ℕ} 0 1 = cc in absurd (omega arith)
       go false (some w) c e = let z : _≡_ {A = ℕ} 0 1 = cc in absurd (omega arith)
@@ -340,18 +345,18 @@ module _ (xs : List ℕ) (t : Trie) (m : Map) (name : List ℕ) where
       go true g k c e = refl
       go false false k c e = refl
       go false true (refusing a) c e = refl
-      go false true (fine b fs) c e = put-stays (filled name) v limit b fs (call b fs (to-put (filled name) v)) c e
+      go false true (fine y fs) c e = put-stays (filled name) v limit y fs (call (y .b) (place-of y) fs (to-put (filled name) v)) c e
 
   abbrev RemoveStays : Str → RemoveDone → Type 0
   RemoveStays n d = (c : Cause) → d .answer ≡ RemoveRefused c → after-remove n m (d .answer) (d .file) t ≡ running xs t m
 
-  remove-stays : (n : Str) (limit b : ℕ) (r : Result) → RemoveStays n (removeMade xs b limit r)
+  remove-stays : (n : Str) (limit : ℕ) (y : Layout) (r : Result) → RemoveStays n (removeMade xs y limit r)
   unfolding removeMade after-remove
-  remove-stays n limit b (refuse r) = λ c e. refl
-  remove-stays n limit b (stores ss) = go (ltb limit (length ss)) ss
+  remove-stays n limit y (refuse r) = λ c e. refl
+  remove-stays n limit y (stores ss) = go (ltb limit (length ss)) ss
     where
       go : (s : Bool) (rs : List Store)
-          → RemoveStays n (cond s (record { answer = RemoveStopped limit; file = storesBytes b (take limit ss) xs }) (record { answer = removeAnswer rs; file = storesBytes b ss xs }))
+          → RemoveStays n (cond s (record { answer = RemoveStopped limit; file = storesBytes y (take limit ss) xs }) (record { answer = removeAnswer rs; file = storesBytes y ss xs }))
       go true rs c e = let z : _≡_ {A = ℕ} 0 1 = cc in absurd (omega arith)
       go false [] c e = let z : _≡_ {A = ℕ} 0 1 = cc in absurd (omega arith)
       go false (r ∷ rs) c e = let z : _≡_ {A = ℕ} 0 1 = cc in absurd (omega arith)
@@ -365,4 +370,4 @@ module _ (xs : List ℕ) (t : Trie) (m : Map) (name : List ℕ) where
       go true g k c e = refl
       go false false k c e = refl
       go false true (refusing a) c e = refl
-      go false true (fine b fs) c e = remove-stays (filled name) limit b (call b fs (to-remove (filled name))) c e
+      go false true (fine y fs) c e = remove-stays (filled name) limit y (call (y .b) (place-of y) fs (to-remove (filled name))) c e

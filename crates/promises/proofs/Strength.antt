@@ -9,6 +9,7 @@ use native.Mathlib.Omega.{arith}
 use borrow.Author.Tests.{le-ltb, ltb-true}
 use lib.Dec.{ltb}
 use lib.ListN.{getD, length, take}
+use Rattle.model.specs.declared.Layout.{Layout}
 use Rattle.model.specs.declared.Cause.the-variants.{IllegalName, WrongSize}
 use Rattle.model.specs.declared.LookUpAnswer.the-variants.{Absent as NotFound, Refused as LookUpRefused}
 use Rattle.model.specs.declared.PutAnswer.the-variants.{Added, Refused as PutRefused, Stopped as PutStopped}
@@ -23,12 +24,13 @@ use Rattle.model.specs.Files.{Slot, entries-of, first, free, low-same?, order-f
 use Rattle.model.specs.Changes.{Result, absent, call, free?, holds?, put, put-in, remove, remove-in, removes, split-of, split-string, stores-if}
 use Rattle.model.specs.Checks.{Kind, allWell, check, cutBelow, hasTwin, is-bad, is-cut, is-sound, isAbove, isChain, isCopied, isCutBy, isIn, isListed, isRow, isSound, isTwin, isUsed, isWell, legalLow, oneMore, sameEntries, sameLow, sameStr}
 use Rattle.model.specs.Agreeing.{areNumbers, areZeroCells, eachOnce, isAgreeing, isTrieOf, joinTrees, readTree, sameSide, sameStrs, slotsBetween, times}
-use Rattle.model.specs.Format.{checkFile, checkRead, entriesBytes, entriesOf, entryBytes, fileBytes, fileSize, headerBytes, headerOf, joined, legalSizes, littleEndian, lowDigits, lowOf, padded, readBy, readFile, readSlot, readSlots, readUsed, rightHeader, sized, slotAt, slotBytes, slotSize, slotsBytes, storeBytes, usedOf, valueBytes, valueOf}
+use Rattle.model.specs.Format.{checkFile, checkRead, entriesBytes, entriesOf, entryBytes, entrySize, fileBytes, fileSize, headerBytes, headerOf, isOffered, joined, laidOut, layoutOf, legalSizes, littleEndian, lowDigits, lowOf, padded, readBy, readFile, readSlot, readSlots, readUsed, rightHeader, slotAt, slotBytes, slotSize, slotsBytes, storeBytes, usedOf, valueOf}
+use Rattle.model.specs.Places.{place-of}
 use Rattle.model.specs.Calls.{Looked, PutDone, Recovered, RemoveDone, arrive, arrivedAnswer, between, createOf, entriesIn, fine, headedAnswer, listEntries, listLooked, listOf, lookUpOf, lookedBy, lookedOf, new-trie, putAnswer, putLooked, putMade, putOf, rebuildBy, rebuildOf, recoverBy, recoverOf, refusalOf, refusing, removeLooked, removeMade, removeOf, slotAnswer, storesBytes, trieAfter}
 use Rattle.model.proofs.Names.{clash, legalName-legal}
 use Rattle.model.proofs.Checks.{sameStr-self}
 use Rattle.model.proofs.Calls.{Answered, is-denied, is-made, put-right, remove-right}
-use Rattle.promises.specs.Texts.{bytes}
+use Rattle.promises.specs.Texts.{bytes, version-1}
 use Rattle.promises.specs.Growing.{of-cells}
 use Rattle.promises.specs.Situations.{a-cell, entries, names, rates-slots, rz-slots}
 use Rattle.promises.specs.Strength.{Answers, BothAtOnce, CutsFirst, KeepsInner, LookUp, LookUpMeets, OneResult, Put, PutMeets, Recover, RecoverMeets, RefusesAll, StoppedAfter, StoresNothing, Strength, bare-cells, cut-down, five, full-file, new-file, one-turned, split-file, stopped-file}
@@ -44,11 +46,11 @@ record Computed : Type 0 where
   stopped-1 : putOf full-file new-trie (bytes "c") 3 1 ≡ record { answer = PutStopped 1; file = stopped-file; trie = new-trie }
   made-2 : putOf full-file new-trie (bytes "c") 3 2 ≡ record { answer = Added; file = split-file; trie = of-cells (a-cell "b" 0 (slot 0) (slot 1) ∷ []) }
   both-differ : sameStr stopped-file split-file ≡ false
-  cut-differs : sameStr stopped-file (storeBytes 2 0 cut-down full-file) ≡ false
+  cut-differs : sameStr stopped-file (storeBytes (version-1 2) 0 cut-down full-file) ≡ false
   recovers : recoverOf stopped-file 1 ≡ record { answer = Freed 1; file = full-file }
-  inner-differs : sameStr full-file (storeBytes 2 0 free stopped-file) ≡ false
-  inner-bad : checkFile (storeBytes 2 0 free stopped-file) ≡ is-bad
-  last-name : split-of 4 five ≡ bytes "r"
+  inner-differs : sameStr full-file (storeBytes (version-1 2) 0 free stopped-file) ≡ false
+  inner-bad : checkFile (storeBytes (version-1 2) 0 free stopped-file) ≡ is-bad
+  last-name : split-of 4 (place-of (version-1 4)) five ≡ bytes "r"
   neighbour : split-string (4 / 2) (4 / 2 + 1) five ≡ bytes "ra "
   without-beginnings : isAgreeing rates-slots bare-cells ≡ false
   one-leaf : isAgreeing rz-slots one-turned ≡ false
@@ -65,9 +67,9 @@ unfolding
     isAbove legalLow sameStr sameLow isRow isWell allWell isUsed isChain isIn isListed isSound sameEntries oneMore
     isCopied isTwin hasTwin isCutBy cutBelow check
     joinTrees readTree sameSide areZeroCells times eachOnce areNumbers sameStrs slotsBetween isTrieOf isAgreeing
-    slotSize fileSize legalSizes headerBytes padded littleEndian valueBytes valueOf entryBytes entriesBytes lowDigits
-    lowOf slotBytes slotsBytes fileBytes entriesOf usedOf readUsed readSlot slotAt joined readSlots rightHeader headerOf
-    sized readBy readFile checkRead checkFile storeBytes
+    isOffered entrySize slotSize fileSize legalSizes headerBytes padded littleEndian valueOf entryBytes entriesBytes lowDigits
+    lowOf slotBytes slotsBytes fileBytes entriesOf usedOf readUsed readSlot slotAt joined readSlots rightHeader layoutOf headerOf
+    laidOut readBy readFile checkRead checkFile storeBytes
     createOf recoverBy recoverOf rebuildBy rebuildOf arrive slotAnswer arrivedAnswer headedAnswer lookUpOf lookedBy
     lookedOf storesBytes trieAfter refusalOf putMade putLooked putOf removeMade removeLooked removeOf entriesIn between
     listEntries listLooked listOf
@@ -148,23 +150,23 @@ module _ (xs : List ℕ) (t : Trie) (name : List ℕ) (v limit made : ℕ) where
   abbrev After : PutDone → Type 0
   After d = d .answer ≡ PutStopped made → StoppedAfter xs name v made (d .file)
 
-  after-made : (b : ℕ) (fs : List Slot) → Passed xs t b fs → {r : Result} → Answered b fs (put n v) r → After (putMade xs t b fs n v limit r)
+  after-made : (y : Layout) (fs : List Slot) → Passed xs t y fs → {r : Result} → Answered (y .b) (place-of y) fs (put n v) r → After (putMade xs t y fs n v limit r)
   unfolding putMade
-  after-made b fs p (is-denied d) e = let z : _≡_ {A = ℕ} 0 1 = cc in absurd (omega arith)
-  after-made b fs p (is-made {ss = ss} c) e = go (ltb limit (length ss)) refl (find n (entries-of (slot-at fs (first (holds? n) fs)))) e
+  after-made y fs p (is-denied d) e = let z : _≡_ {A = ℕ} 0 1 = cc in absurd (omega arith)
+  after-made y fs p (is-made {ss = ss} c) e = go (ltb limit (length ss)) refl (find n (entries-of (slot-at fs (first (holds? n) fs)))) e
     where
       go : (s : Bool) → ltb limit (length ss) ≡ s → (o : Option ℕ)
-          → After (cond s (record { answer = PutStopped limit; file = storesBytes b (take limit ss) xs; trie = t }) (record { answer = putAnswer o; file = storesBytes b ss xs; trie = trieAfter b fs n v ss t }))
+          → After (cond s (record { answer = PutStopped limit; file = storesBytes y (take limit ss) xs; trie = t }) (record { answer = putAnswer o; file = storesBytes y ss xs; trie = trieAfter (y .b) (place-of y) fs n v ss t }))
       go true h o e =
           let q : limit ≡ made = cc in
-          record { b = b; slots = fs; is = p .is; needed = ss; change = c; short = rw q at (ltb-true limit (length ss) h); left = rw q }
+          record { layout = y; slots = fs; is = p .is; needed = ss; change = c; short = rw q at (ltb-true limit (length ss) h); left = rw q }
       go false h nothing e = let z : _≡_ {A = ℕ} 0 1 = cc in absurd (omega arith)
       go false h (some old) e = let z : _≡_ {A = ℕ} 0 1 = cc in absurd (omega arith)
 
   after-looked : (l : Looked) → lookedOf xs t ≡ l → legalName name ≡ true → After (putLooked xs t n v limit l)
   unfolding putLooked
   after-looked (refusing c) e g q = let z : _≡_ {A = ℕ} 0 1 = cc in absurd (omega arith)
-  after-looked (fine b fs) e g q = let p = looked-passed xs t b fs e in after-made b fs p (put-right b fs (p .sound) n v (legalName-legal name g)) q
+  after-looked (fine y fs) e g q = let p = looked-passed xs t y fs e in after-made y fs p (put-right (y .b) (place-of y) fs (p .sound) n v (legalName-legal name g)) q
 
   after-put : After (putOf xs t name v limit)
   unfolding putOf
@@ -181,14 +183,14 @@ module _ (xs : List ℕ) (t : Trie) (name : List ℕ) (limit made : ℕ) where
   abbrev RemoveNone : RemoveDone → Type 0
   RemoveNone d = d .answer ≡ RemoveStopped made → (made ≡ 0) × (d .file ≡ xs)
 
-  remove-none : (b : ℕ) (fs : List Slot) {r : Result} → Answered b fs (remove (filled name)) r → RemoveNone (removeMade xs b limit r)
+  remove-none : (y : Layout) (fs : List Slot) {r : Result} → Answered (y .b) (place-of y) fs (remove (filled name)) r → RemoveNone (removeMade xs y limit r)
   unfolding removeMade storesBytes
-  remove-none b fs (is-denied d) = λ e. let z : _≡_ {A = ℕ} 0 1 = cc in absurd (omega arith)
-  remove-none b fs (is-made (absent A is lo up q)) = rw (le-ltb limit 0 (omega arith)) (λ e. let z : _≡_ {A = ℕ} 0 1 = cc in absurd (omega arith))
-  remove-none b fs (is-made {ss = ss} (removes is lo up q)) = go (ltb limit 1) refl
+  remove-none y fs (is-denied d) = λ e. let z : _≡_ {A = ℕ} 0 1 = cc in absurd (omega arith)
+  remove-none y fs (is-made (absent A is lo up q)) = rw (le-ltb limit 0 (omega arith)) (λ e. let z : _≡_ {A = ℕ} 0 1 = cc in absurd (omega arith))
+  remove-none y fs (is-made {ss = ss} (removes is lo up q)) = go (ltb limit 1) refl
     where
       go : (s : Bool) → ltb limit 1 ≡ s
-          → RemoveNone (cond s (record { answer = RemoveStopped limit; file = storesBytes b (take limit ss) xs }) (record { answer = Removed; file = storesBytes b ss xs }))
+          → RemoveNone (cond s (record { answer = RemoveStopped limit; file = storesBytes y (take limit ss) xs }) (record { answer = Removed; file = storesBytes y ss xs }))
       go true h e =
           let z : limit ≡ 0 = omega (arith, ltb-true limit 1 h) in
           let q : limit ≡ made = cc in
@@ -198,7 +200,7 @@ module _ (xs : List ℕ) (t : Trie) (name : List ℕ) (limit made : ℕ) where
   remove-looked : (l : Looked) → lookedOf xs t ≡ l → RemoveNone (removeLooked xs (filled name) limit l)
   unfolding removeLooked
   remove-looked (refusing c) e q = let z : _≡_ {A = ℕ} 0 1 = cc in absurd (omega arith)
-  remove-looked (fine b fs) e q = remove-none b fs (remove-right b fs (looked-passed xs t b fs e .sound) (filled name)) q
+  remove-looked (fine y fs) e q = remove-none y fs (remove-right (y .b) (place-of y) fs (looked-passed xs t y fs e .sound) (filled name)) q
 
   none-removed : RemoveNone (removeOf xs t name limit)
   unfolding removeOf
@@ -218,7 +220,7 @@ module _ (xs : List ℕ) (limit made : ℕ) where
   unfolding recoverOf recoverBy
   none-freed = go (ltb 2 limit) (checkFile xs)
     where
-      freed : (N : ℕ) (c : Bool) → RecoverNone (cond c (record { answer = RecoverStopped 0; file = xs }) (record { answer = Freed N; file = storeBytes (getD xs 5 0) N free xs }))
+      freed : (N : ℕ) (c : Bool) → RecoverNone (cond c (record { answer = RecoverStopped 0; file = xs }) (record { answer = Freed N; file = storeBytes (layoutOf xs) N free xs }))
       freed N true e = let q : 0 ≡ made = cc in (sym q, refl)
       freed N false e = let z : _≡_ {A = ℕ} 0 1 = cc in absurd (omega arith)
 

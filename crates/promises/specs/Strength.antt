@@ -6,6 +6,7 @@ use mathlib.Core.List.{List, [], _∷_}
 use Prim.Native.Nat.{_+_, _/_, _<_, ℕ}
 use lib.ListN.{length, replicate, take}
 use Rattle.model.specs.declared.Cause.{Cause}
+use Rattle.model.specs.declared.Layout.{Layout}
 use Rattle.model.specs.declared.ListAnswer.the-variants.{Listed}
 use Rattle.model.specs.declared.LookUpAnswer.{LookUpAnswer}
 use Rattle.model.specs.declared.LookUpAnswer.the-variants.{Absent as NotFound}
@@ -20,11 +21,12 @@ use Rattle.model.specs.Names.{filled}
 use Rattle.model.specs.Entries.{Entry}
 use Rattle.model.specs.Files.{Slot, created, free, used}
 use Rattle.model.specs.Changes.{Change, Store, put, split-of, split-string}
+use Rattle.model.specs.Places.{place-of}
 use Rattle.model.specs.Checks.{is-bad}
 use Rattle.model.specs.Agreeing.{isAgreeing}
 use Rattle.model.specs.Format.{checkFile, fileBytes, readFile, storeBytes}
 use Rattle.model.specs.Calls.{PutDone, Recovered, createOf, listOf, lookUpOf, new-trie, putOf, rebuildOf, recoverOf, removeOf, storesBytes}
-use Rattle.promises.specs.Texts.{bytes}
+use Rattle.promises.specs.Texts.{bytes, version-1}
 use Rattle.promises.specs.Growing.{of-cells}
 use Rattle.promises.specs.Situations.{a-cell, entries, names, rates-slots, rz-slots}
 use Rattle.promises.specs.Demand2.{Made}
@@ -59,16 +61,16 @@ abbrev pub c-slot : Slot
 c-slot = used (at (bytes "b")) [] (entries (("c", 3) ∷ []))
 
 abbrev pub new-file : List ℕ
-new-file = fileBytes 2 (created 2)
+new-file = fileBytes (version-1 2) (created 2)
 
 abbrev pub full-file : List ℕ
-full-file = fileBytes 2 (full-slot ∷ free ∷ [])
+full-file = fileBytes (version-1 2) (full-slot ∷ free ∷ [])
 
 abbrev pub stopped-file : List ℕ
-stopped-file = fileBytes 2 (full-slot ∷ c-slot ∷ [])
+stopped-file = fileBytes (version-1 2) (full-slot ∷ c-slot ∷ [])
 
 abbrev pub split-file : List ℕ
-split-file = fileBytes 2 (cut-down ∷ c-slot ∷ [])
+split-file = fileBytes (version-1 2) (cut-down ∷ c-slot ∷ [])
 
 -- "a version that refuses everything": none of the calls does.
 pub record Answers : Type 0 where
@@ -97,22 +99,22 @@ BothAtOnce f = (xs : List ℕ) (t : Trie) (name : List ℕ) (v : ℕ) → f xs t
 
 -- "Cutting A down before storing the new slot"
 abbrev pub CutsFirst : Put → Type 0
-CutsFirst f = f full-file new-trie (bytes "c") 3 1 .file ≡ storeBytes 2 0 cut-down full-file
+CutsFirst f = f full-file new-trie (bytes "c") 3 1 .file ≡ storeBytes (version-1 2) 0 cut-down full-file
 
 -- "a stopped count not equal to slots replaced": a stopped put has made as many stores as it says, the first ones of those
 -- that it takes, and each replaces one slot.
 pub record StoppedAfter (xs name : List ℕ) (v made : ℕ) (ys : List ℕ) : Type 0 where
-  pub b : ℕ
+  pub layout : Layout
   pub slots : List Slot
-  pub is : readFile xs ≡ some (b, slots)
+  pub is : readFile xs ≡ some (layout, slots)
   pub needed : List Store
-  pub change : Change b slots (put (filled name) v) needed
+  pub change : Change (layout .b) (place-of layout) slots (put (filled name) v) needed
   pub short : made < length needed
-  pub left : ys ≡ storesBytes b (take made needed) xs
+  pub left : ys ≡ storesBytes layout (take made needed) xs
 
 -- "Recovering by keeping the inner bucket": freeing slot 0, the outer one, of the stopped file.
 abbrev pub KeepsInner : Recover → Type 0
-KeepsInner f = f stopped-file 1 .file ≡ storeBytes 2 0 free stopped-file
+KeepsInner f = f stopped-file 1 .file ≡ storeBytes (version-1 2) 0 free stopped-file
 
 -- "Comparing the split key with its neighbour instead of the last name": b = 4, and the key is ra.
 abbrev pub five : List Entry
@@ -148,8 +150,8 @@ pub record Strength : Type 0 where
   pub made-2 : putOf full-file new-trie (bytes "c") 3 2 ≡ record { answer = Added; file = split-file; trie = of-cells (a-cell "b" 0 (slot 0) (slot 1) ∷ []) }
   pub keeps-inner : (f : Recover) → RecoverMeets f → ¬ KeepsInner f
   pub recovers : recoverOf stopped-file 1 ≡ record { answer = Freed 1; file = full-file }
-  pub inner-bad : checkFile (storeBytes 2 0 free stopped-file) ≡ is-bad
-  pub last-name : split-of 4 five ≡ bytes "r"
+  pub inner-bad : checkFile (storeBytes (version-1 2) 0 free stopped-file) ≡ is-bad
+  pub last-name : split-of 4 (place-of (version-1 4)) five ≡ bytes "r"
   pub neighbour : split-string (4 / 2) (4 / 2 + 1) five ≡ bytes "ra "
   pub without-beginnings : isAgreeing rates-slots bare-cells ≡ false
   pub one-leaf : isAgreeing rz-slots one-turned ≡ false
