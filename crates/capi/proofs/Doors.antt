@@ -23,7 +23,7 @@ use Rattle.file.specs.declared.survey.Kind.the-variants.{Bad, Cut, Sound}
 use Rattle.keeper.specs.Outcomes.{created, found, listed, put, rebuilt, recovered, removed}
 use Rattle.trie.specs.declared.Walk.{Walk}
 use Rattle.trie.specs.Walks.{Walks, walkOf}
-use Rattle.capi.specs.Images.{imageOf, imageSize, trieOf}
+use Rattle.image.specs.Images.{imageOf, imageSize, trieOf}
 use Rattle.capi.specs.Doors.{imageAfter, malformed, outAfter, palCheckOf, palCreateOf, palListOf, palLookUpOf, palPutOf, palRebuildOf, palRecoverOf, palRemoveOf}
 
 module _ (image : List ℕ) (ill : length image ≡ imageSize → ⊥) where

@@ -12,8 +12,6 @@ use model::RecoverAnswer;
 use model::RemoveAnswer;
 use model::TrieAnswer;
 
-mod image;
-
 // What refuses a trie image of another length, before everything else.
 const MALFORMED: u64 = 255;
 
@@ -33,7 +31,7 @@ pub extern "C" fn pal_create(
 ) -> u64
     ensures { λ r. ⌜ palCreateOf (now (file .entry)) version b slots (now (trie .entry)) ≡ (r, now (file .exit), now (trie .exit)) ⌝ }
 {
-    if trie.len() != 1540 {
+    if trie.len() != image::BYTES {
         return MALFORMED;
     }
     let given = keeper::create(file, version, b, slots);
@@ -80,7 +78,7 @@ pub extern "C" fn pal_recover(file: &mut [u8], limit: u64, out: &mut [u64; 4]) -
 pub extern "C" fn pal_rebuild(file: &[u8], trie: &mut [u8]) -> u64
     ensures { λ r. ⌜ palRebuildOf (now (file .entry)) (now (trie .entry)) ≡ (r, now (trie .exit)) ⌝ }
 {
-    if trie.len() != 1540 {
+    if trie.len() != image::BYTES {
         return MALFORMED;
     }
     let given = keeper::rebuild(file);
@@ -97,7 +95,7 @@ pub extern "C" fn pal_lookup(file: &[u8], trie: &[u8], name: &[u8], out: &mut [u
     ensures { λ r.
         ⌜ palLookUpOf (now (file .entry)) (now (trie .entry)) (now (name .entry)) (now (out .entry)) ≡ (r, now (out .exit)) ⌝ }
 {
-    if trie.len() != 1540 {
+    if trie.len() != image::BYTES {
         return MALFORMED;
     }
     let filled = digits::filled(name);
@@ -128,7 +126,7 @@ pub extern "C" fn pal_put(
         ⌜ palPutOf (now (file .entry)) (now (trie .entry)) (now (name .entry)) value limit (now (out .entry))
         ≡ (r, now (file .exit), now (trie .exit), now (out .exit)) ⌝ }
 {
-    if trie.len() != 1540 {
+    if trie.len() != image::BYTES {
         return MALFORMED;
     }
     let given = keeper::put(file, image::decoded(trie), name, value, limit);
@@ -163,7 +161,7 @@ pub extern "C" fn pal_remove(
         ⌜ palRemoveOf (now (file .entry)) (now (trie .entry)) (now (name .entry)) limit (now (out .entry))
         ≡ (r, now (file .exit), now (trie .exit), now (out .exit)) ⌝ }
 {
-    if trie.len() != 1540 {
+    if trie.len() != image::BYTES {
         return MALFORMED;
     }
     let answer = keeper::remove(file, image::decoded(trie), name, limit);
@@ -191,7 +189,7 @@ pub extern "C" fn pal_list(
         ⌜ palListOf (now (file .entry)) (now (trie .entry)) (now (first .entry)) (now (second .entry)) (now (output .entry)) (now (out .entry))
         ≡ (r, now (output .exit), now (out .exit)) ⌝ }
 {
-    if trie.len() != 1540 {
+    if trie.len() != image::BYTES {
         return MALFORMED;
     }
     let answer = keeper::list(file, image::decoded(trie), first, second, output);
