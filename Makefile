@@ -19,7 +19,7 @@ kill: python
 # The static library for C, Rust and whoever links it, in target/staticlib. The crates below it are checked first, because
 # `rt check` proves side by side what `rt staticlib` would prove one after the other.
 library:
-	@rt check keeper image
+	@rt check changing reading whole image
 	@rt staticlib capi
 
 # The same as a shared library, in the Python package.

@@ -4,13 +4,13 @@
 ghost use mathlib.Core.Path.{_≡_};
 ghost use Rattle.capi.specs.Doors.{palCheckOf, palCreateOf, palListOf, palLookUpOf, palPutOf, palRebuildOf, palRecoverOf, palRemoveOf};
 use file::Kind;
-use keeper::cause_number;
 use model::ListAnswer;
 use model::LookUpAnswer;
 use model::PutAnswer;
 use model::RecoverAnswer;
 use model::RemoveAnswer;
 use model::TrieAnswer;
+use model::cause_number;
 
 // What refuses a trie image of another length, before everything else.
 const MALFORMED: u64 = 255;
@@ -34,7 +34,7 @@ pub extern "C" fn pal_create(
     if trie.len() != image::BYTES {
         return MALFORMED;
     }
-    let given = keeper::create(file, version, b, slots);
+    let given = whole::create(file, version, b, slots);
     image::encode(trie, given.trie);
     let answer = given.answer;
     match answer {
@@ -47,7 +47,7 @@ pub extern "C" fn pal_create(
 pub extern "C" fn pal_check(file: &[u8]) -> u64
     ensures { λ r. ⌜ r ≡ palCheckOf (now (file .entry)) ⌝ }
 {
-    let kind = keeper::check(file);
+    let kind = whole::check(file);
     match kind {
         Kind::Sound => 140,
         Kind::Cut => 141,
@@ -59,7 +59,7 @@ pub extern "C" fn pal_check(file: &[u8]) -> u64
 pub extern "C" fn pal_recover(file: &mut [u8], limit: u64, out: &mut [u64; 4]) -> u64
     ensures { λ r. ⌜ palRecoverOf (now (file .entry)) limit (now (out .entry)) ≡ (r, now (file .exit), now (out .exit)) ⌝ }
 {
-    let answer = keeper::recover(file, limit);
+    let answer = whole::recover(file, limit);
     match answer {
         RecoverAnswer::Freed(slot) => {
             out[0] = wide(slot);
@@ -81,7 +81,7 @@ pub extern "C" fn pal_rebuild(file: &[u8], trie: &mut [u8]) -> u64
     if trie.len() != image::BYTES {
         return MALFORMED;
     }
-    let given = keeper::rebuild(file);
+    let given = whole::rebuild(file);
     image::encode(trie, given.trie);
     let answer = given.answer;
     match answer {
@@ -99,7 +99,7 @@ pub extern "C" fn pal_lookup(file: &[u8], trie: &[u8], name: &[u8], out: &mut [u
         return MALFORMED;
     }
     let filled = digits::filled(name);
-    let answer = keeper::look_up_from(file, image::walk_in(trie, &filled), name);
+    let answer = reading::look_up_from(file, image::walk_in(trie, &filled), name);
     match answer {
         LookUpAnswer::Found(value) => {
             out[0] = value;
@@ -129,7 +129,7 @@ pub extern "C" fn pal_put(
     if trie.len() != image::BYTES {
         return MALFORMED;
     }
-    let given = keeper::put(file, image::decoded(trie), name, value, limit);
+    let given = changing::put(file, image::decoded(trie), name, value, limit);
     let answer = given.answer;
     match answer {
         PutAnswer::Added => {
@@ -164,7 +164,7 @@ pub extern "C" fn pal_remove(
     if trie.len() != image::BYTES {
         return MALFORMED;
     }
-    let answer = keeper::remove(file, image::decoded(trie), name, limit);
+    let answer = changing::remove(file, image::decoded(trie), name, limit);
     match answer {
         RemoveAnswer::Removed => 120,
         RemoveAnswer::Absent => 101,
@@ -192,7 +192,7 @@ pub extern "C" fn pal_list(
     if trie.len() != image::BYTES {
         return MALFORMED;
     }
-    let answer = keeper::list(file, image::decoded(trie), first, second, output);
+    let answer = reading::list(file, image::decoded(trie), first, second, output);
     match answer {
         ListAnswer::Listed(entries) => {
             out[0] = entries;

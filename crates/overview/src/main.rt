@@ -8,11 +8,11 @@ ghost use Rattle.file.specs.Sizes.{Sized, Below};
 use digits::index;
 use file::Header;
 use file::Size;
-use keeper::cause_number;
 use libc::STDIN_FILENO;
 use libc::STDOUT_FILENO;
 use model::PutAnswer;
 use model::Trie;
+use model::cause_number;
 
 // The line that is being read. A name has at most 24 bytes, so a 25th is kept and no further one.
 struct Line {
@@ -72,7 +72,7 @@ fn put_name(
     requires { ⌜ len ≤ 25 ⌝ }
 {
     let whole = &bytes[..];
-    keeper::put(file, trie, &whole[0..len], number, 2)
+    changing::put(file, trie, &whole[0..len], number, 2)
 }
 
 // The line under way has ended.
@@ -252,7 +252,7 @@ fn read_all(file: &mut [u8], state: State) -> State
 fn main() {
     // b = 4 and 8 slots: 16 + 8 × (64 + 32 × 4) bytes.
     let mut file = [0u8; 1552];
-    let created = keeper::create(&mut file, 1, 4, 8);
+    let created = whole::create(&mut file, 1, 4, 8);
     let empty = created.trie;
     let first = State {
         trie: empty,

@@ -1,6 +1,5 @@
 -- `print_file` meets its contract.
-use Rattle.keeper.proofs.Laws.{right-sized}
-use Prim.Native.Nat.{_-_}
+use Rattle.file.proofs.Surveying.{right-sized}
 use borrow.Author.Needs.{needs}
 use Rattle.overview.proofs.print_file.Statement.{statement}
 use Rattle.overview.proofs.print_file.Tie as tie
