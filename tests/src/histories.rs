@@ -23,10 +23,10 @@ fn world(chance: &mut Chance) -> Vec<Vec<u8>> {
 
 /// Tells one history. `call` makes a call and gives what it left behind.
 ///
-/// R13.3: from a new file, puts and removes in any order, any of them stopped after any of its stores; after a stop the
+/// R13.3: from a new file, puts and removes in any order, any of them stopped after any of its stores. After a stop the
 /// trie is thrown away, the file recovered (again, if that was stopped too) and the trie rebuilt. What was stopped
-/// before its last store counts as never made. Every legal name then looks up as that history says, and nothing refuses
-/// a recovery or the rebuilding after it.
+/// before its last store counts as never made. Every legal name looks up as this history says, and nothing refuses a
+/// recovery or the rebuilding after it.
 pub fn tell(seed: u64, mut call: impl FnMut(Call) -> Outcome) {
     let mut chance = Chance::new(seed);
     let b = chance.between(2, 5);
