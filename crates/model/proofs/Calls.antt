@@ -1,11 +1,5 @@
 -- Each request has one list of stores or one refusal, and the function gives it.
-use mathlib.Core.Path.{_∙_, _≡_, ap, refl, subst, sym}
-use mathlib.Core.Option.{Option, none as nothing, some}
-use mathlib.Core.List.{List, [], _∷_}
-use Prim.Native.Nat.{_<_, _≤_, ℕ}
-use native.Mathlib.Decide.{decLe, decLt}
-use native.Mathlib.Omega.{arith}
-use lib.ListN.{length}
+use Rattle.model.proofs.Prelude.{List, Option, [], _<_, _∙_, _∷_, _≡_, _≤_, ap, arith, clash, decLe, decLt, length, nothing, refl, some, subst, sym, ℕ}
 use Rattle.model.specs.Order.{Low, Str, _⊑_, _◁_, at}
 use Rattle.model.specs.Names.{Legal}
 use Rattle.model.specs.Entries.{Entry, chosen, find, insert, without}
@@ -51,10 +45,10 @@ module _ (b : ℕ) (place : List Entry → ℕ) where
         let p : A ≡ C = e .0 in let q : used l u es ≡ used m w gs = e .1 in cc
     change-unique (removes {es = es} {n = n} {w = w} is lo up h) (absent C is′ lo′ up′ h′) =
         let z : _≡_ {A = Option ℕ} nothing (some w) = sym h′ ∙ ap (find n) (sym (same-entries (one-bucket is lo up is′ lo′ up′ .1))) ∙ h in
-        let y : _≡_ {A = ℕ} 0 1 = cc in absurd (omega arith)
+        clash cc
     change-unique (absent A is lo up h) (removes {es = gs} {n = n} {w = w} is′ lo′ up′ h′) =
         let z : _≡_ {A = Option ℕ} nothing (some w) = sym h ∙ ap (find n) (same-entries (one-bucket is lo up is′ lo′ up′ .1)) ∙ h′ in
-        let y : _≡_ {A = ℕ} 0 1 = cc in absurd (omega arith)
+        clash cc
     change-unique (absent A is lo up h) (absent C is′ lo′ up′ h′) = refl
 
     -- And no list of stores where it is refused.

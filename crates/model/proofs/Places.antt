@@ -1,7 +1,5 @@
 -- The place of the split key is below b, which is all that the laws of splitting ask of it.
-use mathlib.Core.List.{List}
-use Prim.Native.Nat.{_<_, _≤_}
-use native.Mathlib.Omega.{arith}
+use Rattle.model.proofs.Prelude.{List, _<_, _≤_, arith}
 use Rattle.model.specs.declared.Layout.{Layout}
 use Rattle.model.specs.Entries.{Entry}
 use Rattle.model.specs.Places.{place-of}

@@ -1,15 +1,6 @@
 -- Demand 3: after any events the file says what the history says, and recovery and rebuilding do not refuse.
-use mathlib.Core.Path.{_∙_, _≡_, ap, refl, subst, sym}
-use mathlib.Core.Logic.{_⊎_, inl, inr}
-use mathlib.Core.Bool.{Bool, _&&_, cond, false, true}
-use mathlib.Core.Option.{Option, none as nothing, some}
-use mathlib.Core.List.{List, [], _∷_}
-use Prim.Native.Nat.{_<_, _^_, _≤_, ℕ}
-use native.Mathlib.Decide.{decLe}
-use native.Mathlib.Omega.{arith}
-use borrow.Author.Tests.{le-leb, le-ltb, lt-ltb, ltb-true}
-use lib.Dec.{eqb, ltb}
-use lib.ListN.{getD, length, set, take}
+use Rattle.model.proofs.Prelude.{Bool, List, Option, [], _&&_, _<_, _^_, _∙_, _∷_, _≡_, _≤_, _⊎_, ap, arith, clash, cond, decLe, eqb, false, inl, inr, le-leb, le-ltb, length, lt-ltb, ltb, ltb-true, nothing, refl, set, some, subst, sym, take, true, ℕ}
+use Rattle.model.specs.declared.Trie.{Trie}
 use Rattle.model.specs.declared.Layout.{Layout}
 use Rattle.model.specs.declared.Cause.{Cause}
 use Rattle.model.specs.declared.Cause.the-variants.{IllegalName, WrongSize}
@@ -17,7 +8,6 @@ use Rattle.model.specs.declared.PutAnswer.the-variants.{Refused as PutRefused, 
 use Rattle.model.specs.declared.RecoverAnswer.{RecoverAnswer}
 use Rattle.model.specs.declared.RecoverAnswer.the-variants.{Freed, Nothing, Refused as RecoverRefused, Stopped as RecoverStopped}
 use Rattle.model.specs.declared.RemoveAnswer.the-variants.{Refused as RemoveRefused, Removed, Stopped as RemoveStopped}
-use Rattle.model.specs.declared.Trie.{Trie}
 use Rattle.model.specs.declared.TrieAnswer.the-variants.{Given, Refused as TrieRefused}
 use Rattle.model.specs.Order.{Str}
 use Rattle.model.specs.Names.{Legal, filled, legalName}
@@ -39,7 +29,7 @@ use Rattle.model.proofs.Format.{contents-readFile, fileBytes-readFile, legalSiz
 use Rattle.model.proofs.CheckedFiles.{checkFile-cut, checkFile-sound}
 use Rattle.model.proofs.Stores.{Asked, Left, change-legal, left-freed, left-stored, legal-take, trieAfter-is}
 use Rattle.model.proofs.GrownTries.{change-agrees}
-use Rattle.model.proofs.Histories.{created-agrees, created-fine, created-left}
+use Rattle.model.proofs.Created.{created-agrees, created-fine, created-left}
 use Rattle.promises.specs.Demand3.{Demand3, Event, Kept, Recovers, State, Whole, after, after-put, after-rebuild, after-recover, after-remove, down, kill, put, recover, remove, running, start, step, stopped, whole}
 use Rattle.promises.proofs.Leading.{Passed, leads, looked-passed}
 
@@ -94,7 +84,7 @@ created-up xs version b slots = go (legalSizes y slots && eqb (length xs) (fileS
     go true e h =
         let p = both-true (legalSizes y slots) (eqb (length xs) (fileSize y slots)) e in
         record { layout = y; slots = created slots; left = created-left y slots (legalSizes-sizes y slots (p .0)); good = created-fine b slots; agrees = created-agrees b slots }
-    go false e h = let z : _≡_ {A = ℕ} 0 1 = cc in absurd (omega arith)
+    go false e h = clash cc
 
 -- Rebuild.
 rebuilt-up : (xs : List ℕ) (m : Map) (y : Layout) (fs : List Slot) → Left y fs xs → Fine (y .b) fs m → (rebuildOf xs .answer ≡ Given) × Up xs (rebuildOf xs .trie) m
@@ -331,9 +321,9 @@ module _ (xs : List ℕ) (t : Trie) (m : Map) (name : List ℕ) where
     where
       go : (s : Bool) (o : Option ℕ)
           → PutStays n v (cond s (record { answer = PutStopped limit; file = storesBytes y (take limit ss) xs; trie = t }) (record { answer = putAnswer o; file = storesBytes y ss xs; trie = trieAfter (y .b) (place-of y) fs n v ss t }))
-      go true o c e = let z : _≡_ {A = ℕ} 0 1 = cc in absurd (omega arith)
-      go false nothing c e = let z : _≡_ {A = ℕ} 0 1 = cc in absurd (omega arith)
-      go false (some w) c e = let z : _≡_ {A = ℕ} 0 1 = cc in absurd (omega arith)
+      go true o c e = clash cc
+      go false nothing c e = clash cc
+      go false (some w) c e = clash cc
 
   pub put-refused : (v : ℕ) (small : v < 2 ^ 64) (limit : ℕ) (c : Cause) → putOf xs t name v limit .answer ≡ PutRefused c
       → step (put name v small limit) (running xs t m) ≡ running xs t m
@@ -357,9 +347,9 @@ module _ (xs : List ℕ) (t : Trie) (m : Map) (name : List ℕ) where
     where
       go : (s : Bool) (rs : List Store)
           → RemoveStays n (cond s (record { answer = RemoveStopped limit; file = storesBytes y (take limit ss) xs }) (record { answer = removeAnswer rs; file = storesBytes y ss xs }))
-      go true rs c e = let z : _≡_ {A = ℕ} 0 1 = cc in absurd (omega arith)
-      go false [] c e = let z : _≡_ {A = ℕ} 0 1 = cc in absurd (omega arith)
-      go false (r ∷ rs) c e = let z : _≡_ {A = ℕ} 0 1 = cc in absurd (omega arith)
+      go true rs c e = clash cc
+      go false [] c e = clash cc
+      go false (r ∷ rs) c e = clash cc
 
   pub remove-refused : (limit : ℕ) (c : Cause) → removeOf xs t name limit .answer ≡ RemoveRefused c → step (remove name limit) (running xs t m) ≡ running xs t m
   unfolding step removeOf removeLooked after-remove

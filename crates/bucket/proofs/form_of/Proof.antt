@@ -6,7 +6,7 @@ use native.Mathlib.Omega.{arith}
 use lib.Dec.{ltb}
 use lib.ListN.{drop, getD, take}
 use borrow.Author.Tests.{not-false, not-true}
-use Rattle.model.proofs.Names.{clash}
+use Rattle.model.proofs.Names.{never-both}
 use Rattle.digits.specs.Keys.{keyValue}
 use Rattle.bucket.specs.Forms.{isClear}
 use Rattle.bucket.proofs.Forms.{rest}
@@ -45,7 +45,7 @@ returns-3 c =
     let xs = a .slot .now in
     let n = c .before .before .before .index in
     let r = c .before .is-clear in
-    not-read (a .b) xs (λ t. clash (isClear xs (n .result)) (ap (isClear xs) (n .ensures .0) ∙ t .clear) (sym (r .ensures) ∙ not-true (r .result) (c .if3 .taken)))
+    not-read (a .b) xs (λ t. never-both (isClear xs (n .result)) (ap (isClear xs) (n .ensures .0) ∙ t .clear) (sym (r .ensures) ∙ not-true (r .result) (c .if3 .taken)))
 
 shared-slice-read-index-2 : tie.Need-shared-slice-read-index-2
 shared-slice-read-index-2 c = search needs
@@ -73,7 +73,7 @@ returns-4 c =
     let n = c .before .before .before .index2 in
     let r = c .before .is-bound in
     not-read (a .b) xs (λ t.
-    clash (isBound (n .result) (take 24 (drop 8 xs))) (ap (λ (m : ℕ). isBound m (take 24 (drop 8 xs))) (n .ensures .0) ∙ t .lower)
+    never-both (isBound (n .result) (take 24 (drop 8 xs))) (ap (λ (m : ℕ). isBound m (take 24 (drop 8 xs))) (n .ensures .0) ∙ t .lower)
     (sym (r .ensures) ∙ not-true (r .result) (c .if4 .taken)))
 
 shared-slice-read-index-3 : tie.Need-shared-slice-read-index-3
@@ -102,7 +102,7 @@ returns-5 c =
     let n = c .before .before .before .index3 in
     let r = c .before .is-bound2 in
     not-read (a .b) xs (λ t.
-    clash (isBound (n .result) (take 24 (drop 32 xs))) (ap (λ (m : ℕ). isBound m (take 24 (drop 32 xs))) (n .ensures .0) ∙ t .upper)
+    never-both (isBound (n .result) (take 24 (drop 32 xs))) (ap (λ (m : ℕ). isBound m (take 24 (drop 32 xs))) (n .ensures .0) ∙ t .upper)
     (sym (r .ensures) ∙ not-true (r .result) (c .if5 .taken)))
 
 low-of-requires : tie.Need-low-of-requires
@@ -122,7 +122,7 @@ returns-6 c =
     let low = c .before .before .before .low-of .ensures in
     let high = c .before .before .high-of .ensures in
     not-read (a .b) xs (λ t.
-    clash (ltb (keyValue (c .before .before .before .low-of .result)) (keyValue (c .before .before .high-of .result)))
+    never-both (ltb (keyValue (c .before .before .before .low-of .result)) (keyValue (c .before .before .high-of .result)))
     (ap₂ ltb (by-bound 8 (getD xs 2 0) xs (t .lower) low) (by-bound 32 (getD xs 3 0) xs (t .upper) high) ∙ t .ranged)
     (sym (r .ensures) ∙ not-true (r .result) (c .if6 .taken)))
 
@@ -147,7 +147,7 @@ returns-7 c =
     let low = c .before .before .before .before .before .before .low-of .ensures in
     let high = c .before .before .before .before .before .high-of .ensures in
     not-read (a .b) xs (λ t.
-    clash _ (same-entries (n .ensures .0) (rest 64 xs) (by-bound 8 (getD xs 2 0) xs (t .lower) low) (by-bound 32 (getD xs 3 0) xs (t .upper) high) ∙ t .rowed)
+    never-both _ (same-entries (n .ensures .0) (rest 64 xs) (by-bound 8 (getD xs 2 0) xs (t .lower) low) (by-bound 32 (getD xs 3 0) xs (t .upper) high) ∙ t .rowed)
     (sym (r .ensures) ∙ not-true (r .result) (c .if7 .taken)))
 
 returns-8 : tie.Need-returns-8
