@@ -5,13 +5,13 @@ use mathlib.Core.List.{List, [], _++_, _∷_, append-assoc}
 use Prim.Native.Nat.{_%_, _*_, _+_, _-_, _/_, _<_, _≤_, suc, zero, ℕ}
 use native.Mathlib.Omega.{arith}
 use lib.ListN.{drop, getD, length, length-append, length-drop, length-take, replicate, replicate-append-replicate, set, take}
-use lib.Seq.{drop-append-le, drop-at, drop-cons, length-paste, length-take-le, paste, take-all, take-append-add, take-append-le, take-at, take-length, take-take}
+use lib.Seq.{drop-append-le, drop-at, length-paste, length-take-le, paste, take-all, take-append-add, take-append-le, take-at, take-length, take-take}
 use borrow.Author.Tests.{le-ltb, lt-ltb}
 use Rattle.model.specs.Order.{Low, Str, _⊑_, _◁_, at as after, le?, over, str?}
 use Rattle.model.specs.Names.{Legal}
 use Rattle.model.specs.Entries.{Entry, Row, entry, find, insert, keep, no-entries, not?, without}
 use Rattle.model.specs.Files.{used}
-use Rattle.model.specs.Format.{entriesBytes, entryBytes, littleEndian, lowDigits, padded, slotBytes, slotSize, valueBytes, valueOf}
+use Rattle.model.specs.Format.{entriesBytes, entryBytes, littleEndian, lowDigits, padded, slotBytes, slotSize, valueBytes}
 use Rattle.model.proofs.Lists.{drop-past, drop-replicate, take-past}
 use Rattle.model.proofs.Order.{le-refl, low-at, low-lower}
 use Rattle.model.proofs.Names.{legal-length}
@@ -74,7 +74,7 @@ paste-before-zeros k n xs s h i =
     let w : length (paste xs n s m) ≡ length xs = length-paste xs n s m h (omega arith) in
     rw (padded-short k (paste xs n s m) (omega arith), w, padded-short k xs i, take-append-le n xs z (omega arith), drop-append-le (n + m) xs z h) (simp append-assoc)
 
--- Values: their bytes as the code writes and reads them.
+-- The bytes of a value as the code writes them.
 pub eight-bytes : (v : ℕ)
     → v % 256 ∷ v / 256 % 256 ∷ v / 65536 % 256 ∷ v / 16777216 % 256 ∷ v / 4294967296 % 256 ∷ v / 1099511627776 % 256
     ∷ v / 281474976710656 % 256 ∷ v / 72057594037927936 % 256 ∷ [] ≡ valueBytes v
@@ -87,26 +87,6 @@ eight-bytes v =
     let f : v / 1099511627776 / 256 ≡ v / 281474976710656 = omega arith in
     let g : v / 281474976710656 / 256 ≡ v / 72057594037927936 = omega arith in
     rw (b, c, d, e, f, g)
-
-valueOf-step : (n k m : ℕ) (xs : List ℕ) → k < length xs → suc k ≡ m
-    → valueOf (take (suc n) (drop k xs)) ≡ getD xs k 0 + 256 * valueOf (take n (drop m xs))
-unfolding valueOf
-valueOf-step n k m xs h e = rw (drop-cons xs k 0 h, e)
-
-pub value-read : (k : ℕ) (xs : List ℕ) → k + 8 ≤ length xs
-    → getD xs k 0 + 256 * (getD xs (k + 1) 0 + 256 * (getD xs (k + 2) 0 + 256 * (getD xs (k + 3) 0 + 256 * (getD xs (k + 4) 0
-    + 256 * (getD xs (k + 5) 0 + 256 * (getD xs (k + 6) 0 + 256 * getD xs (k + 7) 0)))))) ≡ valueOf (take 8 (drop k xs))
-unfolding valueOf
-value-read k xs h =
-    let a = valueOf-step 7 k (k + 1) xs (omega arith) (omega arith) in
-    let b = valueOf-step 6 (k + 1) (k + 2) xs (omega arith) (omega arith) in
-    let c = valueOf-step 5 (k + 2) (k + 3) xs (omega arith) (omega arith) in
-    let d = valueOf-step 4 (k + 3) (k + 4) xs (omega arith) (omega arith) in
-    let e = valueOf-step 3 (k + 4) (k + 5) xs (omega arith) (omega arith) in
-    let f = valueOf-step 2 (k + 5) (k + 6) xs (omega arith) (omega arith) in
-    let g = valueOf-step 1 (k + 6) (k + 7) xs (omega arith) (omega arith) in
-    let i = valueOf-step 0 (k + 7) (k + 8) xs (omega arith) (omega arith) in
-    omega (arith, a, b, c, d, e, f, g, i)
 
 -- The parts of a slot as the code reads them; r is the byte that says how long.
 pub bound-none : (k at r : ℕ) (xs : List ℕ) → r ≡ getD xs k 0 → 24 < r → [] ≡ boundAt k at xs

@@ -11,7 +11,6 @@ ghost use Rattle.digits.specs.Keys.{keyValue};
 ghost use Rattle.bucket.specs.Entries.{changedValue, withEntry, withoutEntry};
 ghost use Rattle.bucket.specs.Forms.{areAmong, below, notAbove, pieces, values};
 use digits::Key;
-use digits::wide;
 
 // How many of the first entries are below the name.
 pub fn rank(entries: &[u8], count: usize, name: Key) -> usize
@@ -48,21 +47,7 @@ pub fn value_at(entries: &[u8], i: usize) -> u64
     requires { ⌜ (32 * i + 32 ≤ length (now entries)) × (i < 17) ⌝ }
     ensures { λ r. ⌜ r ≡ valueOf (take 8 (drop (32 * i + 24) (now (entries .entry)))) ⌝ }
 {
-    let at = 32 * i + 24;
-    wide(entries[at])
-        + 256
-            * (wide(entries[at + 1])
-                + 256
-                    * (wide(entries[at + 2])
-                        + 256
-                            * (wide(entries[at + 3])
-                                + 256
-                                    * (wide(entries[at + 4])
-                                        + 256
-                                            * (wide(entries[at + 5])
-                                                + 256
-                                                    * (wide(entries[at + 6])
-                                                        + 256 * wide(entries[at + 7])))))))
+    digits::little_endian(entries, 32 * i + 24)
 }
 
 // Puts s over d from `at` on.
