@@ -3,7 +3,7 @@ use mathlib.Core.Path.{refl}
 use borrow.Author.Needs.{needs}
 use borrow.Author.Tests.{not-false, not-true}
 use Rattle.model.specs.Files.{head, lower-of}
-use Rattle.bucket.specs.Forms.{lowValue}
+use Rattle.digits.specs.Keys.{lowValue}
 use Rattle.digits.specs.Keys.{keyValue}
 use Rattle.file.proofs.Comparing.{ahead-first, ahead-last, ahead-not, slot-high, slot-low, stands-by}
 use Rattle.file.proofs.order.is_before.Statement.{statement}

@@ -8,8 +8,8 @@ use lib.Dec.{leb}
 use lib.ListN.{drop}
 use borrow.Author.Tests.{not-false, not-true}
 use Rattle.digits.specs.Keys.{keyValue}
-use Rattle.bucket.specs.Forms.{areAmong, notAbove, pieces, values}
-use Rattle.bucket.proofs.Forms.{rest}
+use Rattle.entries.specs.Rows.{areAmong, notAbove, pieces, values}
+use Rattle.model.proofs.Lists.{rest}
 use Rattle.file.proofs.Copies.{not-below, not-full, tested, too-many}
 use borrow.Author.Needs.{needs}
 use Rattle.file.proofs.survey.is_copy_of.Statement.{statement}

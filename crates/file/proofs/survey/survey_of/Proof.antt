@@ -7,7 +7,7 @@ use borrow.Author.Needs.{needs}
 use Rattle.file.specs.Sizes.{Below}
 use Rattle.bucket.specs.declared.Form.{Form}
 use Rattle.bucket.specs.Forms.{Formed}
-use Rattle.bucket.proofs.Finding.{vacant-free, vacant-taken}
+use Rattle.bucket.proofs.Slots.{vacant-free, vacant-taken}
 use Rattle.file.specs.declared.survey.Kind.the-variants.{Bad}
 use Rattle.file.specs.Orders.{Laid}
 use Rattle.file.proofs.Laws.{some-slot, below-zeros}
