@@ -4,13 +4,13 @@ use mathlib.Core.Bool.{Bool, _&&_, and-assoc, cond, false, not, true}
 use mathlib.Core.List.{List, [], _++_, _∷_}
 use Prim.Native.Nat.{_*_, _+_, _-_, _%_, _<_, _^_, _≤_, suc, zero, ℕ}
 use native.Mathlib.Nat.{add-mul, add-zero, mul-assoc, mul-le-mul-right, one-le-pow, pow-suc, sub-zero, suc-mul}
-use native.Mathlib.Numerals.{add-one, unary-clauses}
+use native.Mathlib.Numerals.{unary-clauses}
 use native.Mathlib.Decide.{decLe, decLt, ℕ-discrete}
 use lib.Pow.{pow-add}
 use native.Mathlib.Omega.{arith}
 use lib.Dec.{eqb, leb, ltb}
 use lib.ListN.{drop, getD, length, length-append, length-drop, length-take, replicate, take}
-use lib.Seq.{drop-cons, drop-drop, take-add, take-at, take-take}
+use lib.Seq.{drop-drop, take-add, take-at, take-take}
 use borrow.Author.Tests.{eq-eqb, eqb-true, le-leb, le-ltb, lt-leb, lt-ltb, ne-eqb}
 use Rattle.model.specs.Names.{Digits, atMost}
 use Rattle.model.specs.Format.{Bytes}
@@ -51,34 +51,6 @@ module _ (s : List ℕ) (at : ℕ) where
   pub value-words : at + 24 ≤ length s
       → value (take 24 (drop at s)) ≡ (value (take 8 (drop at s)) * 2 ^ 64 + value (take 8 (drop (at + 8) s))) * 2 ^ 64 + value (take 8 (drop (at + 16) s))
   value-words h = value-split 16 8 (omega arith) ∙ ap (λ (v : ℕ). v * 2 ^ 64 + value (take 8 (drop (at + 16) s))) (value-split 8 8 (omega arith))
-
-value-first : (s : List ℕ) (at k : ℕ) → at < length s → at + suc k ≤ length s
-    → value (take (suc k) (drop at s)) ≡ getD s at 0 * 256 ^ k + value (take k (drop (suc at) s))
-unfolding value
-value-first s at k g h = rw (drop-cons s at 0 g) (ap (λ (m : ℕ). getD s at 0 * 256 ^ m + value (take k (drop (suc at) s))) (omega (arith, length-take k (drop (suc at) s), length-drop (suc at) s)))
-
-value-next : (s : List ℕ) (at j k : ℕ) → at + j + suc k ≤ length s
-    → value (take (suc k) (drop (at + j) s)) ≡ getD s (at + j) 0 * 256 ^ k + value (take k (drop (at + suc j) s))
-value-next s at j k h = simp unary-clauses (value-first s (at + j) k (omega arith) (omega arith))
-
--- A word by its bytes.
-pub value-word : (s : List ℕ) (at : ℕ) → at + 8 ≤ length s
-    → value (take 8 (drop at s))
-    ≡ getD s (at + 7) 0 + 256 * (getD s (at + 6) 0 + 256 * (getD s (at + 5) 0 + 256 * (getD s (at + 4) 0 + 256 * (getD s (at + 3) 0 + 256 * (getD s (at + 2) 0 + 256 * (getD s (at + 1) 0 + 256 * getD s at 0))))))
-unfolding value
-value-word s at h =
-    let a : value (take 8 (drop at s)) ≡ getD s at 0 * 256 ^ 7 + value (take 7 (drop (at + 1) s)) = rw add-one (value-first s at 7 (omega arith) (omega arith)) in
-    omega (
-      arith,
-      a,
-      value-next s at 1 6 (omega arith),
-      value-next s at 2 5 (omega arith),
-      value-next s at 3 4 (omega arith),
-      value-next s at 4 3 (omega arith),
-      value-next s at 5 2 (omega arith),
-      value-next s at 6 1 (omega arith),
-      value-next s at 7 0 (omega arith),
-    )
 
 -- The bytes from k on, as 0xFF.
 unfoldable pub cover : ℕ → List ℕ → List ℕ

@@ -9,6 +9,7 @@ ghost use mathlib.Core.List.{[], _++_};
 ghost use Prim.Native.Nat.{_≤_, _<_, _+_, _-_, _^_, min, ℕ};
 ghost use lib.Dec.{eqb, leb, ltb};
 ghost use lib.ListN.{drop, length, take};
+ghost use Rattle.model.specs.Format.{Bytes, valueOf};
 ghost use Rattle.model.specs.Names as names;
 ghost use Rattle.model.specs.Order.{Str, diff};
 ghost use Rattle.digits.specs.Words.{Word, after, mark, marked};
@@ -59,23 +60,59 @@ pub fn byte(x: usize) -> u8
     x as u8
 }
 
+// The two bytes from `at` on as one number, the first byte lowest.
+fn two(s: &[u8], at: usize) -> u64
+    requires { ⌜ at + 2 ≤ length (now s) ⌝ }
+    ensures { λ r. ⌜ (r ≡ valueOf (take 2 (drop at (now (s .entry))))) × (r < 65536) ⌝ }
+{
+    wide(s[at]) | (wide(s[at + 1]) << 8)
+}
+
+// Four bytes.
+fn four(s: &[u8], at: usize) -> u64
+    requires { ⌜ at + 4 ≤ length (now s) ⌝ }
+    ensures { λ r. ⌜ (r ≡ valueOf (take 4 (drop at (now (s .entry))))) × (r < 4294967296) ⌝ }
+{
+    two(s, at) | (two(s, at + 2) << 16)
+}
+
+// Eight bytes, in one load.
+pub fn little_endian(s: &[u8], at: usize) -> u64
+    requires { ⌜ at + 8 ≤ length (now s) ⌝ }
+    ensures { λ r. ⌜ r ≡ valueOf (take 8 (drop at (now (s .entry)))) ⌝ }
+{
+    four(s, at) | (four(s, at + 4) << 32)
+}
+
+// Two bytes in the other order.
+fn swapped_two(w: u64) -> u64
+    requires { ⌜ w < 65536 ⌝ }
+    ensures { λ r. ⌜ (r < 65536) × ((x : Str) → Bytes x → length x ≡ 2 → w ≡ valueOf x → r ≡ value x) ⌝ }
+{
+    ((w & 0xFF) << 8) | (w >> 8)
+}
+
+// Four bytes in the other order.
+fn swapped_four(w: u64) -> u64
+    requires { ⌜ w < 4294967296 ⌝ }
+    ensures { λ r. ⌜ (r < 4294967296) × ((x : Str) → Bytes x → length x ≡ 4 → w ≡ valueOf x → r ≡ value x) ⌝ }
+{
+    (swapped_two(w & 0xFFFF) << 16) | swapped_two(w >> 16)
+}
+
+// The bytes of a word in the other order, by one instruction.
+fn swapped(w: u64) -> u64
+    ensures { λ r. ⌜ ((x : Str) → Word x → w ≡ valueOf x → r ≡ value x) ⌝ }
+{
+    (swapped_four(w & 0xFFFF_FFFF) << 32) | swapped_four(w >> 32)
+}
+
 // The eight bytes from `at` on as one number, the first byte highest.
 pub fn word(s: &[u8], at: usize) -> u64
     requires { ⌜ at + 8 ≤ length (now s) ⌝ }
     ensures { λ r. ⌜ r ≡ value (take 8 (drop at (now (s .entry)))) ⌝ }
 {
-    wide(s[at + 7])
-        + 256
-            * (wide(s[at + 6])
-                + 256
-                    * (wide(s[at + 5])
-                        + 256
-                            * (wide(s[at + 4])
-                                + 256
-                                    * (wide(s[at + 3])
-                                        + 256
-                                            * (wide(s[at + 2])
-                                                + 256 * (wide(s[at + 1]) + 256 * wide(s[at])))))))
+    swapped(little_endian(s, at))
 }
 
 // The 24 digits from `at` on, as they are compared.

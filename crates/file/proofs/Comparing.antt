@@ -10,9 +10,9 @@ use Rattle.model.proofs.Names.{atMost-le, atMost-lt, bound-legalBound}
 use Rattle.model.proofs.Files.{well-parts}
 use Rattle.digits.specs.Keys.{continued, isZero, value}
 use Rattle.digits.proofs.Keys.{bound-atMost, bound-below, bound-same, digits-under}
-use Rattle.bucket.specs.Forms.{lowValue}
-use Rattle.bucket.proofs.Reading.{low-above}
-use Rattle.bucket.proofs.Rows.{Reads, read-high, read-low, used-reads}
+use Rattle.digits.specs.Keys.{lowValue}
+use Rattle.digits.proofs.Bounds.{low-above}
+use Rattle.bucket.proofs.Slots.{Reads, read-high, read-low, used-reads}
 use Rattle.file.specs.Orders.{Known, Listed, Sorts, ahead, placed, stands}
 use Rattle.file.proofs.Readings.{used-read}
 

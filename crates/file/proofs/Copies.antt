@@ -7,9 +7,11 @@ use Rattle.model.specs.Checks.{legalLow}
 use Rattle.model.specs.Format.{lowOf, readUsed}
 use Rattle.model.proofs.Names.{never-both}
 use Rattle.digits.specs.Keys.{isZero}
-use Rattle.bucket.specs.Forms.{areAmong, lowValue, notAbove, pieces, values}
-use Rattle.bucket.proofs.Rows.{read-low, read-values, reads}
-use Rattle.bucket.proofs.Copies.{copied-copy, copy-copied, lower-below, lower-some}
+use Rattle.entries.specs.Rows.{areAmong, notAbove, pieces, values}
+use Rattle.digits.specs.Keys.{lowValue}
+use Rattle.bucket.proofs.Slots.{read-low, read-values, reads}
+use Rattle.file.proofs.Moved.{copied-copy, copy-copied}
+use Rattle.digits.proofs.Bounds.{lower-below, lower-some}
 use Rattle.file.specs.Copies.{CopyTold}
 
 -- A lower limit's number as low_of tells it.

@@ -9,7 +9,7 @@ use Rattle.model.proofs.Names.{never-both}
 use Rattle.model.proofs.Checks.{both-join, sameStr-equal, sameStr-other, sameStr-self}
 use Rattle.model.proofs.Format.{Headed, headed-b, headed-headerOf, headed-slots, headerOf-headed, legalSizes-sizes, sizes-legalSizes}
 use Rattle.digits.specs.Keys.{isZero}
-use Rattle.bucket.proofs.Rows.{zero-same}
+use Rattle.bucket.proofs.Slots.{zero-same}
 use Rattle.file.specs.declared.Size.{Size}
 use Rattle.file.specs.declared.Header.{Header}
 use Rattle.file.specs.declared.Header.the-variants.{Right, Wrong}

@@ -12,7 +12,8 @@ use Rattle.model.proofs.Ranges.{chain-above, chain-length, chain-some, chain-us
 use Rattle.model.proofs.Files.{chain-right, used-inside, well-head}
 use Rattle.model.proofs.Format.{readSlot-readFile}
 use Rattle.digits.specs.Keys.{continued, isZero, value}
-use Rattle.bucket.proofs.Rows.{Reads, name-over, read-high, used-reads}
+use Rattle.bucket.proofs.Slots.{Reads, read-high, used-reads}
+use Rattle.digits.proofs.Bounds.{name-over}
 use Rattle.file.specs.declared.Size.{Size}
 use Rattle.file.specs.Holders.{Holder, Ordered, placed, upper-at}
 use Rattle.file.proofs.Readings.{used-read}

@@ -13,8 +13,8 @@ use Rattle.model.proofs.Checks.{isWell-well, well-isWell}
 use Rattle.model.proofs.Files.{cut-well}
 use Rattle.model.proofs.Format.{readSlots-each}
 use Rattle.digits.specs.Keys.{continued, isZero, value}
-use Rattle.bucket.specs.Forms.{lowValue}
-use Rattle.bucket.proofs.Rows.{read-by-zero}
+use Rattle.digits.specs.Keys.{lowValue}
+use Rattle.bucket.proofs.Slots.{read-by-zero}
 use Rattle.file.specs.declared.Size.{Size}
 use Rattle.file.specs.Maps.{bit-of, map-of}
 use Rattle.file.specs.Orders.{Known, Laid, Listed, Placed, Sorts, placed, stands}

@@ -12,7 +12,7 @@ use Rattle.model.specs.Files.{Chain, IsUsed, Ranges, Slot, Well, free, head, lo
 use Rattle.model.specs.Tries.{occ}
 use Rattle.model.specs.Format.{readSlot, slotAt}
 use Rattle.digits.specs.Keys.{continued, value}
-use Rattle.bucket.specs.Forms.{lowValue}
+use Rattle.digits.specs.Keys.{lowValue}
 use Rattle.file.specs.declared.Size.{Size}
 use Rattle.file.specs.Maps.{map-of}
 

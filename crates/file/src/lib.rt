@@ -123,7 +123,7 @@ pub fn store(file: &mut [u8], size: Size, k: usize, slot: &[u8])
     ensures { λ _. ⌜ now (file .exit) ≡ paste (now (file .entry)) (16 + k * (64 + 32 * size .b)) (now (slot .entry)) (64 + 32 * size .b) ⌝ }
 {
     let at = 16 + k * slot_size(size);
-    bucket::copy(file, at, slot);
+    entries::copy(file, at, slot);
 }
 
 fn clear(file: &mut [u8])

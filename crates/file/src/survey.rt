@@ -105,9 +105,9 @@ fn is_copy_of(n: &[u8], a: &[u8], b: usize) -> bool
     if b < count {
         return false;
     }
-    let stay = bucket::upto(&a[64..], b, low);
+    let stay = entries::upto(&a[64..], b, low);
     let moved = 64 + 32 * stay;
-    bucket::is_copied(&a[moved..], b - stay, &n[64..], count)
+    entries::is_copied(&a[moved..], b - stay, &n[64..], count)
 }
 
 // A file with two slots of one upper bound: cut, or bad.

@@ -14,7 +14,7 @@ use Rattle.model.proofs.Format.{readSlots-each, slotBytes-readSlot}
 use Rattle.model.proofs.Agreement.{coming, expect-cursor, expect-slots, follow, labels, to-slots, to-slots-append}
 use Rattle.model.proofs.Surveys.{chain-rises}
 use Rattle.bucket.specs.Slots.{upperAt}
-use Rattle.bucket.proofs.Laws.{upperAt-slot}
+use Rattle.bucket.proofs.Parts.{upperAt-slot}
 use Rattle.file.specs.declared.Size.{Size}
 use Rattle.file.specs.Sizes.{Below}
 use Rattle.trie.specs.declared.Strings.{Strings}

@@ -1,6 +1,6 @@
 -- `bucket::count_of` meets its contract.
 use native.Mathlib.Omega.{arith}
-use Rattle.bucket.proofs.Laws.{count-most, count-read}
+use Rattle.bucket.proofs.Parts.{count-most, count-read}
 use borrow.Author.Needs.{needs}
 use Rattle.bucket.proofs.count_of.Statement.{statement}
 use Rattle.bucket.proofs.count_of.Tie as tie

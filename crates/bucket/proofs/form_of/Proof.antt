@@ -9,7 +9,7 @@ use borrow.Author.Tests.{not-false, not-true}
 use Rattle.model.proofs.Names.{never-both}
 use Rattle.digits.specs.Keys.{keyValue}
 use Rattle.bucket.specs.Forms.{isClear}
-use Rattle.bucket.proofs.Forms.{rest}
+use Rattle.model.proofs.Lists.{rest}
 use Rattle.bucket.proofs.Reading.{Tested, by-bound, isBound, not-read, same-entries, well-read}
 use borrow.Author.Needs.{needs}
 use Rattle.bucket.proofs.form_of.Statement.{statement}

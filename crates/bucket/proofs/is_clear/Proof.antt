@@ -3,7 +3,7 @@ use mathlib.Core.Path.{_∙_, ap}
 use Prim.Native.Nat.{_*_, _+_}
 use borrow.Author.Tests.{not-false, not-true}
 use Rattle.digits.specs.Keys.{isZero}
-use Rattle.bucket.proofs.Forms.{rest}
+use Rattle.model.proofs.Lists.{rest}
 use Rattle.bucket.specs.Forms.{isClear}
 use borrow.Author.Needs.{needs}
 use Rattle.bucket.proofs.is_clear.Statement.{statement}

@@ -2,7 +2,7 @@
 use mathlib.Core.Path.{_∙_, sym}
 use native.Mathlib.Omega.{arith}
 use lib.ListN.{drop, getD, length-drop}
-use Rattle.bucket.proofs.Forms.{low-none, low-some}
+use Rattle.digits.proofs.Bounds.{low-none, low-some}
 use borrow.Author.Needs.{needs}
 use Rattle.bucket.proofs.low_of.Statement.{statement}
 use Rattle.bucket.proofs.low_of.Tie as tie

@@ -1,8 +1,8 @@
 -- `is_copy_of` meets its contract: each test that it makes is one that a copy passes.
 use Rattle.model.proofs.Prelude.{List, _&&_, _*_, _+_, _-_, _∙_, _≡_, ap, ap₂, arith, drop, leb, needs, not-false, not-true, sym, ℕ}
 use Rattle.digits.specs.Keys.{keyValue}
-use Rattle.bucket.specs.Forms.{areAmong, notAbove, pieces, values}
-use Rattle.bucket.proofs.Forms.{rest}
+use Rattle.entries.specs.Rows.{areAmong, notAbove, pieces, values}
+use Rattle.model.proofs.Lists.{rest}
 use Rattle.file.proofs.Copies.{not-below, not-full, tested, too-many}
 use Rattle.file.proofs.survey.is_copy_of.Tie as tie
 
