@@ -7,8 +7,7 @@ use Rattle.model.proofs.Lists.{mem-place}
 use Rattle.model.proofs.Strings.{mem-at}
 use Rattle.model.proofs.Files.{well-parts}
 use Rattle.model.proofs.Surveys.{Follows, From, Neighbours, chain-follows, follows-chain}
-use Rattle.digits.specs.Keys.{continued, value}
-use Rattle.digits.specs.Keys.{lowValue}
+use Rattle.digits.specs.Keys.{continued, lowValue, value}
 use Rattle.file.specs.Orders.{Chained, Known, Listed, placed}
 use Rattle.file.proofs.Comparing.{high-same, low-same}
 

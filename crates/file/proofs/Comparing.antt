@@ -8,9 +8,8 @@ use Rattle.model.specs.Files.{IsUsed, Slot, Well, entries-of, head, lower-of, s
 use Rattle.model.specs.Format.{lowOf, readSlot, slotAt, slotSize}
 use Rattle.model.proofs.Names.{atMost-le, atMost-lt, bound-legalBound}
 use Rattle.model.proofs.Files.{well-parts}
-use Rattle.digits.specs.Keys.{continued, isZero, value}
+use Rattle.digits.specs.Keys.{continued, isZero, lowValue, value}
 use Rattle.digits.proofs.Keys.{bound-atMost, bound-below, bound-same, digits-under}
-use Rattle.digits.specs.Keys.{lowValue}
 use Rattle.digits.proofs.Bounds.{low-above}
 use Rattle.bucket.proofs.Slots.{Reads, read-high, read-low, used-reads}
 use Rattle.file.specs.Orders.{Known, Listed, Sorts, ahead, placed, stands}

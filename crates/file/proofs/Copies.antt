@@ -6,9 +6,8 @@ use Rattle.model.specs.Files.{Copied, Well, used}
 use Rattle.model.specs.Checks.{legalLow}
 use Rattle.model.specs.Format.{lowOf, readUsed}
 use Rattle.model.proofs.Names.{never-both}
-use Rattle.digits.specs.Keys.{isZero}
+use Rattle.digits.specs.Keys.{isZero, lowValue}
 use Rattle.entries.specs.Rows.{areAmong, notAbove, pieces, values}
-use Rattle.digits.specs.Keys.{lowValue}
 use Rattle.bucket.proofs.Slots.{read-low, read-values, reads}
 use Rattle.file.proofs.Moved.{copied-copy, copy-copied}
 use Rattle.digits.proofs.Bounds.{lower-below, lower-some}

@@ -12,8 +12,7 @@ use Rattle.model.proofs.Cells.{occ-append, occ-mem, one-if-equal, one-if-not}
 use Rattle.model.proofs.Checks.{isWell-well, well-isWell}
 use Rattle.model.proofs.Files.{cut-well}
 use Rattle.model.proofs.Format.{readSlots-each}
-use Rattle.digits.specs.Keys.{continued, isZero, value}
-use Rattle.digits.specs.Keys.{lowValue}
+use Rattle.digits.specs.Keys.{continued, isZero, lowValue, value}
 use Rattle.bucket.proofs.Slots.{read-by-zero}
 use Rattle.file.specs.declared.Size.{Size}
 use Rattle.file.specs.Maps.{bit-of, map-of}

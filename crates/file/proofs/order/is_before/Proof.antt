@@ -1,8 +1,7 @@
 -- `is_before` meets its contract: the high ends decide, and where they are equal the low ends.
 use Rattle.model.proofs.Prelude.{needs, not-false, not-true, refl}
 use Rattle.model.specs.Files.{head, lower-of}
-use Rattle.digits.specs.Keys.{lowValue}
-use Rattle.digits.specs.Keys.{keyValue}
+use Rattle.digits.specs.Keys.{keyValue, lowValue}
 use Rattle.file.proofs.Comparing.{ahead-first, ahead-last, ahead-not, slot-high, slot-low, stands-by}
 use Rattle.file.proofs.order.is_before.Tie as tie
 
