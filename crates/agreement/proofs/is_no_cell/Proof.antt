@@ -3,12 +3,6 @@ use Rattle.model.proofs.Prelude.{_∙_, needs}
 use Rattle.agreement.proofs.Clear.{digit-some, left-some, number-some, right-is}
 use Rattle.agreement.proofs.is_no_cell.Tie as tie
 
-returns : tie.Need-returns
-returns c = digit-some (c .before .before .args .cell) (c .if1 .taken)
-
-returns-2 : tie.Need-returns-2
-returns-2 c = number-some (c .before .before .before .before .args .cell) (search needs) (c .if2 .taken)
-
 returns-3 : tie.Need-returns-3
 returns-3 c =
     let x = c .before .is-slot-0 in
@@ -21,4 +15,7 @@ returns-4 c =
     ∙ right-is (c .before .before .before .before .before .before .before .args .cell) (search needs) (search needs) (x .result) (x .ensures) (c .before .if3 .left)
 
 pub is-no-cell-spec : {M : Type 1} → Rattle.agreement.proofs.is_no_cell.Statement.statement M
-is-no-cell-spec = tie.close (tie.spec returns returns-2 (λ c κs. search needs) returns-3 (λ c κs. search needs) returns-4)
+is-no-cell-spec =
+    tie.close (tie.spec (λ c. digit-some (c .before .before .args .cell) (c .if1 .taken))
+    (λ c. number-some (c .before .before .before .before .args .cell) (search needs) (c .if2 .taken)) (λ c κs. search needs) returns-3
+    (λ c κs. search needs) returns-4)

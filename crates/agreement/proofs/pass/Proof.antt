@@ -12,9 +12,6 @@ abbrev μ-loop : tie.MeasureT-loop
 μ-loop trie strings count places₀ frames₀ top₀ entered₀ done₀ len₀ least₀ place₀ places frames top entered done len least place =
     2 * (strings .count - entered) + top
 
-loop-holds : tie.Need-loop-holds Inv-loop μ-loop
-loop-holds c = started (c .args .t1 .cells) (c .args .t2) (further 0) (search needs)
-
 returns : tie.Need-returns Inv-loop μ-loop
 returns c =
     let t = c .before in let i = t .before in let n = i .before .before in let p = n .before .before in let l = p .before .before in
@@ -98,12 +95,12 @@ loop-again-2 c =
 
 pub pass-spec : {M : Type 1} → Rattle.agreement.proofs.pass.Statement.statement M
 pass-spec =
-    tie.close (tie.spec Inv-loop μ-loop loop-holds (λ c. search needs) (λ c κs. search needs) (λ c. search needs) (λ c κs. search needs)
-    (λ c κs. search needs) returns returns-2 (λ c. search needs) (λ c. search needs) (λ c. search needs) (λ c κs. search needs) (λ c. search needs)
-    (λ c. search needs) (λ c κs. search needs) (λ c. search needs) (λ c. search needs) (λ c κs. search needs) (λ c κs. search needs) returns-3
-    (λ c. search needs) (λ c κs. search needs) returns-4 (λ c. search needs) (λ c. search needs) (λ c κs. search needs) returns-5
-    (λ c κs. search needs) (λ c. search needs) (λ c. search needs) (λ c. search needs) (λ c κs. search needs) (λ c. search needs) loop-again
-    (λ c. search needs) (λ c κs. search needs) returns-6 (λ c κs. search needs) (λ c κs. search needs) returns-7 (λ c. search needs)
-    (λ c. search needs) (λ c κs. search needs) (λ c κs. search needs) returns-8 (λ c κs. search needs) returns-9 (λ c κs. search needs)
-    (λ c κs. search needs) (λ c. search needs) (λ c. search needs) (λ c. search needs) (λ c. search needs) (λ c. search needs) (λ c. search needs)
-    loop-again-2)
+    tie.close (tie.spec Inv-loop μ-loop (λ c. started (c .args .t1 .cells) (c .args .t2) (further 0) (search needs)) (λ c. search needs)
+    (λ c κs. search needs) (λ c. search needs) (λ c κs. search needs) (λ c κs. search needs) returns returns-2 (λ c. search needs) (λ c. search needs)
+    (λ c. search needs) (λ c κs. search needs) (λ c. search needs) (λ c. search needs) (λ c κs. search needs) (λ c. search needs) (λ c. search needs)
+    (λ c κs. search needs) (λ c κs. search needs) returns-3 (λ c. search needs) (λ c κs. search needs) returns-4 (λ c. search needs)
+    (λ c. search needs) (λ c κs. search needs) returns-5 (λ c κs. search needs) (λ c. search needs) (λ c. search needs) (λ c. search needs)
+    (λ c κs. search needs) (λ c. search needs) loop-again (λ c. search needs) (λ c κs. search needs) returns-6 (λ c κs. search needs)
+    (λ c κs. search needs) returns-7 (λ c. search needs) (λ c. search needs) (λ c κs. search needs) (λ c κs. search needs) returns-8
+    (λ c κs. search needs) returns-9 (λ c κs. search needs) (λ c κs. search needs) (λ c. search needs) (λ c. search needs) (λ c. search needs)
+    (λ c. search needs) (λ c. search needs) (λ c. search needs) loop-again-2)

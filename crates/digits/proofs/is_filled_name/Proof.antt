@@ -4,9 +4,6 @@ use Rattle.digits.proofs.Laws.{not-blank}
 use Rattle.digits.proofs.Words.{first-ill, name-filled, second-ill, third-ill, word-part}
 use Rattle.digits.proofs.is_filled_name.Tie as tie
 
-returns : tie.Need-returns
-returns c = sym (not-blank (c .before .before .before .args .s .now) (c .if1 .taken) (omega arith))
-
 returns-2 : tie.Need-returns-2
 returns-2 c =
     let a = c .before .before .before .before .before .before in let s = a .args .s .now in
@@ -46,5 +43,6 @@ returns-5 c =
 
 pub is-filled-name-spec : {M : Type 1} → Rattle.digits.proofs.is_filled_name.Statement.statement M
 is-filled-name-spec =
-    tie.close (tie.spec (λ c. search needs) returns (λ c κs. search needs) (λ c κs. search needs) returns-2 (λ c κs. search needs)
-    (λ c κs. search needs) returns-3 (λ c κs. search needs) (λ c κs. search needs) returns-4 (λ c κs. search needs) returns-5)
+    tie.close (tie.spec (λ c. search needs) (λ c. sym (not-blank (c .before .before .before .args .s .now) (c .if1 .taken) (omega arith)))
+    (λ c κs. search needs) (λ c κs. search needs) returns-2 (λ c κs. search needs) (λ c κs. search needs) returns-3 (λ c κs. search needs)
+    (λ c κs. search needs) returns-4 (λ c κs. search needs) returns-5)

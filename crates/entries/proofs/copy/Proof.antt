@@ -8,9 +8,6 @@ Inv-loop d₀ at s i₀ d i = (i ≤ length s) × (d ≡ paste d₀ at s i) × (
 abbrev μ-loop : tie.MeasureT-loop
 μ-loop d₀ at s i₀ d i = length s - i
 
-loop-holds : tie.Need-loop-holds Inv-loop μ-loop
-loop-holds c = (omega arith, paste-zero (c .args .d .now) (c .args .at) (c .args .s .now), refl)
-
 loop-again : tie.Need-loop-again Inv-loop μ-loop
 loop-again c =
     let l = c .before .before in
@@ -28,5 +25,5 @@ returns c =
 
 pub copy-spec : {M : Type 1} → Rattle.entries.proofs.copy.Statement.statement M
 copy-spec =
-    tie.close (tie.spec Inv-loop μ-loop loop-holds (λ c. omega arith) (λ c. omega arith) (λ c. omega arith) (λ c. omega arith) (λ c. omega arith)
-    loop-again (λ c. c .before .loop .inv .2) returns)
+    tie.close (tie.spec Inv-loop μ-loop (λ c. (omega arith, paste-zero (c .args .d .now) (c .args .at) (c .args .s .now), refl)) (λ c. omega arith)
+    (λ c. omega arith) (λ c. omega arith) (λ c. omega arith) (λ c. omega arith) loop-again (λ c. c .before .loop .inv .2) returns)

@@ -14,12 +14,7 @@ loop-again c =
     let l = c .before .loop in
     (omega arith, simp length-set (l .inv .1), zeros-next (l .file) (l .i) (omega (arith, l .inv .1)) (l .inv .2))
 
-returns : tie.Need-returns Inv-loop μ-loop
-returns c =
-    let l = c .before .loop in
-    zeros-all (l .file) (l .i) _ (l .inv .1) (omega arith) (l .inv .2)
-
 pub clear-spec : {M : Type 1} → Rattle.file.proofs.clear.Statement.statement M
 clear-spec =
     tie.close (tie.spec Inv-loop μ-loop (λ c. search needs) (λ c. search needs) (λ c. search needs) (λ c. search needs) loop-again (λ c. search needs)
-    returns)
+    (λ c. let l = c .before .loop in zeros-all (l .file) (l .i) _ (l .inv .1) (omega arith) (l .inv .2)))

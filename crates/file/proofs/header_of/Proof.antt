@@ -3,9 +3,6 @@ use Rattle.model.proofs.Prelude.{_∙_, arith, needs, not-false, not-true, sym}
 use Rattle.file.proofs.Headers.{ill-marked, told, too-short}
 use Rattle.file.proofs.header_of.Tie as tie
 
-returns : tie.Need-returns
-returns c = too-short (c .before .before .args .file .now) (omega arith)
-
 returns-2 : tie.Need-returns-2
 returns-2 c =
     let s = c .before .before .before .before in
@@ -20,5 +17,5 @@ returns-3 c =
 
 pub header-of-spec : {M : Type 1} → Rattle.file.proofs.header_of.Statement.statement M
 header-of-spec =
-    tie.close (tie.spec returns (λ c κs. search needs) returns-2 (λ c. search needs) (λ c κs. search needs) (λ c. search needs) (λ c κs. search needs)
-    (λ c κs. search needs) returns-3)
+    tie.close (tie.spec (λ c. too-short (c .before .before .args .file .now) (omega arith)) (λ c κs. search needs) returns-2 (λ c. search needs)
+    (λ c κs. search needs) (λ c. search needs) (λ c κs. search needs) (λ c κs. search needs) returns-3)

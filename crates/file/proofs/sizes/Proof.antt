@@ -4,18 +4,6 @@ use Rattle.file.proofs.Laws.{slots-fit}
 use Rattle.file.proofs.Headers.{illegal}
 use Rattle.file.proofs.sizes.Tie as tie
 
-returns : tie.Need-returns
-returns c = illegal _ _ _ (λ p q r s e. absurd (omega arith))
-
-returns-2 : tie.Need-returns-2
-returns-2 c = illegal _ _ _ (λ p q r s e. absurd (omega arith))
-
-returns-3 : tie.Need-returns-3
-returns-3 c = illegal _ _ _ (λ p q r s e. absurd (omega arith))
-
-returns-4 : tie.Need-returns-4
-returns-4 c = illegal _ _ _ (λ p q r s e. absurd (omega arith))
-
 mul-if5-2 : tie.Need-mul-if5-2
 mul-if5-2 c =
     let a = c .before .before .before .before .args in
@@ -28,10 +16,8 @@ add-if5-2 c =
     let h = slots-fit (a .slots) (64 + 32 * a .b) (omega arith) (omega arith) in
     omega arith
 
-returns-5 : tie.Need-returns-5
-returns-5 c = illegal _ _ _ (λ p q r s e. absurd (omega arith))
-
 pub sizes-spec : {M : Type 1} → Rattle.file.proofs.sizes.Statement.statement M
 sizes-spec =
-    tie.close (tie.spec returns returns-2 returns-3 returns-4 (λ c. search needs) (λ c. search needs) mul-if5-2 add-if5-2 returns-5
-    (λ c. search needs))
+    tie.close (tie.spec (λ c. illegal _ _ _ (λ p q r s e. absurd (omega arith))) (λ c. illegal _ _ _ (λ p q r s e. absurd (omega arith)))
+    (λ c. illegal _ _ _ (λ p q r s e. absurd (omega arith))) (λ c. illegal _ _ _ (λ p q r s e. absurd (omega arith))) (λ c. search needs)
+    (λ c. search needs) mul-if5-2 add-if5-2 (λ c. illegal _ _ _ (λ p q r s e. absurd (omega arith))) (λ c. search needs))

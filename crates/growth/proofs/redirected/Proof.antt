@@ -10,9 +10,6 @@ Inv-loop places count last a n turned₀ i₀ turned i = (i ≤ count) × (count
 abbrev μ-loop : tie.MeasureT-loop
 μ-loop places count last a n turned₀ i₀ turned i = count - i
 
-loop-holds : tie.Need-loop-holds Inv-loop μ-loop
-loop-holds c = (search needs, search needs, redirect-none _ _ _ _ _)
-
 loop-again : tie.Need-loop-again Inv-loop μ-loop
 loop-again c =
     let l = c .before .before .before .before .before in
@@ -26,5 +23,6 @@ returns c =
 
 pub redirected-spec : {M : Type 1} → Rattle.growth.proofs.redirected.Statement.statement M
 redirected-spec =
-    tie.close (tie.spec Inv-loop μ-loop loop-holds (λ c. search needs) (λ c. search needs) (λ c. search needs) (λ c. search needs)
-    (λ c κs. search needs) (λ c κs. search needs) (λ c. search needs) (λ c. search needs) (λ c. search needs) (λ c. search needs) loop-again returns)
+    tie.close (tie.spec Inv-loop μ-loop (λ c. (search needs, search needs, redirect-none _ _ _ _ _)) (λ c. search needs) (λ c. search needs)
+    (λ c. search needs) (λ c. search needs) (λ c κs. search needs) (λ c κs. search needs) (λ c. search needs) (λ c. search needs) (λ c. search needs)
+    (λ c. search needs) loop-again returns)

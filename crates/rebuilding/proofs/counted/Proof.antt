@@ -2,11 +2,6 @@
 use Rattle.model.proofs.Prelude.{arith, eq-eqb, ne-eqb, needs}
 use Rattle.rebuilding.proofs.counted.Tie as tie
 
-returns : tie.Need-returns
-returns c = (omega arith, rw (eq-eqb _ _ (c .if1 .taken)))
-
-returns-2 : tie.Need-returns-2
-returns-2 c = (omega arith, rw (ne-eqb _ _ (c .if1 .left)))
-
 pub counted-spec : {M : Type 1} → Rattle.rebuilding.proofs.counted.Statement.statement M
-counted-spec = tie.close (tie.spec (λ c. search needs) returns returns-2)
+counted-spec =
+    tie.close (tie.spec (λ c. search needs) (λ c. (omega arith, rw (eq-eqb _ _ (c .if1 .taken)))) (λ c. (omega arith, rw (ne-eqb _ _ (c .if1 .left)))))

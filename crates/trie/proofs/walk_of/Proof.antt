@@ -11,9 +11,6 @@ Inv-loop name trie walk₀ walk = Underway (walkOf trie name) (trie .cells) name
 abbrev μ-loop : tie.MeasureT-loop
 μ-loop name trie walk₀ walk = walk .more
 
-returns : tie.Need-returns Inv-loop μ-loop
-returns c = ends (c .before .loop .inv) (λ i e. no-cell (rw e at (c .match .keys2)))
-
 element-copy-out-cell : tie.Need-element-copy-out-cell Inv-loop μ-loop
 element-copy-out-cell c = omega (arith, before (c .before .before .before .before .loop .inv) (c .before .before .place .given .1) .1, c .number .ensures .0)
 
@@ -27,5 +24,6 @@ loop-again c =
 
 pub walk-of-spec : {M : Type 1} → Rattle.trie.proofs.walk_of.Statement.statement M
 walk-of-spec =
-    tie.close (tie.spec Inv-loop μ-loop (λ c κs. search needs) (λ c. c .begin .ensures _ refl refl _) (λ c. search needs) returns
-    (λ c κs. search needs) (λ c. search needs) element-copy-out-cell step-requires (λ c. c .step .ensures .0) loop-again)
+    tie.close (tie.spec Inv-loop μ-loop (λ c κs. search needs) (λ c. c .begin .ensures _ refl refl _) (λ c. search needs)
+    (λ c. ends (c .before .loop .inv) (λ i e. no-cell (rw e at (c .match .keys2)))) (λ c κs. search needs) (λ c. search needs) element-copy-out-cell
+    step-requires (λ c. c .step .ensures .0) loop-again)

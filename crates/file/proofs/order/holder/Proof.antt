@@ -15,14 +15,6 @@ Inv-loop file size order count name least₀ most₀ least most = (least ≤ mos
 abbrev μ-loop : tie.MeasureT-loop
 μ-loop file size order count name least₀ most₀ least most = most - least
 
-returns : tie.Need-returns Inv-loop μ-loop
-returns c =
-    record { small = omega arith; found = λ fs O n g e. absurd (ordered-some O (c .if1 .taken)) }
-
-loop-holds : tie.Need-loop-holds Inv-loop μ-loop
-loop-holds c =
-    (omega arith, omega arith, λ fs O n g e. closing-start O n _ (omega arith))
-
 slot-at-requires : tie.Need-slot-at-requires Inv-loop μ-loop
 slot-at-requires c κs =
     let s = c .before .before .before .before .before .before in let l = c .before .before .before .loop in
@@ -47,6 +39,7 @@ returns-2 c =
 
 pub holder-spec : {M : Type 1} → Rattle.file.proofs.order.holder.Statement.statement M
 holder-spec =
-    tie.close (tie.spec Inv-loop μ-loop returns (λ c. search needs) loop-holds (λ c. search needs) (λ c. search needs) (λ c. search needs)
-    (λ c κs. search needs) slot-at-requires (λ c κs. search needs) (λ c κs. search needs) (λ c. search needs) (λ c. search needs) loop-again
-    (λ c. search needs) loop-again-2 returns-2)
+    tie.close (tie.spec Inv-loop μ-loop (λ c. record { small = omega arith; found = λ fs O n g e. absurd (ordered-some O (c .if1 .taken)) })
+    (λ c. search needs) (λ c. (omega arith, omega arith, λ fs O n g e. closing-start O n _ (omega arith))) (λ c. search needs) (λ c. search needs)
+    (λ c. search needs) (λ c κs. search needs) slot-at-requires (λ c κs. search needs) (λ c κs. search needs) (λ c. search needs) (λ c. search needs)
+    loop-again (λ c. search needs) loop-again-2 returns-2)

@@ -14,9 +14,6 @@ Inv-loop file size order count end₀ j₀ end j =
 abbrev μ-loop : tie.MeasureT-loop
 μ-loop file size order count end₀ j₀ end j = count - j
 
-loop-holds : tie.Need-loop-holds Inv-loop μ-loop
-loop-holds c = (omega arith, λ fs. λ K. λ L. ended-start fs _ _ (c .no-limit .ensures))
-
 slot-at-requires : tie.Need-slot-at-requires Inv-loop μ-loop
 slot-at-requires c κs =
     let s = c .before .before .before .before .before .before in let l = c .before .before .before .loop in
@@ -52,6 +49,6 @@ returns-2 c =
 
 pub is-chain-spec : {M : Type 1} → Rattle.file.proofs.survey.is_chain.Statement.statement M
 is-chain-spec =
-    tie.close (tie.spec Inv-loop μ-loop (λ c κs. search needs) loop-holds (λ c. search needs) (λ c κs. search needs) slot-at-requires
-    (λ c κs. search needs) (λ c κs. search needs) returns (λ c κs. search needs) (λ c. search needs) (λ c. search needs) loop-again
-    (λ c κs. search needs) (λ c κs. search needs) returns-2)
+    tie.close (tie.spec Inv-loop μ-loop (λ c κs. search needs) (λ c. (omega arith, λ fs. λ K. λ L. ended-start fs _ _ (c .no-limit .ensures)))
+    (λ c. search needs) (λ c κs. search needs) slot-at-requires (λ c κs. search needs) (λ c κs. search needs) returns (λ c κs. search needs)
+    (λ c. search needs) (λ c. search needs) loop-again (λ c κs. search needs) (λ c κs. search needs) returns-2)

@@ -22,9 +22,6 @@ loop-holds c =
     let s = c .before in
     (omega arith, omega arith, below-zeros 64 _ (some-slot _ (s .args .size) (s .pre) .0), laid-start _ (s .args .size))
 
-enum-told : tie.Need-enum-told Inv-loop μ-loop
-enum-told c = search needs
-
 loop-again : tie.Need-loop-again Inv-loop μ-loop
 loop-again c =
     let s = c .before .before .before .before .before .before .before .before in let l = c .before .before .before .before .before .before .loop in
@@ -81,7 +78,7 @@ kind-of-requires c κs =
 
 pub survey-of-spec : {M : Type 1} → Rattle.file.proofs.survey.survey_of.Statement.statement M
 survey-of-spec =
-    tie.close (tie.spec Inv-loop μ-loop loop-holds (λ c. search needs) (λ c κs. search needs) (λ c κs. search needs) enum-told (λ c κs. search needs)
-    (λ c. search needs) loop-again (λ c. search needs) (λ c κs. search needs) (λ c. search needs) (λ c. search needs) (λ c κs. search needs) returns
-    (λ c κs. search needs) (λ c κs. search needs) (λ c κs. search needs) add-count (λ c κs. search needs) (λ c. search needs) loop-again-2
-    kind-of-requires (λ c. search needs))
+    tie.close (tie.spec Inv-loop μ-loop loop-holds (λ c. search needs) (λ c κs. search needs) (λ c κs. search needs) (λ c. search needs)
+    (λ c κs. search needs) (λ c. search needs) loop-again (λ c. search needs) (λ c κs. search needs) (λ c. search needs) (λ c. search needs)
+    (λ c κs. search needs) returns (λ c κs. search needs) (λ c κs. search needs) (λ c κs. search needs) add-count (λ c κs. search needs)
+    (λ c. search needs) loop-again-2 kind-of-requires (λ c. search needs))

@@ -15,9 +15,6 @@ Inv-loop file size order count j₀ j =
 abbrev μ-loop : tie.MeasureT-loop
 μ-loop file size order count j₀ j = count - j
 
-loop-holds : tie.Need-loop-holds Inv-loop μ-loop
-loop-holds c = (omega arith, λ fs. λ K. λ L. λ i. λ h. absurd (omega arith))
-
 slot-at-requires : tie.Need-slot-at-requires Inv-loop μ-loop
 slot-at-requires c κs =
     let s = c .before .before .before .before .before in let l = c .before .before .before .loop in
@@ -78,6 +75,6 @@ returns-2 c =
 
 pub twin-spec : {M : Type 1} → Rattle.file.proofs.survey.twin.Statement.statement M
 twin-spec =
-    tie.close (tie.spec Inv-loop μ-loop loop-holds (λ c. search needs) (λ c. search needs) (λ c κs. search needs) slot-at-requires (λ c. search needs)
-    (λ c κs. search needs) slot-at-requires-2 (λ c κs. search needs) (λ c κs. search needs) (λ c κs. search needs) returns (λ c. search needs)
-    (λ c. search needs) loop-again returns-2)
+    tie.close (tie.spec Inv-loop μ-loop (λ c. (omega arith, λ fs. λ K. λ L. λ i. λ h. absurd (omega arith))) (λ c. search needs) (λ c. search needs)
+    (λ c κs. search needs) slot-at-requires (λ c. search needs) (λ c κs. search needs) slot-at-requires-2 (λ c κs. search needs)
+    (λ c κs. search needs) (λ c κs. search needs) returns (λ c. search needs) (λ c. search needs) loop-again returns-2)
