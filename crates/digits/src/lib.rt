@@ -15,6 +15,17 @@ ghost use Rattle.model.specs.Order.{Str, diff};
 ghost use Rattle.digits.specs.Words.{Word, after, mark, marked};
 ghost use Rattle.digits.specs.Keys.{continued, isZero, keyValue, naming, value};
 
+mod numbers;
+
+pub use numbers::u8_of_usize;
+pub use numbers::u16_of_u8;
+pub use numbers::u16_of_usize;
+pub use numbers::u64_of_u8;
+pub use numbers::u64_of_usize;
+pub use numbers::usize_of_u8;
+pub use numbers::usize_of_u16;
+pub use numbers::usize_of_u32;
+
 // A string of digits as it is compared.
 pub struct Key {
     pub a: u64,
@@ -41,31 +52,12 @@ const FILL: [u64; 9] = [
     0xFFFF_FFFF_FFFF_FFFF,
 ];
 
-pub fn index(x: u8) -> usize
-    ensures { λ r. ⌜ (r ≡ x) × (r < 256) ⌝ }
-{
-    x as usize
-}
-
-pub fn wide(x: u8) -> u64
-    ensures { λ r. ⌜ (r ≡ x) × (r < 256) ⌝ }
-{
-    x as u64
-}
-
-pub fn byte(x: usize) -> u8
-    requires { ⌜ x < 256 ⌝ }
-    ensures { λ r. ⌜ r ≡ x ⌝ }
-{
-    x as u8
-}
-
 // The two bytes from `at` on as one number, the first byte lowest.
 fn two(s: &[u8], at: usize) -> u64
     requires { ⌜ at + 2 ≤ length (now s) ⌝ }
     ensures { λ r. ⌜ (r ≡ valueOf (take 2 (drop at (now (s .entry))))) × (r < 65536) ⌝ }
 {
-    wide(s[at]) | (wide(s[at + 1]) << 8)
+    u64_of_u8(s[at]) | (u64_of_u8(s[at + 1]) << 8)
 }
 
 // Four bytes.
@@ -167,15 +159,15 @@ pub fn bound_key_at(s: &[u8], at: usize, len: usize) -> Key
     }
 }
 
-// What is below every name: the key of no lower limit.
-pub fn no_limit() -> Key
+// The key of no lower limit, below every name.
+pub fn lowest_key() -> Key
     ensures { λ r. ⌜ keyValue r ≡ 0 ⌝ }
 {
     Key { a: 0, b: 0, c: 0 }
 }
 
-// What the empty upper bound is compared as: above every name and every other bound.
-pub fn no_end() -> Key
+// The key of the empty upper bound, above every name and every other bound.
+pub fn highest_key() -> Key
     ensures { λ r. ⌜ keyValue r ≡ value (continued []) ⌝ }
 {
     Key {

@@ -24,17 +24,17 @@ returns c =
     let xs = a .slot .now in
     not-read (a .b) xs (λ t. c .if1 .taken (t .first))
 
-shared-slice-read-index : tie.Need-shared-slice-read-index
-shared-slice-read-index c = search needs
+shared-slice-read-usize-of-u8 : tie.Need-shared-slice-read-usize-of-u8
+shared-slice-read-usize-of-u8 c = search needs
 
-index-requires : tie.Need-index-requires
-index-requires c κs = search needs
+usize-of-u8-requires : tie.Need-usize-of-u8-requires
+usize-of-u8-requires c κs = search needs
 
 returns-2 : tie.Need-returns-2
 returns-2 c =
     let a = c .before .before .before .before .before .before .args in
     let xs = a .slot .now in
-    not-read (a .b) xs (λ t. omega (arith, t .fits, c .before .index .ensures .0))
+    not-read (a .b) xs (λ t. omega (arith, t .fits, c .before .usize-of-u8 .ensures .0))
 
 is-clear-requires : tie.Need-is-clear-requires
 is-clear-requires c κs = search needs
@@ -43,15 +43,15 @@ returns-3 : tie.Need-returns-3
 returns-3 c =
     let a = c .before .before .before .before .before .before .before .before .args in
     let xs = a .slot .now in
-    let n = c .before .before .before .index in
+    let n = c .before .before .before .usize-of-u8 in
     let r = c .before .is-clear in
     not-read (a .b) xs (λ t. clash (isClear xs (n .result)) (ap (isClear xs) (n .ensures .0) ∙ t .clear) (sym (r .ensures) ∙ not-true (r .result) (c .if3 .taken)))
 
-shared-slice-read-index-2 : tie.Need-shared-slice-read-index-2
-shared-slice-read-index-2 c = search needs
+shared-slice-read-usize-of-u8-2 : tie.Need-shared-slice-read-usize-of-u8-2
+shared-slice-read-usize-of-u8-2 c = search needs
 
-index-requires-2 : tie.Need-index-requires-2
-index-requires-2 c κs = search needs
+usize-of-u8-requires-2 : tie.Need-usize-of-u8-requires-2
+usize-of-u8-requires-2 c κs = search needs
 
 sub-is-bound : tie.Need-sub-is-bound
 sub-is-bound c = search needs
@@ -70,17 +70,17 @@ unfolding isBound
 returns-4 c =
     let a = c .before .before .before .before .before .before .before .before .before .before .before .before .before .args in
     let xs = a .slot .now in
-    let n = c .before .before .before .index2 in
+    let n = c .before .before .before .usize-of-u82 in
     let r = c .before .is-bound in
     not-read (a .b) xs (λ t.
     clash (isBound (n .result) (take 24 (drop 8 xs))) (ap (λ (m : ℕ). isBound m (take 24 (drop 8 xs))) (n .ensures .0) ∙ t .lower)
     (sym (r .ensures) ∙ not-true (r .result) (c .if4 .taken)))
 
-shared-slice-read-index-3 : tie.Need-shared-slice-read-index-3
-shared-slice-read-index-3 c = search needs
+shared-slice-read-usize-of-u8-3 : tie.Need-shared-slice-read-usize-of-u8-3
+shared-slice-read-usize-of-u8-3 c = search needs
 
-index-requires-3 : tie.Need-index-requires-3
-index-requires-3 c κs = search needs
+usize-of-u8-requires-3 : tie.Need-usize-of-u8-requires-3
+usize-of-u8-requires-3 c κs = search needs
 
 sub-is-bound-2 : tie.Need-sub-is-bound-2
 sub-is-bound-2 c = search needs
@@ -99,17 +99,17 @@ unfolding isBound
 returns-5 c =
     let a = c .before .before .before .before .before .before .before .before .before .before .before .before .before .before .before .before .before .before .args in
     let xs = a .slot .now in
-    let n = c .before .before .before .index3 in
+    let n = c .before .before .before .usize-of-u83 in
     let r = c .before .is-bound2 in
     not-read (a .b) xs (λ t.
     clash (isBound (n .result) (take 24 (drop 32 xs))) (ap (λ (m : ℕ). isBound m (take 24 (drop 32 xs))) (n .ensures .0) ∙ t .upper)
     (sym (r .ensures) ∙ not-true (r .result) (c .if5 .taken)))
 
-low-of-requires : tie.Need-low-of-requires
-low-of-requires c κs = search needs
+low-key-requires : tie.Need-low-key-requires
+low-key-requires c κs = search needs
 
-high-of-requires : tie.Need-high-of-requires
-high-of-requires c κs = search needs
+high-key-requires : tie.Need-high-key-requires
+high-key-requires c κs = search needs
 
 is-below-requires : tie.Need-is-below-requires
 is-below-requires c κs = search needs
@@ -119,10 +119,10 @@ returns-6 c =
     let a = c .before .before .before .before .before .before .before .before .before .before .before .before .before .before .before .before .before .before .before .before .before .before .args in
     let xs = a .slot .now in
     let r = c .before .is-below in
-    let low = c .before .before .before .low-of .ensures in
-    let high = c .before .before .high-of .ensures in
+    let low = c .before .before .before .low-key .ensures in
+    let high = c .before .before .high-key .ensures in
     not-read (a .b) xs (λ t.
-    clash (ltb (keyValue (c .before .before .before .low-of .result)) (keyValue (c .before .before .high-of .result)))
+    clash (ltb (keyValue (c .before .before .before .low-key .result)) (keyValue (c .before .before .high-key .result)))
     (ap₂ ltb (by-bound 8 (getD xs 2 0) xs (t .lower) low) (by-bound 32 (getD xs 3 0) xs (t .upper) high) ∙ t .ranged)
     (sym (r .ensures) ∙ not-true (r .result) (c .if6 .taken)))
 
@@ -142,10 +142,10 @@ returns-7 : tie.Need-returns-7
 returns-7 c =
     let a = c .before .before .before .before .before .before .before .before .before .before .before .before .before .before .before .before .before .before .before .before .before .before .before .before .before .args in
     let xs = a .slot .now in
-    let n = c .before .before .before .before .before .before .before .before .before .before .before .before .before .before .before .before .before .before .before .before .index in
+    let n = c .before .before .before .before .before .before .before .before .before .before .before .before .before .before .before .before .before .before .before .before .usize-of-u8 in
     let r = c .before .are-entries in
-    let low = c .before .before .before .before .before .before .low-of .ensures in
-    let high = c .before .before .before .before .before .high-of .ensures in
+    let low = c .before .before .before .before .before .before .low-key .ensures in
+    let high = c .before .before .before .before .before .high-key .ensures in
     not-read (a .b) xs (λ t.
     clash _ (same-entries (n .ensures .0) (rest 64 xs) (by-bound 8 (getD xs 2 0) xs (t .lower) low) (by-bound 32 (getD xs 3 0) xs (t .upper) high) ∙ t .rowed)
     (sym (r .ensures) ∙ not-true (r .result) (c .if7 .taken)))
@@ -155,16 +155,16 @@ unfolding isBound
 returns-8 c =
     let a = c .before .before .before .before .before .before .before .before .before .before .before .before .before .before .before .before .before .before .before .before .before .before .before .before .before .args in
     let xs = a .slot .now in
-    let n = c .before .before .before .before .before .before .before .before .before .before .before .before .before .before .before .before .before .before .before .before .index in
-    let n₂ = c .before .before .before .before .before .before .before .before .before .before .before .before .before .before .before .index2 in
-    let n₃ = c .before .before .before .before .before .before .before .before .before .before .index3 in
+    let n = c .before .before .before .before .before .before .before .before .before .before .before .before .before .before .before .before .before .before .before .before .usize-of-u8 in
+    let n₂ = c .before .before .before .before .before .before .before .before .before .before .before .before .before .before .before .usize-of-u82 in
+    let n₃ = c .before .before .before .before .before .before .before .before .before .before .usize-of-u83 in
     let r = c .before .are-entries in
     let s = c .before .before .before .before .is-below in
     let clear = c .before .before .before .before .before .before .before .before .before .before .before .before .before .before .before .before .before .before .is-clear in
     let bound = c .before .before .before .before .before .before .before .before .before .before .before .before .before .is-bound in
     let bound₂ = c .before .before .before .before .before .before .before .before .is-bound2 in
-    let low = c .before .before .before .before .before .before .low-of .ensures in
-    let high = c .before .before .before .before .before .high-of .ensures in
+    let low = c .before .before .before .before .before .before .low-key .ensures in
+    let high = c .before .before .before .before .before .high-key .ensures in
     let lo : isBound (getD xs 2 0) (take 24 (drop 8 xs)) ≡ true =
     ap (λ (m : ℕ). isBound m (take 24 (drop 8 xs))) (sym (n₂ .ensures .0)) ∙ sym (bound .ensures) ∙ not-false (bound .result) (c .before .before .before .before .before .before .before .before .before .before .before .before .if4 .left) in
     let up : isBound (getD xs 3 0) (take 24 (drop 32 xs)) ≡ true =
@@ -178,7 +178,7 @@ returns-8 c =
       ranged = sym (ap₂ ltb (by-bound 8 (getD xs 2 0) xs lo low) (by-bound 32 (getD xs 3 0) xs up high)) ∙ sym (s .ensures) ∙ not-false (s .result) (c .before .before .before .if6 .left);
       rowed = sym (same-entries (n .ensures .0) (rest 64 xs) (by-bound 8 (getD xs 2 0) xs lo low) (by-bound 32 (getD xs 3 0) xs up high)) ∙ sym (r .ensures) ∙ not-false (r .result) (c .if7 .left);
     } in
-    well-read (a .b) xs (c .before .before .before .before .before .before .before .before .before .before .before .before .before .before .before .before .before .before .before .before .before .before .before .before .before .pre .0) (λ i. omega (arith, c .before .before .before .before .before .before .before .before .before .before .before .before .before .before .before .before .before .before .before .before .before .before .before .before .shared-slice-known .given i)) t _ (n .ensures .0) (n₂ .ensures .0) (n₃ .ensures .0) (by-bound 8 (getD xs 2 0) xs lo low) (by-bound 32 (getD xs 3 0) xs up high)
+    well-read (a .b) xs (c .before .before .before .before .before .before .before .before .before .before .before .before .before .before .before .before .before .before .before .before .before .before .before .before .before .pre .0) (λ i. omega (arith, c .before .before .before .before .before .before .before .before .before .before .before .before .before .before .before .before .before .before .before .before .before .before .before .before .shared-slice-known .given i)) t _ (by-bound 8 (getD xs 2 0) xs lo low) (by-bound 32 (getD xs 3 0) xs up high)
 
 pub form-of-spec : {M : Type 1} → statement M
 form-of-spec =
@@ -186,27 +186,27 @@ form-of-spec =
     (tie.spec
     shared-slice-read-if1
     returns
-    shared-slice-read-index
-    index-requires
+    shared-slice-read-usize-of-u8
+    usize-of-u8-requires
     returns-2
     is-clear-requires
     returns-3
-    shared-slice-read-index-2
-    index-requires-2
+    shared-slice-read-usize-of-u8-2
+    usize-of-u8-requires-2
     sub-is-bound
     part-is-bound-start
     part-is-bound-end
     is-bound-requires
     returns-4
-    shared-slice-read-index-3
-    index-requires-3
+    shared-slice-read-usize-of-u8-3
+    usize-of-u8-requires-3
     sub-is-bound-2
     part-is-bound-start-2
     part-is-bound-end-2
     is-bound-requires-2
     returns-5
-    low-of-requires
-    high-of-requires
+    low-key-requires
+    high-key-requires
     is-below-requires
     returns-6
     sub-are-entries

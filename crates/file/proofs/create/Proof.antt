@@ -31,8 +31,8 @@ slice-write-file-4 c =
     let h = some-slot _ (s .args .size) (s .pre) in
     simp length-set (omega arith)
 
-byte-requires : tie.Need-byte-requires
-byte-requires c κs = search needs
+u8-of-usize-requires : tie.Need-u8-of-usize-requires
+u8-of-usize-requires c κs = search needs
 
 slice-write-file-5 : tie.Need-slice-write-file-5
 slice-write-file-5 c =
@@ -40,8 +40,8 @@ slice-write-file-5 c =
     let h = some-slot _ (s .args .size) (s .pre) in
     simp length-set (omega arith)
 
-byte-requires-2 : tie.Need-byte-requires-2
-byte-requires-2 c κs = search needs
+u8-of-usize-requires-2 : tie.Need-u8-of-usize-requires-2
+u8-of-usize-requires-2 c κs = search needs
 
 slice-write-file-6 : tie.Need-slice-write-file-6
 slice-write-file-6 c =
@@ -62,7 +62,7 @@ returns : tie.Need-returns
 returns c =
     let s = c .before .before .before .before .before .before .before in
     let z = s .pre in
-    rw (c .before .before .before .before .clear .ensures, c .before .byte .ensures, c .byte2 .ensures) (created-bytes _ _ _ (z .legal .slots-least) (z .whole))
+    rw (c .before .before .before .before .clear .ensures, c .before .u8-of-usize .ensures, c .u8-of-usize2 .ensures) (created-bytes _ _ _ (z .legal .slots-least) (z .whole))
 
 pub create-spec : {M : Type 1} → statement M
 create-spec =
@@ -73,9 +73,9 @@ create-spec =
     slice-write-file-2
     slice-write-file-3
     slice-write-file-4
-    byte-requires
+    u8-of-usize-requires
     slice-write-file-5
-    byte-requires-2
+    u8-of-usize-requires-2
     slice-write-file-6
     slice-write-file-7
     same-length

@@ -19,17 +19,17 @@ returns-2 c =
     let s = c .before .before .before .before in
     ill-marked (s .args .file .now) (sym (c .before .is-marked .ensures) ∙ not-true (c .before .is-marked .result) (c .if2 .taken))
 
-shared-slice-read-index : tie.Need-shared-slice-read-index
-shared-slice-read-index c = search needs
+shared-slice-read-usize-of-u8 : tie.Need-shared-slice-read-usize-of-u8
+shared-slice-read-usize-of-u8 c = search needs
 
-index-requires : tie.Need-index-requires
-index-requires c κs = search needs
+usize-of-u8-requires : tie.Need-usize-of-u8-requires
+usize-of-u8-requires c κs = search needs
 
-shared-slice-read-index-2 : tie.Need-shared-slice-read-index-2
-shared-slice-read-index-2 c = search needs
+shared-slice-read-usize-of-u8-2 : tie.Need-shared-slice-read-usize-of-u8-2
+shared-slice-read-usize-of-u8-2 c = search needs
 
-index-requires-2 : tie.Need-index-requires-2
-index-requires-2 c κs = search needs
+usize-of-u8-requires-2 : tie.Need-usize-of-u8-requires-2
+usize-of-u8-requires-2 c κs = search needs
 
 sizes-requires : tie.Need-sizes-requires
 sizes-requires c κs = search needs
@@ -39,7 +39,7 @@ returns-3 c =
     let m = c .before .before .before .before .before in
     told (m .before .before .before .before .args .file .now) (c .sizes .result) _ _
     (sym (m .before .is-marked .ensures) ∙ not-false (m .before .is-marked .result) (m .if2 .left))
-    (c .before .before .before .index .ensures .0) (c .before .index2 .ensures .0) (c .sizes .ensures)
+    (c .before .before .before .usize-of-u8 .ensures .0) (c .before .usize-of-u82 .ensures .0) (c .sizes .ensures)
 
 pub header-of-spec : {M : Type 1} → statement M
 header-of-spec =
@@ -48,9 +48,9 @@ header-of-spec =
     returns
     is-marked-requires
     returns-2
-    shared-slice-read-index
-    index-requires
-    shared-slice-read-index-2
-    index-requires-2
+    shared-slice-read-usize-of-u8
+    usize-of-u8-requires
+    shared-slice-read-usize-of-u8-2
+    usize-of-u8-requires-2
     sizes-requires
     returns-3)

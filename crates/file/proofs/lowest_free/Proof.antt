@@ -9,18 +9,18 @@ use borrow.Author.Needs.{needs}
 use Rattle.file.proofs.lowest_free.Statement.{statement}
 use Rattle.file.proofs.lowest_free.Tie as tie
 
-number-requires : tie.Need-number-requires
-number-requires c κs = search needs
+usize-of-u32-requires : tie.Need-usize-of-u32-requires
+usize-of-u32-requires c κs = search needs
 
 returns : tie.Need-returns
-returns c = record { inside = tt; lowest = λ fs e h m. room-none fs (all-used fs (omega (arith, c .before .number .ensures, ap ones m))) }
+returns c = record { inside = tt; lowest = λ fs e h m. room-none fs (all-used fs (omega (arith, c .before .usize-of-u32 .ensures, ap ones m))) }
 
-number-requires-2 : tie.Need-number-requires-2
-number-requires-2 c κs = search needs
+usize-of-u32-requires-2 : tie.Need-usize-of-u32-requires-2
+usize-of-u32-requires-2 c κs = search needs
 
 returns-2 : tie.Need-returns-2
 returns-2 c =
-    let n = c .before .number2 in
+    let n = c .before .usize-of-u322 in
     let map = c .before .before .before .before .args .used in
     record {
       inside = tt;
@@ -29,7 +29,7 @@ returns-2 c =
 
 returns-3 : tie.Need-returns-3
 returns-3 c =
-    let n = c .before .number2 in
+    let n = c .before .usize-of-u322 in
     let map = c .before .before .before .before .args .used in
     record {
       inside = search needs;
@@ -38,4 +38,4 @@ returns-3 c =
 
 pub lowest-free-spec : {M : Type 1} → statement M
 lowest-free-spec =
-    tie.close (tie.spec number-requires returns number-requires-2 returns-2 returns-3)
+    tie.close (tie.spec usize-of-u32-requires returns usize-of-u32-requires-2 returns-2 returns-3)

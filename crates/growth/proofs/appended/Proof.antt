@@ -62,8 +62,8 @@ loop-again c =
       write-next (l .loop .inv .7) (l .loop .inv .5) (omega arith) (l .loop .inv .0) (rw (c .before .next-of .ensures)),
     )
 
-short-requires : tie.Need-short-requires Inv-loop μ-loop
-short-requires c κs = search needs
+u16-of-usize-requires : tie.Need-u16-of-usize-requires Inv-loop μ-loop
+u16-of-usize-requires c κs = search needs
 
 returns : tie.Need-returns Inv-loop μ-loop
 returns c =
@@ -71,7 +71,7 @@ returns c =
     let W = l .loop .inv .7 in
     record {
       written = record { full = W .full; new = λ j h k. W .new j (omega arith) k; before = W .before; behind = λ i h. W .behind i (omega arith) };
-      count-is = c .short .ensures;
+      count-is = c .u16-of-usize .ensures;
       first-is = refl;
     }
 
@@ -93,5 +93,5 @@ appended-spec =
     add-at
     loop-less
     loop-again
-    short-requires
+    u16-of-usize-requires
     returns)

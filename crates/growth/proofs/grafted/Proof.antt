@@ -5,12 +5,12 @@ use borrow.Author.Needs.{needs}
 use Rattle.growth.proofs.grafted.Statement.{statement}
 use Rattle.growth.proofs.grafted.Tie as tie
 
-number-requires : tie.Need-number-requires
-number-requires c κs = search needs
+usize-of-u16-requires : tie.Need-usize-of-u16-requires
+usize-of-u16-requires c κs = search needs
 
 returns : tie.Need-returns
 unfolding walk-joined
-returns c = rw (le-leb _ _ (rw (c .before .number .ensures .0) at (c .if1 .taken)))
+returns c = rw (le-leb _ _ (rw (c .before .usize-of-u16 .ensures .0) at (c .if1 .taken)))
 
 mul-cell : tie.Need-mul-cell
 mul-cell c = search needs
@@ -18,8 +18,8 @@ mul-cell c = search needs
 element-copy-out-cell : tie.Need-element-copy-out-cell
 element-copy-out-cell c = search needs
 
-short-requires : tie.Need-short-requires
-short-requires c κs = search needs
+u16-of-usize-requires : tie.Need-u16-of-usize-requires
+u16-of-usize-requires c κs = search needs
 
 joined-requires : tie.Need-joined-requires
 joined-requires c κs = search needs
@@ -33,18 +33,18 @@ element-set-from-other c = search needs
 returns-2 : tie.Need-returns-2
 unfolding walk-joined
 returns-2 c =
-    let n = c .before .before .before .before .number .ensures .0 in
-    rw (lt-leb _ _ (rw n at (c .before .before .before .if1 .left)), c .joined .ensures, c .before .short .ensures, n)
+    let n = c .before .before .before .before .usize-of-u16 .ensures .0 in
+    rw (lt-leb _ _ (rw n at (c .before .before .before .if1 .left)), c .joined .ensures, c .before .u16-of-usize .ensures, n)
 
 pub grafted-spec : {M : Type 1} → statement M
 grafted-spec =
     tie.close
     (tie.spec
-    number-requires
+    usize-of-u16-requires
     returns
     mul-cell
     element-copy-out-cell
-    short-requires
+    u16-of-usize-requires
     joined-requires
     mul-other
     element-set-from-other

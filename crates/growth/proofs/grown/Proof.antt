@@ -5,8 +5,8 @@ use borrow.Author.Needs.{needs}
 use Rattle.growth.proofs.grown.Statement.{statement}
 use Rattle.growth.proofs.grown.Tie as tie
 
-number-requires : tie.Need-number-requires
-number-requires c κs = search needs
+usize-of-u16-requires : tie.Need-usize-of-u16-requires
+usize-of-u16-requires c κs = search needs
 
 leaf-place-requires : tie.Need-leaf-place-requires
 leaf-place-requires c κs = search needs
@@ -22,7 +22,7 @@ returns c =
     let p = c .before in
     let i = p .before in
     let l = i .before in λ k K.
-    grown-string K (l .before .before .before .args .n) (i .if1 .taken) (l .before .number .ensures .0) (l .leaf-place .ensures) (p .place-of .ensures) (c .redirected .ensures)
+    grown-string K (l .before .before .before .args .n) (i .if1 .taken) (l .before .usize-of-u16 .ensures .0) (l .leaf-place .ensures) (p .place-of .ensures) (c .redirected .ensures)
 
 redirected-requires-2 : tie.Need-redirected-requires-2
 redirected-requires-2 c κs = search needs
@@ -39,13 +39,13 @@ returns-2 c =
     let d = g .before in
     let i = d .before in
     let l = i .before in λ k K.
-    grown-new K (l .before .before .before .args .n) (omega arith) (omega arith) (l .before .number .ensures .0) (l .leaf-place .ensures) (d .redirected2 .ensures) (g .grafted .ensures) (c .appended .ensures)
+    grown-new K (l .before .before .before .args .n) (omega arith) (omega arith) (l .before .usize-of-u16 .ensures .0) (l .leaf-place .ensures) (d .redirected2 .ensures) (g .grafted .ensures) (c .appended .ensures)
 
 pub grown-spec : {M : Type 1} → statement M
 grown-spec =
     tie.close
     (tie.spec
-    number-requires
+    usize-of-u16-requires
     leaf-place-requires
     place-of-requires
     redirected-requires

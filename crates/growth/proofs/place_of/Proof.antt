@@ -17,16 +17,16 @@ abbrev μ-loop : tie.MeasureT-loop
 loop-holds : tie.Need-loop-holds Inv-loop μ-loop
 loop-holds c = search needs
 
-element-copy-out-index : tie.Need-element-copy-out-index Inv-loop μ-loop
-element-copy-out-index c = search needs
+element-copy-out-usize-of-u8 : tie.Need-element-copy-out-usize-of-u8 Inv-loop μ-loop
+element-copy-out-usize-of-u8 c = search needs
 
-index-requires : tie.Need-index-requires Inv-loop μ-loop
-index-requires c κs = search needs
+usize-of-u8-requires : tie.Need-usize-of-u8-requires Inv-loop μ-loop
+usize-of-u8-requires c κs = search needs
 
 returns : tie.Need-returns Inv-loop μ-loop
 returns c =
     let l = c .before .before .before .before in
-    record { from-on = search needs; before = l .loop .inv .1; found = λ h. sym (c .before .index .ensures .0) ∙ c .if1 .taken }
+    record { from-on = search needs; before = l .loop .inv .1; found = λ h. sym (c .before .usize-of-u8 .ensures .0) ∙ c .if1 .taken }
 
 add-i : tie.Need-add-i Inv-loop μ-loop
 add-i c = search needs
@@ -37,7 +37,7 @@ loop-less c = search needs
 loop-again : tie.Need-loop-again Inv-loop μ-loop
 loop-again c =
     let l = c .before .before .before .before in
-    (search needs, below-more _ _ (l .loop .inv .1) (λ g e. c .if1 .left (c .before .index .ensures .0 ∙ e)))
+    (search needs, below-more _ _ (l .loop .inv .1) (λ g e. c .if1 .left (c .before .usize-of-u8 .ensures .0 ∙ e)))
 
 returns-2 : tie.Need-returns-2 Inv-loop μ-loop
 returns-2 c =
@@ -51,8 +51,8 @@ place-of-spec =
     Inv-loop
     μ-loop
     loop-holds
-    element-copy-out-index
-    index-requires
+    element-copy-out-usize-of-u8
+    usize-of-u8-requires
     returns
     add-i
     loop-less

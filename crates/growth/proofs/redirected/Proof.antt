@@ -23,14 +23,14 @@ mul-cell c = search needs
 element-copy-out-cell : tie.Need-element-copy-out-cell Inv-loop μ-loop
 element-copy-out-cell c = search needs
 
-mul-number : tie.Need-mul-number Inv-loop μ-loop
-mul-number c = search needs
+mul-usize-of-u16 : tie.Need-mul-usize-of-u16 Inv-loop μ-loop
+mul-usize-of-u16 c = search needs
 
-element-copy-out-number : tie.Need-element-copy-out-number Inv-loop μ-loop
-element-copy-out-number c = search needs
+element-copy-out-usize-of-u16 : tie.Need-element-copy-out-usize-of-u16 Inv-loop μ-loop
+element-copy-out-usize-of-u16 c = search needs
 
-number-requires : tie.Need-number-requires Inv-loop μ-loop
-number-requires c κs = search needs
+usize-of-u16-requires : tie.Need-usize-of-u16-requires Inv-loop μ-loop
+usize-of-u16-requires c κs = search needs
 
 turned-cell-requires : tie.Need-turned-cell-requires Inv-loop μ-loop
 turned-cell-requires c κs = search needs
@@ -50,7 +50,7 @@ loop-less c = search needs
 loop-again : tie.Need-loop-again Inv-loop μ-loop
 loop-again c =
     let l = c .before .before .before .before .before in
-    (search needs, search needs, redirect-next (l .loop .inv .2) (rw (c .before .number .ensures .0) at (c .turned-cell .ensures)))
+    (search needs, search needs, redirect-next (l .loop .inv .2) (rw (c .before .usize-of-u16 .ensures .0) at (c .turned-cell .ensures)))
 
 returns : tie.Need-returns Inv-loop μ-loop
 returns c =
@@ -67,9 +67,9 @@ redirected-spec =
     loop-holds
     mul-cell
     element-copy-out-cell
-    mul-number
-    element-copy-out-number
-    number-requires
+    mul-usize-of-u16
+    element-copy-out-usize-of-u16
+    usize-of-u16-requires
     turned-cell-requires
     mul-other
     element-set-from-other

@@ -14,25 +14,25 @@ Inv-loop lens digits slots count trie₀ runs₀ top₀ i₀ trie runs top i = S
 abbrev μ-loop : tie.MeasureT-loop
 μ-loop lens digits slots count trie₀ runs₀ top₀ i₀ trie runs top i = count - i
 
-array-read-slot-number : tie.Need-array-read-slot-number Inv-loop μ-loop
-array-read-slot-number c = search needs
+array-read-u16-of-u8 : tie.Need-array-read-u16-of-u8 Inv-loop μ-loop
+array-read-u16-of-u8 c = search needs
 
-slot-number-requires : tie.Need-slot-number-requires Inv-loop μ-loop
-slot-number-requires c κs = search needs
+u16-of-u8-requires : tie.Need-u16-of-u8-requires Inv-loop μ-loop
+u16-of-u8-requires c κs = search needs
 
-lone-requires : tie.Need-lone-requires Inv-loop μ-loop
-lone-requires c κs = search needs
+without-cells-requires : tie.Need-without-cells-requires Inv-loop μ-loop
+without-cells-requires c κs = search needs
 
 returns : tie.Need-returns Inv-loop μ-loop
 returns c =
     let x = c .before .before .before .before .before .before .args .strings in
-    c .lone .ensures ∙ none-rebuilt (x .lens) (x .digits) (x .slots) (x .count) (c .before .slot-number .result) (search needs) (c .before .slot-number .ensures)
+    c .without-cells .ensures ∙ none-rebuilt (x .lens) (x .digits) (x .slots) (x .count) (c .before .u16-of-u8 .result) (search needs) (c .before .u16-of-u8 .ensures .0)
 
-lone-requires-2 : tie.Need-lone-requires-2 Inv-loop μ-loop
-lone-requires-2 c κs = search needs
+without-cells-requires-2 : tie.Need-without-cells-requires-2 Inv-loop μ-loop
+without-cells-requires-2 c κs = search needs
 
-short-requires : tie.Need-short-requires Inv-loop μ-loop
-short-requires c κs = search needs
+u16-of-usize-requires : tie.Need-u16-of-usize-requires Inv-loop μ-loop
+u16-of-usize-requires c κs = search needs
 
 array-set-from-runs : tie.Need-array-set-from-runs Inv-loop μ-loop
 array-set-from-runs c = search needs
@@ -40,7 +40,7 @@ array-set-from-runs c = search needs
 loop-holds : tie.Need-loop-holds Inv-loop μ-loop
 loop-holds c =
     let x = c .before .before .before .before .before .before .args .strings in
-    rw (c .before .lone2 .ensures) (rw (c .short .ensures) (started (x .lens) (x .digits) (x .slots) (x .count) (replicate 512 no-run) _ (length-replicate 512 no-run) refl (search needs) (search needs)), refl)
+    rw (c .before .without-cells2 .ensures) (rw (c .u16-of-usize .ensures) (started (x .lens) (x .digits) (x .slots) (x .count) (replicate 512 no-run) _ (length-replicate 512 no-run) refl (search needs) (search needs)), refl)
 
 sub-top : tie.Need-sub-top Inv-loop μ-loop
 sub-top c =
@@ -60,14 +60,14 @@ array-copy-out-run c =
     let o = topped (b .before .loop .inv .0) (b .loop-test .taken) in
     search needs
 
-number-requires : tie.Need-number-requires Inv-loop μ-loop
-number-requires c κs =
+usize-of-u16-requires : tie.Need-usize-of-u16-requires Inv-loop μ-loop
+usize-of-u16-requires c κs =
     let b = c .before in
     let o = topped (b .before .loop .inv .0) (b .loop-test .taken) in
     search needs
 
-number-requires-2 : tie.Need-number-requires-2 Inv-loop μ-loop
-number-requires-2 c κs =
+usize-of-u16-requires-2 : tie.Need-usize-of-u16-requires-2 Inv-loop μ-loop
+usize-of-u16-requires-2 c κs =
     let b = c .before .before in
     let o = topped (b .before .loop .inv .0) (b .loop-test .taken) in
     search needs
@@ -120,14 +120,14 @@ add-after c =
     let o = topped (b .before .loop .inv .0) (b .loop-test .taken) in
     search needs
 
-short-requires-2 : tie.Need-short-requires-2 Inv-loop μ-loop
-short-requires-2 c κs =
+u16-of-usize-requires-2 : tie.Need-u16-of-usize-requires-2 Inv-loop μ-loop
+u16-of-usize-requires-2 c κs =
     let b = c .before .before .before .before .before .before .before in
     let o = topped (b .before .loop .inv .0) (b .loop-test .taken) in
     search needs
 
-short-requires-3 : tie.Need-short-requires-3 Inv-loop μ-loop
-short-requires-3 c κs =
+u16-of-usize-requires-3 : tie.Need-u16-of-usize-requires-3 Inv-loop μ-loop
+u16-of-usize-requires-3 c κs =
     let b = c .before .before .before .before .before .before .before .before in
     let o = topped (b .before .loop .inv .0) (b .loop-test .taken) in
     search needs
@@ -199,19 +199,19 @@ loop-again c =
     let b = fr .before .before in
     let l = b .before in
     let x = l .before .before .before .before .before .before .before .args .strings in (
-      stepped (x .lens) (x .digits) (x .slots) (x .count) (l .loop .inv .0) (b .loop-test .taken) (fr .number .ensures .0) (to .number2 .ensures .0) (ro .root-of .ensures .2)
-          (ce .cell-of .ensures) (sr .short2 .ensures) (sl .short3 .ensures) (kr .kept .ensures .1) (kl .kept2 .ensures .1),
+      stepped (x .lens) (x .digits) (x .slots) (x .count) (l .loop .inv .0) (b .loop-test .taken) (fr .usize-of-u16 .ensures .0) (to .usize-of-u162 .ensures .0) (ro .root-of .ensures .2)
+          (ce .cell-of .ensures) (sr .u16-of-usize2 .ensures) (sl .u16-of-usize3 .ensures) (kr .kept .ensures .1) (kl .kept2 .ensures .1),
       l .loop .inv .1,
     )
 
-short-requires-4 : tie.Need-short-requires-4 Inv-loop μ-loop
-short-requires-4 c κs = search needs
+u16-of-usize-requires-4 : tie.Need-u16-of-usize-requires-4 Inv-loop μ-loop
+u16-of-usize-requires-4 c κs = search needs
 
 returns-2 : tie.Need-returns-2 Inv-loop μ-loop
 returns-2 c =
     let l = c .before .before in
     let x = l .before .before .before .before .before .before .before .args .strings in
-    rw (c .short4 .ensures, l .loop .inv .1) (ended (x .lens) (x .digits) (x .slots) (x .count) _ _ _ _ (l .loop .inv .0) (search needs) (search needs))
+    rw (c .u16-of-usize4 .ensures, l .loop .inv .1) (ended (x .lens) (x .digits) (x .slots) (x .count) _ _ _ _ (l .loop .inv .0) (search needs) (search needs))
 
 pub rebuilt-spec : {M : Type 1} → statement M
 rebuilt-spec =
@@ -219,19 +219,19 @@ rebuilt-spec =
     (tie.spec
     Inv-loop
     μ-loop
-    array-read-slot-number
-    slot-number-requires
-    lone-requires
+    array-read-u16-of-u8
+    u16-of-u8-requires
+    without-cells-requires
     returns
-    lone-requires-2
-    short-requires
+    without-cells-requires-2
+    u16-of-usize-requires
     array-set-from-runs
     loop-holds
     sub-top
     mul-run
     array-copy-out-run
-    number-requires
-    number-requires-2
+    usize-of-u16-requires
+    usize-of-u16-requires-2
     root-of-requires
     array-read-cell-of
     array-read-cell-of-2
@@ -240,8 +240,8 @@ rebuilt-spec =
     element-set-from-cell
     add-i
     add-after
-    short-requires-2
-    short-requires-3
+    u16-of-usize-requires-2
+    u16-of-usize-requires-3
     mul-runs
     array-set-from-runs-2
     kept-requires
@@ -252,5 +252,5 @@ rebuilt-spec =
     add-top-2
     loop-less
     loop-again
-    short-requires-4
+    u16-of-usize-requires-4
     returns-2)

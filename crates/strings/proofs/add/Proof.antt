@@ -28,8 +28,8 @@ loop-holds c =
       added-start (a .x .now) (a .slot) (a .next) (a .count) (a .lens .now) (a .digits .now) (a .slots .now) (c .before .pre .3),
     )
 
-byte-requires : tie.Need-byte-requires Inv-loop μ-loop
-byte-requires c κs = search needs
+u8-of-usize-requires : tie.Need-u8-of-usize-requires Inv-loop μ-loop
+u8-of-usize-requires c κs = search needs
 
 element-write-lens : tie.Need-element-write-lens Inv-loop μ-loop
 element-write-lens c = search needs
@@ -65,7 +65,7 @@ loop-again c =
       search needs,
       search needs,
       left-step (a .x .now) (a .slot) (a .next) (a .count) (l .len) (search needs) (search needs),
-      added-step (a .x .now) (a .slot) (a .next) (a .count) (l .len) (l .n) (c .before .byte .result) (l .left) _ _ _ _ _ _ (c .before .byte .ensures)
+      added-step (a .x .now) (a .slot) (a .next) (a .count) (l .len) (l .n) (c .before .u8-of-usize .result) (l .left) _ _ _ _ _ _ (c .before .u8-of-usize .ensures)
           (search needs) (search needs) (search needs) (l .inv .5) (l .inv .6),
     )
 
@@ -83,7 +83,7 @@ add-spec =
     Inv-loop
     μ-loop
     loop-holds
-    byte-requires
+    u8-of-usize-requires
     element-write-lens
     sub-digits
     shared-slice-read-digits

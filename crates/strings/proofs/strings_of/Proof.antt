@@ -31,8 +31,8 @@ element-copy-out-slot c = search needs
 element-copy-out-next : tie.Need-element-copy-out-next Inv-loop μ-loop
 element-copy-out-next c = search needs
 
-index-requires : tie.Need-index-requires Inv-loop μ-loop
-index-requires c κs = search needs
+usize-of-u8-requires : tie.Need-usize-of-u8-requires Inv-loop μ-loop
+usize-of-u8-requires c κs = search needs
 
 slot-at-requires : tie.Need-slot-at-requires Inv-loop μ-loop
 slot-at-requires c κs =
@@ -40,11 +40,11 @@ slot-at-requires c κs =
     let l = c .before .before .before .before .loop in
     (s .pre .0, omega (arith, s .pre .1 (l .j - 1)))
 
-upper-of-requires : tie.Need-upper-of-requires Inv-loop μ-loop
-upper-of-requires c κs = search needs
+upper-bound-requires : tie.Need-upper-bound-requires Inv-loop μ-loop
+upper-bound-requires c κs = search needs
 
-index-requires-2 : tie.Need-index-requires-2 Inv-loop μ-loop
-index-requires-2 c κs = search needs
+usize-of-u8-requires-2 : tie.Need-usize-of-u8-requires-2 Inv-loop μ-loop
+usize-of-u8-requires-2 c κs = search needs
 
 slot-at-requires-2 : tie.Need-slot-at-requires-2 Inv-loop μ-loop
 slot-at-requires-2 c κs =
@@ -52,8 +52,8 @@ slot-at-requires-2 c κs =
     let l = c .before .before .before .before .before .before .before .loop in
     (s .pre .0, omega (arith, s .pre .1 (l .j)))
 
-upper-of-requires-2 : tie.Need-upper-of-requires-2 Inv-loop μ-loop
-upper-of-requires-2 c κs = search needs
+upper-bound-requires-2 : tie.Need-upper-bound-requires-2 Inv-loop μ-loop
+upper-bound-requires-2 c κs = search needs
 
 shared-requires : tie.Need-shared-requires Inv-loop μ-loop
 shared-requires c κs = search needs
@@ -73,8 +73,8 @@ returns c =
     let o = s .args .order .now in
     let z = s .args .size in
     let up = upper-in f o z (s .args .count) in
-    let x-is = d .before .before .before .before .upper-of .ensures .0 ∙ ap upperAt (d .before .before .before .before .before .slot-at .ensures .0) ∙ ap up (d .before .before .before .before .before .before .index .ensures .0) in
-    let y-is = d .before .upper-of2 .ensures .0 ∙ ap upperAt (d .before .before .slot-at2 .ensures .0) ∙ ap up (d .before .before .before .index2 .ensures .0) in
+    let x-is = d .before .before .before .before .upper-bound .ensures .0 ∙ ap upperAt (d .before .before .before .before .before .slot-at .ensures .0) ∙ ap up (d .before .before .before .before .before .before .usize-of-u8 .ensures .0) in
+    let y-is = d .before .upper-bound2 .ensures .0 ∙ ap upperAt (d .before .before .slot-at2 .ensures .0) ∙ ap up (d .before .before .before .usize-of-u82 .ensures .0) in
     goes-many f o z (s .args .count) (s .pre .1) (l .n) (l .j) _ _ (d .shared .result) _ _ (l .inv .1) (d .before .before .before .before .before .before .before .before .before .loop-test .taken)
     refl refl x-is y-is (d .shared .ensures .2) (l .lens) (l .digits) (l .slots) (l .inv .3) _ refl refl (c .if1 .taken)
 
@@ -96,10 +96,10 @@ loop-again c =
     let o = s .args .order .now in
     let z = s .args .size in
     let up = upper-in f o z (s .args .count) in
-    let x-is = d .before .before .before .before .upper-of .ensures .0 ∙ ap upperAt (d .before .before .before .before .before .slot-at .ensures .0) ∙ ap up (d .before .before .before .before .before .before .index .ensures .0) in
-    let y-is = d .before .upper-of2 .ensures .0 ∙ ap upperAt (d .before .before .slot-at2 .ensures .0) ∙ ap up (d .before .before .before .index2 .ensures .0) in
+    let x-is = d .before .before .before .before .upper-bound .ensures .0 ∙ ap upperAt (d .before .before .before .before .before .slot-at .ensures .0) ∙ ap up (d .before .before .before .before .before .before .usize-of-u8 .ensures .0) in
+    let y-is = d .before .upper-bound2 .ensures .0 ∙ ap upperAt (d .before .before .slot-at2 .ensures .0) ∙ ap up (d .before .before .before .usize-of-u82 .ensures .0) in
     let a = c .add .ensures in
-    let x = d .before .before .before .before .upper-of .result .now in (
+    let x = d .before .before .before .before .upper-bound .result .now in (
       omega (arith, a .count-is, length-beyond (d .shared .result) x, c .before .before .before .before .if1 .left),
       search needs,
       a .whole,
@@ -139,12 +139,12 @@ strings-of-spec =
     sub-slot
     element-copy-out-slot
     element-copy-out-next
-    index-requires
+    usize-of-u8-requires
     slot-at-requires
-    upper-of-requires
-    index-requires-2
+    upper-bound-requires
+    usize-of-u8-requires-2
     slot-at-requires-2
-    upper-of-requires-2
+    upper-bound-requires-2
     shared-requires
     add-if1
     add-if1-2

@@ -26,14 +26,14 @@ enum-known-place c = search needs
 returns : tie.Need-returns Inv-loop μ-loop
 returns c = ends (c .before .loop .inv) (λ i e. no-cell (rw e at (c .match .keys2)))
 
-number-requires : tie.Need-number-requires Inv-loop μ-loop
-number-requires c κs = search needs
+usize-of-u16-requires : tie.Need-usize-of-u16-requires Inv-loop μ-loop
+usize-of-u16-requires c κs = search needs
 
 mul-cell : tie.Need-mul-cell Inv-loop μ-loop
 mul-cell c = search needs
 
 element-copy-out-cell : tie.Need-element-copy-out-cell Inv-loop μ-loop
-element-copy-out-cell c = omega (arith, before (c .before .before .before .before .loop .inv) (c .before .before .place .given .1) .1, c .number .ensures .0)
+element-copy-out-cell c = omega (arith, before (c .before .before .before .before .loop .inv) (c .before .before .place .given .1) .1, c .usize-of-u16 .ensures .0)
 
 step-requires : tie.Need-step-requires Inv-loop μ-loop
 step-requires c κs = let u = c .before .before .before .before .before .loop .inv in (u .short, before u (c .before .before .before .place .given .1) .0)
@@ -44,7 +44,7 @@ loop-less c = c .step .ensures .0
 loop-again : tie.Need-loop-again Inv-loop μ-loop
 loop-again c =
     let i = c .before .before .before .before .place in
-    c .step .ensures .1 _ _ (i .given .1) (ap (at-cell (c .before .before .before .before .before .before .before .before .args .t1 .cells)) (sym (c .before .before .number .ensures .0))) (c .before .before .before .before .before .before .loop .inv)
+    c .step .ensures .1 _ _ (i .given .1) (ap (at-cell (c .before .before .before .before .before .before .before .before .args .t1 .cells)) (sym (c .before .before .usize-of-u16 .ensures .0))) (c .before .before .before .before .before .before .loop .inv)
 
 pub walk-of-spec : {M : Type 1} → statement M
 walk-of-spec =
@@ -56,7 +56,7 @@ walk-of-spec =
     loop-holds
     enum-known-place
     returns
-    number-requires
+    usize-of-u16-requires
     mul-cell
     element-copy-out-cell
     step-requires

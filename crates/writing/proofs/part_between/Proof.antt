@@ -28,17 +28,17 @@ part-rank-end c = search needs
 rank-requires : tie.Need-rank-requires
 rank-requires c κs = search needs
 
-sub-upto : tie.Need-sub-upto
-sub-upto c = search needs
+sub-not-above : tie.Need-sub-not-above
+sub-not-above c = search needs
 
-part-upto-start : tie.Need-part-upto-start
-part-upto-start c = search needs
+part-not-above-start : tie.Need-part-not-above-start
+part-not-above-start c = search needs
 
-part-upto-end : tie.Need-part-upto-end
-part-upto-end c = search needs
+part-not-above-end : tie.Need-part-not-above-end
+part-not-above-end c = search needs
 
-upto-requires : tie.Need-upto-requires
-upto-requires c κs = search needs
+not-above-requires : tie.Need-not-above-requires
+not-above-requires c κs = search needs
 
 sub-result : tie.Need-sub-result
 sub-result c = search needs
@@ -61,8 +61,8 @@ returns c =
     let es = values (countAt (a .b) xs) (drop 64 xs) in
     let e : values (n .count-of .result) (take (length xs - 64) (drop 64 xs)) ≡ es = ap₂ (λ (m : ℕ) (ys : List ℕ). values m ys) (n .count-of .ensures .0) (rest 64 xs) in
     let f : k .rank .result ≡ below v es = k .rank .ensures .1 ∙ ap (below v) e in
-    let g : u .upto .result ≡ notAbove w es = u .upto .ensures .1 ∙ ap (notAbove w) e in
-    (omega arith, part-none xs (k .rank .result) (u .upto .result) (below v es) (notAbove w es) f g (omega arith))
+    let g : u .not-above .result ≡ notAbove w es = u .not-above .ensures .1 ∙ ap (notAbove w) e in
+    (omega arith, part-none xs (k .rank .result) (u .not-above .result) (below v es) (notAbove w es) f g (omega arith))
 
 mul-at : tie.Need-mul-at
 mul-at c = search needs
@@ -97,10 +97,10 @@ returns-2 c =
     let es = values (countAt (a .b) xs) (drop 64 xs) in
     let e : values (n .count-of .result) (take (length xs - 64) (drop 64 xs)) ≡ es = ap₂ (λ (m : ℕ) (ys : List ℕ). values m ys) (n .count-of .ensures .0) (rest 64 xs) in
     let f : k .rank .result ≡ below v es = k .rank .ensures .1 ∙ ap (below v) e in
-    let g : u .upto .result ≡ notAbove w es = u .upto .ensures .1 ∙ ap (notAbove w) e in
+    let g : u .not-above .result ≡ notAbove w es = u .not-above .ensures .1 ∙ ap (notAbove w) e in
     let at = 64 + 32 * k .rank .result in
-    let end = 64 + 32 * u .upto .result in
-    (omega (arith, length-take (end - at) (drop at xs)), part-some xs (k .rank .result) (u .upto .result) (below v es) (notAbove w es) f g)
+    let end = 64 + 32 * u .not-above .result in
+    (omega (arith, length-take (end - at) (drop at xs)), part-some xs (k .rank .result) (u .not-above .result) (below v es) (notAbove w es) f g)
 
 pub part-between-spec : {M : Type 1} → statement M
 part-between-spec =
@@ -111,10 +111,10 @@ part-between-spec =
     part-rank-start
     part-rank-end
     rank-requires
-    sub-upto
-    part-upto-start
-    part-upto-end
-    upto-requires
+    sub-not-above
+    part-not-above-start
+    part-not-above-end
+    not-above-requires
     sub-result
     part-result-start
     part-result-end

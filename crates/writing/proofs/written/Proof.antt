@@ -8,20 +8,20 @@ use Rattle.writing.proofs.written.Tie as tie
 array-write-slot : tie.Need-array-write-slot
 array-write-slot c = search needs
 
-byte-requires : tie.Need-byte-requires
-byte-requires c κs = search needs
+u8-of-usize-requires : tie.Need-u8-of-usize-requires
+u8-of-usize-requires c κs = search needs
 
 array-write-slot-2 : tie.Need-array-write-slot-2
 array-write-slot-2 c = search needs
 
-byte-requires-2 : tie.Need-byte-requires-2
-byte-requires-2 c κs = search needs
+u8-of-usize-requires-2 : tie.Need-u8-of-usize-requires-2
+u8-of-usize-requires-2 c κs = search needs
 
 array-write-slot-3 : tie.Need-array-write-slot-3
 array-write-slot-3 c = search needs
 
-byte-requires-3 : tie.Need-byte-requires-3
-byte-requires-3 c κs = search needs
+u8-of-usize-requires-3 : tie.Need-u8-of-usize-requires-3
+u8-of-usize-requires-3 c κs = search needs
 
 array-write-slot-4 : tie.Need-array-write-slot-4
 array-write-slot-4 c = search needs
@@ -54,19 +54,19 @@ returns c =
     let b₁ = b₂ .before in
     let a = b₁ .before .before .before .before .args in
     written-copies (a .lower .now) (a .upper .now) (a .entries .now) (s₁ .copy .last .0) (s₂ .copy2 .last .0) (s₃ .copy3 .last .0)
-    (b₁ .byte .result) (b₂ .byte2 .result) (b₃ .byte3 .result) (omega arith) (omega arith) (omega arith)
-    (b₁ .byte .ensures) (b₂ .byte2 .ensures) (b₃ .byte3 .ensures) (s₁ .copy .ensures) (s₂ .copy2 .ensures) (s₃ .copy3 .ensures)
+    (b₁ .u8-of-usize .result) (b₂ .u8-of-usize2 .result) (b₃ .u8-of-usize3 .result) (omega arith) (omega arith) (omega arith)
+    (b₁ .u8-of-usize .ensures) (b₂ .u8-of-usize2 .ensures) (b₃ .u8-of-usize3 .ensures) (s₁ .copy .ensures) (s₂ .copy2 .ensures) (s₃ .copy3 .ensures)
 
 pub written-spec : {M : Type 1} → statement M
 written-spec =
     tie.close
     (tie.spec
     array-write-slot
-    byte-requires
+    u8-of-usize-requires
     array-write-slot-2
-    byte-requires-2
+    u8-of-usize-requires-2
     array-write-slot-3
-    byte-requires-3
+    u8-of-usize-requires-3
     array-write-slot-4
     slice-aggregate-copy
     copy-requires

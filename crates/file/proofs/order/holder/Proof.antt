@@ -37,11 +37,11 @@ sub-middle c = search needs
 add-middle : tie.Need-add-middle Inv-loop μ-loop
 add-middle c = search needs
 
-element-copy-out-index : tie.Need-element-copy-out-index Inv-loop μ-loop
-element-copy-out-index c = search needs
+element-copy-out-usize-of-u8 : tie.Need-element-copy-out-usize-of-u8 Inv-loop μ-loop
+element-copy-out-usize-of-u8 c = search needs
 
-index-requires : tie.Need-index-requires Inv-loop μ-loop
-index-requires c κs = search needs
+usize-of-u8-requires : tie.Need-usize-of-u8-requires Inv-loop μ-loop
+usize-of-u8-requires c κs = search needs
 
 slot-at-requires : tie.Need-slot-at-requires Inv-loop μ-loop
 slot-at-requires c κs =
@@ -49,8 +49,8 @@ slot-at-requires c κs =
     let l = c .before .before .before .loop in
     (s .pre .0, omega (arith, s .pre .1 (l .least + (l .most - l .least) / 2)))
 
-high-of-requires : tie.Need-high-of-requires Inv-loop μ-loop
-high-of-requires c κs = search needs
+high-key-requires : tie.Need-high-key-requires Inv-loop μ-loop
+high-key-requires c κs = search needs
 
 is-below-requires : tie.Need-is-below-requires Inv-loop μ-loop
 is-below-requires c κs = search needs
@@ -65,7 +65,7 @@ loop-again : tie.Need-loop-again Inv-loop μ-loop
 loop-again c =
     let l = c .before .before .before .before .before .before .before .loop in
     let middle = l .least + (l .most - l .least) / 2 in
-    (omega arith, omega arith, λ fs O n g e. closing-up O n middle (omega arith) (probe-below O n g _ _ e middle _ _ (omega arith) (c .before .before .before .before .index .ensures .0) (c .before .before .before .slot-at .ensures .0) (c .before .before .high-of .ensures) (c .before .is-below .ensures) (c .if2 .taken)) (l .inv .2 fs O n g e))
+    (omega arith, omega arith, λ fs O n g e. closing-up O n middle (omega arith) (probe-below O n g _ _ e middle _ _ (omega arith) (c .before .before .before .before .usize-of-u8 .ensures .0) (c .before .before .before .slot-at .ensures .0) (c .before .before .high-key .ensures) (c .before .is-below .ensures) (c .if2 .taken)) (l .inv .2 fs O n g e))
 
 loop-less-2 : tie.Need-loop-less-2 Inv-loop μ-loop
 loop-less-2 c = search needs
@@ -74,7 +74,7 @@ loop-again-2 : tie.Need-loop-again-2 Inv-loop μ-loop
 loop-again-2 c =
     let l = c .before .before .before .before .before .before .before .loop in
     let middle = l .least + (l .most - l .least) / 2 in
-    (omega arith, omega arith, λ fs O n g e. closing-down O n middle (probe-upto O n g _ _ e middle _ _ (omega arith) (c .before .before .before .before .index .ensures .0) (c .before .before .before .slot-at .ensures .0) (c .before .before .high-of .ensures) (c .before .is-below .ensures) (c .if2 .left)) (l .inv .2 fs O n g e))
+    (omega arith, omega arith, λ fs O n g e. closing-down O n middle (probe-upto O n g _ _ e middle _ _ (omega arith) (c .before .before .before .before .usize-of-u8 .ensures .0) (c .before .before .before .slot-at .ensures .0) (c .before .before .high-key .ensures) (c .before .is-below .ensures) (c .if2 .left)) (l .inv .2 fs O n g e))
 
 returns-2 : tie.Need-returns-2 Inv-loop μ-loop
 returns-2 c =
@@ -92,10 +92,10 @@ holder-spec =
     loop-holds
     sub-middle
     add-middle
-    element-copy-out-index
-    index-requires
+    element-copy-out-usize-of-u8
+    usize-of-u8-requires
     slot-at-requires
-    high-of-requires
+    high-key-requires
     is-below-requires
     add-least
     loop-less

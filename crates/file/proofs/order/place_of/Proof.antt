@@ -32,11 +32,11 @@ sub-middle c = search needs
 add-middle : tie.Need-add-middle Inv-loop μ-loop
 add-middle c = search needs
 
-element-copy-out-index : tie.Need-element-copy-out-index Inv-loop μ-loop
-element-copy-out-index c = search needs
+element-copy-out-usize-of-u8 : tie.Need-element-copy-out-usize-of-u8 Inv-loop μ-loop
+element-copy-out-usize-of-u8 c = search needs
 
-index-requires : tie.Need-index-requires Inv-loop μ-loop
-index-requires c κs = search needs
+usize-of-u8-requires : tie.Need-usize-of-u8-requires Inv-loop μ-loop
+usize-of-u8-requires c κs = search needs
 
 slot-at-requires : tie.Need-slot-at-requires Inv-loop μ-loop
 slot-at-requires c κs =
@@ -58,7 +58,7 @@ loop-again c =
     let told : (fs : List Slot) → Known (s .args .size .b) (s .args .file .now) fs → Listed fs (s .args .order .now) (s .args .count)
     → stands (keyValue (s .args .high)) (keyValue (s .args .low)) (placed fs (s .args .order .now) m) ≡ true =
     λ fs. λ K. λ L.
-    let y = place-read K (s .args .order .now) (s .args .count) L m (omega arith) _ (c .before .before .before .index .ensures .0) _ (c .before .before .slot-at .ensures .0) in
+    let y = place-read K (s .args .order .now) (s .args .count) L m (omega arith) _ (c .before .before .before .usize-of-u8 .ensures .0) _ (c .before .before .slot-at .ensures .0) in
     sym (c .before .is-before .ensures (s .args .size .b) (placed fs (s .args .order .now) m) (L m (omega arith)) y (K .well (getD (s .args .order .now) m 0))) ∙ c .if1 .taken in
     (omega arith, omega arith, λ fs. λ K. λ L. (l .inv .2 fs K L .0, λ h. told fs K L))
 
@@ -76,7 +76,7 @@ loop-again-2 c =
     let told : (fs : List Slot) → Known (s .args .size .b) (s .args .file .now) fs → Listed fs (s .args .order .now) (s .args .count)
     → stands (keyValue (s .args .high)) (keyValue (s .args .low)) (placed fs (s .args .order .now) m) ≡ false =
     λ fs. λ K. λ L.
-    let y = place-read K (s .args .order .now) (s .args .count) L m (omega arith) _ (c .before .before .before .index .ensures .0) _ (c .before .before .slot-at .ensures .0) in
+    let y = place-read K (s .args .order .now) (s .args .count) L m (omega arith) _ (c .before .before .before .usize-of-u8 .ensures .0) _ (c .before .before .slot-at .ensures .0) in
     sym (c .before .is-before .ensures (s .args .size .b) (placed fs (s .args .order .now) m) (L m (omega arith)) y (K .well (getD (s .args .order .now) m 0))) ∙ c .if1 .left in
     (omega arith, omega arith, λ fs. λ K. λ L. (λ j. λ e. subst (λ (n : ℕ). stands (keyValue (s .args .high)) (keyValue (s .args .low)) (placed fs (s .args .order .now) n) ≡ false) (omega arith) (told fs K L), l .inv .2 fs K L .1))
 
@@ -100,8 +100,8 @@ place-of-spec =
     loop-holds
     sub-middle
     add-middle
-    element-copy-out-index
-    index-requires
+    element-copy-out-usize-of-u8
+    usize-of-u8-requires
     slot-at-requires
     is-before-requires
     loop-less

@@ -12,20 +12,20 @@ use borrow.Author.Needs.{needs}
 use Rattle.file.proofs.survey.cut_of.Statement.{statement}
 use Rattle.file.proofs.survey.cut_of.Tie as tie
 
-element-copy-out-index : tie.Need-element-copy-out-index
-element-copy-out-index c = search needs
+element-copy-out-usize-of-u8 : tie.Need-element-copy-out-usize-of-u8
+element-copy-out-usize-of-u8 c = search needs
 
-index-requires : tie.Need-index-requires
-index-requires c κs = search needs
+usize-of-u8-requires : tie.Need-usize-of-u8-requires
+usize-of-u8-requires c κs = search needs
 
-sub-index : tie.Need-sub-index
-sub-index c = search needs
+sub-usize-of-u8 : tie.Need-sub-usize-of-u8
+sub-usize-of-u8 c = search needs
 
-element-copy-out-index-2 : tie.Need-element-copy-out-index-2
-element-copy-out-index-2 c = search needs
+element-copy-out-usize-of-u8-2 : tie.Need-element-copy-out-usize-of-u8-2
+element-copy-out-usize-of-u8-2 c = search needs
 
-index-requires-2 : tie.Need-index-requires-2
-index-requires-2 c κs = search needs
+usize-of-u8-requires-2 : tie.Need-usize-of-u8-requires-2
+usize-of-u8-requires-2 c κs = search needs
 
 slot-at-requires : tie.Need-slot-at-requires
 slot-at-requires c κs =
@@ -54,9 +54,9 @@ returns c =
     let L = s .pre .5 in
     let K = laid-known few L in
     let T = s .pre .6 (L .slots) K (laid-listed few L) in
-    let i = c .before .before .before .before .slot-at .ensures .0 ∙ bytes-at b (c .before .before .before .before .before .before .before .index .result) xs ∙ ap (λ (B : ℕ). slotAt b B xs) (c .before .before .before .before .before .before .before .index .ensures .0) in
-    let j = c .before .before .before .slot-at2 .ensures .0 ∙ bytes-at b (c .before .before .before .before .before .index2 .result) xs ∙ ap (λ (B : ℕ). slotAt b B xs) (c .before .before .before .before .before .index2 .ensures .0) in
-    surveyed (c .found .result) _ _ _ o _ Bad (s .args .used) (c .found .ensures) (s .pre .1) few (omega (arith, s .pre .1 place, c .before .before .before .before .before .before .before .index .ensures .0))
+    let i = c .before .before .before .before .slot-at .ensures .0 ∙ bytes-at b (c .before .before .before .before .before .before .before .usize-of-u8 .result) xs ∙ ap (λ (B : ℕ). slotAt b B xs) (c .before .before .before .before .before .before .before .usize-of-u8 .ensures .0) in
+    let j = c .before .before .before .slot-at2 .ensures .0 ∙ bytes-at b (c .before .before .before .before .before .usize-of-u82 .result) xs ∙ ap (λ (B : ℕ). slotAt b B xs) (c .before .before .before .before .before .usize-of-u82 .ensures .0) in
+    surveyed (c .found .result) _ _ _ o _ Bad (s .args .used) (c .found .ensures) (s .pre .1) few (omega (arith, s .pre .1 place, c .before .before .before .before .before .before .before .usize-of-u8 .ensures .0))
     (said-no-copy few L place T (place - 1) (omega arith) (s .pre .3) _ _ i j (c .before .before .is-copy-of .result) (c .before .before .is-copy-of .ensures) (not-true _ (c .before .if1 .taken)))
     (laid-order few L) (laid-map few L)
 
@@ -85,12 +85,12 @@ returns-2 c =
     let L = s .pre .5 in
     let K = laid-known few L in
     let T = s .pre .6 (L .slots) K (laid-listed few L) in
-    let i = c .before .before .before .before .before .before .before .before .before .before .slot-at .ensures .0 ∙ bytes-at b (c .before .before .before .before .before .before .before .before .before .before .before .before .before .index .result) xs ∙ ap (λ (B : ℕ). slotAt b B xs) (c .before .before .before .before .before .before .before .before .before .before .before .before .before .index .ensures .0) in
-    let j = c .before .before .before .before .before .before .before .before .before .slot-at2 .ensures .0 ∙ bytes-at b (c .before .before .before .before .before .before .before .before .before .before .before .index2 .result) xs ∙ ap (λ (B : ℕ). slotAt b B xs) (c .before .before .before .before .before .before .before .before .before .before .before .index2 .ensures .0) in
+    let i = c .before .before .before .before .before .before .before .before .before .before .slot-at .ensures .0 ∙ bytes-at b (c .before .before .before .before .before .before .before .before .before .before .before .before .before .usize-of-u8 .result) xs ∙ ap (λ (B : ℕ). slotAt b B xs) (c .before .before .before .before .before .before .before .before .before .before .before .before .before .usize-of-u8 .ensures .0) in
+    let j = c .before .before .before .before .before .before .before .before .before .slot-at2 .ensures .0 ∙ bytes-at b (c .before .before .before .before .before .before .before .before .before .before .before .usize-of-u82 .result) xs ∙ ap (λ (B : ℕ). slotAt b B xs) (c .before .before .before .before .before .before .before .before .before .before .before .usize-of-u82 .ensures .0) in
     let cs = c .before .before .before .before .leave-out .ensures in
     let I = rest-listed few L place T (place - 1) (omega arith) (s .pre .3) _ (cs .1) (cs .2) in
     let C = c .before .before .is-chain .ensures (L .slots) K I in
-    surveyed (c .found2 .result) _ _ _ o _ Bad (s .args .used) (c .found2 .ensures) (s .pre .1) few (omega (arith, s .pre .1 place, c .before .before .before .before .before .before .before .before .before .before .before .before .before .index .ensures .0))
+    surveyed (c .found2 .result) _ _ _ o _ Bad (s .args .used) (c .found2 .ensures) (s .pre .1) few (omega (arith, s .pre .1 place, c .before .before .before .before .before .before .before .before .before .before .before .before .before .usize-of-u8 .ensures .0))
     (said-no-chain few L place T (place - 1) (omega arith) (s .pre .3) _ _ i j (c .before .before .before .before .before .before .before .before .is-copy-of .result) (c .before .before .before .before .before .before .before .before .is-copy-of .ensures) (c .before .before .is-chain .result) _ (cs .2) C (not-true _ (c .before .if2 .taken)))
     (laid-order few L) (laid-map few L)
 
@@ -108,24 +108,24 @@ returns-3 c =
     let L = s .pre .5 in
     let K = laid-known few L in
     let T = s .pre .6 (L .slots) K (laid-listed few L) in
-    let i = c .before .before .before .before .before .before .before .before .before .before .slot-at .ensures .0 ∙ bytes-at b (c .before .before .before .before .before .before .before .before .before .before .before .before .before .index .result) xs ∙ ap (λ (B : ℕ). slotAt b B xs) (c .before .before .before .before .before .before .before .before .before .before .before .before .before .index .ensures .0) in
-    let j = c .before .before .before .before .before .before .before .before .before .slot-at2 .ensures .0 ∙ bytes-at b (c .before .before .before .before .before .before .before .before .before .before .before .index2 .result) xs ∙ ap (λ (B : ℕ). slotAt b B xs) (c .before .before .before .before .before .before .before .before .before .before .before .index2 .ensures .0) in
+    let i = c .before .before .before .before .before .before .before .before .before .before .slot-at .ensures .0 ∙ bytes-at b (c .before .before .before .before .before .before .before .before .before .before .before .before .before .usize-of-u8 .result) xs ∙ ap (λ (B : ℕ). slotAt b B xs) (c .before .before .before .before .before .before .before .before .before .before .before .before .before .usize-of-u8 .ensures .0) in
+    let j = c .before .before .before .before .before .before .before .before .before .slot-at2 .ensures .0 ∙ bytes-at b (c .before .before .before .before .before .before .before .before .before .before .before .usize-of-u82 .result) xs ∙ ap (λ (B : ℕ). slotAt b B xs) (c .before .before .before .before .before .before .before .before .before .before .before .usize-of-u82 .ensures .0) in
     let cs = c .before .before .before .before .leave-out .ensures in
     let I = rest-listed few L place T (place - 1) (omega arith) (s .pre .3) _ (cs .1) (cs .2) in
     let C = c .before .before .is-chain .ensures (L .slots) K I in
-    surveyed (c .found3 .result) _ _ _ o _ Cut (s .args .used) (c .found3 .ensures) (s .pre .1) few (omega (arith, s .pre .1 place, c .before .before .before .before .before .before .before .before .before .before .before .before .before .index .ensures .0))
-    (ap is-cut (c .before .before .before .before .before .before .before .before .before .before .before .before .before .index .ensures .0) ∙ said-cut few L place T (place - 1) (omega arith) (s .pre .3) _ _ i j (c .before .before .before .before .before .before .before .before .is-copy-of .result) (c .before .before .before .before .before .before .before .before .is-copy-of .ensures) (c .before .before .is-chain .result) _ (cs .2) C (not-false _ (c .before .before .before .before .before .before .before .if1 .left)) (not-false _ (c .before .if2 .left)))
+    surveyed (c .found3 .result) _ _ _ o _ Cut (s .args .used) (c .found3 .ensures) (s .pre .1) few (omega (arith, s .pre .1 place, c .before .before .before .before .before .before .before .before .before .before .before .before .before .usize-of-u8 .ensures .0))
+    (ap is-cut (c .before .before .before .before .before .before .before .before .before .before .before .before .before .usize-of-u8 .ensures .0) ∙ said-cut few L place T (place - 1) (omega arith) (s .pre .3) _ _ i j (c .before .before .before .before .before .before .before .before .is-copy-of .result) (c .before .before .before .before .before .before .before .before .is-copy-of .ensures) (c .before .before .is-chain .result) _ (cs .2) C (not-false _ (c .before .before .before .before .before .before .before .if1 .left)) (not-false _ (c .before .if2 .left)))
     (laid-order few L) (laid-map few L)
 
 pub cut-of-spec : {M : Type 1} → statement M
 cut-of-spec =
     tie.close
     (tie.spec
-    element-copy-out-index
-    index-requires
-    sub-index
-    element-copy-out-index-2
-    index-requires-2
+    element-copy-out-usize-of-u8
+    usize-of-u8-requires
+    sub-usize-of-u8
+    element-copy-out-usize-of-u8-2
+    usize-of-u8-requires-2
     slot-at-requires
     slot-at-requires-2
     is-copy-of-requires

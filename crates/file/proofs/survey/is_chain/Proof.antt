@@ -20,17 +20,17 @@ Inv-loop file size order count end₀ j₀ end j =
 abbrev μ-loop : tie.MeasureT-loop
 μ-loop file size order count end₀ j₀ end j = count - j
 
-no-limit-requires : tie.Need-no-limit-requires Inv-loop μ-loop
-no-limit-requires c κs = search needs
+lowest-key-requires : tie.Need-lowest-key-requires Inv-loop μ-loop
+lowest-key-requires c κs = search needs
 
 loop-holds : tie.Need-loop-holds Inv-loop μ-loop
-loop-holds c = (omega arith, λ fs. λ K. λ L. ended-start fs _ _ (c .no-limit .ensures))
+loop-holds c = (omega arith, λ fs. λ K. λ L. ended-start fs _ _ (c .lowest-key .ensures))
 
-element-copy-out-index : tie.Need-element-copy-out-index Inv-loop μ-loop
-element-copy-out-index c = search needs
+element-copy-out-usize-of-u8 : tie.Need-element-copy-out-usize-of-u8 Inv-loop μ-loop
+element-copy-out-usize-of-u8 c = search needs
 
-index-requires : tie.Need-index-requires Inv-loop μ-loop
-index-requires c κs = search needs
+usize-of-u8-requires : tie.Need-usize-of-u8-requires Inv-loop μ-loop
+usize-of-u8-requires c κs = search needs
 
 slot-at-requires : tie.Need-slot-at-requires Inv-loop μ-loop
 slot-at-requires c κs =
@@ -38,8 +38,8 @@ slot-at-requires c κs =
     let l = c .before .before .before .loop in
     (s .pre .0, omega (arith, s .pre .1 (l .j)))
 
-low-of-requires : tie.Need-low-of-requires Inv-loop μ-loop
-low-of-requires c κs = search needs
+low-key-requires : tie.Need-low-key-requires Inv-loop μ-loop
+low-key-requires c κs = search needs
 
 is-same-requires : tie.Need-is-same-requires Inv-loop μ-loop
 is-same-requires c κs = search needs
@@ -49,12 +49,12 @@ returns c =
     let l = c .before .before .before .before .before .before .before .loop in
     let s = c .before .before .before .before .before .before .before .before .before .before in
     λ fs. λ K. λ L. ended-stop K (s .args .order .now) (s .args .count) (omega (arith, s .pre .3)) L (l .j) (keyValue (l .end)) (l .inv .1 fs K L) (omega arith)
-    (keyValue (c .before .before .low-of .result))
-    (place-low K (s .args .order .now) (s .args .count) L (l .j) (omega arith) _ (c .before .before .before .before .index .ensures .0) _ (c .before .before .before .slot-at .ensures .0) _ (c .before .before .low-of .ensures))
+    (keyValue (c .before .before .low-key .result))
+    (place-low K (s .args .order .now) (s .args .count) L (l .j) (omega arith) _ (c .before .before .before .before .usize-of-u8 .ensures .0) _ (c .before .before .before .slot-at .ensures .0) _ (c .before .before .low-key .ensures))
     (c .before .is-same .result) (c .before .is-same .ensures) (not-true _ (c .if1 .taken))
 
-high-of-requires : tie.Need-high-of-requires Inv-loop μ-loop
-high-of-requires c κs = search needs
+high-key-requires : tie.Need-high-key-requires Inv-loop μ-loop
+high-key-requires c κs = search needs
 
 add-j : tie.Need-add-j Inv-loop μ-loop
 add-j c = search needs
@@ -68,15 +68,15 @@ loop-again c =
     let s = c .before .before .before .before .before .before .before .before .before .before .before in (
       omega arith,
       λ fs. λ K. λ L. ended-next K (s .args .order .now) (s .args .count) (omega (arith, s .pre .3)) L (l .j) (keyValue (l .end)) (l .inv .1 fs K L) (omega arith)
-          (keyValue (c .before .before .before .low-of .result))
-          (place-low K (s .args .order .now) (s .args .count) L (l .j) (omega arith) _ (c .before .before .before .before .before .index .ensures .0) _ (c .before .before .before .before .slot-at .ensures .0) _ (c .before .before .before .low-of .ensures))
+          (keyValue (c .before .before .before .low-key .result))
+          (place-low K (s .args .order .now) (s .args .count) L (l .j) (omega arith) _ (c .before .before .before .before .before .usize-of-u8 .ensures .0) _ (c .before .before .before .before .slot-at .ensures .0) _ (c .before .before .before .low-key .ensures))
           (c .before .before .is-same .result) (c .before .before .is-same .ensures) (not-false _ (c .before .if1 .left))
-          (keyValue (c .high-of .result))
-          (place-high K (s .args .order .now) (s .args .count) L (l .j) (omega arith) _ (c .before .before .before .before .before .index .ensures .0) _ (c .before .before .before .before .slot-at .ensures .0) _ (c .high-of .ensures)),
+          (keyValue (c .high-key .result))
+          (place-high K (s .args .order .now) (s .args .count) L (l .j) (omega arith) _ (c .before .before .before .before .before .usize-of-u8 .ensures .0) _ (c .before .before .before .before .slot-at .ensures .0) _ (c .high-key .ensures)),
     )
 
-no-end-requires : tie.Need-no-end-requires Inv-loop μ-loop
-no-end-requires c κs = search needs
+highest-key-requires : tie.Need-highest-key-requires Inv-loop μ-loop
+highest-key-requires c κs = search needs
 
 is-same-requires-2 : tie.Need-is-same-requires-2 Inv-loop μ-loop
 is-same-requires-2 c κs = search needs
@@ -86,7 +86,7 @@ returns-2 c =
     let l = c .before .before .before .loop in
     let s = c .before .before .before .before .before .before in
     λ fs. λ K. λ L. ended-end K (s .args .order .now) (s .args .count) (omega (arith, s .pre .3)) L (l .j) (keyValue (l .end)) (l .inv .1 fs K L) (omega arith)
-    (c .is-same2 .result) (keyValue (c .before .no-end .result)) (c .is-same2 .ensures) (c .before .no-end .ensures)
+    (c .is-same2 .result) (keyValue (c .before .highest-key .result)) (c .is-same2 .ensures) (c .before .highest-key .ensures)
 
 pub is-chain-spec : {M : Type 1} → statement M
 is-chain-spec =
@@ -94,18 +94,18 @@ is-chain-spec =
     (tie.spec
     Inv-loop
     μ-loop
-    no-limit-requires
+    lowest-key-requires
     loop-holds
-    element-copy-out-index
-    index-requires
+    element-copy-out-usize-of-u8
+    usize-of-u8-requires
     slot-at-requires
-    low-of-requires
+    low-key-requires
     is-same-requires
     returns
-    high-of-requires
+    high-key-requires
     add-j
     loop-less
     loop-again
-    no-end-requires
+    highest-key-requires
     is-same-requires-2
     returns-2)

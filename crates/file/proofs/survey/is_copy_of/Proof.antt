@@ -15,22 +15,22 @@ use borrow.Author.Needs.{needs}
 use Rattle.file.proofs.survey.is_copy_of.Statement.{statement}
 use Rattle.file.proofs.survey.is_copy_of.Tie as tie
 
-shared-slice-read-index : tie.Need-shared-slice-read-index
-shared-slice-read-index c = search needs
+shared-slice-read-usize-of-u8 : tie.Need-shared-slice-read-usize-of-u8
+shared-slice-read-usize-of-u8 c = search needs
 
-index-requires : tie.Need-index-requires
-index-requires c κs = search needs
+usize-of-u8-requires : tie.Need-usize-of-u8-requires
+usize-of-u8-requires c κs = search needs
 
 returns : tie.Need-returns
 returns c =
     let a = c .before .before .before .before .before .args in
-    not-full (a .b) (a .n .now) (a .a .now) (λ e. c .if1 .taken (c .before .index .ensures .0 ∙ e))
+    not-full (a .b) (a .n .now) (a .a .now) (λ e. c .if1 .taken (c .before .usize-of-u8 .ensures .0 ∙ e))
 
-low-of-requires : tie.Need-low-of-requires
-low-of-requires c κs = search needs
+low-key-requires : tie.Need-low-key-requires
+low-key-requires c κs = search needs
 
-low-of-requires-2 : tie.Need-low-of-requires-2
-low-of-requires-2 c κs = search needs
+low-key-requires-2 : tie.Need-low-key-requires-2
+low-key-requires-2 c κs = search needs
 
 is-below-requires : tie.Need-is-below-requires
 is-below-requires c κs = search needs
@@ -38,33 +38,33 @@ is-below-requires c κs = search needs
 returns-2 : tie.Need-returns-2
 returns-2 c =
     let a = c .before .before .before .before .before .before .before .before .before .args in
-    let n = c .before .before .before .low-of in
-    let m = c .before .before .low-of2 in
+    let n = c .before .before .before .low-key in
+    let m = c .before .before .low-key2 in
     let r = c .before .is-below in
     not-below (a .b) (a .n .now) (a .a .now) (keyValue (n .result)) (keyValue (m .result)) (n .ensures) (m .ensures) (sym (r .ensures) ∙ not-true (r .result) (c .if2 .taken))
 
-shared-slice-read-index-2 : tie.Need-shared-slice-read-index-2
-shared-slice-read-index-2 c = search needs
+shared-slice-read-usize-of-u8-2 : tie.Need-shared-slice-read-usize-of-u8-2
+shared-slice-read-usize-of-u8-2 c = search needs
 
-index-requires-2 : tie.Need-index-requires-2
-index-requires-2 c κs = search needs
+usize-of-u8-requires-2 : tie.Need-usize-of-u8-requires-2
+usize-of-u8-requires-2 c κs = search needs
 
 returns-3 : tie.Need-returns-3
 returns-3 c =
     let a = c .before .before .before .before .before .before .before .before .before .before .before .before .args in
-    too-many (a .b) (a .n .now) (a .a .now) (omega (arith, c .before .index2 .ensures .0))
+    too-many (a .b) (a .n .now) (a .a .now) (omega (arith, c .before .usize-of-u82 .ensures .0))
 
-sub-upto : tie.Need-sub-upto
-sub-upto c = search needs
+sub-not-above : tie.Need-sub-not-above
+sub-not-above c = search needs
 
-part-upto-start : tie.Need-part-upto-start
-part-upto-start c = search needs
+part-not-above-start : tie.Need-part-not-above-start
+part-not-above-start c = search needs
 
-part-upto-end : tie.Need-part-upto-end
-part-upto-end c = search needs
+part-not-above-end : tie.Need-part-not-above-end
+part-not-above-end c = search needs
 
-upto-requires : tie.Need-upto-requires
-upto-requires c κs = search needs
+not-above-requires : tie.Need-not-above-requires
+not-above-requires c κs = search needs
 
 mul-moved : tie.Need-mul-moved
 mul-moved c = search needs
@@ -99,11 +99,11 @@ is-copied-requires c κs = search needs
 returns-4 : tie.Need-returns-4
 returns-4 c =
     let a = c .before .before .before .before .before .before .before .before .before .before .before .before .before .before .before .before .before .args in
-    let n = c .before .before .before .before .before .before .before .before .before .before .before .low-of in
-    let m = c .before .before .before .before .before .before .before .before .before .before .low-of2 in
+    let n = c .before .before .before .before .before .before .before .before .before .before .before .low-key in
+    let m = c .before .before .before .before .before .before .before .before .before .before .low-key2 in
     let r = c .before .before .before .before .before .before .before .before .before .is-below in
-    let u = c .before .before .before .upto in
-    let count = c .before .before .before .before .before .before .index2 in
+    let u = c .before .before .before .not-above in
+    let count = c .before .before .before .before .before .before .usize-of-u82 in
     let xs = a .a .now in
     let ys = a .n .now in
     let moved = 64 + 32 * u .result in
@@ -112,27 +112,27 @@ returns-4 c =
     let e = ap₂ (λ (x y : List ℕ). areAmong (pieces (count .result) x) (pieces (a .b - u .result) y) && leb (count .result) (a .b - u .result + 1)) (rest 64 ys) (rest moved xs) in
     tested (a .b) ys xs (keyValue (n .result)) (keyValue (m .result)) (n .ensures) (m .ensures) (count .result) (u .result)
     (λ i. omega (arith, c .before .before .before .before .before .before .before .shared-slice-known4 .given i)) (λ i. omega (arith, c .before .before .before .before .before .before .before .before .before .before .before .before .before .before .shared-slice-known3 .given i))
-    (sym (c .before .before .before .before .before .before .before .before .before .before .before .before .before .index .ensures .0) ∙ c .before .before .before .before .before .before .before .before .before .before .before .before .if1 .left) (sym (r .ensures) ∙ not-false (r .result) (c .before .before .before .before .before .before .before .before .if2 .left)) (count .ensures .0) s
+    (sym (c .before .before .before .before .before .before .before .before .before .before .before .before .before .usize-of-u8 .ensures .0) ∙ c .before .before .before .before .before .before .before .before .before .before .before .before .if1 .left) (sym (r .ensures) ∙ not-false (r .result) (c .before .before .before .before .before .before .before .before .if2 .left)) (count .ensures .0) s
     (c .is-copied .result) (c .is-copied .ensures ∙ e)
 
 pub is-copy-of-spec : {M : Type 1} → statement M
 is-copy-of-spec =
     tie.close
     (tie.spec
-    shared-slice-read-index
-    index-requires
+    shared-slice-read-usize-of-u8
+    usize-of-u8-requires
     returns
-    low-of-requires
-    low-of-requires-2
+    low-key-requires
+    low-key-requires-2
     is-below-requires
     returns-2
-    shared-slice-read-index-2
-    index-requires-2
+    shared-slice-read-usize-of-u8-2
+    usize-of-u8-requires-2
     returns-3
-    sub-upto
-    part-upto-start
-    part-upto-end
-    upto-requires
+    sub-not-above
+    part-not-above-start
+    part-not-above-end
+    not-above-requires
     mul-moved
     add-moved
     sub-is-copied

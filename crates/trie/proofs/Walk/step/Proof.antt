@@ -6,8 +6,8 @@ use Rattle.trie.proofs.Laws.{goes-left, goes-right, last-strays, number
 use Rattle.trie.proofs.Walk.step.Statement.{statement}
 use Rattle.trie.proofs.Walk.step.Tie as tie
 
-index-requires : tie.Need-index-requires
-index-requires c κs = search needs
+usize-of-u8-requires : tie.Need-usize-of-u8-requires
+usize-of-u8-requires c κs = search needs
 
 strayed-requires : tie.Need-strayed-requires
 strayed-requires c κs = search needs
@@ -47,7 +47,7 @@ returns-3 c =
     let s = c .before .before .before .before .before .before .before .before .before in
     let a = s .before .args in
     let w = sym (c .before .before .goes-left .ensures) ∙ c .before .if3 .taken in
-    (omega arith, λ o cs e f u. goes-left (a .name .now) (a .self) (a .i) (a .cell) o cs e f u (s .index .ensures .0) (omega arith) (omega arith) w (c .place-of .ensures))
+    (omega arith, λ o cs e f u. goes-left (a .name .now) (a .self) (a .i) (a .cell) o cs e f u (s .usize-of-u8 .ensures .0) (omega arith) (omega arith) w (c .place-of .ensures))
 
 place-of-requires-2 : tie.Need-place-of-requires-2
 place-of-requires-2 c κs = search needs
@@ -57,13 +57,13 @@ returns-4 c =
     let s = c .before .before .before .before .before .before .before .before .before .before in
     let a = s .before .args in
     let w = sym (c .before .before .before .goes-left .ensures) ∙ c .before .before .if3 .left in
-    (omega arith, λ o cs e f u. goes-right (a .name .now) (a .self) (a .i) (a .cell) o cs e f u (s .index .ensures .0) (omega arith) (omega arith) w (c .place-of2 .ensures))
+    (omega arith, λ o cs e f u. goes-right (a .name .now) (a .self) (a .i) (a .cell) o cs e f u (s .usize-of-u8 .ensures .0) (omega arith) (omega arith) w (c .place-of2 .ensures))
 
 pub step-spec : {M : Type 1} → statement M
 step-spec =
     tie.close
     (tie.spec
-    index-requires
+    usize-of-u8-requires
     strayed-requires
     returns
     strayed-requires-2

@@ -1,4 +1,4 @@
--- `entries::upto` meets its contract.
+-- `entries::not_above` meets its contract.
 use mathlib.Core.Bool.{false, true}
 use mathlib.Core.Path.{_∙_, _≡_, ap, sym}
 use Prim.Native.Nat.{_*_, _+_, _-_, _≤_, ℕ}
@@ -9,8 +9,8 @@ use Rattle.digits.specs.Keys.{keyValue, value}
 use Rattle.entries.specs.Rows.{notAbove, values}
 use Rattle.entries.proofs.Steps.{notAbove-end, notAbove-last, notAbove-next, notAbove-start}
 use borrow.Author.Needs.{needs}
-use Rattle.entries.proofs.upto.Statement.{statement}
-use Rattle.entries.proofs.upto.Tie as tie
+use Rattle.entries.proofs.not_above.Statement.{statement}
+use Rattle.entries.proofs.not_above.Tie as tie
 
 abbrev Inv-loop : tie.InvT-loop
 Inv-loop entries count string i₀ i = (i ≤ count) × (notAbove (keyValue string) (values count entries) ≡ i + notAbove (keyValue string) (values (count - i) (drop (32 * i) entries)))
@@ -62,8 +62,8 @@ returns-2 c =
     let a = l .before .before .args in
     (omega arith, sym (l .loop .inv .1 ∙ notAbove-end (drop (32 * l .loop .i) (a .entries .now)) (a .count) (l .loop .i) (omega arith) (keyValue (a .string)) (omega arith)))
 
-pub upto-spec : {M : Type 1} → statement M
-upto-spec =
+pub not-above-spec : {M : Type 1} → statement M
+not-above-spec =
     tie.close
     (tie.spec
     Inv-loop

@@ -1,4 +1,4 @@
--- `twin` meets its contract: the neighbours passed have different upper bounds.
+-- `repeated_upper` meets its contract: the neighbours passed have different upper bounds.
 use Prim.Native.Nat.{_<_, _≤_, _-_, suc, ℕ}
 use native.Mathlib.Decide.{ℕ-discrete}
 use native.Mathlib.Omega.{arith}
@@ -10,8 +10,8 @@ use Rattle.file.specs.Orders.{Known, Listed, placed}
 use Rattle.file.proofs.Comparing.{place-high}
 use Rattle.file.proofs.Chains.{other-upper, same-upper}
 use borrow.Author.Needs.{needs}
-use Rattle.file.proofs.survey.twin.Statement.{statement}
-use Rattle.file.proofs.survey.twin.Tie as tie
+use Rattle.file.proofs.survey.repeated_upper.Statement.{statement}
+use Rattle.file.proofs.survey.repeated_upper.Tie as tie
 
 abbrev Inv-loop : tie.InvT-loop
 Inv-loop file size order count j₀ j =
@@ -24,14 +24,14 @@ abbrev μ-loop : tie.MeasureT-loop
 loop-holds : tie.Need-loop-holds Inv-loop μ-loop
 loop-holds c = (omega arith, λ fs. λ K. λ L. λ i. λ h. absurd (omega arith))
 
-sub-index : tie.Need-sub-index Inv-loop μ-loop
-sub-index c = search needs
+sub-usize-of-u8 : tie.Need-sub-usize-of-u8 Inv-loop μ-loop
+sub-usize-of-u8 c = search needs
 
-element-copy-out-index : tie.Need-element-copy-out-index Inv-loop μ-loop
-element-copy-out-index c = search needs
+element-copy-out-usize-of-u8 : tie.Need-element-copy-out-usize-of-u8 Inv-loop μ-loop
+element-copy-out-usize-of-u8 c = search needs
 
-index-requires : tie.Need-index-requires Inv-loop μ-loop
-index-requires c κs = search needs
+usize-of-u8-requires : tie.Need-usize-of-u8-requires Inv-loop μ-loop
+usize-of-u8-requires c κs = search needs
 
 slot-at-requires : tie.Need-slot-at-requires Inv-loop μ-loop
 slot-at-requires c κs =
@@ -39,11 +39,11 @@ slot-at-requires c κs =
     let l = c .before .before .before .loop in
     (s .pre .0, omega (arith, s .pre .1 (l .j - 1)))
 
-element-copy-out-index-2 : tie.Need-element-copy-out-index-2 Inv-loop μ-loop
-element-copy-out-index-2 c = search needs
+element-copy-out-usize-of-u8-2 : tie.Need-element-copy-out-usize-of-u8-2 Inv-loop μ-loop
+element-copy-out-usize-of-u8-2 c = search needs
 
-index-requires-2 : tie.Need-index-requires-2 Inv-loop μ-loop
-index-requires-2 c κs = search needs
+usize-of-u8-requires-2 : tie.Need-usize-of-u8-requires-2 Inv-loop μ-loop
+usize-of-u8-requires-2 c κs = search needs
 
 slot-at-requires-2 : tie.Need-slot-at-requires-2 Inv-loop μ-loop
 slot-at-requires-2 c κs =
@@ -51,11 +51,11 @@ slot-at-requires-2 c κs =
     let l = c .before .before .before .before .before .before .loop in
     (s .pre .0, omega (arith, s .pre .1 (l .j)))
 
-high-of-requires : tie.Need-high-of-requires Inv-loop μ-loop
-high-of-requires c κs = search needs
+high-key-requires : tie.Need-high-key-requires Inv-loop μ-loop
+high-key-requires c κs = search needs
 
-high-of-requires-2 : tie.Need-high-of-requires-2 Inv-loop μ-loop
-high-of-requires-2 c κs = search needs
+high-key-requires-2 : tie.Need-high-key-requires-2 Inv-loop μ-loop
+high-key-requires-2 c κs = search needs
 
 is-same-requires : tie.Need-is-same-requires Inv-loop μ-loop
 is-same-requires c κs = search needs
@@ -71,9 +71,9 @@ returns c =
         apart = l .inv .1 fs K L;
         same = λ i e h. subst (λ (k : ℕ). upper-of (head (placed fs o k)) ≡ upper-of (head (placed fs o (l .j)))) (omega arith)
             (same-upper K o n (omega (arith, s .pre .3)) L (l .j - 1) (l .j) (omega arith) (omega arith)
-            (keyValue (c .before .before .before .high-of .result)) (keyValue (c .before .before .high-of2 .result))
-            (place-high K o n L (l .j - 1) (omega arith) _ (c .before .before .before .before .before .before .before .before .index .ensures .0) _ (c .before .before .before .before .before .before .before .slot-at .ensures .0) _ (c .before .before .before .high-of .ensures))
-            (place-high K o n L (l .j) (omega arith) _ (c .before .before .before .before .before .index2 .ensures .0) _ (c .before .before .before .before .slot-at2 .ensures .0) _ (c .before .before .high-of2 .ensures))
+            (keyValue (c .before .before .before .high-key .result)) (keyValue (c .before .before .high-key2 .result))
+            (place-high K o n L (l .j - 1) (omega arith) _ (c .before .before .before .before .before .before .before .before .usize-of-u8 .ensures .0) _ (c .before .before .before .before .before .before .before .slot-at .ensures .0) _ (c .before .before .before .high-key .ensures))
+            (place-high K o n L (l .j) (omega arith) _ (c .before .before .before .before .before .usize-of-u82 .ensures .0) _ (c .before .before .before .before .slot-at2 .ensures .0) _ (c .before .before .high-key2 .ensures))
             (c .before .is-same .result) (c .before .is-same .ensures) (c .if1 .taken));
       },
     )
@@ -93,9 +93,9 @@ loop-again c =
     let now : (fs : List Slot) → Known (s .args .size .b) (s .args .file .now) fs → Listed fs o n
     → upper-of (head (placed fs o (l .j - 1))) ≡ upper-of (head (placed fs o (l .j))) → ⊥ =
     λ fs. λ K. λ L. other-upper K o n (omega (arith, s .pre .3)) L (l .j - 1) (l .j) (omega arith) (omega arith)
-    (keyValue (c .before .before .before .high-of .result)) (keyValue (c .before .before .high-of2 .result))
-    (place-high K o n L (l .j - 1) (omega arith) _ (c .before .before .before .before .before .before .before .before .index .ensures .0) _ (c .before .before .before .before .before .before .before .slot-at .ensures .0) _ (c .before .before .before .high-of .ensures))
-    (place-high K o n L (l .j) (omega arith) _ (c .before .before .before .before .before .index2 .ensures .0) _ (c .before .before .before .before .slot-at2 .ensures .0) _ (c .before .before .high-of2 .ensures))
+    (keyValue (c .before .before .before .high-key .result)) (keyValue (c .before .before .high-key2 .result))
+    (place-high K o n L (l .j - 1) (omega arith) _ (c .before .before .before .before .before .before .before .before .usize-of-u8 .ensures .0) _ (c .before .before .before .before .before .before .before .slot-at .ensures .0) _ (c .before .before .before .high-key .ensures))
+    (place-high K o n L (l .j) (omega arith) _ (c .before .before .before .before .before .usize-of-u82 .ensures .0) _ (c .before .before .before .before .slot-at2 .ensures .0) _ (c .before .before .high-key2 .ensures))
     (c .before .is-same .result) (c .before .is-same .ensures) (c .if1 .left) in (
       omega arith,
       λ fs. λ K. λ L. λ i. λ h. λ g. elim (ℕ-discrete (suc i) (l .j)) [
@@ -115,22 +115,22 @@ returns-2 c =
       },
     )
 
-pub twin-spec : {M : Type 1} → statement M
-twin-spec =
+pub repeated-upper-spec : {M : Type 1} → statement M
+repeated-upper-spec =
     tie.close
     (tie.spec
     Inv-loop
     μ-loop
     loop-holds
-    sub-index
-    element-copy-out-index
-    index-requires
+    sub-usize-of-u8
+    element-copy-out-usize-of-u8
+    usize-of-u8-requires
     slot-at-requires
-    element-copy-out-index-2
-    index-requires-2
+    element-copy-out-usize-of-u8-2
+    usize-of-u8-requires-2
     slot-at-requires-2
-    high-of-requires
-    high-of-requires-2
+    high-key-requires
+    high-key-requires-2
     is-same-requires
     returns
     add-j
