@@ -1,7 +1,7 @@
 -- Bytes put together by shifts and `|`, and in the other order.
-use mathlib.Core.Path.{_∙_, _≡_, ap, sym}
+use mathlib.Core.Path.{_∙_, _≡_, ap, refl, sym}
 use mathlib.Core.List.{List, [], _++_, _∷_}
-use Prim.Native.Nat.{_%_, _*_, _+_, _/_, _<_, _^_, _≤_, suc, ℕ}
+use Prim.Native.Nat.{_%_, _*_, _+_, _-_, _/_, _<_, _^_, _≤_, suc, zero, ℕ}
 use native.Mathlib.Nat.{mod-eq-of-lt, mul-assoc, pow-suc, pow-succ'}
 use native.Mathlib.Omega.{arith}
 use lib.Bits.{bitOr, or-shifted, or-shifted-r}
@@ -73,3 +73,16 @@ module _ (n : ℕ) (x : List ℕ) (f : Bytes x) (e : length x ≡ n + n) where
 
   pub value-halves : value x ≡ value (take n x) * 256 ^ n + value (drop n x)
   value-halves = ap value (sym (take-append-drop n x)) ∙ value-append (take n x) (drop n x) ∙ ap (λ (m : ℕ). value (take n x) * 256 ^ m + value (drop n x)) length-upper
+
+-- 0xFF behind the first n bytes of a word.
+pub fill-is : (n : ℕ) → n ≤ 8 → 18446744073709551615 / 2 ^ (4 * n) / 2 ^ (4 * n) + 1 ≡ 256 ^ (8 - n)
+fill-is zero h = refl
+fill-is (suc zero) h = refl
+fill-is (suc (suc zero)) h = refl
+fill-is (suc (suc (suc zero))) h = refl
+fill-is (suc (suc (suc (suc zero)))) h = refl
+fill-is (suc (suc (suc (suc (suc zero))))) h = refl
+fill-is (suc (suc (suc (suc (suc (suc zero)))))) h = refl
+fill-is (suc (suc (suc (suc (suc (suc (suc zero))))))) h = refl
+fill-is (suc (suc (suc (suc (suc (suc (suc (suc zero)))))))) h = refl
+fill-is (suc (suc (suc (suc (suc (suc (suc (suc (suc n))))))))) h = absurd (omega arith)

@@ -6,7 +6,7 @@ ghost use mathlib.Core.Bool.{_&&_, true};
 ghost use mathlib.Core.Logic.{_⊎_};
 ghost use mathlib.Core.Path.{_≡_};
 ghost use mathlib.Core.List.{[], _++_};
-ghost use Prim.Native.Nat.{_≤_, _<_, _+_, _-_, _^_, min, ℕ};
+ghost use Prim.Native.Nat.{_≤_, _<_, _+_, _-_, _^_, ℕ};
 ghost use lib.Dec.{eqb, leb, ltb};
 ghost use lib.ListN.{drop, length, take};
 ghost use Rattle.model.specs.Format.{Bytes, valueOf};
@@ -38,19 +38,6 @@ pub enum Naming {
     Legal,
     Illegal,
 }
-
-// The words whose lowest bytes, 0 to 8 of them, are 0xFF.
-const FILL: [u64; 9] = [
-    0,
-    0xFF,
-    0xFFFF,
-    0xFF_FFFF,
-    0xFFFF_FFFF,
-    0xFF_FFFF_FFFF,
-    0xFFFF_FFFF_FFFF,
-    0xFF_FFFF_FFFF_FFFF,
-    0xFFFF_FFFF_FFFF_FFFF,
-];
 
 // The two bytes from `at` on as one number, the first byte lowest.
 fn two(s: &[u8], at: usize) -> u64
@@ -119,18 +106,26 @@ pub fn key_at(s: &[u8], at: usize) -> Key
     }
 }
 
-// How many bytes of a word stay behind a string's end: the word ends at the digit number `end`.
-fn behind(end: usize, len: usize) -> usize
+// 0xFF in the bytes of a word behind the first n.
+fn fill(n: usize) -> u64
+    requires { ⌜ n ≤ 8 ⌝ }
+    ensures { λ r. ⌜ r + 1 ≡ 256 ^ (8 - n) ⌝ }
+{
+    (0xFFFF_FFFF_FFFF_FFFF >> (4 * n)) >> (4 * n)
+}
+
+// How many bytes of a word are a string's: the word ends at the digit number `end`.
+fn inside(end: usize, len: usize) -> usize
     requires { ⌜ (8 ≤ end) × (end ≤ 24) ⌝ }
-    ensures { λ r. ⌜ (r ≤ 8) × (r ≡ min 8 (end - len)) ⌝ }
+    ensures { λ r. ⌜ (r ≤ 8) × (8 - r ≡ 8 - (len - (end - 8))) ⌝ }
 {
     if end <= len {
-        return 0;
-    }
-    if len <= end - 8 {
         return 8;
     }
-    end - len
+    if len <= end - 8 {
+        return 0;
+    }
+    len - (end - 8)
 }
 
 // The word from `at` on, continued by 0xFF behind the string's end. The bytes there are zero in a slot that is well
@@ -141,8 +136,8 @@ fn continued(s: &[u8], at: usize, end: usize, len: usize) -> u64
         ⌜ (isZero (drop (len - (end - 8)) (take 8 (drop at (now (s .entry))))) ≡ true
         → r + 1 ≡ value (take 8 (drop at (now (s .entry)))) + 256 ^ (8 - (len - (end - 8)))) ⌝ }
 {
-    let f = behind(end, len);
-    std::num::wrapping_add_u64(word(s, at), FILL[f])
+    let f = fill(inside(end, len));
+    std::num::wrapping_add_u64(word(s, at), f)
 }
 
 // The bound of `len` digits at `at`, as it is compared.
