@@ -234,10 +234,9 @@ module _ (b : ℕ) (xs : List ℕ) (size : length xs ≡ 64 + 32 * b) (bytes : (
       let r = entries-row n (drop 64 xs) (lowOf low) (highIn xs) g h (t .rowed) .0 in
       rw (g, h, a, r, length-entriesOf n (drop 64 xs)) (le-leb n b (t .fits))
 
-  pub well-read : (k : Bucket) → k .count ≡ getD xs 1 0 → k .lower ≡ getD xs 2 0 → k .upper ≡ getD xs 3 0
-      → keyValue (k .low) ≡ lowValue (lowIn xs) → keyValue (k .high) ≡ value (continued (highIn xs)) → WellRead b xs k
+  pub well-read : (k : Bucket) → keyValue (k .low) ≡ lowValue (lowIn xs) → keyValue (k .high) ≡ value (continued (highIn xs)) → WellRead b xs k
   unfolding readUsed usedOf
-  well-read k c d e f g =
+  well-read k f g =
       let same : sameStr xs (slotBytes b (usedOf xs)) ≡ true = ap (sameStr xs) (sym is-written) ∙ sameStr-self xs in
       record {
         lower = lowOf low;
@@ -245,9 +244,6 @@ module _ (b : ℕ) (xs : List ℕ) (size : length xs ≡ 64 + 32 * b) (bytes : (
         entries = es;
         is = rw same;
         well = is-well;
-        count-is = c ∙ sym (length-entriesOf n (drop 64 xs));
-        lower-is = d ∙ sym (ap length (low-digits low) ∙ length-low);
-        upper-is = e ∙ sym length-high;
         low-is = f;
         high-is = g;
       }

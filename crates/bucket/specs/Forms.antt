@@ -5,11 +5,11 @@ use mathlib.Core.Option.{some}
 use mathlib.Core.List.{List}
 use Prim.Native.Nat.{_*_, _+_, suc, zero, ℕ}
 use lib.Dec.{ltb}
-use lib.ListN.{drop, length, take}
+use lib.ListN.{drop, take}
 use Rattle.model.specs.Checks.{isWell}
 use Rattle.model.specs.Entries.{Entry}
 use Rattle.model.specs.Files.{Slot, used}
-use Rattle.model.specs.Format.{lowDigits, readUsed}
+use Rattle.model.specs.Format.{readUsed}
 use Rattle.model.specs.Names.{legalFilled}
 use Rattle.model.specs.Order.{Low, Str}
 use Rattle.digits.specs.Keys.{continued, isZero, keyValue, lowValue, value}
@@ -46,9 +46,6 @@ pub record WellRead (b : ℕ) (xs : List ℕ) (k : Bucket) : Type 0 where
   pub entries : List Entry
   pub is : readUsed b xs ≡ some (used lower upper entries)
   pub well : isWell b (used lower upper entries) ≡ true
-  pub count-is : k .count ≡ length entries
-  pub lower-is : k .lower ≡ length (lowDigits lower)
-  pub upper-is : k .upper ≡ length upper
   pub low-is : keyValue (k .low) ≡ lowValue lower
   pub high-is : keyValue (k .high) ≡ value (continued upper)
 

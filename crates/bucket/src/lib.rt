@@ -12,13 +12,10 @@ ghost use Rattle.digits.specs.Keys.{continued, isZero, keyValue, lowValue, valu
 ghost use Rattle.bucket.specs.Forms.{Formed, areEntries, holding, isClear, vacant};
 ghost use Rattle.bucket.specs.Slots.{countAt, lowerAt, upperAt};
 use digits::Key;
-use digits::index;
+use digits::usize_of_u8;
 
-// What a well-formed slot says of itself: how many entries, the lengths of its bounds, and its range (low, high].
+// The range (low, high] of a well-formed slot.
 pub struct Bucket {
-    pub count: usize,
-    pub lower: usize,
-    pub upper: usize,
     pub low: Key,
     pub high: Key,
 }
@@ -55,37 +52,37 @@ pub fn vacancy_of(slot: &[u8]) -> Vacancy
 }
 
 // The lower end of a slot's range. An empty lower bound means no lower limit.
-pub fn low_of(slot: &[u8]) -> Key
+pub fn low_key(slot: &[u8]) -> Key
     requires { ⌜ 64 ≤ length (now slot) ⌝ }
     ensures { λ r.
         ⌜ (getD (now (slot .entry)) 2 0 ≤ 24
         → isZero (take (24 - getD (now (slot .entry)) 2 0) (drop (8 + getD (now (slot .entry)) 2 0) (now (slot .entry)))) ≡ true
         → keyValue r ≡ lowValue (lowOf (take (getD (now (slot .entry)) 2 0) (drop 8 (now (slot .entry)))))) ⌝ }
 {
-    let lower = index(slot[2]);
+    let lower = usize_of_u8(slot[2]);
     if lower == 0 {
-        return digits::no_limit();
+        return digits::lowest_key();
     }
     digits::bound_key_at(slot, 8, lower)
 }
 
 // The upper end of a slot's range. An empty upper bound is above all.
-pub fn high_of(slot: &[u8]) -> Key
+pub fn high_key(slot: &[u8]) -> Key
     requires { ⌜ 64 ≤ length (now slot) ⌝ }
     ensures { λ r.
         ⌜ (getD (now (slot .entry)) 3 0 ≤ 24
         → isZero (take (24 - getD (now (slot .entry)) 3 0) (drop (32 + getD (now (slot .entry)) 3 0) (now (slot .entry)))) ≡ true
         → keyValue r ≡ value (continued (take (getD (now (slot .entry)) 3 0) (drop 32 (now (slot .entry)))))) ⌝ }
 {
-    digits::bound_key_at(slot, 32, index(slot[3]))
+    digits::bound_key_at(slot, 32, usize_of_u8(slot[3]))
 }
 
 // The lower bound of a slot.
-pub fn lower_of(slot: &[u8]) -> &[u8]
+pub fn lower_bound(slot: &[u8]) -> &[u8]
     requires { ⌜ 64 ≤ length (now slot) ⌝ }
     ensures { λ r. ⌜ (now r ≡ lowerAt (now (slot .entry))) × (length (now r) ≤ 24) ⌝ }
 {
-    let len = index(slot[2]);
+    let len = usize_of_u8(slot[2]);
     if 24 < len {
         return &slot[8..8];
     }
@@ -94,11 +91,11 @@ pub fn lower_of(slot: &[u8]) -> &[u8]
 }
 
 // The upper bound of a slot.
-pub fn upper_of(slot: &[u8]) -> &[u8]
+pub fn upper_bound(slot: &[u8]) -> &[u8]
     requires { ⌜ 64 ≤ length (now slot) ⌝ }
     ensures { λ r. ⌜ (now r ≡ upperAt (now (slot .entry))) × (length (now r) ≤ 24) ⌝ }
 {
-    let len = index(slot[3]);
+    let len = usize_of_u8(slot[3]);
     if 24 < len {
         return &slot[32..32];
     }
@@ -111,7 +108,7 @@ pub fn count_of(slot: &[u8], b: usize) -> usize
     requires { ⌜ 64 ≤ length (now slot) ⌝ }
     ensures { λ r. ⌜ (r ≡ countAt b (now (slot .entry))) × (r ≤ b) ⌝ }
 {
-    let count = index(slot[1]);
+    let count = usize_of_u8(slot[1]);
     if b < count {
         return b;
     }
@@ -164,36 +161,30 @@ pub fn form_of(slot: &[u8], b: usize) -> Form
     if slot[0] != 1 {
         return Form::Ill;
     }
-    let count = index(slot[1]);
+    let count = usize_of_u8(slot[1]);
     if b < count {
         return Form::Ill;
     }
     if !is_clear(slot, count) {
         return Form::Ill;
     }
-    let lower = index(slot[2]);
+    let lower = usize_of_u8(slot[2]);
     if !digits::is_bound(&slot[8..32], lower) {
         return Form::Ill;
     }
-    let upper = index(slot[3]);
+    let upper = usize_of_u8(slot[3]);
     if !digits::is_bound(&slot[32..56], upper) {
         return Form::Ill;
     }
-    let low = low_of(slot);
-    let high = high_of(slot);
+    let low = low_key(slot);
+    let high = high_key(slot);
     if !digits::is_below(low, high) {
         return Form::Ill;
     }
     if !are_entries(&slot[64..], count, low, high) {
         return Form::Ill;
     }
-    Form::Well(Bucket {
-        count,
-        lower,
-        upper,
-        low,
-        high,
-    })
+    Form::Well(Bucket { low, high })
 }
 
 // A bucket's range is the names within its upper bound and not within its lower.

@@ -1,5 +1,5 @@
 -- Bytes put together by shifts and `|`, and in the other order.
-use Rattle.model.proofs.Prelude.{List, [], _%_, _*_, _++_, _+_, _/_, _<_, _^_, _∙_, _∷_, _≡_, _≤_, ap, arith, drop, drop-cons, drop-drop, getD, length, length-drop, length-take, mod-eq-of-lt, mul-assoc, pow-suc, pow-succ', suc, sym, take, take-add, take-append-drop, ℕ}
+use Rattle.model.proofs.Prelude.{List, [], _%_, _*_, _++_, _+_, _-_, _/_, _<_, _^_, _∙_, _∷_, _≡_, _≤_, ap, arith, drop, drop-cons, drop-drop, getD, length, length-drop, length-take, mod-eq-of-lt, mul-assoc, pow-suc, pow-succ', refl, suc, sym, take, take-add, take-append-drop, zero, ℕ}
 use lib.Bits.{bitOr, or-shifted, or-shifted-r}
 use Rattle.model.specs.Format.{Bytes, valueOf}
 use Rattle.model.proofs.Format.{bytes-drop, bytes-take}
@@ -67,3 +67,16 @@ module _ (n : ℕ) (x : List ℕ) (f : Bytes x) (e : length x ≡ n + n) where
 
   pub value-halves : value x ≡ value (take n x) * 256 ^ n + value (drop n x)
   value-halves = ap value (sym (take-append-drop n x)) ∙ value-append (take n x) (drop n x) ∙ ap (λ (m : ℕ). value (take n x) * 256 ^ m + value (drop n x)) length-upper
+
+-- 0xFF behind the first n bytes of a word.
+pub fill-is : (n : ℕ) → n ≤ 8 → 18446744073709551615 / 2 ^ (4 * n) / 2 ^ (4 * n) + 1 ≡ 256 ^ (8 - n)
+fill-is zero h = refl
+fill-is (suc zero) h = refl
+fill-is (suc (suc zero)) h = refl
+fill-is (suc (suc (suc zero))) h = refl
+fill-is (suc (suc (suc (suc zero)))) h = refl
+fill-is (suc (suc (suc (suc (suc zero))))) h = refl
+fill-is (suc (suc (suc (suc (suc (suc zero)))))) h = refl
+fill-is (suc (suc (suc (suc (suc (suc (suc zero))))))) h = refl
+fill-is (suc (suc (suc (suc (suc (suc (suc (suc zero)))))))) h = refl
+fill-is (suc (suc (suc (suc (suc (suc (suc (suc (suc n))))))))) h = absurd (omega arith)

@@ -1,5 +1,5 @@
 -- Strings as numbers: a number's parts, and the one order.
-use Rattle.model.proofs.Prelude.{Bool, List, [], _%_, _&&_, _*_, _++_, _+_, _-_, _<_, _^_, _∙_, _∷_, _≡_, _≤_, add-mul, add-zero, and-assoc, ap, arith, cond, decLe, decLt, drop, drop-drop, eq-eqb, eqb, eqb-true, false, getD, le-leb, le-ltb, leb, length, length-append, length-drop, length-take, lt-leb, lt-ltb, ltb, mul-assoc, mul-le-mul-right, ne-eqb, not, one-le-pow, pow-suc, refl, replicate, sub-zero, suc, suc-mul, sym, take, take-add, take-at, take-take, true, unary-clauses, zero, ℕ, ℕ-discrete}
+use Rattle.model.proofs.Prelude.{List, [], _%_, _&&_, _*_, _++_, _+_, _-_, _<_, _^_, _∙_, _∷_, _≡_, _≤_, add-mul, and-assoc, ap, arith, cond, decLe, decLt, drop, drop-drop, eq-eqb, eqb, eqb-true, false, getD, le-leb, le-ltb, leb, length, length-append, length-drop, length-take, lt-leb, lt-ltb, ltb, mul-assoc, mul-le-mul-right, ne-eqb, not, one-le-pow, pow-suc, refl, replicate, sub-zero, suc, suc-mul, sym, take, take-add, take-at, take-take, true, unary-clauses, zero, ℕ, ℕ-discrete}
 use lib.Pow.{pow-add}
 use Rattle.model.specs.Names.{Digits, atMost}
 use Rattle.model.specs.Format.{Bytes}
@@ -116,19 +116,6 @@ cover-split k n x y e f = rw (cover-append k x y, value-append, e, length-cover 
 
 pub bytes-part : (s : List ℕ) (n at : ℕ) → ((i : ℕ) → getD s i 0 < 256) → Bytes (take n (drop at s))
 bytes-part s n at h = bytes-take n (drop at s) (bytes-drop at s (bytes-each s h))
-
--- A table of fills: each is a power of 256, less one.
-unfoldable pub areFills : ℕ → List ℕ → Bool
-areFills n [] = true
-areFills n (g ∷ x) = eqb (g + 1) (256 ^ n) && areFills (suc n) x
-
-pub fill-at : (n : ℕ) (x : List ℕ) (f : ℕ) → areFills n x ≡ true → f < length x → getD x f 0 + 1 ≡ 256 ^ (n + f)
-unfolding areFills
-fill-at n [] f e h = absurd (omega arith)
-fill-at n (g ∷ x) zero e h = rw add-zero (eqb-true (g + 1) (256 ^ n) (both-true (eqb (g + 1) (256 ^ n)) (areFills (suc n) x) e .0))
-fill-at n (g ∷ x) (suc f) e h =
-    let m : n + suc f ≡ suc n + f = omega arith in
-    rw m (fill-at (suc n) x f (both-true (eqb (g + 1) (256 ^ n)) (areFills (suc n) x) e .1) (omega arith))
 
 -- A word and the fill of what lies behind the string's end: nothing wraps.
 pub word-filled : (x : List ℕ) (k w g r : ℕ) → Bytes x → length x ≡ 8 → isZero (drop k x) ≡ true → w ≡ value x → g + 1 ≡ 256 ^ (8 - k) → r ≡ (w + g) % 2 ^ 64

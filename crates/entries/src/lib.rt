@@ -34,7 +34,7 @@ pub fn rank(entries: &[u8], count: usize, name: Key) -> usize
 }
 
 // How many of the first entries are not above the string.
-pub fn upto(entries: &[u8], count: usize, string: Key) -> usize
+pub fn not_above(entries: &[u8], count: usize, string: Key) -> usize
     requires { ⌜ (32 * count ≤ length (now entries)) × (count ≤ 17) ⌝ }
     ensures { λ r. ⌜ (r ≤ count) × (r ≡ notAbove (keyValue string) (values count (now (entries .entry)))) ⌝ }
 {

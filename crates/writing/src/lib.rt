@@ -8,7 +8,7 @@ ghost use Rattle.bucket.specs.Slots.{countAt, lowerAt, upperAt};
 ghost use Rattle.writing.specs.Entries.{changedValue, partBetween, withEntry, withoutEntry};
 ghost use Rattle.writing.specs.Slots.{writtenBytes};
 use digits::Key;
-use digits::byte;
+use digits::u8_of_usize;
 use entries::copy;
 
 // The eight bytes of a value, the lowest first.
@@ -73,7 +73,11 @@ pub fn rewritten(slot: &[u8], entries: &[u8]) -> [u8; 576]
     requires { ⌜ (64 ≤ length (now slot)) × (length (now entries) ≤ 512) ⌝ }
     ensures { λ r. ⌜ r ≡ writtenBytes (lowerAt (now (slot .entry))) (upperAt (now (slot .entry))) (now (entries .entry)) ⌝ }
 {
-    written(bucket::lower_of(slot), bucket::upper_of(slot), entries)
+    written(
+        bucket::lower_bound(slot),
+        bucket::upper_bound(slot),
+        entries,
+    )
 }
 
 // A used slot written whole: its bounds and its entries, and zero elsewhere.
@@ -83,9 +87,9 @@ pub fn written(lower: &[u8], upper: &[u8], entries: &[u8]) -> [u8; 576]
 {
     let mut slot = [0u8; 576];
     slot[0] = 1;
-    slot[1] = byte(entries.len() / 32);
-    slot[2] = byte(lower.len());
-    slot[3] = byte(upper.len());
+    slot[1] = u8_of_usize(entries.len() / 32);
+    slot[2] = u8_of_usize(lower.len());
+    slot[3] = u8_of_usize(upper.len());
     copy(&mut slot, 8, lower);
     copy(&mut slot, 32, upper);
     copy(&mut slot, 64, entries);
@@ -100,7 +104,7 @@ pub fn part_between(slot: &[u8], b: usize, first: Key, second: Key) -> &[u8]
 {
     let count = bucket::count_of(slot, b);
     let from = entries::rank(&slot[64..], count, first);
-    let to = entries::upto(&slot[64..], count, second);
+    let to = entries::not_above(&slot[64..], count, second);
     if to <= from {
         return &slot[64..64];
     }

@@ -6,39 +6,39 @@ use Rattle.agreement.proofs.agreement_of.Tie as tie
 returns : tie.Need-returns
 returns c =
     let a = c .before .before .args in
-    not-few (a .trie) (a .t2) (c .no .ensures) (not-true (a .t2 .few) (c .before .if1 .taken))
+    not-few (a .trie) (a .t2) (c .disagreement .ensures) (not-true (a .t2 .few) (c .before .if1 .taken))
 
 returns-2 : tie.Need-returns-2
 returns-2 c =
     let a = c .before .before .before .before .args in
-    not-count (a .trie) (a .t2) (c .no2 .ensures) (λ e. c .before .if2 .taken (c .before .before .number .ensures .0 ∙ e))
+    not-count (a .trie) (a .t2) (c .disagreement2 .ensures) (λ e. c .before .if2 .taken (c .before .before .usize-of-u16 .ensures .0 ∙ e))
 
 returns-3 : tie.Need-returns-3
 returns-3 c =
     let a = c .before .before .before .before .before .before .args in let x = c .before .before .is-clear-past in
-    not-clear (a .trie) (a .t2) (c .no3 .ensures) (sym (x .ensures) ∙ not-true (x .result) (c .before .if3 .taken))
+    not-clear (a .trie) (a .t2) (c .disagreement3 .ensures) (sym (x .ensures) ∙ not-true (x .result) (c .before .if3 .taken))
 
 returns-4 : tie.Need-returns-4
 returns-4 c =
     let n = c .before .before .before in let x = n .before .before in let m = x .before .before in let f = m .before in let l = f .before in
     let a = l .args in
     let full : length (a .trie .cells) ≡ 256 = simp length-map at (l .good .0 .1 .1 .0 .1 .0 .1) in
-    by-leaf (a .trie) (a .t2) full (not-false (a .t2 .few) (f .if1 .left)) (search needs) (sym (m .number .ensures .0) ∙ x .before .if2 .left)
-    (sym (x .is-clear-past .ensures) ∙ not-false (x .is-clear-past .result) (n .before .if3 .left)) (c .before .before .if4 .taken) (n .number2 .ensures .0) (c .index .ensures .0)
+    by-leaf (a .trie) (a .t2) full (not-false (a .t2 .few) (f .if1 .left)) (search needs) (sym (m .usize-of-u16 .ensures .0) ∙ x .before .if2 .left)
+    (sym (x .is-clear-past .ensures) ∙ not-false (x .is-clear-past .result) (n .before .if3 .left)) (c .before .before .if4 .taken) (n .usize-of-u162 .ensures .0) (c .usize-of-u8 .ensures .0)
 
 returns-5 : tie.Need-returns-5
 returns-5 c =
     let n = c .before .before .before in let a = n .before .before .before .before .before .before .args in
-    not-first (a .trie) (a .t2) (c .no4 .ensures) (omega (arith, c .before .before .if4 .left)) (λ e. c .before .if5 .taken (n .number2 .ensures .0 ∙ e))
+    not-first (a .trie) (a .t2) (c .disagreement4 .ensures) (omega (arith, c .before .before .if4 .left)) (λ e. c .before .if5 .taken (n .usize-of-u162 .ensures .0 ∙ e))
 
 returns-6 : tie.Need-returns-6
 returns-6 c =
     let n = c .before .before .before in let x = n .before .before in let m = x .before .before in let f = m .before in let l = f .before in
     let a = l .args in
     let full : length (a .trie .cells) ≡ 256 = simp length-map at (l .good .0 .1 .1 .0 .1 .0 .1) in
-    by-pass (a .trie) (a .t2) full (not-false (a .t2 .few) (f .if1 .left)) (search needs) (sym (m .number .ensures .0) ∙ x .before .if2 .left)
+    by-pass (a .trie) (a .t2) full (not-false (a .t2 .few) (f .if1 .left)) (search needs) (sym (m .usize-of-u16 .ensures .0) ∙ x .before .if2 .left)
     (sym (x .is-clear-past .ensures) ∙ not-false (x .is-clear-past .result) (n .before .if3 .left)) (c .before .before .if4 .left)
-    (sym (n .number2 .ensures .0) ∙ c .before .if5 .left) (c .pass .ensures)
+    (sym (n .usize-of-u162 .ensures .0) ∙ c .before .if5 .left) (c .pass .ensures)
 
 pub agreement-of-spec : {M : Type 1} → Rattle.agreement.proofs.agreement_of.Statement.statement M
 agreement-of-spec =

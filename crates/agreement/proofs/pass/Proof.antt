@@ -16,82 +16,82 @@ returns : tie.Need-returns Inv-loop μ-loop
 returns c =
     let t = c .before in let i = t .before in let n = i .before .before in let p = n .before .before in let l = p .before .before in
     let S = l .loop .inv in
-    refused (l .before .args .t1 .cells) (l .before .args .t2) (further 0) (c .no .ensures)
-    (not-leaf S (p .place .given .1) (λ q. t .if1 .taken (n .number .ensures .0 ∙ q ∙ sym (i .index .ensures .0))))
+    refused (l .before .args .t1 .cells) (l .before .args .t2) (further 0) (c .disagreement .ensures)
+    (not-leaf S (p .place .given .1) (λ q. t .if1 .taken (n .usize-of-u16 .ensures .0 ∙ q ∙ sym (i .usize-of-u8 .ensures .0))))
 
 returns-2 : tie.Need-returns-2 Inv-loop μ-loop
 returns-2 c =
     let t = c .before in let i = t .before in let n = i .before .before in let p = n .before .before in let l = p .before .before in
     let S = l .loop .inv in
-    ended S (p .place .given .1) (c .if2 .taken) (sym (n .number .ensures .0) ∙ t .if1 .left ∙ i .index .ensures .0)
+    ended S (p .place .given .1) (c .if2 .taken) (sym (n .usize-of-u16 .ensures .0) ∙ t .if1 .left ∙ i .usize-of-u8 .ensures .0)
 
 returns-3 : tie.Need-returns-3 Inv-loop μ-loop
 returns-3 c =
     let f = c .before in let m = f .before in let n = m .before .before in let k = n .before .before in let t = k .before .before in
     let p = t .before .before .before .before .before .before in let l = p .before .before in let S = l .loop .inv in
-    refused (l .before .args .t1 .cells) (l .before .args .t2) (further 0) (c .no2 .ensures)
-    (not-length S (p .place .given .1) (t .if2 .left) (k .index2 .ensures .0)
-    (λ q. f .if3 .taken (omega (arith, q, n .index3 .ensures .0, m .index4 .ensures .0))))
+    refused (l .before .args .t1 .cells) (l .before .args .t2) (further 0) (c .disagreement2 .ensures)
+    (not-length S (p .place .given .1) (t .if2 .left) (k .usize-of-u82 .ensures .0)
+    (λ q. f .if3 .taken (omega (arith, q, n .usize-of-u83 .ensures .0, m .usize-of-u84 .ensures .0))))
 
 returns-4 : tie.Need-returns-4 Inv-loop μ-loop
 returns-4 c =
     let f = c .before in let k = f .before .before .before .before .before .before .before .before in let t = k .before .before in
     let p = t .before .before .before .before .before .before in let l = p .before .before in let S = l .loop .inv in
-    refused (l .before .args .t1 .cells) (l .before .args .t2) (further 0) (c .no3 .ensures)
-    (not-digit S (p .place .given .1) (t .if2 .left) (k .index2 .ensures .0) (f .if4 .taken))
+    refused (l .before .args .t1 .cells) (l .before .args .t2) (further 0) (c .disagreement3 .ensures)
+    (not-digit S (p .place .given .1) (t .if2 .left) (k .usize-of-u82 .ensures .0) (f .if4 .taken))
 
 returns-5 : tie.Need-returns-5 Inv-loop μ-loop
 returns-5 c =
     let f = c .before in let k = f .before .before .before .before .before .before .before .before .before in let t = k .before .before in
     let p = t .before .before .before .before .before .before in let l = p .before .before in let S = l .loop .inv in
-    refused (l .before .args .t1 .cells) (l .before .args .t2) (further 0) (c .no4 .ensures)
-    (not-new S (p .place .given .1) (t .if2 .left) (k .index2 .ensures .0) (k .index2 .ensures .1) (f .if5 .taken))
+    refused (l .before .args .t1 .cells) (l .before .args .t2) (further 0) (c .disagreement4 .ensures)
+    (not-new S (p .place .given .1) (t .if2 .left) (k .usize-of-u82 .ensures .0) (k .usize-of-u82 .ensures .1) (f .if5 .taken))
 
 loop-again : tie.Need-loop-again Inv-loop μ-loop
 loop-again c =
     let sh = c .before in let f5 = sh .before in let f4 = f5 .before in let f3 = f4 .before .before .before in let m = f3 .before in
     let n = m .before .before in let k = n .before .before in let t = k .before .before in let f1 = t .before in let i = f1 .before in
     let u = i .before .before in let p = u .before .before in let l = p .before .before in
-    rw (sh .short .ensures, c .number2 .ensures .0, n .index3 .ensures .0)
-    (left (l .loop .inv) (p .place .given .1) (t .if2 .left) (k .index2 .ensures .0) (k .index2 .ensures .1)
-    (sym (u .number .ensures .0) ∙ f1 .if1 .left ∙ i .index .ensures .0)
-    (omega (arith, f3 .if3 .left, n .index3 .ensures .0, m .index4 .ensures .0))
-    (f4 .if4 .left) (f5 .if5 .left) (omega (arith, c .number2 .ensures .0, c .number2 .ensures .1)))
+    rw (sh .u16-of-usize .ensures, c .usize-of-u162 .ensures .0, n .usize-of-u83 .ensures .0)
+    (left (l .loop .inv) (p .place .given .1) (t .if2 .left) (k .usize-of-u82 .ensures .0) (k .usize-of-u82 .ensures .1)
+    (sym (u .usize-of-u16 .ensures .0) ∙ f1 .if1 .left ∙ i .usize-of-u8 .ensures .0)
+    (omega (arith, f3 .if3 .left, n .usize-of-u83 .ensures .0, m .usize-of-u84 .ensures .0))
+    (f4 .if4 .left) (f5 .if5 .left) (omega (arith, c .usize-of-u162 .ensures .0, c .usize-of-u162 .ensures .1)))
 
 returns-6 : tie.Need-returns-6 Inv-loop μ-loop
 returns-6 c =
     let f = c .before in let p = f .before .before in let l = p .before .before in let S = l .loop .inv in
-    refused (l .before .args .t1 .cells) (l .before .args .t2) (further 0) (c .no5 .ensures)
+    refused (l .before .args .t1 .cells) (l .before .args .t2) (further 0) (c .disagreement5 .ensures)
     (no-room S (p .place2 .given .1) (f .if6 .taken))
 
 returns-7 : tie.Need-returns-7 Inv-loop μ-loop
 returns-7 c =
     let f = c .before in let n = f .before in let p = n .before .before .before in let l = p .before .before in let S = l .loop .inv in
-    refused (l .before .args .t1 .cells) (l .before .args .t2) (further 0) (c .no6 .ensures)
-    (not-below S (p .place2 .given .1) (omega (arith, f .if7 .taken, n .number3 .ensures .0)))
+    refused (l .before .args .t1 .cells) (l .before .args .t2) (further 0) (c .disagreement6 .ensures)
+    (not-below S (p .place2 .given .1) (omega (arith, f .if7 .taken, n .usize-of-u163 .ensures .0)))
 
 returns-8 : tie.Need-returns-8 Inv-loop μ-loop
 returns-8 c =
     let f = c .before in let m = f .before in let n = m .before .before .before in let p = n .before .before .before in let l = p .before .before in
     let S = l .loop .inv in
-    refused (l .before .args .t1 .cells) (l .before .args .t2) (further 0) (c .no7 .ensures)
-    (not-number S (p .place2 .given .1) (n .number3 .ensures .0) (omega (arith, f .if8 .taken, m .index5 .ensures .0)))
+    refused (l .before .args .t1 .cells) (l .before .args .t2) (further 0) (c .disagreement7 .ensures)
+    (not-number S (p .place2 .given .1) (n .usize-of-u163 .ensures .0) (omega (arith, f .if8 .taken, m .usize-of-u85 .ensures .0)))
 
 returns-9 : tie.Need-returns-9 Inv-loop μ-loop
 returns-9 c =
     let f = c .before in let m = f .before .before in let n = m .before .before .before in let p = n .before .before .before in
     let l = p .before .before in let S = l .loop .inv in
-    refused (l .before .args .t1 .cells) (l .before .args .t2) (further 0) (c .no8 .ensures)
-    (not-least S (p .place2 .given .1) (n .number3 .ensures .0) (omega (arith, f .if9 .taken, m .index5 .ensures .0)))
+    refused (l .before .args .t1 .cells) (l .before .args .t2) (further 0) (c .disagreement8 .ensures)
+    (not-least S (p .place2 .given .1) (n .usize-of-u163 .ensures .0) (omega (arith, f .if9 .taken, m .usize-of-u85 .ensures .0)))
 
 loop-again-2 : tie.Need-loop-again-2 Inv-loop μ-loop
 loop-again-2 c =
     let by = c .before in let f9 = by .before in let f8 = f9 .before in let m = f8 .before in let f7 = m .before .before in let n = f7 .before in
     let f6 = n .before in let p = f6 .before .before in let l = p .before .before in
-    rw (by .byte .ensures, c .short2 .ensures, m .index5 .ensures .0)
-    (entered-at (l .loop .inv) (p .place2 .given .1) (n .number3 .ensures .0) (f6 .if6 .left) (f7 .if7 .left)
-    (omega (arith, f8 .if8 .left, m .index5 .ensures .0)) (omega (arith, f9 .if9 .left, m .index5 .ensures .0))
-    (omega (arith, m .index5 .ensures .0, m .index5 .ensures .1)))
+    rw (by .u8-of-usize .ensures, c .u16-of-usize2 .ensures, m .usize-of-u85 .ensures .0)
+    (entered-at (l .loop .inv) (p .place2 .given .1) (n .usize-of-u163 .ensures .0) (f6 .if6 .left) (f7 .if7 .left)
+    (omega (arith, f8 .if8 .left, m .usize-of-u85 .ensures .0)) (omega (arith, f9 .if9 .left, m .usize-of-u85 .ensures .0))
+    (omega (arith, m .usize-of-u85 .ensures .0, m .usize-of-u85 .ensures .1)))
 
 pub pass-spec : {M : Type 1} → Rattle.agreement.proofs.pass.Statement.statement M
 pass-spec =

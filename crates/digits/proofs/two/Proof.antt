@@ -6,7 +6,7 @@ use Rattle.digits.proofs.two.Tie as tie
 returns : tie.Need-returns
 returns c =
     let a = c .before .before .before .before .before .args in
-    let e = or-above 8 (c .before .before .wide .result) (c .wide2 .result) (omega arith) (omega arith) in
+    let e = or-above 8 (c .before .before .u64-of-u8 .result) (c .u64-of-u82 .result) (omega arith) (omega arith) in
     (omega (arith, e, valueOf-two (a .at) (a .s .now) (omega arith)), omega (arith, e))
 
 pub two-spec : {M : Type 1} → Rattle.digits.proofs.two.Statement.statement M

@@ -7,7 +7,7 @@ use Rattle.file.proofs.create.Tie as tie
 returns : tie.Need-returns
 returns c =
     let s = c .before .before .before .before .before .before .before in let z = s .pre in
-    rw (c .before .before .before .before .clear .ensures, c .before .byte .ensures, c .byte2 .ensures) (created-bytes _ _ _ (z .legal .slots-least) (z .whole))
+    rw (c .before .before .before .before .clear .ensures, c .before .u8-of-usize .ensures, c .u8-of-usize2 .ensures) (created-bytes _ _ _ (z .legal .slots-least) (z .whole))
 
 pub create-spec : {M : Type 1} → Rattle.file.proofs.create.Statement.statement M
 create-spec =

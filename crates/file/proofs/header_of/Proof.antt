@@ -13,7 +13,7 @@ returns-3 c =
     let m = c .before .before .before .before .before in
     told (m .before .before .before .before .args .file .now) (c .sizes .result) _ _
     (sym (m .before .is-marked .ensures) ∙ not-false (m .before .is-marked .result) (m .if2 .left))
-    (c .before .before .before .index .ensures .0) (c .before .index2 .ensures .0) (c .sizes .ensures)
+    (c .before .before .before .usize-of-u8 .ensures .0) (c .before .usize-of-u82 .ensures .0) (c .sizes .ensures)
 
 pub header-of-spec : {M : Type 1} → Rattle.file.proofs.header_of.Statement.statement M
 header-of-spec =

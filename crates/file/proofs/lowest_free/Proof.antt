@@ -7,11 +7,11 @@ use Rattle.file.proofs.Maps.{all-used, lowest-of, room-none, room-some}
 use Rattle.file.proofs.lowest_free.Tie as tie
 
 returns : tie.Need-returns
-returns c = record { inside = tt; lowest = λ fs e h m. room-none fs (all-used fs (omega (arith, c .before .number .ensures, ap ones m))) }
+returns c = record { inside = tt; lowest = λ fs e h m. room-none fs (all-used fs (omega (arith, c .before .usize-of-u32 .ensures, ap ones m))) }
 
 returns-2 : tie.Need-returns-2
 returns-2 c =
-    let n = c .before .number2 in let map = c .before .before .before .before .args .used in
+    let n = c .before .usize-of-u322 in let map = c .before .before .before .before .args .used in
     record {
       inside = tt;
       lowest = λ fs e h m. let i : n .result ≡ first free? fs = lowest-of map (n .result) fs (n .ensures) m (omega arith) in room-none fs (omega arith);
@@ -19,7 +19,7 @@ returns-2 c =
 
 returns-3 : tie.Need-returns-3
 returns-3 c =
-    let n = c .before .number2 in let map = c .before .before .before .before .args .used in
+    let n = c .before .usize-of-u322 in let map = c .before .before .before .before .args .used in
     record {
       inside = search needs;
       lowest = λ fs e h m. room-some fs (n .result) (lowest-of map (n .result) fs (n .ensures) m (omega arith)) (omega arith);

@@ -32,7 +32,7 @@ returns c =
     let l = c .before .before in let W = l .loop .inv .7 in
     record {
       written = record { full = W .full; new = λ j h k. W .new j (omega arith) k; before = W .before; behind = λ i h. W .behind i (omega arith) };
-      count-is = c .short .ensures;
+      count-is = c .u16-of-usize .ensures;
       first-is = refl;
     }
 

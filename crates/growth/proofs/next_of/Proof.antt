@@ -5,7 +5,7 @@ use Rattle.growth.proofs.next_of.Tie as tie
 
 returns : tie.Need-returns
 unfolding next-side
-returns c = rw (lt-ltb _ _ (c .before .if1 .taken), c .short .ensures)
+returns c = rw (lt-ltb _ _ (c .before .if1 .taken), c .u16-of-usize .ensures)
 
 returns-2 : tie.Need-returns-2
 unfolding next-side

@@ -12,12 +12,12 @@ abbrev μ-loop : tie.MeasureT-loop
 returns : tie.Need-returns Inv-loop μ-loop
 returns c =
     let l = c .before .before .before .before in
-    record { from-on = search needs; before = l .loop .inv .1; found = λ h. sym (c .before .index .ensures .0) ∙ c .if1 .taken }
+    record { from-on = search needs; before = l .loop .inv .1; found = λ h. sym (c .before .usize-of-u8 .ensures .0) ∙ c .if1 .taken }
 
 loop-again : tie.Need-loop-again Inv-loop μ-loop
 loop-again c =
     let l = c .before .before .before .before in
-    (search needs, below-more _ _ (l .loop .inv .1) (λ g e. c .if1 .left (c .before .index .ensures .0 ∙ e)))
+    (search needs, below-more _ _ (l .loop .inv .1) (λ g e. c .if1 .left (c .before .usize-of-u8 .ensures .0 ∙ e)))
 
 returns-2 : tie.Need-returns-2 Inv-loop μ-loop
 returns-2 c =

@@ -13,7 +13,7 @@ abbrev μ-loop : tie.MeasureT-loop
 loop-again : tie.Need-loop-again Inv-loop μ-loop
 loop-again c =
     let l = c .before .before .before .before .before in
-    (search needs, search needs, redirect-next (l .loop .inv .2) (rw (c .before .number .ensures .0) at (c .turned-cell .ensures)))
+    (search needs, search needs, redirect-next (l .loop .inv .2) (rw (c .before .usize-of-u16 .ensures .0) at (c .turned-cell .ensures)))
 
 returns : tie.Need-returns Inv-loop μ-loop
 returns c =

@@ -13,7 +13,7 @@ abbrev μ-loop : tie.MeasureT-loop
 returns : tie.Need-returns Inv-loop μ-loop
 returns c =
     let x = c .before .before .before .before .before .before .args .strings in
-    c .lone .ensures ∙ none-rebuilt (x .lens) (x .digits) (x .slots) (x .count) (c .before .slot-number .result) (search needs) (c .before .slot-number .ensures)
+    c .without-cells .ensures ∙ none-rebuilt (x .lens) (x .digits) (x .slots) (x .count) (c .before .u16-of-u8 .result) (search needs) (c .before .u16-of-u8 .ensures .0)
 
 -- Of the run on top, at a turn.
 top : (c : tie.In-loop Inv-loop μ-loop) → Top (c .before .before .before .before .before .before .before .before .args .strings .count) (c .before .loop .runs) (c .before .loop .top) (c .before .loop .i)
@@ -22,22 +22,22 @@ top c = topped (c .before .loop .inv .0) (c .loop-test .taken)
 loop-holds : tie.Need-loop-holds Inv-loop μ-loop
 loop-holds c =
     let x = c .before .before .before .before .before .before .args .strings in
-    rw (c .before .lone2 .ensures) (rw (c .short .ensures) (started (x .lens) (x .digits) (x .slots) (x .count) (replicate 512 no-run) _ (length-replicate 512 no-run) refl (search needs) (search needs)), refl)
+    rw (c .before .without-cells2 .ensures) (rw (c .u16-of-usize .ensures) (started (x .lens) (x .digits) (x .slots) (x .count) (replicate 512 no-run) _ (length-replicate 512 no-run) refl (search needs) (search needs)), refl)
 
 loop-again : tie.Need-loop-again Inv-loop μ-loop
 loop-again c =
     let kl = c in let kr = kl .before in let sl = kr .before in let sr = sl .before in let ce = sr .before in let ro = ce .before .before in
     let to = ro .before .before in let fr = to .before in let b = fr .before .before in let l = b .before in
     let x = l .before .before .before .before .before .before .before .args .strings in (
-      stepped (x .lens) (x .digits) (x .slots) (x .count) (l .loop .inv .0) (b .loop-test .taken) (fr .number .ensures .0) (to .number2 .ensures .0) (ro .root-of .ensures .2)
-          (ce .cell-of .ensures) (sr .short2 .ensures) (sl .short3 .ensures) (kr .kept .ensures .1) (kl .kept2 .ensures .1),
+      stepped (x .lens) (x .digits) (x .slots) (x .count) (l .loop .inv .0) (b .loop-test .taken) (fr .usize-of-u16 .ensures .0) (to .usize-of-u162 .ensures .0) (ro .root-of .ensures .2)
+          (ce .cell-of .ensures) (sr .u16-of-usize2 .ensures) (sl .u16-of-usize3 .ensures) (kr .kept .ensures .1) (kl .kept2 .ensures .1),
       l .loop .inv .1,
     )
 
 returns-2 : tie.Need-returns-2 Inv-loop μ-loop
 returns-2 c =
     let l = c .before .before in let x = l .before .before .before .before .before .before .before .args .strings in
-    rw (c .short4 .ensures, l .loop .inv .1) (ended (x .lens) (x .digits) (x .slots) (x .count) _ _ _ _ (l .loop .inv .0) (search needs) (search needs))
+    rw (c .u16-of-usize4 .ensures, l .loop .inv .1) (ended (x .lens) (x .digits) (x .slots) (x .count) _ _ _ _ (l .loop .inv .0) (search needs) (search needs))
 
 pub rebuilt-spec : {M : Type 1} → Rattle.rebuilding.proofs.rebuilt.Statement.statement M
 rebuilt-spec =

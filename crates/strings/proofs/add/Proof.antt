@@ -34,7 +34,7 @@ loop-again c =
       search needs,
       search needs,
       left-step (a .x .now) (a .slot) (a .next) (a .count) (l .len) (search needs) (search needs),
-      added-step (a .x .now) (a .slot) (a .next) (a .count) (l .len) (l .n) (c .before .byte .result) (l .left) _ _ _ _ _ _ (c .before .byte .ensures)
+      added-step (a .x .now) (a .slot) (a .next) (a .count) (l .len) (l .n) (c .before .u8-of-usize .result) (l .left) _ _ _ _ _ _ (c .before .u8-of-usize .ensures)
           (search needs) (search needs) (search needs) (l .inv .5) (l .inv .6),
     )
 

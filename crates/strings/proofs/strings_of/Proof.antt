@@ -35,8 +35,8 @@ returns c =
     let l = d .before .before .before .before .before .before .before .before .before .before .loop in let f = s .args .file .now in
     let o = s .args .order .now in let z = s .args .size in
     let up = upper-in f o z (s .args .count) in
-    let x-is = d .before .before .before .before .upper-of .ensures .0 ∙ ap upperAt (d .before .before .before .before .before .slot-at .ensures .0) ∙ ap up (d .before .before .before .before .before .before .index .ensures .0) in
-    let y-is = d .before .upper-of2 .ensures .0 ∙ ap upperAt (d .before .before .slot-at2 .ensures .0) ∙ ap up (d .before .before .before .index2 .ensures .0) in
+    let x-is = d .before .before .before .before .upper-bound .ensures .0 ∙ ap upperAt (d .before .before .before .before .before .slot-at .ensures .0) ∙ ap up (d .before .before .before .before .before .before .usize-of-u8 .ensures .0) in
+    let y-is = d .before .upper-bound2 .ensures .0 ∙ ap upperAt (d .before .before .slot-at2 .ensures .0) ∙ ap up (d .before .before .before .usize-of-u82 .ensures .0) in
     goes-many f o z (s .args .count) (s .pre .1) (l .n) (l .j) _ _ (d .shared .result) _ _ (l .inv .1) (d .before .before .before .before .before .before .before .before .before .loop-test .taken)
     refl refl x-is y-is (d .shared .ensures .2) (l .lens) (l .digits) (l .slots) (l .inv .3) _ refl refl (c .if1 .taken)
 
@@ -50,10 +50,10 @@ loop-again c =
     let l = d .before .before .before .before .before .before .before .before .before .before .loop in let f = s .args .file .now in
     let o = s .args .order .now in let z = s .args .size in
     let up = upper-in f o z (s .args .count) in
-    let x-is = d .before .before .before .before .upper-of .ensures .0 ∙ ap upperAt (d .before .before .before .before .before .slot-at .ensures .0) ∙ ap up (d .before .before .before .before .before .before .index .ensures .0) in
-    let y-is = d .before .upper-of2 .ensures .0 ∙ ap upperAt (d .before .before .slot-at2 .ensures .0) ∙ ap up (d .before .before .before .index2 .ensures .0) in
+    let x-is = d .before .before .before .before .upper-bound .ensures .0 ∙ ap upperAt (d .before .before .before .before .before .slot-at .ensures .0) ∙ ap up (d .before .before .before .before .before .before .usize-of-u8 .ensures .0) in
+    let y-is = d .before .upper-bound2 .ensures .0 ∙ ap upperAt (d .before .before .slot-at2 .ensures .0) ∙ ap up (d .before .before .before .usize-of-u82 .ensures .0) in
     let a = c .add .ensures in
-    let x = d .before .before .before .before .upper-of .result .now in (
+    let x = d .before .before .before .before .upper-bound .result .now in (
       omega (arith, a .count-is, length-beyond (d .shared .result) x, c .before .before .before .before .if1 .left),
       search needs,
       a .whole,

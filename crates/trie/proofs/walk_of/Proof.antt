@@ -12,7 +12,7 @@ abbrev μ-loop : tie.MeasureT-loop
 μ-loop name trie walk₀ walk = walk .more
 
 element-copy-out-cell : tie.Need-element-copy-out-cell Inv-loop μ-loop
-element-copy-out-cell c = omega (arith, before (c .before .before .before .before .loop .inv) (c .before .before .place .given .1) .1, c .number .ensures .0)
+element-copy-out-cell c = omega (arith, before (c .before .before .before .before .loop .inv) (c .before .before .place .given .1) .1, c .usize-of-u16 .ensures .0)
 
 step-requires : tie.Need-step-requires Inv-loop μ-loop
 step-requires c κs = let u = c .before .before .before .before .before .loop .inv in (u .short, before u (c .before .before .before .place .given .1) .0)
@@ -20,7 +20,7 @@ step-requires c κs = let u = c .before .before .before .before .before .loop .i
 loop-again : tie.Need-loop-again Inv-loop μ-loop
 loop-again c =
     let i = c .before .before .before .before .place in
-    c .step .ensures .1 _ _ (i .given .1) (ap (at-cell (c .before .before .before .before .before .before .before .before .args .t1 .cells)) (sym (c .before .before .number .ensures .0))) (c .before .before .before .before .before .before .loop .inv)
+    c .step .ensures .1 _ _ (i .given .1) (ap (at-cell (c .before .before .before .before .before .before .before .before .args .t1 .cells)) (sym (c .before .before .usize-of-u16 .ensures .0))) (c .before .before .before .before .before .before .loop .inv)
 
 pub walk-of-spec : {M : Type 1} → Rattle.trie.proofs.walk_of.Statement.statement M
 walk-of-spec =

@@ -15,8 +15,8 @@ returns c =
     let es = values (countAt (a .b) xs) (drop 64 xs) in
     let e : values (n .count-of .result) (take (length xs - 64) (drop 64 xs)) ≡ es = ap₂ (λ (m : ℕ) (ys : List ℕ). values m ys) (n .count-of .ensures .0) (rest 64 xs) in
     let f : k .rank .result ≡ below v es = k .rank .ensures .1 ∙ ap (below v) e in
-    let g : u .upto .result ≡ notAbove w es = u .upto .ensures .1 ∙ ap (notAbove w) e in
-    (omega arith, part-none xs (k .rank .result) (u .upto .result) (below v es) (notAbove w es) f g (omega arith))
+    let g : u .not-above .result ≡ notAbove w es = u .not-above .ensures .1 ∙ ap (notAbove w) e in
+    (omega arith, part-none xs (k .rank .result) (u .not-above .result) (below v es) (notAbove w es) f g (omega arith))
 
 returns-2 : tie.Need-returns-2
 returns-2 c =
@@ -26,10 +26,10 @@ returns-2 c =
     let es = values (countAt (a .b) xs) (drop 64 xs) in
     let e : values (n .count-of .result) (take (length xs - 64) (drop 64 xs)) ≡ es = ap₂ (λ (m : ℕ) (ys : List ℕ). values m ys) (n .count-of .ensures .0) (rest 64 xs) in
     let f : k .rank .result ≡ below v es = k .rank .ensures .1 ∙ ap (below v) e in
-    let g : u .upto .result ≡ notAbove w es = u .upto .ensures .1 ∙ ap (notAbove w) e in
+    let g : u .not-above .result ≡ notAbove w es = u .not-above .ensures .1 ∙ ap (notAbove w) e in
     let at = 64 + 32 * k .rank .result in
-    let end = 64 + 32 * u .upto .result in
-    (omega (arith, length-take (end - at) (drop at xs)), part-some xs (k .rank .result) (u .upto .result) (below v es) (notAbove w es) f g)
+    let end = 64 + 32 * u .not-above .result in
+    (omega (arith, length-take (end - at) (drop at xs)), part-some xs (k .rank .result) (u .not-above .result) (below v es) (notAbove w es) f g)
 
 pub part-between-spec : {M : Type 1} → Rattle.writing.proofs.part_between.Statement.statement M
 part-between-spec =

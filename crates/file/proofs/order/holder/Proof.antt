@@ -24,13 +24,13 @@ loop-again : tie.Need-loop-again Inv-loop μ-loop
 loop-again c =
     let l = c .before .before .before .before .before .before .before .loop in
     let middle = l .least + (l .most - l .least) / 2 in
-    (omega arith, omega arith, λ fs O n g e. closing-up O n middle (omega arith) (probe-below O n g _ _ e middle _ _ (omega arith) (c .before .before .before .before .index .ensures .0) (c .before .before .before .slot-at .ensures .0) (c .before .before .high-of .ensures) (c .before .is-below .ensures) (c .if2 .taken)) (l .inv .2 fs O n g e))
+    (omega arith, omega arith, λ fs O n g e. closing-up O n middle (omega arith) (probe-below O n g _ _ e middle _ _ (omega arith) (c .before .before .before .before .usize-of-u8 .ensures .0) (c .before .before .before .slot-at .ensures .0) (c .before .before .high-key .ensures) (c .before .is-below .ensures) (c .if2 .taken)) (l .inv .2 fs O n g e))
 
 loop-again-2 : tie.Need-loop-again-2 Inv-loop μ-loop
 loop-again-2 c =
     let l = c .before .before .before .before .before .before .before .loop in
     let middle = l .least + (l .most - l .least) / 2 in
-    (omega arith, omega arith, λ fs O n g e. closing-down O n middle (probe-upto O n g _ _ e middle _ _ (omega arith) (c .before .before .before .before .index .ensures .0) (c .before .before .before .slot-at .ensures .0) (c .before .before .high-of .ensures) (c .before .is-below .ensures) (c .if2 .left)) (l .inv .2 fs O n g e))
+    (omega arith, omega arith, λ fs O n g e. closing-down O n middle (probe-upto O n g _ _ e middle _ _ (omega arith) (c .before .before .before .before .usize-of-u8 .ensures .0) (c .before .before .before .slot-at .ensures .0) (c .before .before .high-key .ensures) (c .before .is-below .ensures) (c .if2 .left)) (l .inv .2 fs O n g e))
 
 returns-2 : tie.Need-returns-2 Inv-loop μ-loop
 returns-2 c =

@@ -7,20 +7,20 @@ use Rattle.file.proofs.order.is_before.Tie as tie
 
 returns : tie.Need-returns
 returns c b s k r w =
-    let a = c .before .before .before .before .args in let o = c .before .before .high-of in
+    let a = c .before .before .before .before .args in let o = c .before .before .high-key in
     let t = ahead-first (keyValue (a .high)) (keyValue (a .low)) (keyValue (o .result)) (lowValue (lower-of (head s))) (c .before .is-below .result) (c .before .is-below .ensures) (c .if1 .taken) in
     stands-by _ (keyValue (a .high)) (keyValue (a .low)) (keyValue (o .result)) (lowValue (lower-of (head s))) s t (slot-high b (a .slot .now) s k r w (keyValue (o .result)) (o .ensures)) refl
 
 returns-2 : tie.Need-returns-2
 returns-2 c b s k r w =
-    let a = c .before .before .before .before .before .before .args in let o = c .before .before .before .before .high-of in
+    let a = c .before .before .before .before .before .before .args in let o = c .before .before .before .before .high-key in
     let t = ahead-not (keyValue (a .high)) (keyValue (a .low)) (keyValue (o .result)) (lowValue (lower-of (head s))) (c .before .before .before .is-below .result) (c .before .is-same .result) (c .before .before .before .is-below .ensures) (c .before .before .if1 .left) (c .before .is-same .ensures) (not-true _ (c .if2 .taken)) in
     stands-by _ (keyValue (a .high)) (keyValue (a .low)) (keyValue (o .result)) (lowValue (lower-of (head s))) s t (slot-high b (a .slot .now) s k r w (keyValue (o .result)) (o .ensures)) refl
 
 returns-3 : tie.Need-returns-3
 returns-3 c b s k r w =
     let a = c .before .before .before .before .before .before .before .before .args in
-    let o = c .before .before .before .before .before .before .high-of in let l = c .before .low-of in
+    let o = c .before .before .before .before .before .before .high-key in let l = c .before .low-key in
     let t = ahead-last (keyValue (a .high)) (keyValue (a .low)) (keyValue (o .result)) (keyValue (l .result)) (c .before .before .before .before .before .is-below .result) (c .before .before .before .is-same .result) (c .is-below2 .result) (c .before .before .before .before .before .is-below .ensures) (c .before .before .before .before .if1 .left) (c .before .before .before .is-same .ensures) (not-false _ (c .before .before .if2 .left)) (c .is-below2 .ensures) in
     stands-by _ (keyValue (a .high)) (keyValue (a .low)) (keyValue (o .result)) (keyValue (l .result)) s t
     (slot-high b (a .slot .now) s k r w (keyValue (o .result)) (o .ensures)) (slot-low b (a .slot .now) s k r w (keyValue (l .result)) (l .ensures))

@@ -31,7 +31,7 @@ loop-again c =
     let told : (fs : List Slot) → Known (s .args .size .b) (s .args .file .now) fs → Listed fs (s .args .order .now) (s .args .count)
     → stands (keyValue (s .args .high)) (keyValue (s .args .low)) (placed fs (s .args .order .now) m) ≡ true =
     λ fs. λ K. λ L.
-    let y = place-read K (s .args .order .now) (s .args .count) L m (omega arith) _ (c .before .before .before .index .ensures .0) _ (c .before .before .slot-at .ensures .0) in
+    let y = place-read K (s .args .order .now) (s .args .count) L m (omega arith) _ (c .before .before .before .usize-of-u8 .ensures .0) _ (c .before .before .slot-at .ensures .0) in
     sym (c .before .is-before .ensures (s .args .size .b) (placed fs (s .args .order .now) m) (L m (omega arith)) y (K .well (getD (s .args .order .now) m 0))) ∙ c .if1 .taken in
     (omega arith, omega arith, λ fs. λ K. λ L. (l .inv .2 fs K L .0, λ h. told fs K L))
 
@@ -42,7 +42,7 @@ loop-again-2 c =
     let told : (fs : List Slot) → Known (s .args .size .b) (s .args .file .now) fs → Listed fs (s .args .order .now) (s .args .count)
     → stands (keyValue (s .args .high)) (keyValue (s .args .low)) (placed fs (s .args .order .now) m) ≡ false =
     λ fs. λ K. λ L.
-    let y = place-read K (s .args .order .now) (s .args .count) L m (omega arith) _ (c .before .before .before .index .ensures .0) _ (c .before .before .slot-at .ensures .0) in
+    let y = place-read K (s .args .order .now) (s .args .count) L m (omega arith) _ (c .before .before .before .usize-of-u8 .ensures .0) _ (c .before .before .slot-at .ensures .0) in
     sym (c .before .is-before .ensures (s .args .size .b) (placed fs (s .args .order .now) m) (L m (omega arith)) y (K .well (getD (s .args .order .now) m 0))) ∙ c .if1 .left in
     (omega arith, omega arith, λ fs. λ K. λ L. (λ j. λ e. subst (λ (n : ℕ). stands (keyValue (s .args .high)) (keyValue (s .args .low)) (placed fs (s .args .order .now) n) ≡ false) (omega arith) (told fs K L), l .inv .2 fs K L .1))
 

@@ -19,14 +19,14 @@ slot-at-requires-2 c κs =
 
 returns : tie.Need-returns
 returns c =
-    let at-index2 = c .before .before .before .before .before in let s = at-index2 .before .before .before .before .before in
+    let at-usize-of-u82 = c .before .before .before .before .before in let s = at-usize-of-u82 .before .before .before .before .before in
     let o = s .args .order .now in let xs = s .args .file .now in let b = s .args .size .b in let place = s .args .place in let few = s .pre .2 in
     let L = s .pre .5 in
     let K = laid-known few L in
     let T = s .pre .6 (L .slots) K (laid-listed few L) in
-    let i = c .before .before .before .before .slot-at .ensures .0 ∙ bytes-at b (at-index2 .before .before .index .result) xs ∙ ap (λ (B : ℕ). slotAt b B xs) (at-index2 .before .before .index .ensures .0) in
-    let j = c .before .before .before .slot-at2 .ensures .0 ∙ bytes-at b (at-index2 .index2 .result) xs ∙ ap (λ (B : ℕ). slotAt b B xs) (at-index2 .index2 .ensures .0) in
-    surveyed (c .found .result) _ _ _ o _ Bad (s .args .used) (c .found .ensures) (s .pre .1) few (omega (arith, s .pre .1 place, at-index2 .before .before .index .ensures .0))
+    let i = c .before .before .before .before .slot-at .ensures .0 ∙ bytes-at b (at-usize-of-u82 .before .before .usize-of-u8 .result) xs ∙ ap (λ (B : ℕ). slotAt b B xs) (at-usize-of-u82 .before .before .usize-of-u8 .ensures .0) in
+    let j = c .before .before .before .slot-at2 .ensures .0 ∙ bytes-at b (at-usize-of-u82 .usize-of-u82 .result) xs ∙ ap (λ (B : ℕ). slotAt b B xs) (at-usize-of-u82 .usize-of-u82 .ensures .0) in
+    surveyed (c .found .result) _ _ _ o _ Bad (s .args .used) (c .found .ensures) (s .pre .1) few (omega (arith, s .pre .1 place, at-usize-of-u82 .before .before .usize-of-u8 .ensures .0))
     (said-no-copy few L place T (place - 1) (omega arith) (s .pre .3) _ _ i j (c .before .before .is-copy-of .result) (c .before .before .is-copy-of .ensures) (not-true _ (c .before .if1 .taken)))
     (laid-order few L) (laid-map few L)
 
@@ -37,34 +37,36 @@ is-chain-requires c κs =
 
 returns-2 : tie.Need-returns-2
 returns-2 c =
-    let at-is-copy-of = c .before .before .before .before .before .before .before .before in let at-index2 = at-is-copy-of .before .before .before in
-    let s = at-index2 .before .before .before .before .before in let o = s .args .order .now in let xs = s .args .file .now in
-    let b = s .args .size .b in let place = s .args .place in let few = s .pre .2 in let L = s .pre .5 in
+    let at-is-copy-of = c .before .before .before .before .before .before .before .before in
+    let at-usize-of-u82 = at-is-copy-of .before .before .before in let s = at-usize-of-u82 .before .before .before .before .before in
+    let o = s .args .order .now in let xs = s .args .file .now in let b = s .args .size .b in let place = s .args .place in let few = s .pre .2 in
+    let L = s .pre .5 in
     let K = laid-known few L in
     let T = s .pre .6 (L .slots) K (laid-listed few L) in
-    let i = at-is-copy-of .before .before .slot-at .ensures .0 ∙ bytes-at b (at-index2 .before .before .index .result) xs ∙ ap (λ (B : ℕ). slotAt b B xs) (at-index2 .before .before .index .ensures .0) in
-    let j = at-is-copy-of .before .slot-at2 .ensures .0 ∙ bytes-at b (at-index2 .index2 .result) xs ∙ ap (λ (B : ℕ). slotAt b B xs) (at-index2 .index2 .ensures .0) in
+    let i = at-is-copy-of .before .before .slot-at .ensures .0 ∙ bytes-at b (at-usize-of-u82 .before .before .usize-of-u8 .result) xs ∙ ap (λ (B : ℕ). slotAt b B xs) (at-usize-of-u82 .before .before .usize-of-u8 .ensures .0) in
+    let j = at-is-copy-of .before .slot-at2 .ensures .0 ∙ bytes-at b (at-usize-of-u82 .usize-of-u82 .result) xs ∙ ap (λ (B : ℕ). slotAt b B xs) (at-usize-of-u82 .usize-of-u82 .ensures .0) in
     let cs = c .before .before .before .before .leave-out .ensures in
     let I = rest-listed few L place T (place - 1) (omega arith) (s .pre .3) _ (cs .1) (cs .2) in
     let C = c .before .before .is-chain .ensures (L .slots) K I in
-    surveyed (c .found2 .result) _ _ _ o _ Bad (s .args .used) (c .found2 .ensures) (s .pre .1) few (omega (arith, s .pre .1 place, at-index2 .before .before .index .ensures .0))
+    surveyed (c .found2 .result) _ _ _ o _ Bad (s .args .used) (c .found2 .ensures) (s .pre .1) few (omega (arith, s .pre .1 place, at-usize-of-u82 .before .before .usize-of-u8 .ensures .0))
     (said-no-chain few L place T (place - 1) (omega arith) (s .pre .3) _ _ i j (at-is-copy-of .is-copy-of .result) (at-is-copy-of .is-copy-of .ensures) (c .before .before .is-chain .result) _ (cs .2) C (not-true _ (c .before .if2 .taken)))
     (laid-order few L) (laid-map few L)
 
 returns-3 : tie.Need-returns-3
 returns-3 c =
     let at-is-copy-of = c .before .before .before .before .before .before .before .before in
-    let at-index = at-is-copy-of .before .before .before .before .before in let s = at-index .before .before .before in let o = s .args .order .now in
-    let xs = s .args .file .now in let b = s .args .size .b in let place = s .args .place in let few = s .pre .2 in let L = s .pre .5 in
+    let at-usize-of-u8 = at-is-copy-of .before .before .before .before .before in let s = at-usize-of-u8 .before .before .before in
+    let o = s .args .order .now in let xs = s .args .file .now in let b = s .args .size .b in let place = s .args .place in let few = s .pre .2 in
+    let L = s .pre .5 in
     let K = laid-known few L in
     let T = s .pre .6 (L .slots) K (laid-listed few L) in
-    let i = at-is-copy-of .before .before .slot-at .ensures .0 ∙ bytes-at b (at-index .index .result) xs ∙ ap (λ (B : ℕ). slotAt b B xs) (at-index .index .ensures .0) in
-    let j = at-is-copy-of .before .slot-at2 .ensures .0 ∙ bytes-at b (at-is-copy-of .before .before .before .index2 .result) xs ∙ ap (λ (B : ℕ). slotAt b B xs) (at-is-copy-of .before .before .before .index2 .ensures .0) in
+    let i = at-is-copy-of .before .before .slot-at .ensures .0 ∙ bytes-at b (at-usize-of-u8 .usize-of-u8 .result) xs ∙ ap (λ (B : ℕ). slotAt b B xs) (at-usize-of-u8 .usize-of-u8 .ensures .0) in
+    let j = at-is-copy-of .before .slot-at2 .ensures .0 ∙ bytes-at b (at-is-copy-of .before .before .before .usize-of-u82 .result) xs ∙ ap (λ (B : ℕ). slotAt b B xs) (at-is-copy-of .before .before .before .usize-of-u82 .ensures .0) in
     let cs = c .before .before .before .before .leave-out .ensures in
     let I = rest-listed few L place T (place - 1) (omega arith) (s .pre .3) _ (cs .1) (cs .2) in
     let C = c .before .before .is-chain .ensures (L .slots) K I in
-    surveyed (c .found3 .result) _ _ _ o _ Cut (s .args .used) (c .found3 .ensures) (s .pre .1) few (omega (arith, s .pre .1 place, at-index .index .ensures .0))
-    (ap is-cut (at-index .index .ensures .0) ∙ said-cut few L place T (place - 1) (omega arith) (s .pre .3) _ _ i j (at-is-copy-of .is-copy-of .result) (at-is-copy-of .is-copy-of .ensures) (c .before .before .is-chain .result) _ (cs .2) C (not-false _ (c .before .before .before .before .before .before .before .if1 .left)) (not-false _ (c .before .if2 .left)))
+    surveyed (c .found3 .result) _ _ _ o _ Cut (s .args .used) (c .found3 .ensures) (s .pre .1) few (omega (arith, s .pre .1 place, at-usize-of-u8 .usize-of-u8 .ensures .0))
+    (ap is-cut (at-usize-of-u8 .usize-of-u8 .ensures .0) ∙ said-cut few L place T (place - 1) (omega arith) (s .pre .3) _ _ i j (at-is-copy-of .is-copy-of .result) (at-is-copy-of .is-copy-of .ensures) (c .before .before .is-chain .result) _ (cs .2) C (not-false _ (c .before .before .before .before .before .before .before .if1 .left)) (not-false _ (c .before .if2 .left)))
     (laid-order few L) (laid-map few L)
 
 pub cut-of-spec : {M : Type 1} → Rattle.file.proofs.survey.cut_of.Statement.statement M

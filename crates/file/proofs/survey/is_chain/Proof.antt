@@ -24,31 +24,31 @@ returns c =
     let s = c .before .before .before .before .before .before .before .before .before .before in
     let l = c .before .before .before .before .before .before .before .loop in
     λ fs. λ K. λ L. ended-stop K (s .args .order .now) (s .args .count) (omega (arith, s .pre .3)) L (l .j) (keyValue (l .end)) (l .inv .1 fs K L) (omega arith)
-    (keyValue (c .before .before .low-of .result))
-    (place-low K (s .args .order .now) (s .args .count) L (l .j) (omega arith) _ (c .before .before .before .before .index .ensures .0) _ (c .before .before .before .slot-at .ensures .0) _ (c .before .before .low-of .ensures))
+    (keyValue (c .before .before .low-key .result))
+    (place-low K (s .args .order .now) (s .args .count) L (l .j) (omega arith) _ (c .before .before .before .before .usize-of-u8 .ensures .0) _ (c .before .before .before .slot-at .ensures .0) _ (c .before .before .low-key .ensures))
     (c .before .is-same .result) (c .before .is-same .ensures) (not-true _ (c .if1 .taken))
 
 loop-again : tie.Need-loop-again Inv-loop μ-loop
 loop-again c =
-    let at-low-of = c .before .before .before in let l = at-low-of .before .before .before .before .before .loop in
-    let s = at-low-of .before .before .before .before .before .before .before .before in (
+    let at-low-key = c .before .before .before in let l = at-low-key .before .before .before .before .before .loop in
+    let s = at-low-key .before .before .before .before .before .before .before .before in (
       omega arith,
       λ fs. λ K. λ L. ended-next K (s .args .order .now) (s .args .count) (omega (arith, s .pre .3)) L (l .j) (keyValue (l .end)) (l .inv .1 fs K L) (omega arith)
-          (keyValue (at-low-of .low-of .result))
-          (place-low K (s .args .order .now) (s .args .count) L (l .j) (omega arith) _ (at-low-of .before .before .index .ensures .0) _ (at-low-of .before .slot-at .ensures .0) _ (at-low-of .low-of .ensures))
+          (keyValue (at-low-key .low-key .result))
+          (place-low K (s .args .order .now) (s .args .count) L (l .j) (omega arith) _ (at-low-key .before .before .usize-of-u8 .ensures .0) _ (at-low-key .before .slot-at .ensures .0) _ (at-low-key .low-key .ensures))
           (c .before .before .is-same .result) (c .before .before .is-same .ensures) (not-false _ (c .before .if1 .left))
-          (keyValue (c .high-of .result))
-          (place-high K (s .args .order .now) (s .args .count) L (l .j) (omega arith) _ (at-low-of .before .before .index .ensures .0) _ (at-low-of .before .slot-at .ensures .0) _ (c .high-of .ensures)),
+          (keyValue (c .high-key .result))
+          (place-high K (s .args .order .now) (s .args .count) L (l .j) (omega arith) _ (at-low-key .before .before .usize-of-u8 .ensures .0) _ (at-low-key .before .slot-at .ensures .0) _ (c .high-key .ensures)),
     )
 
 returns-2 : tie.Need-returns-2 Inv-loop μ-loop
 returns-2 c =
     let s = c .before .before .before .before .before .before in let l = c .before .before .before .loop in
     λ fs. λ K. λ L. ended-end K (s .args .order .now) (s .args .count) (omega (arith, s .pre .3)) L (l .j) (keyValue (l .end)) (l .inv .1 fs K L) (omega arith)
-    (c .is-same2 .result) (keyValue (c .before .no-end .result)) (c .is-same2 .ensures) (c .before .no-end .ensures)
+    (c .is-same2 .result) (keyValue (c .before .highest-key .result)) (c .is-same2 .ensures) (c .before .highest-key .ensures)
 
 pub is-chain-spec : {M : Type 1} → Rattle.file.proofs.survey.is_chain.Statement.statement M
 is-chain-spec =
-    tie.close (tie.spec Inv-loop μ-loop (λ c κs. search needs) (λ c. (omega arith, λ fs. λ K. λ L. ended-start fs _ _ (c .no-limit .ensures)))
+    tie.close (tie.spec Inv-loop μ-loop (λ c κs. search needs) (λ c. (omega arith, λ fs. λ K. λ L. ended-start fs _ _ (c .lowest-key .ensures)))
     (λ c. search needs) (λ c κs. search needs) slot-at-requires (λ c κs. search needs) (λ c κs. search needs) returns (λ c κs. search needs)
     (λ c. search needs) (λ c. search needs) loop-again (λ c κs. search needs) (λ c κs. search needs) returns-2)

@@ -68,7 +68,7 @@ loop-again-2 c =
       omega (arith, t, l .inv .1),
       n .0 (size .slots) (l .inv .2) (omega (arith, t, l .inv .0)),
       laid-used L (omega (arith, t, l .inv .0)) most _ (y .0) (y .1) (omega (arith, t, l .inv .1, most)) z (W .is) (W .well) _ _ (W .high-is) (W .low-is) (p .result) (p .ensures .0) (p .ensures .1)
-          _ (c .before .before .byte .ensures) _ (n .1) (n .2) _ (c .with-next2 .ensures),
+          _ (c .before .before .u8-of-usize .ensures) _ (n .1) (n .2) _ (c .with-next2 .ensures),
     )
 
 kind-of-requires : tie.Need-kind-of-requires Inv-loop μ-loop

@@ -17,13 +17,13 @@ returns-3 : tie.Need-returns-3
 returns-3 c =
     let s = c .before .before .before .before .before .before .before .before .before in let a = s .before .args in
     let w = sym (c .before .before .goes-left .ensures) ∙ c .before .if3 .taken in
-    (omega arith, λ o cs e f u. goes-left (a .name .now) (a .self) (a .i) (a .cell) o cs e f u (s .index .ensures .0) (omega arith) (omega arith) w (c .place-of .ensures))
+    (omega arith, λ o cs e f u. goes-left (a .name .now) (a .self) (a .i) (a .cell) o cs e f u (s .usize-of-u8 .ensures .0) (omega arith) (omega arith) w (c .place-of .ensures))
 
 returns-4 : tie.Need-returns-4
 returns-4 c =
     let s = c .before .before .before .before .before .before .before .before .before .before in let a = s .before .args in
     let w = sym (c .before .before .before .goes-left .ensures) ∙ c .before .before .if3 .left in
-    (omega arith, λ o cs e f u. goes-right (a .name .now) (a .self) (a .i) (a .cell) o cs e f u (s .index .ensures .0) (omega arith) (omega arith) w (c .place-of2 .ensures))
+    (omega arith, λ o cs e f u. goes-right (a .name .now) (a .self) (a .i) (a .cell) o cs e f u (s .usize-of-u8 .ensures .0) (omega arith) (omega arith) w (c .place-of2 .ensures))
 
 pub step-spec : {M : Type 1} → Rattle.trie.proofs.Walk.step.Statement.statement M
 step-spec =
