@@ -1,14 +1,5 @@
 -- The spot of a name in a file that is read and sound, and the bytes of one whole-slot store.
-use mathlib.Core.Path.{_∙_, _≡_, ap, refl, subst, sym}
-use mathlib.Core.Bool.{Bool, false, true}
-use mathlib.Core.Option.{Option, none as nothing, some}
-use mathlib.Core.List.{List, []}
-use Prim.Native.Nat.{_*_, _+_, _-_, _<_, _≤_, suc, zero, ℕ}
-use native.Mathlib.Omega.{arith}
-use lib.Dec.{eqb, ltb}
-use lib.ListN.{drop, getD, length, take}
-use lib.Seq.{drop-drop, getD-take, paste, take-all}
-use borrow.Author.Tests.{eq-eqb, eqb-true, le-ltb, lt-ltb, ltb-true}
+use Rattle.model.proofs.Prelude.{Bool, List, Option, [], _*_, _+_, _-_, _<_, _∙_, _≡_, _≤_, ap, arith, clash, drop, drop-drop, eq-eqb, eqb, eqb-true, false, getD, getD-take, le-ltb, length, lt-ltb, ltb, ltb-true, nothing, paste, refl, some, subst, suc, sym, take, take-all, true, zero, ℕ}
 use Rattle.model.specs.Order.{Low, Str}
 use Rattle.model.specs.Names.{Legal}
 use Rattle.model.specs.Entries.{Entry, find, insert, without}
@@ -129,8 +120,7 @@ module _ (xs : List ℕ) {b : ℕ} {fs : List Slot} (e : readFile xs ≡ some (b
           let c : ltb (s .place) (s .count) ≡ true = lt-ltb (s .place) (s .count) (omega (arith, P .counted, P .placed)) in
           let d : eqb there v ≡ true = eq-eqb there v (moved ∙ f) in
           let z : _≡_ {A = Bool} true false = sym (rw (c, d)) ∙ t in
-          let y : _≡_ {A = ℕ} 0 1 = cc in
-          omega arith)
+          clash cc)
 
       pub test-held : isHeld ys (s .count) (s .place) v ≡ true → (s .place < s .count) × ((o : ℕ) × (find n (P .entries) ≡ some o))
       unfolding isHeld

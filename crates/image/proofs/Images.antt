@@ -1,15 +1,5 @@
 -- Reading back the image that was written, and the converse: 1,540 bytes and the tries with an image are one to one.
-use mathlib.Core.Path.{_∙_, _≡_, ap, refl, sym}
-use mathlib.Core.Bool.{cond}
-use mathlib.Core.List.{List, [], _++_, _∷_, append-assoc}
-use Prim.Native.Nat.{_%_, _*_, _+_, _-_, _/_, _<_, _≤_, suc, zero, ℕ}
-use native.Mathlib.Decide.{decLt}
-use native.Mathlib.Nat.{add-zero}
-use native.Mathlib.Omega.{arith}
-use lib.Dec.{ltb}
-use borrow.Author.Tests.{le-ltb, lt-ltb}
-use lib.ListN.{List·getD-append, drop, getD, length, length-append, length-drop, take}
-use lib.Seq.{getD-append-add, getD-append-seam, getD-drop, take-add, take-all, take-suc}
+use Rattle.model.proofs.Prelude.{List, List·getD-append, [], _%_, _*_, _++_, _+_, _-_, _/_, _<_, _∙_, _∷_, _≡_, _≤_, add-zero, ap, append-assoc, arith, cond, decLt, drop, getD, getD-append-add, getD-append-seam, getD-drop, le-ltb, length, length-append, length-drop, lt-ltb, ltb, refl, suc, sym, take, take-add, take-all, take-suc, zero, ℕ}
 use Rattle.model.specs.declared.Cell.{Cell}
 use Rattle.model.specs.declared.Side.{Side}
 use Rattle.model.specs.declared.Side.the-variants.{Cell as further, Slot as slot}
