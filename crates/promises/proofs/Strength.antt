@@ -15,13 +15,13 @@ use Rattle.model.specs.Files.{Slot, entries-of, first, free, low-same?, order-f
 use Rattle.model.specs.Changes.{Result, absent, call, free?, holds?, put, put-in, remove, remove-in, removes, split-of, split-string, stores-if}
 use Rattle.model.specs.Checks.{Kind, allWell, check, cutBelow, hasTwin, is-bad, is-cut, is-sound, isAbove, isChain, isCopied, isCutBy, isIn, isListed, isRow, isSound, isTwin, isUsed, isWell, legalLow, oneMore, sameEntries, sameLow, sameStr}
 use Rattle.model.specs.Agreeing.{areNumbers, areZeroCells, eachOnce, isAgreeing, isTrieOf, joinTrees, readTree, sameSide, sameStrs, slotsBetween, times}
-use Rattle.model.specs.Format.{checkFile, checkRead, entriesBytes, entriesOf, entryBytes, entrySize, fileBytes, fileSize, headerBytes, headerOf, isOffered, joined, laidOut, layoutOf, legalSizes, littleEndian, lowDigits, lowOf, padded, readBy, readFile, readSlot, readSlots, readUsed, rightHeader, slotAt, slotBytes, slotSize, slotsBytes, storeBytes, usedOf, valueOf}
+use Rattle.model.specs.Format.{checkFile, checkRead, entriesBytes, entriesOf, entryBytes, entrySize, fileBytes, fileSize, headerBytes, headerOf, isOffered, joined, laidOut, layoutOf, legalSizes, littleEndian, lowDigits, lowOf, padded, readBy, readFile, readSlot, readSlots, readUsed, rightHeader, slotAt, slotBytes, slotSize, slotsBytes, storeBytes, usedOf, valueOf, version-1}
 use Rattle.model.specs.Places.{place-of}
 use Rattle.model.specs.Calls.{Looked, PutDone, Recovered, RemoveDone, arrive, arrivedAnswer, between, createOf, entriesIn, fine, headedAnswer, listEntries, listLooked, listOf, lookUpOf, lookedBy, lookedOf, new-trie, putAnswer, putLooked, putMade, putOf, rebuildBy, rebuildOf, recoverBy, recoverOf, refusalOf, refusing, removeLooked, removeMade, removeOf, slotAnswer, storesBytes, trieAfter}
 use Rattle.model.proofs.Names.{legalName-legal, never-both}
 use Rattle.model.proofs.Checks.{sameStr-self}
 use Rattle.model.proofs.Calls.{Answered, is-denied, is-made, put-right, remove-right}
-use Rattle.promises.specs.Texts.{bytes, version-1}
+use Rattle.promises.specs.Texts.{bytes}
 use Rattle.promises.specs.Growing.{of-cells}
 use Rattle.promises.specs.Situations.{a-cell, entries, names, rates-slots, rz-slots}
 use Rattle.promises.specs.Strength.{Answers, BothAtOnce, CutsFirst, KeepsInner, LookUp, LookUpMeets, OneResult, Put, PutMeets, Recover, RecoverMeets, RefusesAll, StoppedAfter, StoresNothing, Strength, bare-cells, cut-down, five, full-file, new-file, one-turned, split-file, stopped-file}
