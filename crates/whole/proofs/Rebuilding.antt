@@ -6,7 +6,7 @@ use Rattle.model.specs.declared.TrieGiven.{TrieGiven}
 use Rattle.model.specs.Files.{string-count, strings-of}
 use Rattle.model.specs.Rebuilding.{rebuilt-trie}
 use Rattle.model.specs.Checks.{is-bad, is-cut, is-sound}
-use Rattle.model.specs.Format.{checkFile}
+use Rattle.model.specs.Format.{checkFile, version-1}
 use Rattle.model.specs.Calls.{new-trie, rebuildBy, rebuildOf}
 use Rattle.file.specs.declared.Size.{Size}
 use Rattle.file.specs.declared.survey.Survey.{Survey}
@@ -31,7 +31,7 @@ rebuild-cut xs r h e = rw (e, h .0, h .1)
 -- A sound file, with its strings.
 module _ (xs : List ℕ) (s : Size) (v : Survey) (g : Strings) (h : Said s xs) (e : checkFile xs ≡ is-sound) (z : Surveyed v xs s)
     (l : Listed g xs s (v .order) (v .count)) where
-  R : Read s xs
+  R : Read (version-1 s) xs
   R = sound-read xs s h e
 
   few-is : {t : Bool} → g .few ≡ t → leb (string-count (R .slots)) 256 ≡ t

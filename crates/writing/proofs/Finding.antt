@@ -76,4 +76,4 @@ module _ {b : ℕ} {xs : List ℕ} {l : Low} {u : Str} {es : List Entry} (R : Re
       ap₂ (λ (x y : ℕ). entriesFrom x y xs) (below-place R n v f d) (ap₂ notAbove e (values-are R))
       ∙ ap (take (32 * (j - i))) (sym (drop-drop (32 * i) 64 xs) ∙ ap (drop (32 * i)) (R .behind))
       ∙ part-row (replicate (R .unused) 0) (R .row) i (j - i) (omega (arith, place-most n es, notAbove-most (value m) es))
-      ∙ ap entriesBytes 32 (between-part n m (R .row) f g)
+      ∙ ap (entriesBytes 32) (between-part n m (R .row) f g)
