@@ -5,7 +5,7 @@ use Prim.Native.Nat.{_*_, _+_, _-_, _<_, _≤_, suc, ℕ}
 use native.Mathlib.Omega.{arith}
 use lib.ListN.{drop, getD, length, length-append, length-drop, length-take, take}
 use lib.Seq.{drop-append-seam, drop-at, drop-drop, paste, take-add, take-append-seam, take-at, take-length}
-use Rattle.bucket.specs.Forms.{partBetween}
+use Rattle.writing.specs.Entries.{partBetween}
 use Rattle.bucket.specs.Slots.{countAt}
 use Rattle.file.specs.declared.Size.{Size}
 use Rattle.reading.specs.Listings.{Written, partAt, parts}

@@ -11,8 +11,8 @@ recover-requires c κs = search needs
 enum-known-answer : tie.Need-enum-known-answer
 enum-known-answer c = search needs
 
-wide-requires : tie.Need-wide-requires
-wide-requires c κs = search needs
+u64-of-usize-requires : tie.Need-u64-of-usize-requires
+u64-of-usize-requires c κs = search needs
 
 element-write-out : tie.Need-element-write-out
 element-write-out c = search needs
@@ -37,7 +37,7 @@ same-length c = search needs
 
 returns : tie.Need-returns
 returns c =
-    recover-said _ _ _ (c .before .before .answer .given .1) (c .before .before .before .before .before .before .recover .ensures) refl (rw (c .wide .ensures))
+    recover-said _ _ _ (c .before .before .answer .given .1) (c .before .before .before .before .before .before .recover .ensures) refl (rw (c .u64-of-usize .ensures))
 
 same-length-2 : tie.Need-same-length-2
 same-length-2 c = search needs
@@ -66,7 +66,7 @@ pal-recover-spec =
     (tie.spec
     recover-requires
     enum-known-answer
-    wide-requires
+    u64-of-usize-requires
     element-write-out
     enum-told
     enum-known-answer-2

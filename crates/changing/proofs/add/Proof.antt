@@ -4,7 +4,8 @@ use Prim.Native.Nat.{_*_, _+_}
 use native.Mathlib.Omega.{arith}
 use Rattle.model.specs.Entries.{insert}
 use Rattle.model.specs.Files.{used}
-use Rattle.bucket.specs.Slots.{lowerAt, upperAt, writtenBytes}
+use Rattle.bucket.specs.Slots.{lowerAt, upperAt}
+use Rattle.writing.specs.Slots.{writtenBytes}
 use Rattle.changing.proofs.Spots.{added-is, new-fits, part-is, store-is}
 use Rattle.changing.proofs.Putting.{put-added, put-stopped}
 use borrow.Author.Needs.{needs}

@@ -4,9 +4,10 @@ use mathlib.Core.List.{List}
 use Prim.Native.Nat.{_*_, _-_, ℕ}
 use lib.ListN.{drop}
 use Rattle.model.specs.Format.{padded}
-use Rattle.bucket.specs.Entries.{withoutEntry}
-use Rattle.bucket.specs.Slots.{lowerAt, upperAt, writtenBytes}
-use Rattle.bucket.proofs.Forms.{rest}
+use Rattle.writing.specs.Entries.{withoutEntry}
+use Rattle.bucket.specs.Slots.{lowerAt, upperAt}
+use Rattle.writing.specs.Slots.{writtenBytes}
+use Rattle.model.proofs.Lists.{rest}
 use Rattle.changing.proofs.Spots.{part-is}
 use borrow.Author.Needs.{needs}
 use Rattle.changing.proofs.lessened.Statement.{statement}

@@ -6,8 +6,8 @@ use native.Mathlib.Omega.{arith}
 use lib.ListN.{length}
 use Rattle.model.specs.Format.{padded}
 use Rattle.digits.specs.Keys.{keyValue}
-use Rattle.bucket.specs.Entries.{withEntry}
-use Rattle.bucket.proofs.Forms.{rest}
+use Rattle.writing.specs.Entries.{withEntry}
+use Rattle.model.proofs.Lists.{rest}
 use Rattle.changing.proofs.Spots.{entries-new, held-below, key-whole, ready-sound, test-held, test-lost}
 use borrow.Author.Needs.{needs}
 use Rattle.changing.proofs.put_checked.Statement.{statement}

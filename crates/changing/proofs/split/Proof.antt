@@ -28,8 +28,8 @@ split-of-requires c κs = search needs
 add-if1 : tie.Need-add-if1
 add-if1 c = search needs
 
-number-requires : tie.Need-number-requires
-number-requires c κs = search needs
+usize-of-u16-requires : tie.Need-usize-of-u16-requires
+usize-of-u16-requires c κs = search needs
 
 add-if1-2 : tie.Need-add-if1-2
 add-if1-2 c = search needs
@@ -42,13 +42,13 @@ returns-2 c =
     let s = c .before .before .before .before .before .before .before .before .before .before .before .before .before in
     let p = c .before .before .before .before .before .split-of .ensures in
     many-told (s .pre .0) (s .args .a) (s .args .entries .now) (s .args .limit) (c .before .before .before .before .before .before .before .before .before .lowest-free .ensures) (c .before .before .before .before .before .before .before .n .given .1) (p .0) (p .1) _
-    (omega (arith, c .before .if1 .taken, c .before .before .before .number .ensures)) (c .refused2 .ensures)
+    (omega (arith, c .before .if1 .taken, c .before .before .before .usize-of-u16 .ensures)) (c .refused2 .ensures)
 
 divide-requires : tie.Need-divide-requires
 divide-requires c κs =
     let s = c .before .before .before .before .before .before .before .before .before .before .before .before .before in
     let h = room-inside (c .before .before .before .before .before .before .before .n .given .1) (c .before .before .before .before .before .before .before .before .before .lowest-free .ensures .inside) in
-    (s .pre .0, s .pre .1, h, c .before .before .before .before .before .split-of .ensures .0, omega (arith, c .before .if1 .left, c .before .before .before .number .ensures))
+    (s .pre .0, s .pre .1, h, c .before .before .before .before .before .split-of .ensures .0, omega (arith, c .before .if1 .left, c .before .before .before .usize-of-u16 .ensures))
 
 same-length : tie.Need-same-length
 same-length c = search needs
@@ -58,7 +58,7 @@ returns-3 c =
     let s = c .before .before .before .before .before .before .before .before .before .before .before .before .before .before .before .before in
     let p = c .before .before .before .before .before .before .before .before .split-of .ensures in
     split-told (s .pre .0) (s .args .a) (s .args .entries .now) (s .args .limit) (c .before .before .before .before .before .before .before .before .before .before .before .before .lowest-free .ensures) (c .before .before .before .before .before .before .before .before .before .before .n .given .1) (p .0) (p .1) _
-    (omega (arith, c .before .before .before .before .if1 .left, c .before .before .before .before .before .before .number .ensures)) (c .before .before .divide .ensures)
+    (omega (arith, c .before .before .before .before .if1 .left, c .before .before .before .before .before .before .usize-of-u16 .ensures)) (c .before .before .divide .ensures)
 
 pub split-spec : {M : Type 1} → statement M
 split-spec =
@@ -71,7 +71,7 @@ split-spec =
     returns
     split-of-requires
     add-if1
-    number-requires
+    usize-of-u16-requires
     add-if1-2
     refused-requires-2
     returns-2

@@ -4,8 +4,8 @@ use mathlib.Core.List.{List}
 use Prim.Native.Nat.{ℕ}
 use native.Mathlib.Omega.{arith}
 use Rattle.digits.specs.Keys.{keyValue}
-use Rattle.bucket.specs.Forms.{below, values}
-use Rattle.bucket.proofs.Forms.{rest}
+use Rattle.entries.specs.Rows.{below, values}
+use Rattle.model.proofs.Lists.{rest}
 use Rattle.changing.proofs.Spots.{holder-slot, ready-ordered, ready-sound, spot-right}
 use borrow.Author.Needs.{needs}
 use Rattle.changing.proofs.spot_of.Statement.{statement}
@@ -14,11 +14,11 @@ use Rattle.changing.proofs.spot_of.Tie as tie
 holder-requires : tie.Need-holder-requires
 holder-requires c κs = search needs
 
-array-read-index : tie.Need-array-read-index
-array-read-index c = search needs
+array-read-usize-of-u8 : tie.Need-array-read-usize-of-u8
+array-read-usize-of-u8 c = search needs
 
-index-requires : tie.Need-index-requires
-index-requires c κs = search needs
+usize-of-u8-requires : tie.Need-usize-of-u8-requires
+usize-of-u8-requires c κs = search needs
 
 slot-at-requires : tie.Need-slot-at-requires
 slot-at-requires c κs =
@@ -46,13 +46,13 @@ returns c =
     let xs = s .args .file .now in
     record {
       inside = record {
-        slot-inside = omega (arith, c .before .before .before .before .index .ensures .0, s .pre .slots-inside (c .before .before .before .before .before .holder .result));
+        slot-inside = omega (arith, c .before .before .before .before .usize-of-u8 .ensures .0, s .pre .slots-inside (c .before .before .before .before .before .holder .result));
         count-most = c .before .before .count-of .ensures .1;
         place-most = c .rank .ensures .0;
       };
       right = λ fs e n g q.
           let S = ready-sound (s .pre) e in
-          let h = holder-slot (s .pre) e (c .before .before .before .before .before .holder .result) _ (c .before .before .before .before .before .holder .ensures .found fs (ready-ordered (s .pre) e) n g q) (c .before .before .before .before .index .ensures .0) in
+          let h = holder-slot (s .pre) e (c .before .before .before .before .before .holder .result) _ (c .before .before .before .before .before .holder .ensures .found fs (ready-ordered (s .pre) e) n g q) (c .before .before .before .before .usize-of-u8 .ensures .0) in
           let ys = c .before .before .before .slot-at .result .now in
           spot-right xs e S _ ys (keyValue (s .args .name)) n g q h (c .before .before .before .slot-at .ensures .0) (c .before .before .count-of .ensures .0)
           (c .rank .ensures .1 ∙ ap (λ (z : List ℕ). below (keyValue (s .args .name)) (values (c .before .before .count-of .result) z)) (rest 64 ys));
@@ -63,8 +63,8 @@ spot-of-spec =
     tie.close
     (tie.spec
     holder-requires
-    array-read-index
-    index-requires
+    array-read-usize-of-u8
+    usize-of-u8-requires
     slot-at-requires
     count-of-requires
     sub-rank

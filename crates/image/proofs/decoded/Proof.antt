@@ -22,8 +22,8 @@ shared-slice-read-pair-2 c = search needs
 pair-requires : tie.Need-pair-requires Inv-loop μ-loop
 pair-requires c κs = search needs
 
-lone-requires : tie.Need-lone-requires Inv-loop μ-loop
-lone-requires c κs = search needs
+without-cells-requires : tie.Need-without-cells-requires Inv-loop μ-loop
+without-cells-requires c κs = search needs
 
 shared-slice-read-pair-3 : tie.Need-shared-slice-read-pair-3 Inv-loop μ-loop
 shared-slice-read-pair-3 c = search needs
@@ -36,7 +36,7 @@ pair-requires-2 c κs = search needs
 
 loop-holds : tie.Need-loop-holds Inv-loop μ-loop
 loop-holds c =
-    (omega arith, read-first _ (c .before .before .before .before .before .before .before .before .args .image .now) (c .before .before .before .lone .ensures) (c .before .before .before .before .pair .ensures) (c .pair2 .ensures))
+    (omega arith, read-first _ (c .before .before .before .before .before .before .before .before .args .image .now) (c .before .before .before .without-cells .ensures) (c .before .before .before .before .pair .ensures) (c .pair2 .ensures))
 
 cell-at-requires : tie.Need-cell-at-requires Inv-loop μ-loop
 cell-at-requires c κs = search needs
@@ -72,7 +72,7 @@ decoded-spec =
     shared-slice-read-pair
     shared-slice-read-pair-2
     pair-requires
-    lone-requires
+    without-cells-requires
     shared-slice-read-pair-3
     shared-slice-read-pair-4
     pair-requires-2

@@ -13,14 +13,14 @@ abbrev μ-loop : tie.MeasureT-loop
 print-decimal-requires : tie.Need-print-decimal-requires Inv-loop μ-loop
 print-decimal-requires c κs = search needs
 
-lower-of-requires : tie.Need-lower-of-requires Inv-loop μ-loop
-lower-of-requires c κs = search needs
+lower-bound-requires : tie.Need-lower-bound-requires Inv-loop μ-loop
+lower-bound-requires c κs = search needs
 
 print-bound-requires : tie.Need-print-bound-requires Inv-loop μ-loop
 print-bound-requires c κs = search needs
 
-upper-of-requires : tie.Need-upper-of-requires Inv-loop μ-loop
-upper-of-requires c κs = search needs
+upper-bound-requires : tie.Need-upper-bound-requires Inv-loop μ-loop
+upper-bound-requires c κs = search needs
 
 print-bound-requires-2 : tie.Need-print-bound-requires-2 Inv-loop μ-loop
 print-bound-requires-2 c κs = search needs
@@ -65,9 +65,9 @@ print-bucket-spec =
     Inv-loop
     μ-loop
     print-decimal-requires
-    lower-of-requires
+    lower-bound-requires
     print-bound-requires
-    upper-of-requires
+    upper-bound-requires
     print-bound-requires-2
     count-of-requires
     loop-holds

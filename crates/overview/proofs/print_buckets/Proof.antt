@@ -23,16 +23,16 @@ loop-holds c = search needs
 element-copy-out-k : tie.Need-element-copy-out-k Inv-loop μ-loop
 element-copy-out-k c = search needs
 
-index-requires : tie.Need-index-requires Inv-loop μ-loop
-index-requires c κs = search needs
+usize-of-u8-requires : tie.Need-usize-of-u8-requires Inv-loop μ-loop
+usize-of-u8-requires c κs = search needs
 
 slot-at-requires : tie.Need-slot-at-requires Inv-loop μ-loop
 slot-at-requires c κs =
     let s = c .before .before .before .before .before .before .before in
     (s .pre .0, omega (arith, s .pre .1 (c .before .before .before .loop .j)))
 
-wide-requires : tie.Need-wide-requires Inv-loop μ-loop
-wide-requires c κs = search needs
+u64-of-u8-requires : tie.Need-u64-of-u8-requires Inv-loop μ-loop
+u64-of-u8-requires c κs = search needs
 
 print-bucket-requires : tie.Need-print-bucket-requires Inv-loop μ-loop
 print-bucket-requires c κs = search needs
@@ -59,9 +59,9 @@ print-buckets-spec =
     say-requires
     loop-holds
     element-copy-out-k
-    index-requires
+    usize-of-u8-requires
     slot-at-requires
-    wide-requires
+    u64-of-u8-requires
     print-bucket-requires
     add-j
     loop-less

@@ -5,9 +5,9 @@ use Prim.Native.Nat.{ℕ}
 use lib.ListN.{drop}
 use native.Mathlib.Omega.{arith}
 use Rattle.digits.specs.Keys.{keyValue}
-use Rattle.bucket.specs.Forms.{heldUnder}
-use Rattle.bucket.proofs.Forms.{rest}
-use Rattle.bucket.proofs.Finding.{vacant-free, vacant-taken}
+use Rattle.entries.specs.Rows.{heldUnder}
+use Rattle.model.proofs.Lists.{rest}
+use Rattle.bucket.proofs.Slots.{vacant-free, vacant-taken}
 use Rattle.reading.proofs.LookingUp.{answer-absent, answer-found, answer-free, answer-ill, answer-lacks, holding-holds, holding-lacks, ill-formed, well-formed}
 use borrow.Author.Needs.{needs}
 use Rattle.reading.proofs.answer_of.Statement.{statement}

@@ -48,15 +48,15 @@ returns-3 c t w =
     let h = right-said (c .before .before .size .given .1) (c .before .before .before .before .header-of .ensures) .header in
     stray-looked (a .file .now) t (a .name .now) l h (a .walk) w (λ s e. no-slot (rw e at (c .match3 .keys2)))
 
-number-requires : tie.Need-number-requires
-number-requires c κs = search needs
+usize-of-u16-requires : tie.Need-usize-of-u16-requires
+usize-of-u16-requires c κs = search needs
 
 returns-4 : tie.Need-returns-4
 returns-4 c t w =
     let a = c .before .before .before .before .before .before .before .before .before .before .before .before .before .before .before .args in
     let l = naming-legal _ (sym (c .before .before .before .before .before .before .before .before .before .before .enum-told .given .1) ∙ c .before .before .before .before .before .before .before .before .before .before .before .before .named .ensures) in
     let h = right-said (c .before .before .before .before .before .before .before .size .given .1) (c .before .before .before .before .before .before .before .before .before .header-of .ensures) .header in
-    past-looked (a .file .now) t (a .name .now) l h (a .walk) w (c .before .before .before .before .place .given .1) (omega (arith, c .if1 .taken, c .before .before .number .ensures .0))
+    past-looked (a .file .now) t (a .name .now) l h (a .walk) w (c .before .before .before .before .place .given .1) (omega (arith, c .if1 .taken, c .before .before .usize-of-u16 .ensures .0))
 
 filled-requires : tie.Need-filled-requires
 filled-requires c κs = search needs
@@ -82,7 +82,7 @@ returns-5 c t w =
     let l = naming-legal _ (sym (c .before .before .before .before .before .before .before .before .before .before .before .before .before .before .before .enum-told .given .1) ∙ c .before .before .before .before .before .before .before .before .before .before .before .before .before .before .before .before .before .named .ensures) in
     let h = right-said (c .before .before .before .before .before .before .before .before .before .before .before .before .size .given .1) (c .before .before .before .before .before .before .before .before .before .before .before .before .before .before .header-of .ensures) .header in
     let f = c .before .before .before .before .filled .ensures in
-    arrived-looked (a .file .now) t name l h (a .walk) w (c .answer-of .result) (c .before .before .before .before .before .before .before .before .before .place .given .1) (c .before .before .before .before .before .before .before .number .ensures .0) (omega arith)
+    arrived-looked (a .file .now) t name l h (a .walk) w (c .answer-of .result) (c .before .before .before .before .before .before .before .before .before .place .given .1) (c .before .before .before .before .before .before .before .usize-of-u16 .ensures .0) (omega arith)
     (c .before .before .before .slot-at .ensures .0) (c .answer-of .ensures _ (legalName-legal name l) (filled-value name _ _ f (c .before .key-at .ensures)))
 
 pub look-up-from-spec : {M : Type 1} → statement M
@@ -99,7 +99,7 @@ look-up-from-spec =
     returns-2
     enum-known-place
     returns-3
-    number-requires
+    usize-of-u16-requires
     returns-4
     filled-requires
     slot-at-requires

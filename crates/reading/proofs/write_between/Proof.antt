@@ -18,11 +18,11 @@ loop-holds : tie.Need-loop-holds Inv-loop μ-loop
 loop-holds c =
     writing-start _ _ (c .before .before .pre .3)
 
-element-copy-out-index : tie.Need-element-copy-out-index Inv-loop μ-loop
-element-copy-out-index c = search needs
+element-copy-out-usize-of-u8 : tie.Need-element-copy-out-usize-of-u8 Inv-loop μ-loop
+element-copy-out-usize-of-u8 c = search needs
 
-index-requires : tie.Need-index-requires Inv-loop μ-loop
-index-requires c κs = search needs
+usize-of-u8-requires : tie.Need-usize-of-u8-requires Inv-loop μ-loop
+usize-of-u8-requires c κs = search needs
 
 slot-at-requires : tie.Need-slot-at-requires Inv-loop μ-loop
 slot-at-requires c κs =
@@ -36,14 +36,14 @@ copy-requires : tie.Need-copy-requires Inv-loop μ-loop
 copy-requires c κs =
     let a = c .before .before .before .before .before .before .before .before .before .args in
     let l = c .before .before .before .before .before .before .loop in
-    let e = rest-length (a .file .now) (a .size) (a .order .now) (keyValue (a .first)) (keyValue (a .second)) (a .to) (l .j) _ _ _ (omega arith) (c .before .before .before .index .ensures .0) (c .before .before .slot-at .ensures .0) (c .before .part-between .ensures .1) in
+    let e = rest-length (a .file .now) (a .size) (a .order .now) (keyValue (a .first)) (keyValue (a .second)) (a .to) (l .j) _ _ _ (omega arith) (c .before .before .before .usize-of-u8 .ensures .0) (c .before .before .slot-at .ensures .0) (c .before .part-between .ensures .1) in
     omega (arith, writing-rest (l .inv), e, writing-length (l .inv), l .inv .room)
 
 add-at : tie.Need-add-at Inv-loop μ-loop
 add-at c =
     let a = c .before .before .before .before .before .before .before .before .before .before .before .before .args in
     let l = c .before .before .before .before .before .before .before .before .before .loop in
-    let e = rest-length (a .file .now) (a .size) (a .order .now) (keyValue (a .first)) (keyValue (a .second)) (a .to) (l .j) _ _ _ (omega arith) (c .before .before .before .before .before .before .index .ensures .0) (c .before .before .before .before .before .slot-at .ensures .0) (c .before .before .before .before .part-between .ensures .1) in
+    let e = rest-length (a .file .now) (a .size) (a .order .now) (keyValue (a .first)) (keyValue (a .second)) (a .to) (l .j) _ _ _ (omega arith) (c .before .before .before .before .before .before .usize-of-u8 .ensures .0) (c .before .before .before .before .before .slot-at .ensures .0) (c .before .before .before .before .part-between .ensures .1) in
     omega (arith, writing-rest (l .inv), e, l .inv .room)
 
 add-j : tie.Need-add-j Inv-loop μ-loop
@@ -56,7 +56,7 @@ loop-again : tie.Need-loop-again Inv-loop μ-loop
 loop-again c =
     let a = c .before .before .before .before .before .before .before .before .before .before .before .before .args in
     let l = c .before .before .before .before .before .before .before .before .before .loop in
-    let e = rest-step (a .file .now) (a .size) (a .order .now) (keyValue (a .first)) (keyValue (a .second)) (a .to) (l .j) _ _ _ (omega arith) (c .before .before .before .before .before .before .index .ensures .0) (c .before .before .before .before .before .slot-at .ensures .0) (c .before .before .before .before .part-between .ensures .1) in
+    let e = rest-step (a .file .now) (a .size) (a .order .now) (keyValue (a .first)) (keyValue (a .second)) (a .to) (l .j) _ _ _ (omega arith) (c .before .before .before .before .before .before .usize-of-u8 .ensures .0) (c .before .before .before .before .before .slot-at .ensures .0) (c .before .before .before .before .part-between .ensures .1) in
     writing-step (l .inv) (c .before .before .before .before .part-between .result .now) _ _ e (c .before .before .copy .ensures)
 
 same-length : tie.Need-same-length Inv-loop μ-loop
@@ -76,8 +76,8 @@ write-between-spec =
     Inv-loop
     μ-loop
     loop-holds
-    element-copy-out-index
-    index-requires
+    element-copy-out-usize-of-u8
+    usize-of-u8-requires
     slot-at-requires
     part-between-requires
     copy-requires

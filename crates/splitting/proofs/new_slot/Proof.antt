@@ -12,8 +12,8 @@ add-end c = search needs
 mul-end : tie.Need-mul-end
 mul-end c = search needs
 
-upper-of-requires : tie.Need-upper-of-requires
-upper-of-requires c κs = search needs
+upper-bound-requires : tie.Need-upper-bound-requires
+upper-bound-requires c κs = search needs
 
 sub-written-above : tie.Need-sub-written-above
 sub-written-above c = search needs
@@ -29,7 +29,7 @@ written-above-requires c κs = search needs
 
 returns : tie.Need-returns
 returns c =
-    rw (c .before .before .upper-of .ensures .0) at (c .written-above .ensures)
+    rw (c .before .before .upper-bound .ensures .0) at (c .written-above .ensures)
 
 pub new-slot-spec : {M : Type 1} → statement M
 new-slot-spec =
@@ -38,7 +38,7 @@ new-slot-spec =
     mul-at
     add-end
     mul-end
-    upper-of-requires
+    upper-bound-requires
     sub-written-above
     part-written-above-start
     part-written-above-end

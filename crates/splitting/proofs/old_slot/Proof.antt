@@ -7,8 +7,8 @@ use Rattle.splitting.proofs.old_slot.Tie as tie
 mul-end : tie.Need-mul-end
 mul-end c = search needs
 
-lower-of-requires : tie.Need-lower-of-requires
-lower-of-requires c κs = search needs
+lower-bound-requires : tie.Need-lower-bound-requires
+lower-bound-requires c κs = search needs
 
 sub-written-below : tie.Need-sub-written-below
 sub-written-below c = search needs
@@ -25,14 +25,14 @@ written-below-requires c κs = search needs
 returns : tie.Need-returns
 returns c =
     let a = c .before .before .before .before .before .before .before .before .args in
-    rw (c .before .before .before .lower-of .ensures .0, front _ (a .entries .now)) at (c .written-below .ensures)
+    rw (c .before .before .before .lower-bound .ensures .0, front _ (a .entries .now)) at (c .written-below .ensures)
 
 pub old-slot-spec : {M : Type 1} → statement M
 old-slot-spec =
     tie.close
     (tie.spec
     mul-end
-    lower-of-requires
+    lower-bound-requires
     sub-written-below
     part-written-below-start
     part-written-below-end

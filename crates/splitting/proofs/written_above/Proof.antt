@@ -2,7 +2,7 @@
 use mathlib.Core.Path.{_∙_, ap}
 use mathlib.Core.List.{List}
 use Prim.Native.Nat.{ℕ}
-use Rattle.bucket.specs.Slots.{writtenBytes}
+use Rattle.writing.specs.Slots.{writtenBytes}
 use Rattle.splitting.proofs.Halving.{front}
 use borrow.Author.Needs.{needs}
 use Rattle.splitting.proofs.written_above.Statement.{statement}

@@ -37,8 +37,8 @@ returns-2 c =
 create-requires : tie.Need-create-requires
 create-requires c κs = fitting-right (c .before .before .size .given .1) (c .before .before .before .before .sizes .ensures) .0
 
-lone-requires : tie.Need-lone-requires
-lone-requires c κs = search needs
+without-cells-requires : tie.Need-without-cells-requires
+without-cells-requires c κs = search needs
 
 same-length : tie.Need-same-length
 same-length c = search needs
@@ -47,7 +47,7 @@ returns-3 : tie.Need-returns-3
 returns-3 c =
     let s = c .before .before .before .before .before .before .before .before in
     let f = fitting-right (c .before .before .before .before .before .before .size .given .1) (s .sizes .ensures) in
-    create-given _ _ _ _ _ _ _ (c .before .before .before .before .before .before .before .before .before .before .before .if1 .left) (s .before .before .small .ensures) (s .before .small2 .ensures) (f .0) (f .1) (f .2) (c .before .before .before .create .ensures) refl (c .lone .ensures)
+    create-given _ _ _ _ _ _ _ (c .before .before .before .before .before .before .before .before .before .before .before .if1 .left) (s .before .before .small .ensures) (s .before .small2 .ensures) (f .0) (f .1) (f .2) (c .before .before .before .create .ensures) refl (c .without-cells .ensures)
 
 pub create-spec : {M : Type 1} → statement M
 create-spec =
@@ -63,6 +63,6 @@ create-spec =
     refused-requires-2
     returns-2
     create-requires
-    lone-requires
+    without-cells-requires
     same-length
     returns-3)
