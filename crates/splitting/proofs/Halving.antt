@@ -1,13 +1,5 @@
 -- The halves of b + 1 entries as the code finds them in their bytes: the split string, what stays and what moves.
-use mathlib.Core.Path.{_∙_, _≡_, ap, refl, subst, sym}
-use mathlib.Core.Bool.{Bool, cond, false, true}
-use mathlib.Core.List.{List, [], _++_, _∷_}
-use Prim.Native.Nat.{_*_, _+_, _-_, _/_, _<_, _≤_, suc, zero, ℕ}
-use native.Mathlib.Decide.{ℕ-discrete}
-use native.Mathlib.Omega.{arith}
-use lib.Dec.{ltb}
-use lib.ListN.{drop, length, length-drop, length-replicate, length-take, replicate, take}
-use lib.Seq.{drop-at, length-take-le, paste, take-all}
+use Rattle.model.proofs.Prelude.{Bool, List, [], _*_, _++_, _+_, _-_, _/_, _<_, _∙_, _∷_, _≡_, _≤_, ap, arith, cond, drop, drop-at, false, length, length-drop, length-replicate, length-take, length-take-le, ltb, paste, refl, replicate, subst, suc, sym, take, take-all, true, zero, ℕ, ℕ-discrete}
 use Rattle.model.specs.declared.Trie.{Trie}
 use Rattle.model.specs.Order.{Low, Str, _≺_, at, diff, diff-at, le?, over}
 use Rattle.model.specs.Names.{Bound, legalBound}
@@ -19,15 +11,17 @@ use Rattle.model.proofs.Names.{bound-legalBound, legal-length}
 use Rattle.model.proofs.Entries.{chosen-no, chosen-yes, keep-all, keep-parts, keep-some, row-at, row-keep, row-lt, split-bound, split-key, split-last, split-take}
 use Rattle.model.proofs.Format.{length-entriesBytes, padded-short}
 use Rattle.digits.specs.Keys.{continued, isZero, value}
-use Rattle.bucket.specs.Forms.{notAbove, values}
-use Rattle.bucket.specs.Slots.{lowerAt, upperAt, writtenBytes}
-use Rattle.bucket.proofs.Laws.{padded-whole, paste-into-zeros, take-padded-whole, written-slot, zeros-padded}
-use Rattle.bucket.proofs.Forms.{rest}
+use Rattle.entries.specs.Rows.{notAbove, values}
+use Rattle.bucket.specs.Slots.{lowerAt, upperAt}
+use Rattle.writing.specs.Slots.{writtenBytes}
+use Rattle.writing.proofs.Padding.{padded-whole, paste-into-zeros, take-padded-whole, zeros-padded}
+use Rattle.writing.proofs.Copies.{written-slot}
+use Rattle.model.proofs.Lists.{rest}
 use Rattle.bucket.proofs.Reading.{are-zeros}
-use Rattle.bucket.proofs.Rows.{Reads, numbers, values-row}
-use Rattle.bucket.proofs.Finding.{entry-at, part-row}
-use Rattle.bucket.proofs.Changing.{lower-at, upper-at}
-use Rattle.bucket.proofs.Copies.{moved}
+use Rattle.bucket.proofs.Slots.{Reads}
+use Rattle.entries.proofs.Rows.{entry-at, numbers, part-row, values-row}
+use Rattle.writing.proofs.Changing.{lower-at, upper-at}
+use Rattle.entries.proofs.Copies.{moved}
 use Rattle.trie.specs.declared.Walk.{Walk}
 use Rattle.trie.specs.Walks.{Walks, walkOf}
 use Rattle.splitting.specs.Divides.{Divides}
