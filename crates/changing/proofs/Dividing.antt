@@ -17,9 +17,10 @@ use Rattle.model.proofs.Entries.{chosen-no, chosen-yes, row-at, row-insert}
 use Rattle.model.proofs.Names.{legal-length}
 use Rattle.model.proofs.Format.{headed-headerOf, readFile-read}
 use Rattle.model.proofs.Calls.{free-lowest}
-use Rattle.bucket.specs.Slots.{lowerAt, upperAt, writtenBytes}
-use Rattle.bucket.proofs.Rows.{Reads}
-use Rattle.bucket.proofs.Changing.{length-new}
+use Rattle.bucket.specs.Slots.{lowerAt, upperAt}
+use Rattle.writing.specs.Slots.{writtenBytes}
+use Rattle.bucket.proofs.Slots.{Reads}
+use Rattle.writing.proofs.Changing.{length-new}
 use Rattle.file.specs.declared.Room.{Room}
 use Rattle.file.specs.declared.Room.the-variants.{At, Full as NoRoom}
 use Rattle.file.specs.Maps.{RoomTold, map-of, room-of}

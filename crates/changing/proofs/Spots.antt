@@ -11,13 +11,15 @@ use Rattle.model.proofs.Entries.{row-insert}
 use Rattle.model.proofs.Files.{first-right, one-range, used-inside}
 use Rattle.model.proofs.Format.{length-entriesBytes, readSlot-readFile}
 use Rattle.digits.specs.Keys.{value}
-use Rattle.bucket.specs.Entries.{changedValue, place, withEntry, withoutEntry}
-use Rattle.bucket.specs.Forms.{below, values}
-use Rattle.bucket.specs.Slots.{countAt, lowerAt, upperAt, writtenBytes}
-use Rattle.bucket.proofs.Laws.{take-padded-whole}
-use Rattle.bucket.proofs.Rows.{Reads, read-written, reads}
-use Rattle.bucket.proofs.Finding.{below-place, count-is, place-found}
-use Rattle.bucket.proofs.Changing.{is-held, length-held, length-new, not-held, put-held-part, put-new, removed-part, rewritten-is, row-without}
+use Rattle.writing.specs.Entries.{changedValue, withEntry, withoutEntry}
+use Rattle.entries.specs.Rows.{below, place, values}
+use Rattle.bucket.specs.Slots.{countAt, lowerAt, upperAt}
+use Rattle.writing.specs.Slots.{writtenBytes}
+use Rattle.writing.proofs.Padding.{take-padded-whole}
+use Rattle.bucket.proofs.Slots.{Reads, count-is, read-written, reads}
+use Rattle.writing.proofs.Finding.{below-place}
+use Rattle.entries.proofs.Places.{place-found}
+use Rattle.writing.proofs.Changing.{is-held, length-held, length-new, not-held, put-held-part, put-new, removed-part, rewritten-is, row-without}
 use Rattle.file.specs.Holders.{Holder, Ordered}
 use Rattle.file.proofs.Readings.{used-read}
 use Rattle.checking.specs.declared.Checked.{Checked}

@@ -14,7 +14,7 @@ use Rattle.model.specs.Changes.{holds?}
 use Rattle.model.specs.Format.{readFile, version-1}
 use Rattle.digits.specs.declared.Key.{Key}
 use Rattle.digits.specs.Keys.{keyValue, value}
-use Rattle.bucket.specs.Entries.{place}
+use Rattle.entries.specs.Rows.{place}
 use Rattle.changing.specs.declared.Spot.{Spot}
 use Rattle.file.specs.declared.Size.{Size}
 

@@ -67,10 +67,6 @@ image-byte : (t : Trie) (n j k : ℕ) → n < 256 → j < 6 → k ≡ 4 + (6 * n
 unfolding imageOf
 image-byte t n j k h l e = rw e (getD-append-add (headBytes t) (cellsBytes 256 (t .cells)) (6 * n + j) 0 ∙ cells-byte n 256 (t .cells) j h l)
 
-pub length-imageOf : (t : Trie) → length (imageOf t) ≡ imageSize
-unfolding imageOf
-length-imageOf t = omega (arith, length-append (headBytes t) (cellsBytes 256 (t .cells)), length-cellsBytes 256 (t .cells))
-
 -- Every trie with an image of its own is read back.
 module _ (t : Trie) (I : Imaged t) where
   cell-back : (n : ℕ) → n < 256 → cellFrom (imageOf t) (4 + 6 * n) ≡ at-cell (t .cells) n

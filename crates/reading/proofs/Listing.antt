@@ -16,10 +16,11 @@ use Rattle.model.proofs.Names.{le-atMost, lt-atMost}
 use Rattle.model.proofs.Entries.{row-at}
 use Rattle.model.proofs.Files.{slot-row}
 use Rattle.digits.specs.Keys.{value}
-use Rattle.bucket.specs.Forms.{partBetween}
+use Rattle.writing.specs.Entries.{partBetween}
 use Rattle.bucket.specs.Slots.{countAt}
-use Rattle.bucket.proofs.Laws.{length-entryBytes}
-use Rattle.bucket.proofs.Finding.{count-is, part-between}
+use Rattle.entries.proofs.Rows.{length-entryBytes}
+use Rattle.bucket.proofs.Slots.{count-is}
+use Rattle.writing.proofs.Finding.{part-between}
 use Rattle.file.specs.declared.Size.{Size}
 use Rattle.file.specs.Holders.{Holder, Ordered, placed, upper-at}
 use Rattle.file.proofs.Holding.{place-reads, place-used, places-apart}

@@ -16,13 +16,15 @@ use Rattle.digits.specs.Keys.{isZero, keyValue, value}
 use Rattle.bucket.specs.declared.Bucket.{Bucket}
 use Rattle.bucket.specs.declared.Form.{Form}
 use Rattle.bucket.specs.declared.Form.the-variants.{Ill, Well}
-use Rattle.bucket.specs.declared.Held.{Held}
-use Rattle.bucket.specs.declared.Held.the-variants.{Absent, Value}
+use Rattle.entries.specs.declared.Held.{Held}
+use Rattle.entries.specs.declared.Held.the-variants.{Absent, Value}
 use Rattle.bucket.specs.declared.Range.the-variants.{Holds, Lacks}
-use Rattle.bucket.specs.Forms.{Formed, WellRead, heldUnder, holding}
+use Rattle.bucket.specs.Forms.{Formed, WellRead, holding}
+use Rattle.entries.specs.Rows.{heldUnder}
 use Rattle.bucket.specs.Slots.{countAt}
-use Rattle.bucket.proofs.Rows.{read-used, read-values}
-use Rattle.bucket.proofs.Finding.{count-is, free-zero, held, held-find, ill-read, range-holds, well-reads, zero-free}
+use Rattle.bucket.proofs.Slots.{count-is, free-zero, ill-read, range-holds, read-used, read-values, well-reads, zero-free}
+use Rattle.entries.proofs.Places.{held}
+use Rattle.writing.proofs.Finding.{held-find}
 use Rattle.trie.specs.declared.Place.the-variants.{Slot as at-slot}
 use Rattle.trie.specs.declared.Walk.{Walk}
 use Rattle.trie.specs.Walks.{Walks, walkOf}

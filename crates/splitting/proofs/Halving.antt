@@ -11,15 +11,17 @@ use Rattle.model.proofs.Names.{bound-legalBound, legal-length}
 use Rattle.model.proofs.Entries.{chosen-no, chosen-yes, keep-all, keep-parts, keep-some, row-at, row-keep, row-lt, split-bound, split-key, split-last, split-take}
 use Rattle.model.proofs.Format.{length-entriesBytes, padded-short}
 use Rattle.digits.specs.Keys.{continued, isZero, value}
-use Rattle.bucket.specs.Forms.{notAbove, values}
-use Rattle.bucket.specs.Slots.{lowerAt, upperAt, writtenBytes}
-use Rattle.bucket.proofs.Laws.{padded-whole, paste-into-zeros, take-padded-whole, written-slot, zeros-padded}
-use Rattle.bucket.proofs.Forms.{rest}
+use Rattle.entries.specs.Rows.{notAbove, values}
+use Rattle.bucket.specs.Slots.{lowerAt, upperAt}
+use Rattle.writing.specs.Slots.{writtenBytes}
+use Rattle.writing.proofs.Padding.{padded-whole, paste-into-zeros, take-padded-whole, zeros-padded}
+use Rattle.writing.proofs.Copies.{written-slot}
+use Rattle.model.proofs.Lists.{rest}
 use Rattle.bucket.proofs.Reading.{are-zeros}
-use Rattle.bucket.proofs.Rows.{Reads, numbers, values-row}
-use Rattle.bucket.proofs.Finding.{entry-at, part-row}
-use Rattle.bucket.proofs.Changing.{lower-at, upper-at}
-use Rattle.bucket.proofs.Copies.{moved}
+use Rattle.bucket.proofs.Slots.{Reads}
+use Rattle.entries.proofs.Rows.{entry-at, numbers, part-row, values-row}
+use Rattle.writing.proofs.Changing.{lower-at, upper-at}
+use Rattle.entries.proofs.Copies.{moved}
 use Rattle.trie.specs.declared.Walk.{Walk}
 use Rattle.trie.specs.Walks.{Walks, walkOf}
 use Rattle.splitting.specs.Divides.{Divides}

@@ -5,7 +5,7 @@ use Rattle.capi.proofs.pal_recover.Tie as tie
 
 returns : tie.Need-returns
 returns c =
-    recover-said _ _ _ (c .before .before .answer .given .1) (c .before .before .before .before .before .before .recover .ensures) refl (rw (c .wide .ensures))
+    recover-said _ _ _ (c .before .before .answer .given .1) (c .before .before .before .before .before .before .recover .ensures) refl (rw (c .u64-of-usize .ensures))
 
 returns-2 : tie.Need-returns-2
 returns-2 c =

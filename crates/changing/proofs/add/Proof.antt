@@ -2,7 +2,8 @@
 use Rattle.model.proofs.Prelude.{_*_, _+_, _∙_, ap, arith, needs, refl}
 use Rattle.model.specs.Entries.{insert}
 use Rattle.model.specs.Files.{used}
-use Rattle.bucket.specs.Slots.{lowerAt, upperAt, writtenBytes}
+use Rattle.bucket.specs.Slots.{lowerAt, upperAt}
+use Rattle.writing.specs.Slots.{writtenBytes}
 use Rattle.changing.proofs.Spots.{added-is, new-fits, part-is, store-is}
 use Rattle.changing.proofs.Putting.{put-added, put-stopped}
 use Rattle.changing.proofs.add.Tie as tie

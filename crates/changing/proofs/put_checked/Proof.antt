@@ -2,8 +2,8 @@
 use Rattle.model.proofs.Prelude.{List, _∙_, _≡_, ap, arith, length, needs, sym, ℕ}
 use Rattle.model.specs.Format.{padded}
 use Rattle.digits.specs.Keys.{keyValue}
-use Rattle.bucket.specs.Entries.{withEntry}
-use Rattle.bucket.proofs.Forms.{rest}
+use Rattle.writing.specs.Entries.{withEntry}
+use Rattle.model.proofs.Lists.{rest}
 use Rattle.changing.proofs.Spots.{entries-new, held-below, key-whole, ready-sound, test-held, test-lost}
 use Rattle.changing.proofs.put_checked.Tie as tie
 

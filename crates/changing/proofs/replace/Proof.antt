@@ -4,7 +4,7 @@ use Rattle.model.specs.declared.PutAnswer.the-variants.{Replaced}
 use Rattle.model.specs.Entries.{insert}
 use Rattle.model.specs.Files.{used}
 use Rattle.model.specs.Format.{valueOf}
-use Rattle.bucket.proofs.Forms.{rest}
+use Rattle.model.proofs.Lists.{rest}
 use Rattle.changing.proofs.Spots.{held-fits, old-value, replaced-is, store-is}
 use Rattle.changing.proofs.Putting.{put-replaced, put-stopped}
 use Rattle.changing.proofs.replace.Tie as tie

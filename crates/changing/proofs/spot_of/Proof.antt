@@ -1,8 +1,8 @@
 -- `spot_of` meets its contract: the slot is the one whose range holds the name.
 use Rattle.model.proofs.Prelude.{List, _∙_, ap, arith, needs, ℕ}
 use Rattle.digits.specs.Keys.{keyValue}
-use Rattle.bucket.specs.Forms.{below, values}
-use Rattle.bucket.proofs.Forms.{rest}
+use Rattle.entries.specs.Rows.{below, values}
+use Rattle.model.proofs.Lists.{rest}
 use Rattle.changing.proofs.Spots.{holder-slot, ready-ordered, ready-sound, spot-right}
 use Rattle.changing.proofs.spot_of.Tie as tie
 
@@ -17,13 +17,13 @@ returns c =
     let xs = s .args .file .now in
     record {
       inside = record {
-        slot-inside = omega (arith, at-slot-at .before .index .ensures .0, s .pre .slots-inside (at-slot-at .before .before .holder .result));
+        slot-inside = omega (arith, at-slot-at .before .usize-of-u8 .ensures .0, s .pre .slots-inside (at-slot-at .before .before .holder .result));
         count-most = c .before .before .count-of .ensures .1;
         place-most = c .rank .ensures .0;
       };
       right = λ fs e n g q.
           let S = ready-sound (s .pre) e in
-          let h = holder-slot (s .pre) e (at-slot-at .before .before .holder .result) _ (at-slot-at .before .before .holder .ensures .found fs (ready-ordered (s .pre) e) n g q) (at-slot-at .before .index .ensures .0) in
+          let h = holder-slot (s .pre) e (at-slot-at .before .before .holder .result) _ (at-slot-at .before .before .holder .ensures .found fs (ready-ordered (s .pre) e) n g q) (at-slot-at .before .usize-of-u8 .ensures .0) in
           let ys = at-slot-at .slot-at .result .now in
           spot-right xs e S _ ys (keyValue (s .args .name)) n g q h (at-slot-at .slot-at .ensures .0) (c .before .before .count-of .ensures .0)
           (c .rank .ensures .1 ∙ ap (λ (z : List ℕ). below (keyValue (s .args .name)) (values (c .before .before .count-of .result) z)) (rest 64 ys));

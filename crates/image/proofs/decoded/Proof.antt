@@ -11,7 +11,7 @@ abbrev μ-loop : tie.MeasureT-loop
 
 loop-holds : tie.Need-loop-holds Inv-loop μ-loop
 loop-holds c =
-    (omega arith, read-first _ (c .before .before .before .before .before .before .before .before .args .image .now) (c .before .before .before .lone .ensures) (c .before .before .before .before .pair .ensures) (c .pair2 .ensures))
+    (omega arith, read-first _ (c .before .before .before .before .before .before .before .before .args .image .now) (c .before .before .before .without-cells .ensures) (c .before .before .before .before .pair .ensures) (c .pair2 .ensures))
 
 loop-again : tie.Need-loop-again Inv-loop μ-loop
 loop-again c =

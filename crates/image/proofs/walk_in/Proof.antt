@@ -18,7 +18,7 @@ loop-holds c = c .begin .ensures (trieOf (c .before .before .before .before .bef
 cell-at-requires : tie.Need-cell-at-requires Inv-loop μ-loop
 cell-at-requires c κs =
     let h = before (c .before .before .before .before .loop .inv) (c .before .before .place .given .1) .1 in
-    (omega (arith, h, c .number .ensures .0), c .before .before .before .before .before .before .before .before .before .before .before .before .before .pre)
+    (omega (arith, h, c .usize-of-u16 .ensures .0), c .before .before .before .before .before .before .before .before .before .before .before .before .before .pre)
 
 step-requires : tie.Need-step-requires Inv-loop μ-loop
 step-requires c κs = let u = c .before .before .before .before .before .loop .inv in (u .short, before u (c .before .before .before .place .given .1) .0)
@@ -27,7 +27,7 @@ loop-again : tie.Need-loop-again Inv-loop μ-loop
 loop-again c =
     let xs = c .before .before .before .before .before .before .before .before .before .before .before .before .before .before .before .args .image .now in
     let u = c .before .before .before .before .before .before .loop .inv in let p = c .before .before .before .before .place in
-    let at = ap (λ (k : ℕ). cellFrom xs (4 + 6 * k)) (sym (c .before .before .number .ensures .0)) in
+    let at = ap (λ (k : ℕ). cellFrom xs (4 + 6 * k)) (sym (c .before .before .usize-of-u16 .ensures .0)) in
     c .step .ensures .1 _ _ (p .given .1) (cell-of xs _ (before u (p .given .1) .1) ∙ at ∙ sym (c .before .cell-at .ensures)) u
 
 pub walk-in-spec : {M : Type 1} → Rattle.image.proofs.walk_in.Statement.statement M

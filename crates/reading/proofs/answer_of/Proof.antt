@@ -1,9 +1,9 @@
 -- `answer_of` meets its contract: each stage's answer is the model's.
 use Rattle.model.proofs.Prelude.{List, _∙_, ap, arith, drop, needs, sym, ℕ}
 use Rattle.digits.specs.Keys.{keyValue}
-use Rattle.bucket.specs.Forms.{heldUnder}
-use Rattle.bucket.proofs.Forms.{rest}
-use Rattle.bucket.proofs.Finding.{vacant-free, vacant-taken}
+use Rattle.entries.specs.Rows.{heldUnder}
+use Rattle.model.proofs.Lists.{rest}
+use Rattle.bucket.proofs.Slots.{vacant-free, vacant-taken}
 use Rattle.reading.proofs.LookingUp.{answer-absent, answer-found, answer-free, answer-ill, answer-lacks, holding-holds, holding-lacks, ill-formed, well-formed}
 use Rattle.reading.proofs.answer_of.Tie as tie
 

@@ -19,7 +19,7 @@ slot-at-requires c κs =
 loop-again : tie.Need-loop-again Inv-loop μ-loop
 loop-again c =
     let a = c .before .before .before .before .before .before .before .args in let l = c .before .before .before .before .before .loop in
-    let e = rest-length (a .file .now) (a .size) (a .order .now) (keyValue (a .first)) (keyValue (a .second)) (a .to) (l .j) _ _ _ (omega arith) (c .before .before .index .ensures .0) (c .before .slot-at .ensures .0) (c .part-between .ensures .1) in
+    let e = rest-length (a .file .now) (a .size) (a .order .now) (keyValue (a .first)) (keyValue (a .second)) (a .to) (l .j) _ _ _ (omega arith) (c .before .before .usize-of-u8 .ensures .0) (c .before .slot-at .ensures .0) (c .part-between .ensures .1) in
     (omega arith, omega arith, omega (arith, e))
 
 returns : tie.Need-returns Inv-loop μ-loop

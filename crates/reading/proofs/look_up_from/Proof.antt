@@ -29,7 +29,7 @@ returns-4 c t w =
     let a = c .before .before .before .before .before .before .before .before .before .before .before .before .before .before .before .args in
     let l = naming-legal _ (sym (c .before .before .before .before .before .before .before .before .before .before .enum-told .given .1) ∙ c .before .before .before .before .before .before .before .before .before .before .before .before .named .ensures) in
     let h = right-said (c .before .before .before .before .before .before .before .size .given .1) (c .before .before .before .before .before .before .before .before .before .header-of .ensures) .header in
-    past-looked (a .file .now) t (a .name .now) l h (a .walk) w (c .before .before .before .before .place .given .1) (omega (arith, c .if1 .taken, c .before .before .number .ensures .0))
+    past-looked (a .file .now) t (a .name .now) l h (a .walk) w (c .before .before .before .before .place .given .1) (omega (arith, c .if1 .taken, c .before .before .usize-of-u16 .ensures .0))
 
 slot-at-requires : tie.Need-slot-at-requires
 slot-at-requires c κs = (right-sized _ (c .before .before .before .before .before .before .before .before .size .given .1) (c .before .before .before .before .before .before .before .before .before .before .header-of .ensures), omega arith)
@@ -46,7 +46,7 @@ returns-5 c t w =
     let l = naming-legal _ (sym (c .before .before .before .before .before .before .before .before .before .before .before .before .before .before .before .enum-told .given .1) ∙ c .before .before .before .before .before .before .before .before .before .before .before .before .before .before .before .before .before .named .ensures) in
     let h = right-said (c .before .before .before .before .before .before .before .before .before .before .before .before .size .given .1) (c .before .before .before .before .before .before .before .before .before .before .before .before .before .before .header-of .ensures) .header in
     let f = c .before .before .before .before .filled .ensures in
-    arrived-looked (a .file .now) t name l h (a .walk) w (c .answer-of .result) (c .before .before .before .before .before .before .before .before .before .place .given .1) (c .before .before .before .before .before .before .before .number .ensures .0) (omega arith)
+    arrived-looked (a .file .now) t name l h (a .walk) w (c .answer-of .result) (c .before .before .before .before .before .before .before .before .before .place .given .1) (c .before .before .before .before .before .before .before .usize-of-u16 .ensures .0) (omega arith)
     (c .before .before .before .slot-at .ensures .0) (c .answer-of .ensures _ (legalName-legal name l) (filled-value name _ _ f (c .before .key-at .ensures)))
 
 pub look-up-from-spec : {M : Type 1} → Rattle.reading.proofs.look_up_from.Statement.statement M

@@ -20,7 +20,7 @@ copy-requires : tie.Need-copy-requires Inv-loop μ-loop
 copy-requires c κs =
     let a = c .before .before .before .before .before .before .before .before .before .args in
     let l = c .before .before .before .before .before .before .loop in
-    let e = rest-length (a .file .now) (a .size) (a .order .now) (keyValue (a .first)) (keyValue (a .second)) (a .to) (l .j) _ _ _ (omega arith) (c .before .before .before .index .ensures .0) (c .before .before .slot-at .ensures .0) (c .before .part-between .ensures .1) in
+    let e = rest-length (a .file .now) (a .size) (a .order .now) (keyValue (a .first)) (keyValue (a .second)) (a .to) (l .j) _ _ _ (omega arith) (c .before .before .before .usize-of-u8 .ensures .0) (c .before .before .slot-at .ensures .0) (c .before .part-between .ensures .1) in
     omega (arith, writing-rest (l .inv), e, writing-length (l .inv), l .inv .room)
 
 add-at : tie.Need-add-at Inv-loop μ-loop
@@ -28,7 +28,7 @@ add-at c =
     let at-part-between = c .before .before .before .before in
     let a = at-part-between .before .before .before .before .before .before .before .before .args in
     let l = at-part-between .before .before .before .before .before .loop in
-    let e = rest-length (a .file .now) (a .size) (a .order .now) (keyValue (a .first)) (keyValue (a .second)) (a .to) (l .j) _ _ _ (omega arith) (at-part-between .before .before .index .ensures .0) (at-part-between .before .slot-at .ensures .0) (at-part-between .part-between .ensures .1) in
+    let e = rest-length (a .file .now) (a .size) (a .order .now) (keyValue (a .first)) (keyValue (a .second)) (a .to) (l .j) _ _ _ (omega arith) (at-part-between .before .before .usize-of-u8 .ensures .0) (at-part-between .before .slot-at .ensures .0) (at-part-between .part-between .ensures .1) in
     omega (arith, writing-rest (l .inv), e, l .inv .room)
 
 loop-again : tie.Need-loop-again Inv-loop μ-loop
@@ -36,7 +36,7 @@ loop-again c =
     let at-part-between = c .before .before .before .before in
     let a = at-part-between .before .before .before .before .before .before .before .before .args in
     let l = at-part-between .before .before .before .before .before .loop in
-    let e = rest-step (a .file .now) (a .size) (a .order .now) (keyValue (a .first)) (keyValue (a .second)) (a .to) (l .j) _ _ _ (omega arith) (at-part-between .before .before .index .ensures .0) (at-part-between .before .slot-at .ensures .0) (at-part-between .part-between .ensures .1) in
+    let e = rest-step (a .file .now) (a .size) (a .order .now) (keyValue (a .first)) (keyValue (a .second)) (a .to) (l .j) _ _ _ (omega arith) (at-part-between .before .before .usize-of-u8 .ensures .0) (at-part-between .before .slot-at .ensures .0) (at-part-between .part-between .ensures .1) in
     writing-step (l .inv) (at-part-between .part-between .result .now) _ _ e (c .before .before .copy .ensures)
 
 returns : tie.Need-returns Inv-loop μ-loop

@@ -6,7 +6,7 @@ use Rattle.splitting.proofs.old_slot.Tie as tie
 returns : tie.Need-returns
 returns c =
     let a = c .before .before .before .before .before .before .before .before .args in
-    rw (c .before .before .before .lower-of .ensures .0, front _ (a .entries .now)) at (c .written-below .ensures)
+    rw (c .before .before .before .lower-bound .ensures .0, front _ (a .entries .now)) at (c .written-below .ensures)
 
 pub old-slot-spec : {M : Type 1} → Rattle.splitting.proofs.old_slot.Statement.statement M
 old-slot-spec =

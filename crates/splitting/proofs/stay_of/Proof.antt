@@ -5,7 +5,7 @@ use Rattle.splitting.proofs.stay_of.Tie as tie
 
 returns : tie.Need-returns
 returns c =
-    let s = c .before .before .before .before .before in let a = s .args in let p = s .pre in let u = c .upto .ensures in
+    let s = c .before .before .before .before .before in let a = s .args in let p = s .pre in let u = c .not-above .ensures in
     (omega arith, omega (arith, u .0), stay-counted (a .b) (a .len) (a .entries .now) (a .string .now) (c .before .bound-key-at .ensures) (u .1))
 
 pub stay-of-spec : {M : Type 1} → Rattle.splitting.proofs.stay_of.Statement.statement M

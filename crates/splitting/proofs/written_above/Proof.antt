@@ -1,6 +1,6 @@
 -- `written_above` meets its contract.
 use Rattle.model.proofs.Prelude.{List, _∙_, ap, needs, ℕ}
-use Rattle.bucket.specs.Slots.{writtenBytes}
+use Rattle.writing.specs.Slots.{writtenBytes}
 use Rattle.splitting.proofs.Halving.{front}
 use Rattle.splitting.proofs.written_above.Tie as tie
 

@@ -15,7 +15,7 @@ returns-3 : tie.Need-returns-3
 returns-3 c =
     let s = c .before .before .before .before .before .before .before .before in
     let f = fitting-right (c .before .before .before .before .before .before .size .given .1) (s .sizes .ensures) in
-    create-given _ _ _ _ _ _ _ (s .before .before .before .if1 .left) (s .before .before .small .ensures) (s .before .small2 .ensures) (f .0) (f .1) (f .2) (c .before .before .before .create .ensures) refl (c .lone .ensures)
+    create-given _ _ _ _ _ _ _ (s .before .before .before .if1 .left) (s .before .before .small .ensures) (s .before .small2 .ensures) (f .0) (f .1) (f .2) (c .before .before .before .create .ensures) refl (c .without-cells .ensures)
 
 pub create-spec : {M : Type 1} → Rattle.whole.proofs.create.Statement.statement M
 create-spec =
