@@ -1,4 +1,5 @@
 -- Put into a full bucket: what refuses the split, and what its two stores leave.
+use Rattle.model.specs.Places.{place-of}
 use Rattle.model.proofs.Prelude.{List, Option, [], _*_, _+_, _-_, _/_, _<_, _∙_, _≡_, _≤_, ap, ap₂, arith, clash, decLe, decLt, drop, le-ltb, length, lt-ltb, paste, some, subst, suc, sym, take, ℕ}
 use Rattle.model.specs.declared.Cause.the-variants.{ManyStrings, NoFreeSlot}
 use Rattle.model.specs.declared.PutAnswer.the-variants.{Added, Refused, Stopped}
@@ -86,7 +87,7 @@ module _ (b : ℕ) (two : 2 ≤ b) (few : b ≤ 16) (xs : List ℕ) {fs : List S
   -- The stores of a split, made in part and whole.
   module _ {s : Split} (D : Divides s b t ws) (N limit : ℕ) (r : PutGiven) where
     abbrev made : PutDone
-    made = putMade xs t b fs n v limit (stores (halves b N A l u ws))
+    made = putMade xs t (version-1 b) fs n v limit (stores (halves b (place-of (version-1 b)) N A l u ws))
 
     pub none-stored : limit < 1 → (r .answer ≡ Stopped 0) × (r .trie ≡ t) → put r xs ≡ made
     unfolding putMade storesBytes
@@ -98,9 +99,9 @@ module _ (b : ℕ) (two : 2 ≤ b) (few : b ≤ 16) (xs : List ℕ) {fs : List S
       at-slot : Reads b slot l u es
       at-slot = subst (λ (z : List ℕ). Reads b z l u es) (sym here) at-a
 
-      first-is : ys ≡ storeBytes (version-1 b) N (new-half b ws u) xs
+      first-is : ys ≡ storeBytes (version-1 b) N (new-half b (place-of (version-1 b)) ws u) xs
       first-is =
-          first-made ∙ store-is b N (new-half b ws u) xs new
+          first-made ∙ store-is b N (new-half b (place-of (version-1 b)) ws u) xs new
           (new-slot-is row-all b two few length-all entries (F .entries-are) slot at-slot (s .string) (s .len) (s .stay) (D .string-is) (D .len-is) (D .stay-is) new new-is)
 
       pub one-stored : 1 ≤ limit → limit < 2 → (r .answer ≡ Stopped 1) × (r .trie ≡ t) → put r ys ≡ made
@@ -109,11 +110,11 @@ module _ (b : ℕ) (two : 2 ≤ b) (few : b ≤ 16) (xs : List ℕ) {fs : List S
 
       pub two-stored : (zs old : List ℕ) → old ≡ writtenBytes (lowerAt slot) (take (s .len) (s .string)) (take (32 * s .stay) entries)
           → zs ≡ paste ys (16 + A * (64 + 32 * b)) (take (64 + 32 * b) old) (64 + 32 * b) → 2 ≤ limit
-          → (r .answer ≡ Added) × (r .trie ≡ grown-trie t (name-at ws (b / 2)) (split-of b ws) A N) → put r zs ≡ made
+          → (r .answer ≡ Added) × (r .trie ≡ grown-trie t (name-at ws (b / 2)) (split-of b (place-of (version-1 b)) ws) A N) → put r zs ≡ made
       unfolding putMade storesBytes trieAfter
       two-stored zs old old-is second-made h g =
-          let q : zs ≡ storeBytes (version-1 b) A (old-half b ws l) ys =
-          second-made ∙ store-is b A (old-half b ws l) ys old
+          let q : zs ≡ storeBytes (version-1 b) A (old-half b (place-of (version-1 b)) ws l) ys =
+          second-made ∙ store-is b A (old-half b (place-of (version-1 b)) ws l) ys old
           (old-slot-is row-all b two few length-all entries (F .entries-are) slot at-slot (s .string) (s .len) (s .stay) (D .string-is) (D .len-is) (D .stay-is) old old-is) in
           rw (le-ltb limit 2 h, ← F .slot-is, F .is, F .new, q, first-is, g .0, g .1)
 
@@ -135,16 +136,16 @@ module _ (b : ℕ) (two : 2 ≤ b) (few : b ≤ 16) (xs : List ℕ) {fs : List S
     walk-ended = rw (agreed-walk S G c c-length) at (D .walked)
 
     pub grown-is : {places lens : List ℕ} → Placed t places → take (length (strings-of fs)) lens ≡ lengths (strings-of fs) → (N : ℕ) (r : Trie)
-        → Grows t places lens (s .walk) (take (s .len) (s .string)) (s .shared) A N r → r ≡ grown-trie t c (split-of b ws) A N
+        → Grows t places lens (s .walk) (take (s .len) (s .string)) (s .shared) A N r → r ≡ grown-trie t c (split-of b (place-of (version-1 b)) ws) A N
     grown-is {places} {lens} P k N r g =
-        let q : take (s .len) (s .string) ≡ split-of b ws = rw (D .len-is, D .string-is) (string-front row-all b two few length-all entries (F .entries-are)) in
+        let q : take (s .len) (s .string) ≡ split-of b (place-of (version-1 b)) ws = rw (D .len-is, D .string-is) (string-front row-all b two few length-all entries (F .entries-are)) in
         let i : In (head (slot-at fs A)) c = rw (F .is) (tt, c-in .1, c-in .2) in
         subst (λ (z : Str). Grows t places lens (s .walk) z (s .shared) A N r) q g c
         (grown-asked S G (s .walk) P k c-length (split-some row-all b two few length-all entries (F .entries-are)) (split-begins row-all b two few length-all entries (F .entries-are)) i (D .walked) (D .shares))
 
-    pub count-after : (N : ℕ) → Lowest fs N → string-count (stored (halves b N A l u ws) fs) ≡ t .count + (s .len - s .shared)
+    pub count-after : (N : ℕ) → Lowest fs N → string-count (stored (halves b (place-of (version-1 b)) N A l u ws) fs) ≡ t .count + (s .len - s .shared)
     count-after N L =
-        let h : s .shared ≡ diff (split-of b ws) path = D .shares ∙ ap (diff (split-of b ws)) (walk-ended .path) in
+        let h : s .shared ≡ diff (split-of b (place-of (version-1 b)) ws) path = D .shares ∙ ap (diff (split-of b (place-of (version-1 b)) ws)) (walk-ended .path) in
         split-count b fs S G A l u es (F .is) n v (F .legal) (F .above) (F .within) (omega (arith, length-all)) (b / 2) (omega arith) N L
         ∙ ap₂ (λ (x y : ℕ). t .count + (x - y)) (sym (D .len-is)) (sym h)
 
@@ -153,26 +154,26 @@ module _ (b : ℕ) (two : 2 ≤ b) (few : b ≤ 16) (xs : List ℕ) {fs : List S
   N = first free? fs
 
   abbrev two-stores : Result
-  two-stores = stores (halves b N A l u ws)
+  two-stores = stores (halves b (place-of (version-1 b)) N A l u ws)
 
-  call-split : call b fs (asked n v)
-      ≡ chosen (decLt N (length fs)) (chosen (decLe (string-count (stored (halves b N A l u ws) fs)) 256) two-stores (refuse 6)) (refuse 5)
+  call-split : call b (place-of (version-1 b)) fs (asked n v)
+      ≡ chosen (decLt N (length fs)) (chosen (decLe (string-count (stored (halves b (place-of (version-1 b)) N A l u ws) fs)) 256) two-stores (refuse 6)) (refuse 5)
   unfolding call put-in
   call-split = rw (← F .slot-is, F .is) (chosen-no (decLe (length ws) b) (λ h. omega (arith, h, length-all)) _ _)
 
-  pub no-room : (r : PutGiven) (limit : ℕ) → length fs ≤ N → (r .answer ≡ Refused NoFreeSlot) × (r .trie ≡ t) → put r xs ≡ putMade xs t b fs n v limit (call b fs (asked n v))
+  pub no-room : (r : PutGiven) (limit : ℕ) → length fs ≤ N → (r .answer ≡ Refused NoFreeSlot) × (r .trie ≡ t) → put r xs ≡ putMade xs t (version-1 b) fs n v limit (call b (place-of (version-1 b)) fs (asked n v))
   unfolding putMade refusalOf
   no-room r limit h g = rw (call-split, chosen-no (decLt N (length fs)) (λ k. omega (arith, h, k)), g .0, g .1)
 
-  pub too-many : (r : PutGiven) (limit : ℕ) → N < length fs → 256 < string-count (stored (halves b N A l u ws) fs)
-      → (r .answer ≡ Refused ManyStrings) × (r .trie ≡ t) → put r xs ≡ putMade xs t b fs n v limit (call b fs (asked n v))
+  pub too-many : (r : PutGiven) (limit : ℕ) → N < length fs → 256 < string-count (stored (halves b (place-of (version-1 b)) N A l u ws) fs)
+      → (r .answer ≡ Refused ManyStrings) × (r .trie ≡ t) → put r xs ≡ putMade xs t (version-1 b) fs n v limit (call b (place-of (version-1 b)) fs (asked n v))
   unfolding putMade refusalOf
   too-many r limit h k g =
-      rw (call-split, chosen-yes (decLt N (length fs)) h, chosen-no (decLe (string-count (stored (halves b N A l u ws) fs)) 256) (λ i. omega (arith, i, k)), g .0, g .1)
+      rw (call-split, chosen-yes (decLt N (length fs)) h, chosen-no (decLe (string-count (stored (halves b (place-of (version-1 b)) N A l u ws) fs)) 256) (λ i. omega (arith, i, k)), g .0, g .1)
 
-  pub both-made : N < length fs → string-count (stored (halves b N A l u ws) fs) ≤ 256 → call b fs (asked n v) ≡ two-stores
+  pub both-made : N < length fs → string-count (stored (halves b (place-of (version-1 b)) N A l u ws) fs) ≤ 256 → call b (place-of (version-1 b)) fs (asked n v) ≡ two-stores
   both-made h k =
-      call-split ∙ chosen-yes (decLt N (length fs)) h _ _ ∙ chosen-yes (decLe (string-count (stored (halves b N A l u ws) fs)) 256) k _ _
+      call-split ∙ chosen-yes (decLt N (length fs)) h _ _ ∙ chosen-yes (decLe (string-count (stored (halves b (place-of (version-1 b)) N A l u ws) fs)) 256) k _ _
 
 -- The room that was found.
 room-full : (fs : List Slot) → room-of fs ≡ NoRoom → length fs ≤ first free? fs
@@ -251,5 +252,5 @@ module _ {c : Checked} {xs : List ℕ} {t : Trie} (G : Agreed c xs t) (A : ℕ) 
           let y = both-made (c .size .b) (two G) (few G) xs e S t F (m .1)
           (omega (arith, p .shared-most, h, count-after (c .size .b) (two G) (few G) xs e S t F (known G e .agrees) D (first free? fs) (free-lowest fs (m .1)))) in
           d fs e n v l u es F D
-          ∙ ap (λ (x : ℕ). putMade xs t (c .size .b) fs n v limit (stores (halves (c .size .b) x A l u (insert n v es)))) (m .0)
-          ∙ ap (putMade xs t (c .size .b) fs n v limit) (sym y)
+          ∙ ap (λ (x : ℕ). putMade xs t (version-1 (c .size .b)) fs n v limit (stores (halves (c .size .b) (place-of (version-1 (c .size .b))) x A l u (insert n v es)))) (m .0)
+          ∙ ap (putMade xs t (version-1 (c .size .b)) fs n v limit) (sym y)

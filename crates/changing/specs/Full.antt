@@ -1,4 +1,5 @@
 -- A new name whose bucket is full, and what the two stores of its split leave.
+use Rattle.model.specs.Places.{place-of}
 use mathlib.Core.Path.{_≡_}
 use mathlib.Core.Option.{none as nothing, some}
 use mathlib.Core.List.{List}
@@ -34,4 +35,4 @@ abbrev pub DivideTold : Checked → List ℕ → List ℕ → Trie → ℕ → �
 DivideTold c xs ys t A N entries s limit r =
     (fs : List Slot) → readFile xs ≡ some (version-1 (c .size .b), fs) → (n : Str) (v : ℕ) (l : Low) (u : Str) (es : List Entry)
     → Full (c .size .b) fs A n v l u es entries → Divides s (c .size .b) t (insert n v es)
-    → put r ys ≡ putMade xs t (c .size .b) fs n v limit (stores (halves (c .size .b) N A l u (insert n v es)))
+    → put r ys ≡ putMade xs t (version-1 (c .size .b)) fs n v limit (stores (halves (c .size .b) (place-of (version-1 (c .size .b))) N A l u (insert n v es)))

@@ -1,4 +1,5 @@
 -- What put and remove leave of a file that is read: the model's outcome, for the slots read and the name looked for.
+use Rattle.model.specs.Places.{place-of}
 use mathlib.Core.Path.{_≡_}
 use mathlib.Core.Option.{none as nothing, some}
 use mathlib.Core.List.{List}
@@ -25,11 +26,11 @@ use Rattle.changing.specs.Spots.{SpotIn}
 abbrev pub RemoveTold : List ℕ → List ℕ → Size → Key → ℕ → RemoveAnswer → Type 0
 RemoveTold xs ys size name limit r =
     (fs : List Slot) → readFile xs ≡ some (version-1 (size .b), fs) → (n : Str) → Legal n → keyValue name ≡ value n
-    → removed r ys ≡ removeMade xs (size .b) limit (call (size .b) fs (remove n))
+    → removed r ys ≡ removeMade xs (version-1 (size .b)) limit (call (size .b) (place-of (version-1 (size .b))) fs (remove n))
 
 -- Put, of the name n with the value v.
 abbrev pub PutMade : List ℕ → List ℕ → Trie → ℕ → List Slot → Str → ℕ → ℕ → PutGiven → Type 0
-PutMade xs ys t b fs n v limit r = put r ys ≡ putMade xs t b fs n v limit (call b fs (asked n v))
+PutMade xs ys t b fs n v limit r = put r ys ≡ putMade xs t (version-1 b) fs n v limit (call b (place-of (version-1 b)) fs (asked n v))
 
 abbrev pub PutTold : List ℕ → List ℕ → Trie → Size → Str → ℕ → ℕ → PutGiven → Type 0
 PutTold xs ys t size n v limit r =

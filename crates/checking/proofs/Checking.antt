@@ -39,7 +39,7 @@ looked-by xs t e f = rw (e, f)
 -- The agreement with a sound file.
 module _ (xs : List ℕ) (t : Trie) (s : Size) (v : Survey) (g : Strings) (a : Agreement)
     (h : Said s xs) (e : checkFile xs ≡ is-sound) (z : Surveyed v xs s) (l : Listed g xs s (v .order) (v .count)) (d : Decides t g a) where
-  R : Read (version-1 s) xs
+  R : Read s xs
   R = sound-read xs s h e
 
   decided : Decided (R .slots) t a

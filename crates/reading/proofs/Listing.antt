@@ -96,7 +96,7 @@ module _ {xs : List ℕ} {s : Size} {order : List ℕ} {count : ℕ} {fs : List 
         let a : partBetween ys (countAt (s .b) ys) v w ≡ entriesBytes 32 (between n m es) = rw (count-is R) (part-between R n m v w f g p q) in
         let c : take (suc k) (drop j (order-of fs)) ≡ getD (order-of fs) j 0 ∷ Cs = ap (take (suc k)) (drop-cons (order-of fs) j 0 (omega (arith, O .count-is))) in
         ap₂ (λ (x y : List ℕ). x ++ y) a (parts-entries v w p q k (suc j) (omega arith))
-        ∙ sym (ap (λ (x : List ℕ). entriesBytes 32 (between n m (entriesIn fs x))) c ∙ ap entriesBytes 32 (between-append n m es (entriesIn fs Cs)) ∙ entries-append (between n m es) (between n m (entriesIn fs Cs)))
+        ∙ sym (ap (λ (x : List ℕ). entriesBytes 32 (between n m (entriesIn fs x))) c ∙ ap (entriesBytes 32) (between-append n m es (entriesIn fs Cs)) ∙ entries-append (between n m es) (between n m (entriesIn fs Cs)))
 
     parts-length : (k j : ℕ) → j + k ≤ count
         → length (entriesBytes 32 (between n m (entriesIn fs (take k (drop j (order-of fs)))))) ≡ 32 * length (between n m (entriesIn fs (take k (drop j (order-of fs)))))
@@ -156,7 +156,7 @@ module _ {xs : List ℕ} {s : Size} {order : List ℕ} {count : ℕ} {fs : List 
       ]
 
       pub parts-are : (v w : ℕ) → v ≡ value n → w ≡ value m → parts (to + 1 - from) xs s order v w from ≡ entriesBytes 32 (between n m (entriesIn fs (order-of fs)))
-      parts-are v w p q = parts-entries v w p q (to + 1 - from) from (omega (arith, P .inside, Q .inside, O .count-is)) ∙ ap entriesBytes 32 all-between
+      parts-are v w p q = parts-entries v w p q (to + 1 - from) from (omega (arith, P .inside, Q .inside, O .count-is)) ∙ ap (entriesBytes 32) all-between
 
       pub all-length : length (entriesBytes 32 (between n m (entriesIn fs (order-of fs)))) ≡ 32 * length (between n m (entriesIn fs (order-of fs)))
       all-length = rw all-between at (parts-length (to + 1 - from) from (omega (arith, P .inside, Q .inside, O .count-is)))

@@ -1,4 +1,5 @@
 -- The halves of b + 1 entries as the code finds them in their bytes: the split string, what stays and what moves.
+use Rattle.model.specs.Places.{place-of}
 use Rattle.model.proofs.Prelude.{Bool, List, [], _*_, _++_, _+_, _-_, _/_, _<_, _∙_, _∷_, _≡_, _≤_, ap, arith, cond, drop, drop-at, false, length, length-drop, length-replicate, length-take, length-take-le, ltb, paste, refl, replicate, subst, suc, sym, take, take-all, true, zero, ℕ, ℕ-discrete}
 use Rattle.model.specs.declared.Trie.{Trie}
 use Rattle.model.specs.Order.{Low, Str, _≺_, at, diff, diff-at, le?, over}
@@ -128,7 +129,7 @@ module _ {l : Low} {u : Str} {ws : List Entry} (R : Row l ws u) (b : ℕ) (two :
   z = name-at ws b
 
   abbrev s : Str
-  s = split-of b ws
+  s = split-of b (place-of (version-1 b)) ws
 
   half : b / 2 < b
   half = omega arith
@@ -245,7 +246,7 @@ module _ {l : Low} {u : Str} {ws : List Entry} (R : Row l ws u) (b : ℕ) (two :
 
   -- Their bytes, and those of the others.
   stay-bytes : take (32 * length (stay s ws)) xs ≡ entriesBytes 32 (stay s ws)
-  stay-bytes = rw bytes (part-row zeros R 0 (length (stay s ws)) (omega (arith, stay-most)) ∙ ap entriesBytes 32 (stayed s R))
+  stay-bytes = rw bytes (part-row zeros R 0 (length (stay s ws)) (omega (arith, stay-most)) ∙ ap (entriesBytes 32) (stayed s R))
 
   moved-are : drop (length (stay s ws)) ws ≡ move s ws
   moved-are = ap (λ (k : ℕ). drop k ws) (sym stays) ∙ moved s legal-s R .0
@@ -256,7 +257,7 @@ module _ {l : Low} {u : Str} {ws : List Entry} (R : Row l ws u) (b : ℕ) (two :
       let k = b + 1 - j in
       let i : 32 * (b + 1) - 32 * j ≡ 32 * k = omega arith in
       let t : take k (drop j ws) ≡ drop j ws = take-all k (drop j ws) (omega (arith, length-drop j ws)) in
-      rw (i, bytes) (part-row zeros R j k (omega (arith, stay-most)) ∙ ap entriesBytes 32 (t ∙ moved-are))
+      rw (i, bytes) (part-row zeros R j k (omega (arith, stay-most)) ∙ ap (entriesBytes 32) (t ∙ moved-are))
 
   -- The two slots, of which A's bytes are ys.
   module _ (ys : List ℕ) {es : List Entry} (A : Reads b ys l u es) (string : List ℕ) (len st : ℕ) (string-is : string ≡ padded 24 s) (len-is : len ≡ length s)
@@ -265,13 +266,13 @@ module _ {l : Low} {u : Str} {ws : List Entry} (R : Row l ws u) (b : ℕ) (two :
     string-of = rw (len-is, string-is) string-front
 
     pub new-slot-is : r ≡ writtenBytes (take len string) (upperAt ys) (take (32 * (b + 1) - 32 * st) (drop (32 * st) xs))
-        → take (slotSize (version-1 b)) r ≡ slotBytes (version-1 b) (new-half b ws u)
+        → take (slotSize (version-1 b)) r ≡ slotBytes (version-1 b) (new-half b (place-of (version-1 b)) ws u)
     unfolding lowDigits
     new-slot-is q =
         ap (take (slotSize (version-1 b))) (q ∙ rw (string-of, upper-at A, stay-is, move-bytes))
         ∙ written-slot b (at s) u (row-keep (λ k. not? (le? k s)) l u R (λ k p c d. (c, d))) few
 
-    pub old-slot-is : r ≡ writtenBytes (lowerAt ys) (take len string) (take (32 * st) xs) → take (slotSize (version-1 b)) r ≡ slotBytes (version-1 b) (old-half b ws l)
+    pub old-slot-is : r ≡ writtenBytes (lowerAt ys) (take len string) (take (32 * st) xs) → take (slotSize (version-1 b)) r ≡ slotBytes (version-1 b) (old-half b (place-of (version-1 b)) ws l)
     old-slot-is q =
         ap (take (slotSize (version-1 b))) (q ∙ rw (lower-at A, string-of, stay-is, stay-bytes))
         ∙ written-slot b l s (row-keep (λ k. le? k s) l u R (λ k p c d. (c, d))) few

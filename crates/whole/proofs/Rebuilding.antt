@@ -31,7 +31,7 @@ rebuild-cut xs r h e = rw (e, h .0, h .1)
 -- A sound file, with its strings.
 module _ (xs : List ℕ) (s : Size) (v : Survey) (g : Strings) (h : Said s xs) (e : checkFile xs ≡ is-sound) (z : Surveyed v xs s)
     (l : Listed g xs s (v .order) (v .count)) where
-  R : Read (version-1 s) xs
+  R : Read s xs
   R = sound-read xs s h e
 
   few-is : {t : Bool} → g .few ≡ t → leb (string-count (R .slots)) 256 ≡ t

@@ -3,7 +3,7 @@ use Rattle.model.proofs.Prelude.{List, _*_, _++_, _+_, _-_, _<_, _∙_, _≡_, 
 use Rattle.model.specs.declared.Cause.the-variants.{BadFile, WrongSize}
 use Rattle.model.specs.declared.RecoverAnswer.the-variants.{Freed, Nothing, Refused as RecoverRefused, Stopped as RecoverStopped}
 use Rattle.model.specs.Checks.{is-bad, is-cut, is-sound}
-use Rattle.model.specs.Format.{checkFile, headerOf, slotBytes, slotSize, storeBytes}
+use Rattle.model.specs.Format.{checkFile, entrySize, headerOf, slotBytes, slotSize, storeBytes}
 use Rattle.model.specs.Calls.{recoverBy, recoverOf}
 use Rattle.model.proofs.Format.{headed-layout, headerOf-headed}
 use Rattle.file.specs.declared.Size.{Size}
