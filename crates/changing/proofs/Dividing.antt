@@ -1,4 +1,5 @@
 -- Put into a full bucket: what refuses the split, and what its two stores leave.
+use Rattle.model.specs.declared.Layout.{Layout}
 use Rattle.model.specs.Places.{place-of}
 use Rattle.model.proofs.Prelude.{List, Option, [], _*_, _+_, _-_, _/_, _<_, _∙_, _≡_, _≤_, ap, ap₂, arith, clash, decLe, decLt, drop, le-ltb, length, lt-ltb, paste, some, subst, suc, sym, take, ℕ}
 use Rattle.model.specs.declared.Cause.the-variants.{ManyStrings, NoFreeSlot}
@@ -57,17 +58,17 @@ record Known (c : Checked) (xs : List ℕ) (t : Trie) (fs : List Slot) : Type 0 
 
 known : {c : Checked} {xs : List ℕ} {t : Trie} {fs : List Slot} → Agreed c xs t → readFile xs ≡ some (version-1 (c .size .b), fs) → Known c xs t fs
 known {c} {xs} {t} {fs} G e =
-    let f : _≡_ {A = Option (Layout × List Slot)} (some (c .size .b, G .ready .slots)) (some (c .size .b, fs)) = sym (G .ready .is) ∙ e in
-    let g : _≡_ {A = ℕ × List Slot} (c .size .b, G .ready .slots) (c .size .b, fs) = cc in
-    subst (Known c xs t) (ap (λ (x : ℕ × List Slot). x .1) g)
+    let f : _≡_ {A = Option (Layout × List Slot)} (some (version-1 (c .size .b), G .ready .slots)) (some (version-1 (c .size .b), fs)) = sym (G .ready .is) ∙ e in
+    let g : _≡_ {A = Layout × List Slot} (version-1 (c .size .b), G .ready .slots) (version-1 (c .size .b), fs) = cc in
+    subst (Known c xs t) (ap (λ (x : Layout × List Slot). x .1) g)
     (record { sound = G .ready .sound; agrees = G .agrees; lens-are = G .ready .strings-held .lens-are; map-is = G .ready .used-is })
 
 -- As many slots as the header says.
 slots-are : (xs : List ℕ) {b slots : ℕ} {fs : List Slot} → readFile xs ≡ some (version-1 b, fs) → headerOf xs ≡ some (version-1 b, slots) → length fs ≡ slots
 slots-are xs {b} {slots} {fs} e h =
     let q : _≡_ {A = Option (Layout × ℕ)} (some (version-1 b, length fs)) (some (version-1 b, slots)) = sym (headed-headerOf (readFile-read xs e .headed)) ∙ h in
-    let p : _≡_ {A = ℕ × ℕ} (b, length fs) (b, slots) = cc in
-    ap (λ (x : ℕ × ℕ). x .1) p
+    let p : _≡_ {A = Layout × ℕ} (version-1 b, length fs) (version-1 b, slots) = cc in
+    ap (λ (x : Layout × ℕ). x .1) p
 
 -- A new name of a full bucket, in a file whose slots are fs.
 module _ (b : ℕ) (two : 2 ≤ b) (few : b ≤ 16) (xs : List ℕ) {fs : List Slot} (e : readFile xs ≡ some (version-1 b, fs)) (S : Sound b fs) (t : Trie)

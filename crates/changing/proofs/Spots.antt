@@ -1,5 +1,6 @@
 -- The spot of a name in a file that is read and sound, and the bytes of one whole-slot store.
 use Rattle.model.proofs.Prelude.{Bool, List, Option, [], _*_, _+_, _-_, _<_, _∙_, _≡_, _≤_, ap, arith, clash, drop, drop-drop, eq-eqb, eqb, eqb-true, false, getD, getD-take, le-ltb, length, lt-ltb, ltb, ltb-true, nothing, paste, refl, some, subst, suc, sym, take, take-all, true, zero, ℕ}
+use Rattle.model.specs.declared.Layout.{Layout}
 use Rattle.model.specs.Order.{Low, Str}
 use Rattle.model.specs.Names.{Legal}
 use Rattle.model.specs.Entries.{Entry, find, insert, without}
@@ -31,9 +32,9 @@ use Rattle.changing.specs.Spots.{SpotIn, isHeld}
 module _ {c : Checked} {xs : List ℕ} {fs : List Slot} (R : Ready c xs) (e : readFile xs ≡ some (version-1 (c .size .b), fs)) where
   same-slots : R .slots ≡ fs
   same-slots =
-      let f : _≡_ {A = Option (Layout × List Slot)} (some (c .size .b, R .slots)) (some (c .size .b, fs)) = sym (R .is) ∙ e in
-      let g : _≡_ {A = ℕ × List Slot} (c .size .b, R .slots) (c .size .b, fs) = cc in
-      ap (λ (x : ℕ × List Slot). x .1) g
+      let f : _≡_ {A = Option (Layout × List Slot)} (some (version-1 (c .size .b), R .slots)) (some (version-1 (c .size .b), fs)) = sym (R .is) ∙ e in
+      let g : _≡_ {A = Layout × List Slot} (version-1 (c .size .b), R .slots) (version-1 (c .size .b), fs) = cc in
+      ap (λ (x : Layout × List Slot). x .1) g
 
   pub ready-sound : Sound (c .size .b) fs
   ready-sound = subst (Sound (c .size .b)) same-slots (R .sound)

@@ -9,7 +9,7 @@ use Rattle.model.specs.Order.{Low, Str, _⊑_, le?, over}
 use Rattle.model.specs.Names.{Legal, atMost, filled, legalName}
 use Rattle.model.specs.Entries.{Entry, Row, entry, name-at, no-entries}
 use Rattle.model.specs.Files.{Slot, entries-of, head, lower-of, order-of, slot-at}
-use Rattle.model.specs.Format.{entriesBytes, entryBytes, version-1}
+use Rattle.model.specs.Format.{entriesBytes, entryBytes, entrySize, version-1}
 use Rattle.model.specs.Calls.{between, entriesIn, fine, listEntries, listLooked, listOf, lookedOf, refusing}
 use Rattle.model.proofs.Order.{le-trans, low-lower}
 use Rattle.model.proofs.Names.{le-atMost, lt-atMost}
@@ -176,11 +176,11 @@ module _ {xs : List ℕ} {s : Size} {order : List ℕ} {count : ℕ} {fs : List 
   bytes-are : bytes ≡ 32 * length all
   bytes-are = e ∙ ap length (parts-are O n m f g from to P Q v w p q) ∙ all-length O n m f g from to P Q
 
-  pub list-short : length out < bytes → listed (Refused ShortOutput) out ≡ listEntries all out
+  pub list-short : length out < bytes → listed (Refused ShortOutput) out ≡ listEntries 32 all out
   unfolding listEntries
   list-short h = rw (lt-ltb (length out) (32 * length all) (omega (arith, bytes-are)))
 
-  pub list-all : (left : List ℕ) → bytes ≤ length out → Written (parts (to + 1 - from) xs s order v w from) out left → listed (Listed (bytes / 32)) left ≡ listEntries all out
+  pub list-all : (left : List ℕ) → bytes ≤ length out → Written (parts (to + 1 - from) xs s order v w from) out left → listed (Listed (bytes / 32)) left ≡ listEntries 32 all out
   unfolding listEntries
   list-all left h u =
       let i : bytes / 32 ≡ length all = omega (arith, bytes-are) in
@@ -203,6 +203,6 @@ module _ (xs : List ℕ) (t : Trie) (low high out : List ℕ) where
   list-refused e f g = rw (e, f, g)
 
   pub list-fine : {b : ℕ} {fs : List Slot} (r : ListAnswer) (left : List ℕ) → legalName low ≡ true → legalName high ≡ true → lookedOf xs t ≡ fine (version-1 b) fs
-      → listed r left ≡ listEntries (between (filled low) (filled high) (entriesIn fs (order-of fs))) out → listed r left ≡ listOf xs t low high out
-  unfolding listOf listLooked
+      → listed r left ≡ listEntries 32 (between (filled low) (filled high) (entriesIn fs (order-of fs))) out → listed r left ≡ listOf xs t low high out
+  unfolding listOf listLooked entrySize
   list-fine r left e f g h = h ∙ rw (e, f, g)

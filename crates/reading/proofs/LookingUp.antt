@@ -113,13 +113,13 @@ module _ (xs : List ℕ) (t : Trie) (name : List ℕ) where
 
   module _ {b slots : ℕ} (e : legalName name ≡ true) (h : headerOf xs ≡ some (version-1 b, slots)) where
     -- Where the walk lands, and what is answered there.
-    landed-looked : lookUpOf xs t name ≡ arrivedAnswer xs b (filled name) (landed slots (walkOf t (filled name)))
+    landed-looked : lookUpOf xs t name ≡ arrivedAnswer xs (version-1 b) (filled name) (landed slots (walkOf t (filled name)))
     unfolding lookUpOf headedAnswer walkOf arrivedAnswer
     landed-looked =
         rw (e, h, arrive-run (t .count) slots (t .count) (t .cells) (filled name) [] root (root-side (t .count) (t .first))) (go (leb (t .count) 256) _)
       where
-        go : (c : Bool) (o : Option (Str × Spot × ℕ)) → cond c (arrivedAnswer xs b (filled name) (landed slots o)) (Refused StaleTrie)
-            ≡ arrivedAnswer xs b (filled name) (landed slots (cond c o nothing))
+        go : (c : Bool) (o : Option (Str × Spot × ℕ)) → cond c (arrivedAnswer xs (version-1 b) (filled name) (landed slots o)) (Refused StaleTrie)
+            ≡ arrivedAnswer xs (version-1 b) (filled name) (landed slots (cond c o nothing))
         go false o = refl
         go true o = refl
 
@@ -128,7 +128,7 @@ module _ (xs : List ℕ) (t : Trie) (name : List ℕ) where
       unfolding arrivedAnswer
       stray-looked apart = sym (landed-looked ∙ go (walkOf t (filled name)) W)
         where
-          go : (o : Option (Str × Spot × ℕ)) → Walks w o → arrivedAnswer xs b (filled name) (landed slots o) ≡ Refused StaleTrie
+          go : (o : Option (Str × Spot × ℕ)) → Walks w o → arrivedAnswer xs (version-1 b) (filled name) (landed slots o) ≡ Refused StaleTrie
           go nothing W = refl
           go (some (p, k, s)) W = absurd (apart s (W .place))
 

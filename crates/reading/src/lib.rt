@@ -150,7 +150,7 @@ fn list_checked(
 ) -> ListAnswer
     requires { ⌜ Ready checked (now file) ⌝ }
     ensures { λ r. ⌜ ((R : Ready checked (now (file .entry))) → (n m : Str) → Legal n → Legal m → keyValue first ≡ value n → keyValue second ≡ value m
-        → listed r (now (output .exit)) ≡ listEntries (between n m (entriesIn (R .slots) (order-of (R .slots)))) (now (output .entry))) ⌝ }
+        → listed r (now (output .exit)) ≡ listEntries 32 (between n m (entriesIn (R .slots) (order-of (R .slots)))) (now (output .entry))) ⌝ }
 {
     let size = checked.size;
     let survey = checked.survey;
