@@ -7,5 +7,6 @@ pub mod Demand1
 pub mod Demand2
 pub mod Stops
 pub mod Demand3
+pub mod Meanings
 pub mod Determined
 pub mod Strength

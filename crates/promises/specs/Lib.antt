@@ -5,5 +5,6 @@ pub mod Situations
 pub mod Demand1
 pub mod Demand2
 pub mod Demand3
+pub mod Meanings
 pub mod Determined
 pub mod Strength
