@@ -79,7 +79,7 @@ module _ {xs : List ℕ} {y : Layout} {fs : List Slot} (e : readFile xs ≡ some
   same-layout : S .layout ≡ y
   same-layout = ap (λ (f : Layout × List Slot). f .0) same-file
 
-  same-slots : S .slots ≡ fs
+  pub same-slots : S .slots ≡ fs
   same-slots = ap (λ (f : Layout × List Slot). f .1) same-file
 
 -- Create.

@@ -1,6 +1,5 @@
 -- Check, recover, list and the tests mean what document 01 says.
 use Rattle.model.proofs.Prelude.{Bool, List, [], _&&_, _*_, _++_, _<_, _∙_, _∷_, _≡_, _≤_, ap, arith, clash, cond, drop, false, length, length-replicate, ltb, ltb-false, ltb-true, refl, replicate, set, some, sym, take, take-all, true, ℕ}
-use mathlib.Core.Logic.{_↔_}
 use Rattle.model.specs.declared.Cause.the-variants.{BadFile as is-a-bad-file, IllegalName, ShortOutput, WrongSize}
 use Rattle.model.specs.declared.Layout.{Layout}
 use Rattle.model.specs.declared.ListAnswer.the-variants.{Listed, Refused as ListRefused}
@@ -94,7 +93,8 @@ module _ (xs : List ℕ) (limit : ℕ) where
       go true e = too-high (ltb-true 2 limit e)
       go false e = by (checkFile xs) (checkFile-right xs) (omega (arith, ltb-false 2 limit e))
 
-  says-freed : (N : ℕ) → (recoverOf xs limit .answer ≡ Freed N) ↔ ((1 ≤ limit) × (limit ≤ 2) × CutFile xs N)
+  says-freed : (N : ℕ) → (recoverOf xs limit .answer ≡ Freed N → (1 ≤ limit) × (limit ≤ 2) × CutFile xs N)
+      × ((1 ≤ limit) × (limit ≤ 2) × CutFile xs N → recoverOf xs limit .answer ≡ Freed N)
   says-freed N = (λ e. there does e, λ h. back does h)
     where
       there : {d : Recovered} → Does d → d .answer ≡ Freed N → (1 ≤ limit) × (limit ≤ 2) × CutFile xs N
@@ -111,7 +111,7 @@ module _ (xs : List ℕ) (limit : ℕ) where
       back (stops z D) (a, c, C) = absurd (omega arith)
       back (frees h k D) (a, c, C) = ap Freed (one-cut D C)
 
-  says-nothing : (recoverOf xs limit .answer ≡ Nothing) ↔ ((limit ≤ 2) × SoundFile xs)
+  says-nothing : (recoverOf xs limit .answer ≡ Nothing → (limit ≤ 2) × SoundFile xs) × ((limit ≤ 2) × SoundFile xs → recoverOf xs limit .answer ≡ Nothing)
   says-nothing = (λ e. there does e, λ h. back does h)
     where
       there : {d : Recovered} → Does d → d .answer ≡ Nothing → (limit ≤ 2) × SoundFile xs

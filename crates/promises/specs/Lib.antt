@@ -7,4 +7,5 @@ pub mod Demand2
 pub mod Demand3
 pub mod Meanings
 pub mod Determined
+pub mod WrongCalls
 pub mod Strength
