@@ -19,7 +19,7 @@ use Rattle.model.proofs.Names.{atMost-le}
 use Rattle.model.proofs.LookUps.{lookup-agrees}
 use Rattle.model.proofs.Checks.{isAbove-above, well-isWell}
 use Rattle.model.proofs.Format.{headed-headerOf, readFile-read, readSlot-readFile}
-use Rattle.promises.specs.Demand2.{Demand2, LeadsRight, Tells, True, stale, true-entry, truly-absent, truth}
+use Rattle.promises.specs.Demand2.{Demand2, LeadsRight, Tells, Truthful, stale, told, true-entry, truly-absent}
 use Rattle.promises.specs.Calls.{our-calls}
 use Rattle.promises.specs.Demand1.{LegalName}
 use Rattle.promises.proofs.Demand1.{name-legal}
@@ -60,8 +60,8 @@ slot-tells y fs S n k (used l u es) e = rw well (go (isAbove l n) (atMost n u) r
     well = well-isWell (y .b) (rw e at (S .well k))
 
     held : In (head (slot-at fs k)) n → (f : Option ℕ) → find n es ≡ f → Tells fs n (heldAnswer f)
-    held i nothing h = truth (truly-absent k i (rw e h))
-    held i (some v) h = let f : find n (entries-of (slot-at fs k)) ≡ some v = rw e h in truth (true-entry k i f)
+    held i nothing h = told (truly-absent k i (rw e h))
+    held i (some v) h = let f : find n (entries-of (slot-at fs k)) ≡ some v = rw e h in told (true-entry k i f)
 
     go : (a c : Bool) → isAbove l n ≡ a → atMost n u ≡ c → Tells fs n (cond (a && c) (heldAnswer (find n es)) (Refused StaleTrie))
     go true true p q = held (rw e (tt, isAbove-above l n p, atMost-le n u q)) (find n es) refl
@@ -95,11 +95,11 @@ lookup-tells xs t name S legal = rw (legal, header) (few (leb (t .count) 256))
     few false = stale
 
 -- With a trie that leads right it is told, and not refused.
-held-true : (fs : List Slot) (n : Str) (B : ℕ) → In (head (slot-at fs B)) n → (o : Option ℕ) → find n (entries-of (slot-at fs B)) ≡ o → True fs n (heldAnswer o)
+held-true : (fs : List Slot) (n : Str) (B : ℕ) → In (head (slot-at fs B)) n → (o : Option ℕ) → find n (entries-of (slot-at fs B)) ≡ o → Truthful fs n (heldAnswer o)
 held-true fs n B i nothing e = truly-absent B i e
 held-true fs n B i (some v) e = true-entry B i e
 
-lookup-led : (xs : List ℕ) (t : Trie) (name : List ℕ) (L : LeadsRight xs t) → LegalName name → True (L .file .slots) (filled name) (lookUpOf xs t name)
+lookup-led : (xs : List ℕ) (t : Trie) (name : List ℕ) (L : LeadsRight xs t) → LegalName name → Truthful (L .file .slots) (filled name) (lookUpOf xs t name)
 lookup-led xs t name L g =
     let n = filled name in
     let B = walk-trie t n in

@@ -30,7 +30,7 @@ use Rattle.model.proofs.Stores.{Asked, Left, change-legal, left-freed, left-sto
 use Rattle.model.proofs.GrownTries.{change-agrees}
 use Rattle.model.proofs.Created.{created-agrees, created-fine, created-left}
 use Rattle.promises.specs.Calls.{our-calls}
-use Rattle.promises.specs.Demand3.{Demand3, Event, Holds, InHand, Kept, Recovers, State, after, after-put, after-rebuild, after-recover, after-remove, down, file-of, freed, kill, nothing-to-do, now, put, put-by, put-with, rebuild, recover, remove, remove-by, remove-with, running, said, start, step, stopped}
+use Rattle.promises.specs.Demand3.{Demand3, Event, Holds, InHand, Kept, Recovers, State, after, after-freeing, after-put, after-rebuild, after-recover, after-remove, down, file-of, kill, nothing-to-do, now, put, put-by, put-with, rebuild, recover, remove, remove-by, remove-with, running, said, start, step, stopped-at-0}
 use Rattle.promises.proofs.Demand1.{demand-1, name-legal}
 use Rattle.promises.proofs.Leading.{Passed, leads, looked-passed}
 use Rattle.promises.proofs.Stops.{put-stops, recover-stops, remove-stops}
@@ -102,9 +102,9 @@ data Back (xs : List ℕ) (m : Map) (limit : ℕ) : RecoverAnswer → List ℕ �
   waiting : limit ≡ 0 → Back xs m limit (RecoverStopped 0) xs
 
 back-recovers : {xs : List ℕ} {m : Map} {limit : ℕ} {a : RecoverAnswer} {ys : List ℕ} → Back xs m limit a ys → Recovers our-calls xs m limit a ys
-back-recovers {m = m} (back {ys = ys} y fs L F) = let u = rebuilt-up ys m y fs L F in freed (u .0) (up-kept (u .1))
+back-recovers {m = m} (back {ys = ys} y fs L F) = let u = rebuilt-up ys m y fs L F in after-freeing (u .0) (up-kept (u .1))
 back-recovers {xs} {m} (same y fs L F) = let u = rebuilt-up xs m y fs L F in nothing-to-do (u .0) (up-kept (u .1))
-back-recovers (waiting z) = stopped z
+back-recovers (waiting z) = stopped-at-0 z
 
 module _ (xs : List ℕ) (m : Map) (D : Fallen xs m) (limit : ℕ) where
   comes-back : limit ≤ 2 → Back xs m limit (recoverOf xs limit .answer) (recoverOf xs limit .file)
@@ -347,7 +347,7 @@ good-in-hand (down xs m) D = tt
 good-holds : (s : State) → Good s → Holds our-calls s
 good-holds s g = record {
   in-hand = good-in-hand s g;
-  recovers = λ limit h. back-recovers (comes-back (file-of s) (said s) (fallen s g) limit h);
+  recovery = λ limit h. back-recovers (comes-back (file-of s) (said s) (fallen s g) limit h);
   put-refused = demand-1 .put-leaves (file-of s);
   remove-refused = demand-1 .remove-leaves (file-of s);
   recover-refused = demand-1 .recover-leaves (file-of s);
@@ -358,7 +358,7 @@ good-holds s g = record {
 
 pub demand-3 : Demand3 our-calls
 demand-3 = record {
-  holds = λ xs version b slots e es.
+  always = λ xs version b slots e es.
       let s = start (createOf xs version b slots) in
       good-holds (after our-calls es s) (after-good es s (created-up xs version b slots e));
 }

@@ -5,7 +5,7 @@ use Rattle.model.specs.declared.Trie.{Trie}
 use Rattle.model.specs.declared.Layout.{Layout}
 use Prim.Native.String.{String}
 use Rattle.model.specs.declared.Cause.{Cause}
-use Rattle.model.specs.declared.Cause.the-variants.{BadFile, IllegalName, WrongSize}
+use Rattle.model.specs.declared.Cause.the-variants.{BadFile, CutFile, IllegalName, StaleTrie, WrongSize}
 use Rattle.model.specs.declared.TrieAnswer.the-variants.{Given, Refused as TrieRefused}
 use Rattle.model.specs.declared.ListAnswer.the-variants.{Listed, Refused as ListRefused}
 use Rattle.model.specs.declared.LookUpAnswer.{LookUpAnswer}
@@ -35,8 +35,8 @@ use Rattle.promises.specs.Growing.{of-cells}
 use Rattle.promises.specs.Situations.{a-cell, entries, names, rates-slots, rz-slots}
 use Rattle.promises.specs.Calls.{Calls}
 use Rattle.promises.specs.Demand1.{Demand1, LegalName}
-use Rattle.promises.specs.Demand2.{Demand2, LeadsRight, Made, True, true-entry, truly-absent}
-use Rattle.promises.specs.Demand3.{Demand3, Kept, Recovers, State, after, after-put, after-rebuild, after-recover, after-remove, differing, file-of, freed, nothing-to-do, now, put-by, remove-by, replaced, said, start, step, stopped}
+use Rattle.promises.specs.Demand2.{Demand2, LeadsRight, Made, Truthful, true-entry, truly-absent}
+use Rattle.promises.specs.Demand3.{Demand3, Kept, Recovers, State, after, after-freeing, after-put, after-rebuild, after-recover, after-remove, differing, file-of, nothing-to-do, now, put-by, remove-by, replaced, said, start, step, stopped-at-0}
 use Rattle.promises.specs.WrongCalls.{IsRefused, OneResult, RefusesAll, both, both-at-once, buffer, by-create, by-list, by-look-up, by-put, by-rebuild, by-recover, by-remove, cuts-first, ends?, exchanged, free-outer, idles, inner-kept, keeps-inner, make, make-looked, make-put, miscounts, put-a, put-b, put-b-stopped, put-c, put-c-stopped, stores-nothing}
 use Rattle.promises.specs.Strength.{StoppedAfter, Strength, bare-cells, five, full-file, new-file, one-turned, split-file, stopped-file}
 use Rattle.promises.proofs.Demand1.{demand-1, legal-name, same-slots}
@@ -93,6 +93,9 @@ record Computed : Type 0 where
   stopped-0 : putOf full-file new-trie (bytes "c") 3 0 ≡ record { answer = PutStopped 0; file = full-file; trie = new-trie }
   stopped-1 : putOf full-file new-trie (bytes "c") 3 1 ≡ record { answer = PutStopped 1; file = stopped-file; trie = new-trie }
   made-2 : putOf full-file new-trie (bytes "c") 3 2 ≡ record { answer = Added; file = split-file; trie = of-cells (a-cell "b" 0 (slot 0) (slot 1) ∷ []) }
+  kept-cut : putOf stopped-file new-trie (bytes "d") 4 2 .answer ≡ PutRefused CutFile
+  kept-stale : putOf split-file new-trie (bytes "d") 4 2 .answer ≡ PutRefused StaleTrie
+  kept-good : putOf full-file new-trie (bytes "c") 3 2 .answer ≡ Added
   recovers : recoverOf stopped-file 1 ≡ record { answer = Freed 1; file = full-file }
   inner-bad : checkFile (storeBytes (version-1 2) 0 free stopped-file) ≡ is-bad
   last-name : split-of 4 (place-of (version-1 4)) five ≡ bytes "r"
@@ -152,6 +155,9 @@ computed = record {
   stopped-0 = refl;
   stopped-1 = refl;
   made-2 = refl;
+  kept-cut = refl;
+  kept-stale = refl;
+  kept-good = refl;
   recovers = refl;
   inner-bad = refl;
   last-name = refl;
@@ -199,10 +205,10 @@ not-all C (by-list f) D =
     clash cc
 
 -- What demand 2 leaves of a lookup with a trie that leads right is one answer: ours.
-true-one : {xs : List ℕ} {t : Trie} (L : LeadsRight xs t) (n : Str) {x y : LookUpAnswer} → True (L .file .slots) n x → True (L .file .slots) n y → x ≡ y
+true-one : {xs : List ℕ} {t : Trie} (L : LeadsRight xs t) (n : Str) {x y : LookUpAnswer} → Truthful (L .file .slots) n x → Truthful (L .file .slots) n y → x ≡ y
 true-one {t = t} L n {x} {y} p q = go (held p) (held q)
   where
-    held : {x : LookUpAnswer} → True (L .file .slots) n x → x ≡ heldAnswer (find n (entries-of (slot-at (L .file .slots) (walk-trie t n))))
+    held : {x : LookUpAnswer} → Truthful (L .file .slots) n x → x ≡ heldAnswer (find n (entries-of (slot-at (L .file .slots) (walk-trie t n))))
     held (true-entry B i e) = rw (← L .alone n B i, e)
     held (truly-absent B i e) = rw (← L .alone n B i, e)
 
@@ -252,25 +258,25 @@ module _ (C : Calls) {xs ys : List ℕ} {m : Map} {limit : ℕ} {x : RecoverAnsw
   nothing-kept e = go R e
     where
       go : {x : RecoverAnswer} {ys : List ℕ} → Recovers C xs m limit x ys → x ≡ Nothing → Kept C xs (C .rebuild xs .trie) m
-      go (freed g K) e = clash cc
+      go (after-freeing g K) e = clash cc
       go (nothing-to-do g K) e = K
-      go (stopped z) e = clash cc
+      go (stopped-at-0 z) e = clash cc
 
   freed-given : {N : ℕ} → x ≡ Freed N → C .rebuild ys .answer ≡ Given
   freed-given {N} e = go R e
     where
       go : {x : RecoverAnswer} {ys : List ℕ} → Recovers C xs m limit x ys → x ≡ Freed N → C .rebuild ys .answer ≡ Given
-      go (freed g K) e = g
+      go (after-freeing g K) e = g
       go (nothing-to-do g K) e = clash cc
-      go (stopped z) e = clash cc
+      go (stopped-at-0 z) e = clash cc
 
   never-refused : {c : Cause} → x ≡ RecoverRefused c → ⊥
   never-refused {c} e = go R e
     where
       go : {x : RecoverAnswer} {ys : List ℕ} → Recovers C xs m limit x ys → x ≡ RecoverRefused c → ⊥
-      go (freed g K) e = clash cc
+      go (after-freeing g K) e = clash cc
       go (nothing-to-do g K) e = clash cc
-      go (stopped z) e = clash cc
+      go (stopped-at-0 z) e = clash cc
 
 -- A wrong put with our stores is ours.
 ours-but-for : (xs : List ℕ) (t : Trie) (name : List ℕ) (v limit : ℕ) → make-put take (λ made. made) (λ ss. ss) xs t name v limit ≡ putOf xs t name v limit
@@ -288,40 +294,40 @@ ours-but-for xs t name v limit = rw (looked (lookedOf xs t))
 
 not-nothing : ¬ Demand3 stores-nothing
 not-nothing D =
-    let H = D .holds buffer 1 2 2 (computed .create-given) (put-a ∷ []) in
-    let K = nothing-kept stores-nothing (H .recovers 1 (omega arith)) (computed .nothing-recovered) in
+    let H = D .always buffer 1 2 2 (computed .create-given) (put-a ∷ []) in
+    let K = nothing-kept stores-nothing (H .recovery 1 (omega arith)) (computed .nothing-recovered) in
     let q : NotFound ≡ Found 1 = sym (computed .nothing-found) ∙ K .looks-up (bytes "a") (legal-name (bytes "a") (computed .a-legal)) ∙ computed .nothing-said in
     clash cc
 
 not-both : ¬ Demand3 both-at-once
 not-both D =
-    let H = D .holds buffer 1 2 2 (computed .create-given) (put-a ∷ put-b ∷ put-c-stopped ∷ []) in
-    let K = nothing-kept both-at-once (H .recovers 1 (omega arith)) (computed .both-recovered) in
+    let H = D .always buffer 1 2 2 (computed .create-given) (put-a ∷ put-b ∷ put-c-stopped ∷ []) in
+    let K = nothing-kept both-at-once (H .recovery 1 (omega arith)) (computed .both-recovered) in
     let q : Found 3 ≡ NotFound = sym (computed .both-found) ∙ K .looks-up (bytes "c") (legal-name (bytes "c") (computed .c-legal)) ∙ computed .both-said in
     clash cc
 
 not-miscounted : ¬ Demand3 miscounts
 not-miscounted D =
-    let H = D .holds buffer 1 2 2 (computed .create-given) (put-a ∷ put-b ∷ []) in
+    let H = D .always buffer 1 2 2 (computed .create-given) (put-a ∷ put-b ∷ []) in
     let S = H .put-stopped new-trie (bytes "c") 3 1 2 (computed .miscounted) in
     absurd (omega (arith, S .as-limited))
 
 not-idle : ¬ Demand3 idles
 not-idle D =
-    let H = D .holds buffer 1 2 2 (computed .create-given) (put-a ∷ put-b ∷ []) in
+    let H = D .always buffer 1 2 2 (computed .create-given) (put-a ∷ put-b ∷ []) in
     let S = H .put-stopped new-trie (bytes "c") 3 1 1 (computed .idled) in
     let q : _≡_ {A = ℕ} 0 1 = sym (computed .idle-file) ∙ S .as-made in
     clash q
 
 not-cut-first : ¬ Demand3 cuts-first
 not-cut-first D =
-    let H = D .holds buffer 1 2 2 (computed .create-given) (put-a ∷ put-c ∷ put-b-stopped ∷ []) in
-    never-refused cuts-first (H .recovers 1 (omega arith)) (computed .cut-first-bad)
+    let H = D .always buffer 1 2 2 (computed .create-given) (put-a ∷ put-c ∷ put-b-stopped ∷ []) in
+    never-refused cuts-first (H .recovery 1 (omega arith)) (computed .cut-first-bad)
 
 not-inner : ¬ Demand3 keeps-inner
 not-inner D =
-    let H = D .holds buffer 1 2 2 (computed .create-given) (put-a ∷ put-b ∷ put-c-stopped ∷ []) in
-    let q : TrieRefused BadFile ≡ Given = sym (computed .inner-refused) ∙ freed-given keeps-inner (H .recovers 1 (omega arith)) (computed .inner-freed) in
+    let H = D .always buffer 1 2 2 (computed .create-given) (put-a ∷ put-b ∷ put-c-stopped ∷ []) in
+    let q : TrieRefused BadFile ≡ Given = sym (computed .inner-refused) ∙ freed-given keeps-inner (H .recovery 1 (omega arith)) (computed .inner-freed) in
     clash cc
 
 -- A put that says stopped made the first of its stores, as many as it says.
@@ -430,6 +436,9 @@ strength = record {
   stopped-0 = computed .stopped-0;
   stopped-1 = computed .stopped-1;
   made-2 = computed .made-2;
+  kept-cut = computed .kept-cut;
+  kept-stale = computed .kept-stale;
+  kept-good = computed .kept-good;
   recovers = computed .recovers;
   inner-bad = computed .inner-bad;
   last-name = computed .last-name;

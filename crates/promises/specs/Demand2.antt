@@ -20,13 +20,13 @@ use Rattle.promises.specs.Calls.{Calls}
 use Rattle.promises.specs.Demand1.{LegalName}
 
 -- "gives the file's true entry, says absent truly": what the bucket holds whose range holds the name.
-pub data True (fs : List Slot) (n : Str) : LookUpAnswer → Type 0 where
-  true-entry : (B : ℕ) {v : ℕ} → In (head (slot-at fs B)) n → find n (entries-of (slot-at fs B)) ≡ some v → True fs n (Found v)
-  truly-absent : (B : ℕ) → In (head (slot-at fs B)) n → find n (entries-of (slot-at fs B)) ≡ nothing → True fs n Absent
+pub data Truthful (fs : List Slot) (n : Str) : LookUpAnswer → Type 0 where
+  true-entry : (B : ℕ) {v : ℕ} → In (head (slot-at fs B)) n → find n (entries-of (slot-at fs B)) ≡ some v → Truthful fs n (Found v)
+  truly-absent : (B : ℕ) → In (head (slot-at fs B)) n → find n (entries-of (slot-at fs B)) ≡ nothing → Truthful fs n Absent
 
 -- "or refuses as stale"
 pub data Tells (fs : List Slot) (n : Str) : LookUpAnswer → Type 0 where
-  truth : {a : LookUpAnswer} → True fs n a → Tells fs n a
+  told : {a : LookUpAnswer} → Truthful fs n a → Tells fs n a
   stale : Tells fs n (Refused StaleTrie)
 
 -- A put that was made: "added, or replaced".
@@ -58,4 +58,4 @@ pub record Demand2 (C : Calls) : Type 0 where
   -- "and the trie rebuilt from the bucket headers alone"
   pub rebuilt : (xs : List ℕ) → C .rebuild xs .answer ≡ Given → LeadsRight xs (C .rebuild xs .trie)
   -- A lookup goes where such a trie leads: it is not refused.
-  pub led : (xs : List ℕ) (t : Trie) (name : List ℕ) (L : LeadsRight xs t) → LegalName name → True (L .file .slots) (filled name) (C .look-up xs t name)
+  pub led : (xs : List ℕ) (t : Trie) (name : List ℕ) (L : LeadsRight xs t) → LegalName name → Truthful (L .file .slots) (filled name) (C .look-up xs t name)

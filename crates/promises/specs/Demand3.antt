@@ -144,14 +144,14 @@ module _ (C : Calls) where
   -- "recovery with a legal store limit and rebuilding after it never refuse, where that recovery wasn't itself stopped":
   -- it is whole, rebuilding gives a trie, and all is kept; or its limit is 0, it says stopped, and the file is as it was.
   pub data Recovers (xs : List ℕ) (m : Map) (limit : ℕ) : RecoverAnswer → List ℕ → Type 0 where
-    freed : {N : ℕ} {ys : List ℕ} → C .rebuild ys .answer ≡ Given → Kept ys (C .rebuild ys .trie) m → Recovers xs m limit (Freed N) ys
+    after-freeing : {N : ℕ} {ys : List ℕ} → C .rebuild ys .answer ≡ Given → Kept ys (C .rebuild ys .trie) m → Recovers xs m limit (Freed N) ys
     nothing-to-do : C .rebuild xs .answer ≡ Given → Kept xs (C .rebuild xs .trie) m → Recovers xs m limit Nothing xs
-    stopped : limit ≡ 0 → Recovers xs m limit (RecoverStopped 0) xs
+    stopped-at-0 : limit ≡ 0 → Recovers xs m limit (RecoverStopped 0) xs
 
   -- What holds after any events.
   pub record Holds (s : State) : Type 0 where
     pub in-hand : InHand s
-    pub recovers : (limit : ℕ) → limit ≤ 2 → Recovers (file-of s) (said s) limit (C .recover (file-of s) limit .answer) (C .recover (file-of s) limit .file)
+    pub recovery : (limit : ℕ) → limit ≤ 2 → Recovers (file-of s) (said s) limit (C .recover (file-of s) limit .answer) (C .recover (file-of s) limit .file)
     -- "refused calls having changed nothing", whatever the trie
     pub put-refused : (t : Trie) (name : List ℕ) (v limit : ℕ) (c : Cause) → C .put (file-of s) t name v limit .answer ≡ PutRefused c
         → (C .put (file-of s) t name v limit .file ≡ file-of s) × (C .put (file-of s) t name v limit .trie ≡ t)
@@ -169,5 +169,5 @@ module _ (C : Calls) where
 
 -- Demand 3 of the calls: from every file that create gives, after all events.
 pub record Demand3 (C : Calls) : Type 0 where
-  pub holds : (xs : List ℕ) (version b slots : ℕ) → C .create xs version b slots .answer ≡ Given → (es : List Event)
+  pub always : (xs : List ℕ) (version b slots : ℕ) → C .create xs version b slots .answer ≡ Given → (es : List Event)
       → Holds C (after C es (start (C .create xs version b slots)))

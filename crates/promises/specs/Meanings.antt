@@ -45,7 +45,7 @@ abbrev pub Distinct : List Str → Type 0
 Distinct [] = Unit {0}
 Distinct (x ∷ xs) = (¬ List·Memᴰ x xs) × Distinct xs
 
-pub record StringsOf (fs : List Slot) (ss : List Str) : Type 0 where
+pub record AllStrings (fs : List Slot) (ss : List Str) : Type 0 where
   pub once : Distinct ss
   pub only : (x : Str) → List·Memᴰ x ss → IsString fs x
   pub every : (x : Str) → IsString fs x → List·Memᴰ x ss
@@ -88,7 +88,7 @@ pub record Tests : Type 0 where
       → (lookedOf xs t ≡ fine y fs) ↔ ((readFile xs ≡ some (y, fs)) × Sound (y .b) fs × Agrees fs t)
   -- R10.6: "the bounds and their beginnings": what is counted of a sound file is how many there are, and the file after a
   -- split, whose strings put counts, is sound.
-  pub counted : (b : ℕ) (fs : List Slot) → Sound b fs → (ss : List Str) × StringsOf fs ss × (string-count fs ≡ length ss)
+  pub counted : (b : ℕ) (fs : List Slot) → Sound b fs → (ss : List Str) × AllStrings fs ss × (string-count fs ≡ length ss)
   pub after-split : (y : Layout) (fs : List Slot) (A N : ℕ) (l : Low) (u : Str) (es : List Entry) (n : Str) (v : ℕ) → 2 ≤ y .b → Sound (y .b) fs
       → slot-at fs A ≡ used l u es → Legal n → l ◁ n → n ⊑ u → y .b < length (insert n v es) → Lowest fs N
       → Sound (y .b) (stored (halves (y .b) (place-of y) N A l u (insert n v es)) fs)

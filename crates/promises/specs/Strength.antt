@@ -4,9 +4,10 @@ use mathlib.Core.Option.{some}
 use mathlib.Core.List.{List, [], _∷_}
 use Prim.Native.Nat.{_+_, _/_, _<_, ℕ}
 use lib.ListN.{length, take}
+use Rattle.model.specs.declared.Cause.the-variants.{CutFile, StaleTrie}
 use Rattle.model.specs.declared.Layout.{Layout}
 use Rattle.model.specs.declared.LookUpAnswer.the-variants.{Refused as LookUpRefused}
-use Rattle.model.specs.declared.PutAnswer.the-variants.{Added, Stopped as PutStopped}
+use Rattle.model.specs.declared.PutAnswer.the-variants.{Added, Refused as PutRefused, Stopped as PutStopped}
 use Rattle.model.specs.declared.RecoverAnswer.the-variants.{Freed, Stopped as RecoverStopped}
 use Rattle.model.specs.declared.RemoveAnswer.the-variants.{Stopped as RemoveStopped}
 use Rattle.model.specs.declared.Side.the-variants.{Cell as further, Slot as slot}
@@ -110,6 +111,11 @@ pub record Strength : Type 0 where
   pub stopped-0 : putOf full-file new-trie (bytes "c") 3 0 ≡ record { answer = PutStopped 0; file = full-file; trie = new-trie }
   pub stopped-1 : putOf full-file new-trie (bytes "c") 3 1 ≡ record { answer = PutStopped 1; file = stopped-file; trie = new-trie }
   pub made-2 : putOf full-file new-trie (bytes "c") 3 2 ≡ record { answer = Added; file = split-file; trie = of-cells (a-cell "b" 0 (slot 0) (slot 1) ∷ []) }
+  -- A trie that is kept after a stop: refused 3 while the file is cut, refused 4 once another trie has split the bucket, and as
+  -- good as new if no store was made.
+  pub kept-cut : putOf stopped-file new-trie (bytes "d") 4 2 .answer ≡ PutRefused CutFile
+  pub kept-stale : putOf split-file new-trie (bytes "d") 4 2 .answer ≡ PutRefused StaleTrie
+  pub kept-good : putOf full-file new-trie (bytes "c") 3 2 .answer ≡ Added
   pub recovers : recoverOf stopped-file 1 ≡ record { answer = Freed 1; file = full-file }
   pub inner-bad : checkFile (storeBytes (version-1 2) 0 free stopped-file) ≡ is-bad
   pub last-name : split-of 4 (place-of (version-1 4)) five ≡ bytes "r"
