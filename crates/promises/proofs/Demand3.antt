@@ -297,7 +297,8 @@ module _ (s : State) (g : Good s) (t : Trie) where
     remove-made : (y : Layout) (fs : List Slot) → Passed xs t y fs → {r : Result} → Answered (y .b) (place-of y) fs (to-remove k) r → Fits (removeMade xs y limit r)
     unfolding removeMade after-remove storesBytes trie-after
     remove-made y fs p (is-denied d) = stays s g
-    remove-made y fs p (is-made (absent A is lo up e)) = rw (le-ltb limit 0 (omega arith)) (stays s g)
+    remove-made y fs p (is-made (absent A is lo high e)) =
+        rw (le-ltb limit 0 (omega arith)) (made-up xs t m (up p) y fs p (absent A is lo high e) tt)
     remove-made y fs p (is-made {ss = ss} (removes is lo high e)) = go (ltb limit 1) refl
       where
         c : Change (y .b) (place-of y) fs (to-remove k) ss

@@ -37,7 +37,7 @@ use Rattle.promises.specs.Calls.{Calls}
 use Rattle.promises.specs.Demand1.{Demand1, LegalName}
 use Rattle.promises.specs.Demand2.{Demand2, LeadsRight, Made, Truthful, true-entry, truly-absent}
 use Rattle.promises.specs.Demand3.{Demand3, Kept, Recovers, State, after, after-freeing, after-put, after-rebuild, after-recover, after-remove, differing, file-of, nothing-to-do, now, put-by, remove-by, replaced, said, start, step, stopped-at-0}
-use Rattle.promises.specs.WrongCalls.{IsRefused, OneResult, RefusesAll, both, both-at-once, buffer, by-create, by-list, by-look-up, by-put, by-rebuild, by-recover, by-remove, cuts-first, ends?, exchanged, free-outer, idles, inner-kept, keeps-inner, make, make-looked, make-put, miscounts, put-a, put-b, put-b-stopped, put-c, put-c-stopped, stores-nothing}
+use Rattle.promises.specs.WrongCalls.{IsRefused, OneResult, RefusesAll, absent-instead, both, both-at-once, buffer, by-create, by-list, by-look-up, by-put, by-rebuild, by-recover, by-remove, cuts-first, ends?, exchanged, free-outer, idles, inner-kept, keeps-inner, make, make-looked, make-put, miscounts, put-a, put-b, put-b-stopped, put-c, put-c-stopped, remove-a, removes-nothing, stores-nothing}
 use Rattle.promises.specs.Strength.{StoppedAfter, Strength, bare-cells, five, full-file, new-file, one-turned, split-file, stopped-file}
 use Rattle.promises.proofs.Demand1.{demand-1, legal-name, same-slots}
 use Rattle.promises.proofs.Demand2.{demand-2}
@@ -49,6 +49,9 @@ new-state = start (createOf buffer 1 2 2)
 
 abbrev one-put : Calls → State
 one-put C = after C (put-a ∷ []) new-state
+
+abbrev put-and-removed : Calls → State
+put-and-removed C = after C (put-a ∷ remove-a ∷ []) new-state
 
 abbrev two-puts : Calls → State
 two-puts C = after C (put-a ∷ put-b ∷ []) new-state
@@ -81,6 +84,9 @@ record Computed : Type 0 where
   nothing-recovered : stores-nothing .recover (file-of (one-put stores-nothing)) 1 .answer ≡ Nothing
   nothing-found : rebuilt-look-up stores-nothing (one-put stores-nothing) "a" ≡ NotFound
   nothing-said : heldAnswer (said (one-put stores-nothing) (name "a")) ≡ Found 1
+  absent-recovered : removes-nothing .recover (file-of (put-and-removed removes-nothing)) 1 .answer ≡ Nothing
+  absent-found : rebuilt-look-up removes-nothing (put-and-removed removes-nothing) "a" ≡ Found 1
+  absent-said : heldAnswer (said (put-and-removed removes-nothing) (name "a")) ≡ NotFound
   both-recovered : both-at-once .recover (file-of (stopped-put both-at-once)) 1 .answer ≡ Nothing
   both-found : rebuilt-look-up both-at-once (stopped-put both-at-once) "c" ≡ Found 3
   both-said : heldAnswer (said (stopped-put both-at-once) (name "c")) ≡ NotFound
@@ -124,7 +130,7 @@ unfolding
     lookedOf storesBytes trieAfter refusalOf putMade putLooked putOf removeMade removeLooked removeOf entriesIn between
     listEntries listLooked listOf
     now after-put after-remove after-recover after-rebuild put-by remove-by step after differing
-    make make-looked make-put both exchanged ends? free-outer inner-kept
+    make make-looked make-put absent-instead both exchanged ends? free-outer inner-kept
     decLe decLt ℕ-discrete
 computed = record {
   create-given = refl;
@@ -143,6 +149,9 @@ computed = record {
   nothing-recovered = refl;
   nothing-found = refl;
   nothing-said = refl;
+  absent-recovered = refl;
+  absent-found = refl;
+  absent-said = refl;
   both-recovered = refl;
   both-found = refl;
   both-said = refl;
@@ -299,6 +308,13 @@ not-nothing D =
     let q : NotFound ≡ Found 1 = sym (computed .nothing-found) ∙ K .looks-up (bytes "a") (legal-name (bytes "a") (computed .a-legal)) ∙ computed .nothing-said in
     clash cc
 
+not-absent : ¬ Demand3 removes-nothing
+not-absent D =
+    let H = D .always buffer 1 2 2 (computed .create-given) (put-a ∷ remove-a ∷ []) in
+    let K = nothing-kept removes-nothing (H .recovery 1 (omega arith)) (computed .absent-recovered) in
+    let q : Found 1 ≡ NotFound = sym (computed .absent-found) ∙ K .looks-up (bytes "a") (legal-name (bytes "a") (computed .a-legal)) ∙ computed .absent-said in
+    clash cc
+
 not-both : ¬ Demand3 both-at-once
 not-both D =
     let H = D .always buffer 1 2 2 (computed .create-given) (put-a ∷ put-b ∷ put-c-stopped ∷ []) in
@@ -425,6 +441,7 @@ strength = record {
   one-result = not-one;
   ours-but-for = ours-but-for;
   not-nothing = not-nothing;
+  not-absent = not-absent;
   not-both = not-both;
   not-miscounted = not-miscounted;
   not-idle = not-idle;

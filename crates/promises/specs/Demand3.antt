@@ -55,8 +55,9 @@ unfoldable pub now : List ℕ → State → State
 now ys (running xs t m) = running ys t m
 now ys (down xs m) = down ys m
 
--- "A call stopped short of its last store counts as never made; a call that reached it counts as made." After a stop the
--- trie is discarded. The file is always the one that the call leaves, and the trie of a put that was made the one it gives.
+-- "A call stopped short of its last store counts as never made; a call that reached it counts as made", a remove that says
+-- absent too. After a stop the trie is discarded. The file is always the one that the call leaves; the trie in hand after a
+-- call that counts as made is the one that it gave or was lent.
 unfoldable pub after-put : State → Str → ℕ → PutAnswer → List ℕ → Trie → State
 after-put s n v Added xs t = running xs t (meant (to-put n v) (said s))
 after-put s n v (Replaced old) xs t = running xs t (meant (to-put n v) (said s))
@@ -65,7 +66,7 @@ after-put s n v (PutRefused c) xs t = now xs s
 
 unfoldable pub after-remove : State → Str → RemoveAnswer → List ℕ → Trie → State
 after-remove s n Removed xs t = running xs t (meant (to-remove n) (said s))
-after-remove s n Absent xs t = now xs s
+after-remove s n Absent xs t = running xs t (meant (to-remove n) (said s))
 after-remove s n (RemoveStopped made) xs t = down xs (said s)
 after-remove s n (RemoveRefused c) xs t = now xs s
 

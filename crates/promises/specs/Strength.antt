@@ -28,7 +28,7 @@ use Rattle.promises.specs.Calls.{Calls}
 use Rattle.promises.specs.Demand1.{Demand1}
 use Rattle.promises.specs.Demand2.{Demand2, LeadsRight}
 use Rattle.promises.specs.Demand3.{Demand3}
-use Rattle.promises.specs.WrongCalls.{IsRefused, OneResult, RefusesAll, both-at-once, cuts-first, idles, keeps-inner, make-put, miscounts, stores-nothing}
+use Rattle.promises.specs.WrongCalls.{IsRefused, OneResult, RefusesAll, both-at-once, cuts-first, idles, keeps-inner, make-put, miscounts, removes-nothing, stores-nothing}
 
 -- Files with b = 2 and two slots: new; with one full bucket; after the first store of a put of c, and after both.
 abbrev pub full-slot : Slot
@@ -89,6 +89,7 @@ pub record Strength : Type 0 where
       → make-put take (λ made. made) (λ ss. ss) xs t name v limit ≡ putOf xs t name v limit
   -- "a put that stores nothing yet says done (3)"
   pub not-nothing : ¬ Demand3 stores-nothing
+  pub not-absent : ¬ Demand3 removes-nothing
   -- "a split that writes both slots in its first store (3: stopped after one would count as made)"
   pub not-both : ¬ Demand3 both-at-once
   -- "a stopped count not equal to slots replaced (3, read with the rule that a stopped call makes as many stores as its limit

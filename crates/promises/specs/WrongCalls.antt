@@ -15,7 +15,8 @@ use Rattle.model.specs.declared.LookUpAnswer.the-variants.{Refused as LookUpRef
 use Rattle.model.specs.declared.PutAnswer.the-variants.{Refused as PutRefused, Stopped as PutStopped}
 use Rattle.model.specs.declared.RecoverAnswer.{RecoverAnswer}
 use Rattle.model.specs.declared.RecoverAnswer.the-variants.{Freed, Nothing, Refused as RecoverRefused, Stopped as RecoverStopped}
-use Rattle.model.specs.declared.RemoveAnswer.the-variants.{Refused as RemoveRefused}
+use Rattle.model.specs.declared.RemoveAnswer.{RemoveAnswer}
+use Rattle.model.specs.declared.RemoveAnswer.the-variants.{Absent as NotHeld, Refused as RemoveRefused, Removed, Stopped as RemoveStopped}
 use Rattle.model.specs.declared.Trie.{Trie}
 use Rattle.model.specs.declared.TrieAnswer.the-variants.{Refused as TrieRefused}
 use Rattle.model.specs.Order.{Str, str?}
@@ -25,9 +26,9 @@ use Rattle.model.specs.Files.{IsUsed, Slot, entries-of, first, free, head, slot
 use Rattle.model.specs.Changes.{Result, Store, call, holds?, put as to-put, refuse, stores}
 use Rattle.model.specs.Places.{place-of}
 use Rattle.model.specs.Format.{checkFile, layoutOf, readFile, storeBytes}
-use Rattle.model.specs.Calls.{Looked, PutDone, Recovered, createOf, fine, listOf, lookUpOf, lookedOf, putAnswer, putOf, rebuildOf, recoverOf, refusalOf, refusing, removeOf, storesBytes, trieAfter}
+use Rattle.model.specs.Calls.{Looked, PutDone, Recovered, RemoveDone, createOf, fine, listOf, lookUpOf, lookedOf, putAnswer, putOf, rebuildOf, recoverOf, refusalOf, refusing, removeOf, storesBytes, trieAfter}
 use Rattle.promises.specs.Calls.{Calls}
-use Rattle.promises.specs.Demand3.{Event, put}
+use Rattle.promises.specs.Demand3.{Event, put, remove}
 use Rattle.promises.specs.Texts.{bytes}
 
 -- R15.1: one of the calls refuses everything.
@@ -86,6 +87,25 @@ with-put f = record {
 -- R15.3: a put that stores nothing and yet says that it is done.
 abbrev pub stores-nothing : Calls
 stores-nothing = with-put (make-put take (λ made. made) (λ ss. []))
+
+-- The same of remove: it stores nothing, and says of every name that it is absent.
+unfoldable pub absent-instead : List ℕ → RemoveAnswer → RemoveDone
+absent-instead xs Removed = record { answer = NotHeld; file = xs }
+absent-instead xs NotHeld = record { answer = NotHeld; file = xs }
+absent-instead xs (RemoveStopped made) = record { answer = RemoveStopped made; file = xs }
+absent-instead xs (RemoveRefused c) = record { answer = RemoveRefused c; file = xs }
+
+abbrev pub removes-nothing : Calls
+removes-nothing = record {
+  create = createOf;
+  check = checkFile;
+  recover = recoverOf;
+  rebuild = rebuildOf;
+  look-up = lookUpOf;
+  put = putOf;
+  remove = λ xs t name limit. absent-instead xs (removeOf xs t name limit .answer);
+  list = listOf;
+}
 
 -- R15.4: a split that replaces two slots in its first store.
 unfoldable pub both : ℕ → List Store → List Store
@@ -155,6 +175,9 @@ put-b = put (bytes "b") 2 (omega arith) 2
 
 abbrev pub put-c : Event
 put-c = put (bytes "c") 3 (omega arith) 2
+
+abbrev pub remove-a : Event
+remove-a = remove (bytes "a") 2
 
 abbrev pub put-b-stopped : Event
 put-b-stopped = put (bytes "b") 2 (omega arith) 1
