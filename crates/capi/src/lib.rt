@@ -3,6 +3,7 @@
 // 1 to 99 is a refusal with document 01's number; 100 and up says what was done; 255 is an image that has not 1,540 bytes.
 ghost use mathlib.Core.Path.{_≡_};
 ghost use Rattle.capi.specs.Doors.{palCheckOf, palCreateOf, palListOf, palLookUpOf, palPutOf, palRebuildOf, palRecoverOf, palRemoveOf};
+use digits::u64_of_usize;
 use file::Kind;
 use model::ListAnswer;
 use model::LookUpAnswer;
@@ -14,12 +15,6 @@ use model::cause_number;
 
 // What refuses a trie image of another length, before everything else.
 const MALFORMED: u64 = 255;
-
-fn wide(x: usize) -> u64
-    ensures { λ r. ⌜ r ≡ x ⌝ }
-{
-    x as u64
-}
 
 #[no_mangle]
 pub extern "C" fn pal_create(
@@ -62,7 +57,7 @@ pub extern "C" fn pal_recover(file: &mut [u8], limit: u64, out: &mut [u64; 4]) -
     let answer = whole::recover(file, limit);
     match answer {
         RecoverAnswer::Freed(slot) => {
-            out[0] = wide(slot);
+            out[0] = u64_of_usize(slot);
             130
         }
         RecoverAnswer::Nothing => 131,

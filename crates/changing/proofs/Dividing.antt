@@ -1,13 +1,5 @@
 -- Put into a full bucket: what refuses the split, and what its two stores leave.
-use mathlib.Core.Path.{_∙_, _≡_, ap, ap₂, subst, sym}
-use mathlib.Core.Option.{Option, some}
-use mathlib.Core.List.{List, []}
-use Prim.Native.Nat.{_*_, _+_, _-_, _/_, _<_, _≤_, suc, ℕ}
-use native.Mathlib.Decide.{decLe, decLt}
-use native.Mathlib.Omega.{arith}
-use lib.ListN.{drop, length, take}
-use lib.Seq.{paste}
-use borrow.Author.Tests.{le-ltb, lt-ltb}
+use Rattle.model.proofs.Prelude.{List, Option, [], _*_, _+_, _-_, _/_, _<_, _∙_, _≡_, _≤_, ap, ap₂, arith, clash, decLe, decLt, drop, le-ltb, length, lt-ltb, paste, some, subst, suc, sym, take, ℕ}
 use Rattle.model.specs.declared.Cause.the-variants.{ManyStrings, NoFreeSlot}
 use Rattle.model.specs.declared.PutAnswer.the-variants.{Added, Refused, Stopped}
 use Rattle.model.specs.declared.PutGiven.{PutGiven}
@@ -19,15 +11,16 @@ use Rattle.model.specs.Files.{In, Slot, Sound, first, head, slot-at, string-cou
 use Rattle.model.specs.Tries.{Agrees, walk-trie}
 use Rattle.model.specs.Growth.{grown-trie, path-cells, root, spot-cells}
 use Rattle.model.specs.Changes.{Lowest, Result, call, free?, halves, new-half, old-half, put as asked, put-in, refuse, split-of, stored, stores}
-use Rattle.model.specs.Format.{headerOf, readFile, storeBytes}
+use Rattle.model.specs.Format.{headerOf, readFile, storeBytes, version-1}
 use Rattle.model.specs.Calls.{PutDone, putMade, refusalOf, storesBytes, trieAfter}
 use Rattle.model.proofs.Entries.{chosen-no, chosen-yes, row-at, row-insert}
 use Rattle.model.proofs.Names.{legal-length}
 use Rattle.model.proofs.Format.{headed-headerOf, readFile-read}
 use Rattle.model.proofs.Calls.{free-lowest}
-use Rattle.bucket.specs.Slots.{lowerAt, upperAt, writtenBytes}
-use Rattle.bucket.proofs.Rows.{Reads}
-use Rattle.bucket.proofs.Changing.{length-new}
+use Rattle.bucket.specs.Slots.{lowerAt, upperAt}
+use Rattle.writing.specs.Slots.{writtenBytes}
+use Rattle.bucket.proofs.Slots.{Reads}
+use Rattle.writing.proofs.Changing.{length-new}
 use Rattle.file.specs.declared.Room.{Room}
 use Rattle.file.specs.declared.Room.the-variants.{At, Full as NoRoom}
 use Rattle.file.specs.Maps.{RoomTold, map-of, room-of}
@@ -61,22 +54,22 @@ record Known (c : Checked) (xs : List ℕ) (t : Trie) (fs : List Slot) : Type 0 
   lens-are : take (length (strings-of fs)) (c .strings .lens) ≡ lengths (strings-of fs)
   map-is : c .survey .used ≡ map-of fs
 
-known : {c : Checked} {xs : List ℕ} {t : Trie} {fs : List Slot} → Agreed c xs t → readFile xs ≡ some (c .size .b, fs) → Known c xs t fs
+known : {c : Checked} {xs : List ℕ} {t : Trie} {fs : List Slot} → Agreed c xs t → readFile xs ≡ some (version-1 (c .size .b), fs) → Known c xs t fs
 known {c} {xs} {t} {fs} G e =
-    let f : _≡_ {A = Option (ℕ × List Slot)} (some (c .size .b, G .ready .slots)) (some (c .size .b, fs)) = sym (G .ready .is) ∙ e in
+    let f : _≡_ {A = Option (Layout × List Slot)} (some (c .size .b, G .ready .slots)) (some (c .size .b, fs)) = sym (G .ready .is) ∙ e in
     let g : _≡_ {A = ℕ × List Slot} (c .size .b, G .ready .slots) (c .size .b, fs) = cc in
     subst (Known c xs t) (ap (λ (x : ℕ × List Slot). x .1) g)
     (record { sound = G .ready .sound; agrees = G .agrees; lens-are = G .ready .strings-held .lens-are; map-is = G .ready .used-is })
 
 -- As many slots as the header says.
-slots-are : (xs : List ℕ) {b slots : ℕ} {fs : List Slot} → readFile xs ≡ some (b, fs) → headerOf xs ≡ some (b, slots) → length fs ≡ slots
+slots-are : (xs : List ℕ) {b slots : ℕ} {fs : List Slot} → readFile xs ≡ some (version-1 b, fs) → headerOf xs ≡ some (version-1 b, slots) → length fs ≡ slots
 slots-are xs {b} {slots} {fs} e h =
-    let q : _≡_ {A = Option (ℕ × ℕ)} (some (b, length fs)) (some (b, slots)) = sym (headed-headerOf (readFile-read xs e .headed)) ∙ h in
+    let q : _≡_ {A = Option (Layout × ℕ)} (some (version-1 b, length fs)) (some (version-1 b, slots)) = sym (headed-headerOf (readFile-read xs e .headed)) ∙ h in
     let p : _≡_ {A = ℕ × ℕ} (b, length fs) (b, slots) = cc in
     ap (λ (x : ℕ × ℕ). x .1) p
 
 -- A new name of a full bucket, in a file whose slots are fs.
-module _ (b : ℕ) (two : 2 ≤ b) (few : b ≤ 16) (xs : List ℕ) {fs : List Slot} (e : readFile xs ≡ some (b, fs)) (S : Sound b fs) (t : Trie)
+module _ (b : ℕ) (two : 2 ≤ b) (few : b ≤ 16) (xs : List ℕ) {fs : List Slot} (e : readFile xs ≡ some (version-1 b, fs)) (S : Sound b fs) (t : Trie)
     {A : ℕ} {n : Str} {v : ℕ} {l : Low} {u : Str} {es : List Entry} {entries : List ℕ} (F : Full b fs A n v l u es entries) where
   abbrev ws : List Entry
   ws = insert n v es
@@ -105,7 +98,7 @@ module _ (b : ℕ) (two : 2 ≤ b) (few : b ≤ 16) (xs : List ℕ) {fs : List S
       at-slot : Reads b slot l u es
       at-slot = subst (λ (z : List ℕ). Reads b z l u es) (sym here) at-a
 
-      first-is : ys ≡ storeBytes b N (new-half b ws u) xs
+      first-is : ys ≡ storeBytes (version-1 b) N (new-half b ws u) xs
       first-is =
           first-made ∙ store-is b N (new-half b ws u) xs new
           (new-slot-is row-all b two few length-all entries (F .entries-are) slot at-slot (s .string) (s .len) (s .stay) (D .string-is) (D .len-is) (D .stay-is) new new-is)
@@ -119,7 +112,7 @@ module _ (b : ℕ) (two : 2 ≤ b) (few : b ≤ 16) (xs : List ℕ) {fs : List S
           → (r .answer ≡ Added) × (r .trie ≡ grown-trie t (name-at ws (b / 2)) (split-of b ws) A N) → put r zs ≡ made
       unfolding putMade storesBytes trieAfter
       two-stored zs old old-is second-made h g =
-          let q : zs ≡ storeBytes b A (old-half b ws l) ys =
+          let q : zs ≡ storeBytes (version-1 b) A (old-half b ws l) ys =
           second-made ∙ store-is b A (old-half b ws l) ys old
           (old-slot-is row-all b two few length-all entries (F .entries-are) slot at-slot (s .string) (s .len) (s .stay) (D .string-is) (D .len-is) (D .stay-is) old old-is) in
           rw (le-ltb limit 2 h, ← F .slot-is, F .is, F .new, q, first-is, g .0, g .1)
@@ -187,7 +180,7 @@ unfolding room-of
 room-full fs e = elim (decLt (first free? fs) (length fs)) [
   | no h ↦ omega arith
   | yes h ↦ let q : _≡_ {A = Room} (At (first free? fs)) NoRoom = rw (lt-ltb (first free? fs) (length fs) h) at e in
-      let z : _≡_ {A = ℕ} 0 1 = cc in absurd (omega arith)
+      clash cc
 ]
 
 room-at : (fs : List Slot) (k : ℕ) → room-of fs ≡ At k → (k ≡ first free? fs) × (first free? fs < length fs)
@@ -196,7 +189,7 @@ room-at fs k e = elim (decLt (first free? fs) (length fs)) [
   | yes h ↦ let q : _≡_ {A = Room} (At (first free? fs)) (At k) = rw (lt-ltb (first free? fs) (length fs) h) at e in
       let p : k ≡ first free? fs = cc in (p, h)
   | no h ↦ let q : _≡_ {A = Room} NoRoom (At k) = rw (le-ltb (first free? fs) (length fs) (omega arith)) at e in
-      let z : _≡_ {A = ℕ} 0 1 = cc in absurd (omega arith)
+      clash cc
 ]
 
 -- Of a file and a trie that passed the checks.
@@ -207,7 +200,7 @@ module _ {c : Checked} {xs : List ℕ} {t : Trie} (G : Agreed c xs t) where
   few : c .size .b ≤ 16
   few = G .ready .said .sized .legal .b-most
 
-  lowest : {room : Room} → RoomTold (c .survey .used) (c .size .slots) room → {fs : List Slot} → readFile xs ≡ some (c .size .b, fs) → room ≡ room-of fs
+  lowest : {room : Room} → RoomTold (c .survey .used) (c .size .slots) room → {fs : List Slot} → readFile xs ≡ some (version-1 (c .size .b), fs) → room ≡ room-of fs
   lowest R {fs} e = R .lowest fs (slots-are xs e (G .ready .said .header)) (G .ready .said .sized .legal .slots-most) (known G e .map-is)
 
 module _ {c : Checked} {xs : List ℕ} {t : Trie} (G : Agreed c xs t) (A : ℕ) (entries : List ℕ) (limit : ℕ) where

@@ -1,13 +1,5 @@
 -- Put, put together from the spot of the name.
-use mathlib.Core.Path.{_≡_}
-use mathlib.Core.Bool.{false, true}
-use mathlib.Core.Option.{none as nothing, some}
-use mathlib.Core.List.{List, [], _∷_}
-use Prim.Native.Nat.{_<_, _≤_, ℕ}
-use native.Mathlib.Decide.{decLe}
-use native.Mathlib.Omega.{arith}
-use lib.ListN.{length}
-use borrow.Author.Tests.{le-ltb, lt-ltb}
+use Rattle.model.proofs.Prelude.{List, [], _<_, _∷_, _≡_, _≤_, arith, decLe, false, le-ltb, length, lt-ltb, nothing, some, true, ℕ}
 use Rattle.model.specs.declared.Cause.{Cause}
 use Rattle.model.specs.declared.Cause.the-variants.{IllegalName, WrongSize}
 use Rattle.model.specs.declared.PutAnswer.the-variants.{Added, Refused, Replaced, Stopped}
@@ -18,7 +10,7 @@ use Rattle.model.specs.Names.{filled, legalName}
 use Rattle.model.specs.Entries.{find, insert}
 use Rattle.model.specs.Files.{Slot, used}
 use Rattle.model.specs.Changes.{call, put as asked, put-in, stores}
-use Rattle.model.specs.Format.{storeBytes}
+use Rattle.model.specs.Format.{storeBytes, version-1}
 use Rattle.model.specs.Calls.{fine, lookedOf, putLooked, putMade, putOf, refusing, storesBytes, trieAfter}
 use Rattle.model.proofs.Entries.{chosen-yes}
 use Rattle.changing.specs.declared.Spot.{Spot}
@@ -37,13 +29,13 @@ module _ (xs : List ℕ) (t : Trie) (b limit : ℕ) {fs : List Slot} {s : Spot} 
   put-stopped r h g = let z : limit ≡ 0 = omega arith in rw (call-put, lt-ltb limit 1 h, z, g .0, g .1)
 
   pub put-replaced : (r : PutGiven) (w : ℕ) (ys : List ℕ) → 1 ≤ limit → find n (P .entries) ≡ some w
-      → ys ≡ storeBytes b (s .slot) (used (P .low) (P .up) (insert n v (P .entries))) xs → (r .answer ≡ Replaced w) × (r .trie ≡ t)
+      → ys ≡ storeBytes (version-1 b) (s .slot) (used (P .low) (P .up) (insert n v (P .entries))) xs → (r .answer ≡ Replaced w) × (r .trie ≡ t)
       → put r ys ≡ putMade xs t b fs n v limit (call b fs (asked n v))
   unfolding putMade storesBytes trieAfter
   put-replaced r w ys h f q g = rw (call-put, le-ltb limit 1 h, ← P .slot-is, P .is, f, q, g .0, g .1)
 
   pub put-added : (r : PutGiven) (ys : List ℕ) → 1 ≤ limit → find n (P .entries) ≡ nothing
-      → ys ≡ storeBytes b (s .slot) (used (P .low) (P .up) (insert n v (P .entries))) xs → (r .answer ≡ Added) × (r .trie ≡ t)
+      → ys ≡ storeBytes (version-1 b) (s .slot) (used (P .low) (P .up) (insert n v (P .entries))) xs → (r .answer ≡ Added) × (r .trie ≡ t)
       → put r ys ≡ putMade xs t b fs n v limit (call b fs (asked n v))
   unfolding putMade storesBytes trieAfter
   put-added r ys h f q g = rw (call-put, le-ltb limit 1 h, ← P .slot-is, P .is, f, q, g .0, g .1)
@@ -63,7 +55,7 @@ module _ (xs : List ℕ) (t : Trie) (name : List ℕ) (v limit : ℕ) (r : PutGi
   unfolding putOf putLooked
   file-refused cause h e f g = rw (le-ltb 2 limit h, e, f, g .0, g .1)
 
-  pub put-fine : (ys : List ℕ) (b : ℕ) (fs : List Slot) → limit ≤ 2 → legalName name ≡ true → lookedOf xs t ≡ fine b fs
+  pub put-fine : (ys : List ℕ) (b : ℕ) (fs : List Slot) → limit ≤ 2 → legalName name ≡ true → lookedOf xs t ≡ fine (version-1 b) fs
       → put r ys ≡ putMade xs t b fs (filled name) v limit (call b fs (asked (filled name) v)) → put r ys ≡ putOf xs t name v limit
   unfolding putOf putLooked
   put-fine ys b fs h e f m = rw (le-ltb 2 limit h, e, f) m

@@ -7,8 +7,9 @@ ghost use lib.Seq.{paste};
 ghost use Rattle.model.specs.Format.{padded};
 ghost use Rattle.digits.specs.Keys.{keyValue};
 ghost use Rattle.model.specs.Calls.{putOf, removeOf};
-ghost use Rattle.bucket.specs.Entries.{changedValue, withoutEntry};
-ghost use Rattle.bucket.specs.Slots.{lowerAt, upperAt, writtenBytes};
+ghost use Rattle.writing.specs.Entries.{changedValue, withoutEntry};
+ghost use Rattle.bucket.specs.Slots.{lowerAt, upperAt};
+ghost use Rattle.writing.specs.Slots.{writtenBytes};
 ghost use Rattle.file.specs.Sizes.{Sized};
 ghost use Rattle.growth.specs.Grows.{Grows};
 ghost use Rattle.changing.specs.Full.{DivideTold};
@@ -22,7 +23,8 @@ use checking::Verdict;
 use checking::checks_of;
 use digits::Key;
 use digits::Naming;
-use digits::index;
+use digits::u16_of_usize;
+use digits::usize_of_u8;
 use file::Room;
 use file::Size;
 use model::Cause;
@@ -31,7 +33,6 @@ use model::PutGiven;
 use model::RemoveAnswer;
 use model::Trie;
 use splitting::Split;
-use trie::short;
 
 fn given(answer: PutAnswer, trie: Trie) -> PutGiven
     ensures { λ r. ⌜ (r .answer ≡ answer) × (r .trie ≡ trie) ⌝ }
@@ -72,13 +73,13 @@ fn spot_of(file: &[u8], checked: Checked, name: Key) -> Spot
     let survey = checked.survey;
     let order = survey.order;
     let place = file::holder(file, size, &order, survey.count, name);
-    let k = index(order[place]);
+    let k = usize_of_u8(order[place]);
     let slot = file::slot_at(file, size, k);
     let count = bucket::count_of(slot, size.b);
     Spot {
         slot: k,
         count,
-        place: bucket::rank(&slot[64..], count, name),
+        place: entries::rank(&slot[64..], count, name),
     }
 }
 
@@ -101,9 +102,9 @@ fn replaced(slot: &[u8], b: usize, spot: Spot, value: u64) -> [u8; 576]
         (take (32 * spot .count) (padded 544 (changedValue (drop 64 (now (slot .entry))) (spot .count) (spot .place) value))) ⌝ }
 {
     let count = spot.count;
-    let entries = bucket::changed_value(&slot[64..], count, spot.place, value);
+    let entries = writing::changed_value(&slot[64..], count, spot.place, value);
     let end = 32 * count;
-    bucket::rewritten(slot, &entries[0..end])
+    writing::rewritten(slot, &entries[0..end])
 }
 
 // Put on a held name replaces the value, one store.
@@ -116,7 +117,7 @@ fn replace(file: &mut [u8], size: Size, spot: Spot, value: u64, limit: u64, trie
     }
     let k = spot.slot;
     let slot = file::slot_at(file, size, k);
-    let old = bucket::value_at(&slot[64..], spot.place);
+    let old = entries::value_at(&slot[64..], spot.place);
     let new = replaced(slot, size.b, spot, value);
     store(file, size, k, &new);
     given(PutAnswer::Replaced(old), trie)
@@ -140,7 +141,7 @@ fn add(
     let k = spot.slot;
     let end = 32 * (spot.count + 1);
     let whole = &entries[..];
-    let new = bucket::rewritten(file::slot_at(file, size, k), &whole[0..end]);
+    let new = writing::rewritten(file::slot_at(file, size, k), &whole[0..end]);
     store(file, size, k, &new);
     given(PutAnswer::Added, trie)
 }
@@ -162,8 +163,8 @@ fn grown(checked: Checked, trie: Trie, split: Split, a: usize, n: usize) -> Trie
         split,
         &string,
         len,
-        short(a),
-        short(n),
+        u16_of_usize(a),
+        u16_of_usize(n),
     )
 }
 
@@ -215,7 +216,7 @@ fn split(
         return refused(Cause::NoFreeSlot, trie);
     };
     let split = splitting::split_of(entries, size.b, trie);
-    if 256 + split.shared < trie::number(trie.count) + split.len {
+    if 256 + split.shared < digits::usize_of_u16(trie.count) + split.len {
         return refused(Cause::ManyStrings, trie);
     }
     divide(file, checked, a, n, entries, split, limit, trie)
@@ -241,7 +242,7 @@ fn put_checked(
     if is_held(slot, spot, key) {
         return replace(file, size, spot, value, limit, trie);
     }
-    let entries = bucket::with_entry(&slot[64..], count, spot.place, name, value);
+    let entries = writing::with_entry(&slot[64..], count, spot.place, name, value);
     if count < size.b {
         return add(file, size, spot, &entries, limit, trie);
     }
@@ -276,9 +277,9 @@ fn lessened(slot: &[u8], b: usize, spot: Spot) -> [u8; 576]
         (take (32 * (spot .count - 1)) (padded 544 (withoutEntry (drop 64 (now (slot .entry))) (spot .count) (spot .place)))) ⌝ }
 {
     let count = spot.count;
-    let entries = bucket::without_entry(&slot[64..], count, spot.place);
+    let entries = writing::without_entry(&slot[64..], count, spot.place);
     let end = 32 * (count - 1);
-    bucket::rewritten(slot, &entries[0..end])
+    writing::rewritten(slot, &entries[0..end])
 }
 
 // Remove from a file that passed the checks. An emptied bucket keeps its range.

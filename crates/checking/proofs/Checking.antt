@@ -1,17 +1,11 @@
 -- The checks that put, remove and list make alike: what a sound file's survey, strings and agreement say together.
-use mathlib.Core.Path.{_∙_, _≡_, ap, sym}
-use mathlib.Core.Bool.{Bool, cond, false, true}
-use mathlib.Core.Option.{some}
-use mathlib.Core.List.{List}
-use Prim.Native.Nat.{_≤_, ℕ}
-use native.Mathlib.Omega.{arith}
-use lib.ListN.{length}
+use Rattle.model.proofs.Prelude.{Bool, List, _∙_, _≡_, _≤_, ap, arith, cond, false, length, some, sym, true, ℕ}
 use Rattle.model.specs.declared.Cause.the-variants.{BadFile, CutFile, StaleTrie}
 use Rattle.model.specs.declared.Trie.{Trie}
 use Rattle.model.specs.Files.{Slot, strings-of}
 use Rattle.model.specs.Checks.{is-bad, is-cut, is-sound}
 use Rattle.model.specs.Agreeing.{isAgreeing}
-use Rattle.model.specs.Format.{checkFile, readFile}
+use Rattle.model.specs.Format.{checkFile, readFile, version-1}
 use Rattle.model.specs.Calls.{fine, lookedBy, lookedOf, refusing}
 use Rattle.model.proofs.Agreeing.{isAgreeing-agrees}
 use Rattle.file.specs.declared.Size.{Size}
@@ -37,22 +31,22 @@ pub looked-cut : (xs : List ℕ) (t : Trie) {N : ℕ} → checkFile xs ≡ is-cu
 unfolding lookedOf lookedBy
 looked-cut xs t e = rw e
 
-looked-by : (xs : List ℕ) (t : Trie) {b : ℕ} {fs : List Slot} → checkFile xs ≡ is-sound → readFile xs ≡ some (b, fs)
-    → lookedOf xs t ≡ cond (isAgreeing fs t) (fine b fs) (refusing StaleTrie)
+looked-by : (xs : List ℕ) (t : Trie) {b : ℕ} {fs : List Slot} → checkFile xs ≡ is-sound → readFile xs ≡ some (version-1 b, fs)
+    → lookedOf xs t ≡ cond (isAgreeing fs t) (fine (version-1 b) fs) (refusing StaleTrie)
 unfolding lookedOf lookedBy
 looked-by xs t e f = rw (e, f)
 
 -- The agreement with a sound file.
 module _ (xs : List ℕ) (t : Trie) (s : Size) (v : Survey) (g : Strings) (a : Agreement)
     (h : Said s xs) (e : checkFile xs ≡ is-sound) (z : Surveyed v xs s) (l : Listed g xs s (v .order) (v .count)) (d : Decides t g a) where
-  R : Read s xs
+  R : Read (version-1 s) xs
   R = sound-read xs s h e
 
   decided : Decided (R .slots) t a
   decided = d (s .b) (R .slots) (R .sound) (strung R z l)
 
   pub agreed-not : a .agrees ≡ false → lookedOf xs t ≡ refusing StaleTrie
-  agreed-not f = looked-by xs t e (R .is) ∙ ap (λ (x : Bool). cond x (fine (s .b) (R .slots)) (refusing StaleTrie)) (sym (decided .agrees-is) ∙ f)
+  agreed-not f = looked-by xs t e (R .is) ∙ ap (λ (x : Bool). cond x (fine (version-1 (s .b)) (R .slots)) (refusing StaleTrie)) (sym (decided .agrees-is) ∙ f)
 
   pub agreed-all : (c : Checked) → a .agrees ≡ true → c .size ≡ s → c .survey ≡ v → c .strings ≡ g → c .places ≡ a .places → Agreed c xs t
   agreed-all c f p q r u =
@@ -76,5 +70,5 @@ module _ (xs : List ℕ) (t : Trie) (s : Size) (v : Survey) (g : Strings) (a : A
         };
         agrees = A;
         placed = rw u (decided .placed f);
-        looked = rw p (looked-by xs t e (R .is) ∙ ap (λ (x : Bool). cond x (fine (s .b) (R .slots)) (refusing StaleTrie)) y);
+        looked = rw p (looked-by xs t e (R .is) ∙ ap (λ (x : Bool). cond x (fine (version-1 (s .b)) (R .slots)) (refusing StaleTrie)) y);
       }

@@ -9,26 +9,21 @@ ghost use lib.ListN.{length};
 ghost use lib.Seq.{sets};
 ghost use Rattle.trie.specs.Walks.{Walks, walkOf};
 ghost use Rattle.image.specs.Images.{cellBytes, cellFrom, imageOf, imageSize, pairOf, sideNumber, sideOf, trieOf};
+use digits::u16_of_u8;
+use digits::usize_of_u16;
 use model::Cell;
 use model::Side;
 use model::Trie;
 use trie::Place;
 use trie::Walk;
-use trie::number;
 
 pub const BYTES: usize = 1540;
-
-fn wide(x: u8) -> u16
-    ensures { λ r. ⌜ (r ≡ x) × (r < 256) ⌝ }
-{
-    x as u16
-}
 
 // Two bytes, little-endian.
 fn pair(low: u8, high: u8) -> u16
     ensures { λ r. ⌜ r ≡ pairOf low high ⌝ }
 {
-    wide(low) + 256 * wide(high)
+    u16_of_u8(low) + 256 * u16_of_u8(high)
 }
 
 fn side_of(x: u16) -> Side
@@ -58,7 +53,7 @@ pub fn decoded(image: &[u8]) -> Trie
     requires { ⌜ length (now image) ≡ imageSize ⌝ }
     ensures { λ r. ⌜ r ≡ trieOf (now (image .entry)) ⌝ }
 {
-    let mut trie = trie::lone(pair(image[2], image[3]));
+    let mut trie = trie::without_cells(pair(image[2], image[3]));
     trie.count = pair(image[0], image[1]);
     let mut i = 0usize;
     while i < 256 {
@@ -82,7 +77,7 @@ pub fn walk_in(image: &[u8], name: &[u8; 24]) -> Walk
         let Place::Cell(i) = place else {
             return walk;
         };
-        let cell = cell_at(image, number(i));
+        let cell = cell_at(image, usize_of_u16(i));
         walk = walk.step(name, i, cell);
     }
 }

@@ -13,6 +13,10 @@ use Rattle.model.specs.Entries.{Entry}
 use Rattle.model.specs.Files.{Cut, Slot, Sound, free, used}
 use Rattle.model.specs.Checks.{Kind, check, is-bad, sameStr}
 
+-- The layout of a file of version 1.
+abbrev pub version-1 : ℕ → Layout
+version-1 b = record { version = 1; b = b }
+
 -- "version 1": the versions that are offered.
 unfoldable pub isOffered : ℕ → Bool
 isOffered v = eqb v 1

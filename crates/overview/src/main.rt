@@ -5,7 +5,7 @@ ghost use mathlib.Core.Path.{_≡_};
 ghost use Prim.Native.Nat.{_≤_, _<_, _+_, _*_};
 ghost use lib.ListN.{length};
 ghost use Rattle.file.specs.Sizes.{Sized, Below};
-use digits::index;
+use digits::usize_of_u8;
 use file::Header;
 use file::Size;
 use libc::STDIN_FILENO;
@@ -184,8 +184,8 @@ fn print_bucket(slot: &[u8], b: usize, number: u64)
     requires { ⌜ (length (now slot) ≡ 64 + 32 * b) × (b ≤ 16) ⌝ }
 {
     io::print_decimal(STDOUT_FILENO, number);
-    print_bound(bucket::lower_of(slot));
-    print_bound(bucket::upper_of(slot));
+    print_bound(bucket::lower_bound(slot));
+    print_bound(bucket::upper_bound(slot));
     let count = bucket::count_of(slot, b);
     let mut i = 0;
     while i < count {
@@ -203,7 +203,11 @@ fn print_buckets(file: &[u8], size: Size, order: &[u8; 64], count: usize)
     let mut j = 0;
     while j < count {
         let k = order[j];
-        print_bucket(file::slot_at(file, size, index(k)), size.b, digits::wide(k));
+        print_bucket(
+            file::slot_at(file, size, usize_of_u8(k)),
+            size.b,
+            digits::u64_of_u8(k),
+        );
         j += 1;
     }
 }

@@ -9,10 +9,11 @@ use Rattle.model.specs.declared.Trie.{Trie}
 use Rattle.model.specs.Order.{Str}
 use Rattle.model.specs.Files.{Slot}
 use Rattle.model.specs.Tries.{zero-cell}
+use Rattle.model.specs.Format.{version-1}
 use Rattle.model.specs.Changes.{Result, call, put, refuse, stored, stores}
 use Rattle.model.specs.Places.{place-of}
 use Rattle.model.specs.Calls.{trieAfter}
-use Rattle.promises.specs.Texts.{name, version-1}
+use Rattle.promises.specs.Texts.{name}
 
 -- These cells, and zero cells behind them; there is at least one.
 abbrev pub of-cells : List Cell → Trie

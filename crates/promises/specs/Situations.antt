@@ -16,12 +16,13 @@ use Rattle.model.specs.Entries.{Entry, find}
 use Rattle.model.specs.Files.{Slot, created, entries-of, free, slot-at, used}
 use Rattle.model.specs.Tries.{Agrees, walk-trie}
 use Rattle.model.specs.Rebuilding.{rebuilt-trie}
+use Rattle.model.specs.Format.{version-1}
 use Rattle.model.specs.Changes.{call, put, split-of, stores}
 use Rattle.model.specs.Places.{place-of}
 use Rattle.model.specs.Checks.{check, is-cut, is-sound, isSound}
 use Rattle.model.specs.Agreeing.{isAgreeing}
 use Rattle.model.specs.Histories.{Act, World, ask, down, ready, recover, run}
-use Rattle.promises.specs.Texts.{bytes, name, version-1}
+use Rattle.promises.specs.Texts.{bytes, name}
 use Rattle.model.specs.Calls.{new-trie}
 use Rattle.promises.specs.Growing.{Held, of-cells, puts}
 

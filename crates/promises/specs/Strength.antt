@@ -19,9 +19,9 @@ use Rattle.model.specs.Files.{Slot, created, free, used}
 use Rattle.model.specs.Changes.{Change, Store, put, split-of, split-string}
 use Rattle.model.specs.Places.{place-of}
 use Rattle.model.specs.Checks.{is-bad}
-use Rattle.model.specs.Format.{checkFile, fileBytes, readFile, storeBytes}
+use Rattle.model.specs.Format.{checkFile, fileBytes, readFile, storeBytes, version-1}
 use Rattle.model.specs.Calls.{new-trie, putOf, recoverOf, removeOf, storesBytes}
-use Rattle.promises.specs.Texts.{bytes, version-1}
+use Rattle.promises.specs.Texts.{bytes}
 use Rattle.promises.specs.Growing.{of-cells}
 use Rattle.promises.specs.Situations.{a-cell, entries, names, rates-slots, rz-slots}
 use Rattle.promises.specs.Calls.{Calls}

@@ -1,10 +1,9 @@
--- A text as its bytes, and the name that it spells; and the layout of a file of version 1.
+-- A text as its bytes, and the name that it spells.
 use mathlib.Core.List.{List, [], _∷_}
 use Prim.Native.Char.{code}
 use Prim.Native.Nat.{ℕ}
 use Prim.Native.String.{String}
 use Prim.Native.String as S
-use Rattle.model.specs.declared.Layout.{Layout}
 use Rattle.model.specs.Order.{Str}
 use Rattle.model.specs.Names.{filled}
 
@@ -14,6 +13,3 @@ bytes (S._∷_ c cs) = code c ∷ bytes cs
 
 abbrev pub name : String → Str
 name w = filled (bytes w)
-
-abbrev pub version-1 : ℕ → Layout
-version-1 b = record { version = 1; b = b }

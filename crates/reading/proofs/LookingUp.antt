@@ -1,14 +1,5 @@
 -- Look up, put together from its stages: each refusal, and what one slot answers to a name.
-use mathlib.Core.Path.{_∙_, _≡_, ap, refl, subst, sym}
-use mathlib.Core.Bool.{Bool, _&&_, cond, false, not, true}
-use mathlib.Core.Logic.{_⊎_, inl, inr}
-use mathlib.Core.Option.{Option, none as nothing, some}
-use mathlib.Core.List.{List, []}
-use Prim.Native.Nat.{_*_, _+_, _<_, _≤_, ℕ}
-use native.Mathlib.Omega.{arith}
-use lib.Dec.{leb, ltb}
-use borrow.Author.Tests.{le-ltb, lt-ltb}
-use lib.ListN.{drop, getD, length, take}
+use Rattle.model.proofs.Prelude.{Bool, List, Option, [], _&&_, _*_, _+_, _<_, _∙_, _≡_, _≤_, _⊎_, ap, arith, clash, cond, drop, false, getD, inl, inr, le-ltb, leb, length, lt-ltb, ltb, not, nothing, refl, some, subst, sym, take, true, ℕ}
 use Rattle.model.specs.declared.Cause.the-variants.{BadFile, IllegalName, StaleTrie}
 use Rattle.model.specs.declared.LookUpAnswer.{LookUpAnswer}
 use Rattle.model.specs.declared.LookUpAnswer.the-variants.{Absent as NotFound, Found, Refused}
@@ -19,19 +10,21 @@ use Rattle.model.specs.Entries.{find}
 use Rattle.model.specs.Files.{Slot, free, used}
 use Rattle.model.specs.Tries.{root-side}
 use Rattle.model.specs.Growth.{Spot, root}
-use Rattle.model.specs.Format.{headerOf, readSlot, slotAt, slotSize}
+use Rattle.model.specs.Format.{entrySize, headerOf, readSlot, slotAt, slotSize, version-1}
 use Rattle.model.specs.Calls.{arrivedAnswer, headedAnswer, heldAnswer, lookUpOf, slotAnswer}
 use Rattle.digits.specs.Keys.{isZero, keyValue, value}
 use Rattle.bucket.specs.declared.Bucket.{Bucket}
 use Rattle.bucket.specs.declared.Form.{Form}
 use Rattle.bucket.specs.declared.Form.the-variants.{Ill, Well}
-use Rattle.bucket.specs.declared.Held.{Held}
-use Rattle.bucket.specs.declared.Held.the-variants.{Absent, Value}
+use Rattle.entries.specs.declared.Held.{Held}
+use Rattle.entries.specs.declared.Held.the-variants.{Absent, Value}
 use Rattle.bucket.specs.declared.Range.the-variants.{Holds, Lacks}
-use Rattle.bucket.specs.Forms.{Formed, WellRead, heldUnder, holding}
+use Rattle.bucket.specs.Forms.{Formed, WellRead, holding}
+use Rattle.entries.specs.Rows.{heldUnder}
 use Rattle.bucket.specs.Slots.{countAt}
-use Rattle.bucket.proofs.Rows.{read-used, read-values}
-use Rattle.bucket.proofs.Finding.{count-is, free-zero, held, held-find, ill-read, range-holds, well-reads, zero-free}
+use Rattle.bucket.proofs.Slots.{count-is, free-zero, ill-read, range-holds, read-used, read-values, well-reads, zero-free}
+use Rattle.entries.proofs.Places.{held}
+use Rattle.writing.proofs.Finding.{held-find}
 use Rattle.trie.specs.declared.Place.the-variants.{Slot as at-slot}
 use Rattle.trie.specs.declared.Walk.{Walk}
 use Rattle.trie.specs.Walks.{Walks, walkOf}
@@ -40,10 +33,10 @@ use Rattle.trie.proofs.Laws.{arrive-run, landed, lands-at}
 -- Which way a test went, by the answer that it gave.
 pub holding-holds : (t : Bool) → Holds ≡ holding t → t ≡ true
 holding-holds true e = refl
-holding-holds false e = let z : _≡_ {A = ℕ} 0 1 = cc in absurd (omega arith)
+holding-holds false e = clash cc
 
 pub holding-lacks : (t : Bool) → Lacks ≡ holding t → t ≡ false
-holding-lacks true e = let z : _≡_ {A = ℕ} 0 1 = cc in absurd (omega arith)
+holding-lacks true e = clash cc
 holding-lacks false e = refl
 
 -- A slot that is well formed is read, and one that is not is none that is.
@@ -61,31 +54,31 @@ no-slot (inr e) = absurd (omega arith)
 -- "4 if the slot is free (all zero); 2 if it is not well formed; 4 if its range lacks the name. Only then found with value,
 -- or absent."
 module _ (b : ℕ) (xs : List ℕ) (n : Str) where
-  pub answer-free : length xs ≡ 64 + 32 * b → isZero xs ≡ true → Refused StaleTrie ≡ slotAnswer b n (readSlot b xs)
-  unfolding slotAnswer slotSize
+  pub answer-free : length xs ≡ 64 + 32 * b → isZero xs ≡ true → Refused StaleTrie ≡ slotAnswer b n (readSlot (version-1 b) xs)
+  unfolding slotAnswer slotSize entrySize
   answer-free h e = rw (zero-free b xs h e)
 
-  pub answer-ill : length xs ≡ 64 + 32 * b → isZero xs ≡ false → Formed b xs Ill → Refused BadFile ≡ slotAnswer b n (readSlot b xs)
-  unfolding slotAnswer slotSize
-  answer-ill h e f = go (readSlot b xs) refl
+  pub answer-ill : length xs ≡ 64 + 32 * b → isZero xs ≡ false → Formed b xs Ill → Refused BadFile ≡ slotAnswer b n (readSlot (version-1 b) xs)
+  unfolding slotAnswer slotSize entrySize
+  answer-ill h e f = go (readSlot (version-1 b) xs) refl
     where
-      go : (o : Option Slot) → readSlot b xs ≡ o → Refused BadFile ≡ slotAnswer b n o
+      go : (o : Option Slot) → readSlot (version-1 b) xs ≡ o → Refused BadFile ≡ slotAnswer b n o
       go nothing r = refl
       go (some free) r =
           let y : true ≡ false = sym (free-zero b xs r) ∙ e in
-          let z : _≡_ {A = ℕ} 0 1 = cc in absurd (omega arith)
+          clash cc
       go (some (used l u es)) r = rw (ill-read b xs h e f (used l u es) r)
 
   module _ {k : Bucket} (W : WellRead b xs k) (v : ℕ) (g : Legal n) (e : v ≡ value n) where
     abbrev ranged : Bool
     ranged = ltb (keyValue (k .low)) v && not (ltb (keyValue (k .high)) v)
 
-    pub answer-lacks : ranged ≡ false → Refused StaleTrie ≡ slotAnswer b n (readSlot b xs)
+    pub answer-lacks : ranged ≡ false → Refused StaleTrie ≡ slotAnswer b n (readSlot (version-1 b) xs)
     unfolding slotAnswer
     answer-lacks h = rw (read-used b xs (W .is), W .well, sym (range-holds W (W .is) n v g e) ∙ h)
 
     answer-held : (h : Held) (a : LookUpAnswer) → ((i : ℕ) → getD xs i 0 < 256) → ranged ≡ true → h ≡ heldUnder (drop 64 xs) (countAt b xs) v
-        → ((o : Option ℕ) → h ≡ held o → a ≡ heldAnswer o) → a ≡ slotAnswer b n (readSlot b xs)
+        → ((o : Option ℕ) → h ≡ held o → a ≡ heldAnswer o) → a ≡ slotAnswer b n (readSlot (version-1 b) xs)
     unfolding slotAnswer
     answer-held h a bytes r f go =
         let R = well-reads W in
@@ -93,19 +86,19 @@ module _ (b : ℕ) (xs : List ℕ) (n : Str) where
         rw (read-used b xs (W .is), W .well, sym (range-holds W (W .is) n v g e) ∙ r) (go (find n (W .entries)) w)
 
     pub answer-absent : {h : Held} → ((i : ℕ) → getD xs i 0 < 256) → ranged ≡ true → h ≡ heldUnder (drop 64 xs) (countAt b xs) v → h ≡ Absent
-        → NotFound ≡ slotAnswer b n (readSlot b xs)
+        → NotFound ≡ slotAnswer b n (readSlot (version-1 b) xs)
     answer-absent {h} bytes r f s = answer-held h NotFound bytes r f go
       where
         go : (o : Option ℕ) → h ≡ held o → NotFound ≡ heldAnswer o
         go nothing q = refl
-        go (some x) q = let z : _≡_ {A = ℕ} 0 1 = cc in absurd (omega arith)
+        go (some x) q = clash cc
 
     pub answer-found : {h : Held} {x : ℕ} → ((i : ℕ) → getD xs i 0 < 256) → ranged ≡ true → h ≡ heldUnder (drop 64 xs) (countAt b xs) v → h ≡ Value x
-        → Found x ≡ slotAnswer b n (readSlot b xs)
+        → Found x ≡ slotAnswer b n (readSlot (version-1 b) xs)
     answer-found {h} {x} bytes r f s = answer-held h (Found x) bytes r f go
       where
         go : (o : Option ℕ) → h ≡ held o → Found x ≡ heldAnswer o
-        go nothing q = let z : _≡_ {A = ℕ} 0 1 = cc in absurd (omega arith)
+        go nothing q = clash cc
         go (some y) q = cc
 
 -- "1; 2 if length or header is wrong; 4 if .. the walk ..": then what the slot answers.
@@ -118,7 +111,7 @@ module _ (xs : List ℕ) (t : Trie) (name : List ℕ) where
   unfolding lookUpOf headedAnswer
   headless-looked e h = rw (e, h)
 
-  module _ {b slots : ℕ} (e : legalName name ≡ true) (h : headerOf xs ≡ some (b, slots)) where
+  module _ {b slots : ℕ} (e : legalName name ≡ true) (h : headerOf xs ≡ some (version-1 b, slots)) where
     -- Where the walk lands, and what is answered there.
     landed-looked : lookUpOf xs t name ≡ arrivedAnswer xs b (filled name) (landed slots (walkOf t (filled name)))
     unfolding lookUpOf headedAnswer walkOf arrivedAnswer
@@ -144,6 +137,6 @@ module _ (xs : List ℕ) (t : Trie) (name : List ℕ) where
       past-looked {s} q i = sym (landed-looked ∙ rw (lands-at slots w s q (walkOf t (filled name)) W, le-ltb s slots i))
 
       pub arrived-looked : {s k : ℕ} {ys : List ℕ} (r : LookUpAnswer) → w .place ≡ at-slot s → k ≡ s → k < slots
-          → ys ≡ take (64 + 32 * b) (drop (16 + k * (64 + 32 * b)) xs) → r ≡ slotAnswer b (filled name) (readSlot b ys) → r ≡ lookUpOf xs t name
-      unfolding arrivedAnswer slotAt slotSize
+          → ys ≡ take (64 + 32 * b) (drop (16 + k * (64 + 32 * b)) xs) → r ≡ slotAnswer b (filled name) (readSlot (version-1 b) ys) → r ≡ lookUpOf xs t name
+      unfolding arrivedAnswer slotAt slotSize entrySize
       arrived-looked {s} {k} r q l i y a = a ∙ rw (y, l) (sym (landed-looked ∙ rw (lands-at slots w s q (walkOf t (filled name)) W, lt-ltb s slots (omega arith))))

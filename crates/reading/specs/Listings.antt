@@ -3,7 +3,7 @@ use mathlib.Core.Path.{_≡_}
 use mathlib.Core.List.{List, [], _++_}
 use Prim.Native.Nat.{_*_, _+_, suc, zero, ℕ}
 use lib.ListN.{drop, getD, length, take}
-use Rattle.bucket.specs.Forms.{partBetween}
+use Rattle.writing.specs.Entries.{partBetween}
 use Rattle.bucket.specs.Slots.{countAt}
 use Rattle.file.specs.declared.Size.{Size}
 

@@ -5,7 +5,7 @@ ghost use Prim.Native.Nat.{_≤_, _<_, _+_, _-_, _*_};
 ghost use lib.ListN.{length};
 ghost use Rattle.model.specs.Order.{Str};
 ghost use Rattle.model.specs.Names.{Legal, filled};
-ghost use Rattle.model.specs.Format.{readSlot};
+ghost use Rattle.model.specs.Format.{readSlot, version-1};
 ghost use Rattle.model.specs.Files.{order-of};
 ghost use Rattle.model.specs.Calls.{between, entriesIn, listEntries, listOf, lookUpOf, slotAnswer};
 ghost use Rattle.trie.specs.Walks.{Walks, walkOf};
@@ -15,7 +15,6 @@ ghost use Rattle.checking.specs.Ready.{Ready};
 ghost use Rattle.reading.specs.Outcomes.{listed};
 ghost use Rattle.reading.specs.Listings.{Written, parts};
 use bucket::Form;
-use bucket::Held;
 use bucket::Range;
 use bucket::Vacancy;
 use checking::Checked;
@@ -23,7 +22,8 @@ use checking::Verdict;
 use checking::checks_of;
 use digits::Key;
 use digits::Naming;
-use digits::index;
+use digits::usize_of_u8;
+use entries::Held;
 use file::Header;
 use file::Size;
 use model::Cause;
@@ -36,7 +36,7 @@ use trie::Walk;
 // What one slot answers to a name.
 fn answer_of(slot: &[u8], b: usize, name: Key) -> LookUpAnswer
     requires { ⌜ (length (now slot) ≡ 64 + 32 * b) × (b ≤ 16) ⌝ }
-    ensures { λ r. ⌜ ((n : Str) → Legal n → keyValue name ≡ value n → r ≡ slotAnswer b n (readSlot b (now (slot .entry)))) ⌝ }
+    ensures { λ r. ⌜ ((n : Str) → Legal n → keyValue name ≡ value n → r ≡ slotAnswer b n (readSlot (version-1 b) (now (slot .entry)))) ⌝ }
 {
     let Vacancy::Taken = bucket::vacancy_of(slot) else {
         return LookUpAnswer::Refused(Cause::StaleTrie);
@@ -47,7 +47,8 @@ fn answer_of(slot: &[u8], b: usize, name: Key) -> LookUpAnswer
     let Range::Holds = bucket::range_of(bucket, name) else {
         return LookUpAnswer::Refused(Cause::StaleTrie);
     };
-    let Held::Value(value) = bucket::held_under(&slot[64..], bucket::count_of(slot, b), name) else {
+    let Held::Value(value) = entries::held_under(&slot[64..], bucket::count_of(slot, b), name)
+    else {
         return LookUpAnswer::Absent;
     };
     LookUpAnswer::Found(value)
@@ -67,7 +68,7 @@ pub fn look_up_from(file: &[u8], walk: Walk, name: &[u8]) -> LookUpAnswer
     let Place::Slot(s) = place else {
         return LookUpAnswer::Refused(Cause::StaleTrie);
     };
-    let k = trie::number(s);
+    let k = digits::usize_of_u16(s);
     if size.slots <= k {
         return LookUpAnswer::Refused(Cause::StaleTrie);
     }
@@ -104,8 +105,8 @@ fn bytes_between(
     let mut bytes = 0usize;
     let mut j = from;
     while j <= to {
-        let slot = file::slot_at(file, size, index(order[j]));
-        let part = bucket::part_between(slot, size.b, first, second);
+        let slot = file::slot_at(file, size, usize_of_u8(order[j]));
+        let part = writing::part_between(slot, size.b, first, second);
         bytes += part.len();
         j += 1;
     }
@@ -131,9 +132,9 @@ fn write_between(
     let mut at = 0usize;
     let mut j = from;
     while j <= to {
-        let slot = file::slot_at(file, size, index(order[j]));
-        let part = bucket::part_between(slot, size.b, first, second);
-        bucket::copy(output, at, part);
+        let slot = file::slot_at(file, size, usize_of_u8(order[j]));
+        let part = writing::part_between(slot, size.b, first, second);
+        entries::copy(output, at, part);
         at += part.len();
         j += 1;
     }

@@ -23,4 +23,4 @@ pub record Divides (s : Split) (b : ℕ) (t : Trie) (ws : List Entry) : Type 0 w
 -- It is the split of the entries whose bytes these are.
 abbrev pub Found : Split → ℕ → Trie → List ℕ → Type 0
 Found s b t entries =
-    (l : Low) (u : Str) (ws : List Entry) → Row l ws u → length ws ≡ b + 1 → entries ≡ padded 544 (entriesBytes ws) → Divides s b t ws
+    (l : Low) (u : Str) (ws : List Entry) → Row l ws u → length ws ≡ b + 1 → entries ≡ padded 544 (entriesBytes 32 ws) → Divides s b t ws

@@ -7,8 +7,9 @@ ghost use lib.ListN.{drop, length, take};
 ghost use Rattle.model.specs.Order.{diff};
 ghost use Rattle.model.specs.Format.{padded};
 ghost use Rattle.digits.specs.Keys.{continued, isZero, value};
-ghost use Rattle.bucket.specs.Forms.{notAbove, values};
-ghost use Rattle.bucket.specs.Slots.{lowerAt, upperAt, writtenBytes};
+ghost use Rattle.entries.specs.Rows.{notAbove, values};
+ghost use Rattle.bucket.specs.Slots.{lowerAt, upperAt};
+ghost use Rattle.writing.specs.Slots.{writtenBytes};
 ghost use Rattle.growth.specs.Grows.{Grows};
 ghost use Rattle.splitting.specs.Divides.{Found};
 ghost use Rattle.splitting.specs.Parts.{Parted};
@@ -33,7 +34,7 @@ fn name_at(entries: &[u8; 544], at: usize) -> [u8; 24]
     let whole = &entries[..];
     let end = at + 24;
     let mut name = [0u8; 24];
-    bucket::copy(&mut name, 0, &whole[at..end]);
+    entries::copy(&mut name, 0, &whole[at..end]);
     name
 }
 
@@ -53,7 +54,7 @@ fn beginning(name: &[u8; 24], len: usize) -> [u8; 24]
 {
     let whole = &name[..];
     let mut string = [0u8; 24];
-    bucket::copy(&mut string, 0, &whole[0..len]);
+    entries::copy(&mut string, 0, &whole[0..len]);
     string
 }
 
@@ -65,7 +66,7 @@ fn stay_of(entries: &[u8; 544], b: usize, string: &[u8; 24], len: usize) -> usiz
         → r ≡ 1 + notAbove (value (continued (take len (now (string .entry))))) (values (b - 1) (drop 32 (now (entries .entry))))) ⌝ }
 {
     let whole = &entries[..];
-    1 + bucket::upto(&whole[32..], b - 1, digits::bound_key_at(string, 0, len))
+    1 + entries::not_above(&whole[32..], b - 1, digits::bound_key_at(string, 0, len))
 }
 
 // The split of b + 1 entries, sorted. The split key is at position b/2 + 1, counted from 1.
@@ -100,7 +101,7 @@ pub fn new_slot(slot: &[u8], b: usize, entries: &[u8; 544], split: Split) -> [u8
     let whole = &entries[..];
     let at = 32 * split.stay;
     let end = 32 * (b + 1);
-    written_above(&string, len, bucket::upper_of(slot), &whole[at..end])
+    written_above(&string, len, bucket::upper_bound(slot), &whole[at..end])
 }
 
 // The slot A of a split, cut down: its upper is now s.
@@ -113,7 +114,7 @@ pub fn old_slot(slot: &[u8], b: usize, entries: &[u8; 544], split: Split) -> [u8
     let len = split.len;
     let whole = &entries[..];
     let end = 32 * split.stay;
-    written_below(bucket::lower_of(slot), &string, len, &whole[0..end])
+    written_below(bucket::lower_bound(slot), &string, len, &whole[0..end])
 }
 
 fn written_above(string: &[u8; 24], len: usize, upper: &[u8], entries: &[u8]) -> [u8; 576]
@@ -121,7 +122,7 @@ fn written_above(string: &[u8; 24], len: usize, upper: &[u8], entries: &[u8]) ->
     ensures { λ r. ⌜ r ≡ writtenBytes (take len (now (string .entry))) (now (upper .entry)) (now (entries .entry)) ⌝ }
 {
     let whole = &string[..];
-    bucket::written(&whole[0..len], upper, entries)
+    writing::written(&whole[0..len], upper, entries)
 }
 
 fn written_below(lower: &[u8], string: &[u8; 24], len: usize, entries: &[u8]) -> [u8; 576]
@@ -129,7 +130,7 @@ fn written_below(lower: &[u8], string: &[u8; 24], len: usize, entries: &[u8]) ->
     ensures { λ r. ⌜ r ≡ writtenBytes (now (lower .entry)) (take len (now (string .entry))) (now (entries .entry)) ⌝ }
 {
     let whole = &string[..];
-    bucket::written(lower, &whole[0..len], entries)
+    writing::written(lower, &whole[0..len], entries)
 }
 
 // The trie after a split.

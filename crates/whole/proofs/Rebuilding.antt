@@ -1,18 +1,12 @@
 -- Rebuild, by its order of refusals, and the trie that it gives.
-use mathlib.Core.Path.{_∙_, _≡_, sym}
-use mathlib.Core.Bool.{Bool, false, true}
-use mathlib.Core.List.{List}
-use Prim.Native.Nat.{_≤_, ℕ}
-use borrow.Author.Tests.{leb-true}
-use lib.Dec.{leb}
-use lib.ListN.{length}
+use Rattle.model.proofs.Prelude.{Bool, List, _∙_, _≡_, _≤_, false, leb, leb-true, length, sym, true, ℕ}
 use Rattle.model.specs.declared.Cause.the-variants.{BadFile, CutFile, ManyStrings}
 use Rattle.model.specs.declared.TrieAnswer.the-variants.{Given, Refused as TrieRefused}
 use Rattle.model.specs.declared.TrieGiven.{TrieGiven}
 use Rattle.model.specs.Files.{string-count, strings-of}
 use Rattle.model.specs.Rebuilding.{rebuilt-trie}
 use Rattle.model.specs.Checks.{is-bad, is-cut, is-sound}
-use Rattle.model.specs.Format.{checkFile}
+use Rattle.model.specs.Format.{checkFile, version-1}
 use Rattle.model.specs.Calls.{new-trie, rebuildBy, rebuildOf}
 use Rattle.file.specs.declared.Size.{Size}
 use Rattle.file.specs.declared.survey.Survey.{Survey}
@@ -37,7 +31,7 @@ rebuild-cut xs r h e = rw (e, h .0, h .1)
 -- A sound file, with its strings.
 module _ (xs : List ℕ) (s : Size) (v : Survey) (g : Strings) (h : Said s xs) (e : checkFile xs ≡ is-sound) (z : Surveyed v xs s)
     (l : Listed g xs s (v .order) (v .count)) where
-  R : Read s xs
+  R : Read (version-1 s) xs
   R = sound-read xs s h e
 
   few-is : {t : Bool} → g .few ≡ t → leb (string-count (R .slots)) 256 ≡ t

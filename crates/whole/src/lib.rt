@@ -18,7 +18,7 @@ fn refused(cause: Cause) -> TrieGiven
 {
     TrieGiven {
         answer: TrieAnswer::Refused(cause),
-        trie: trie::lone(0),
+        trie: trie::without_cells(0),
     }
 }
 
@@ -45,7 +45,7 @@ pub fn create(file: &mut [u8], version: u64, b: u64, slots: u64) -> TrieGiven
     file::create(file, size);
     TrieGiven {
         answer: TrieAnswer::Given,
-        trie: trie::lone(0),
+        trie: trie::without_cells(0),
     }
 }
 
