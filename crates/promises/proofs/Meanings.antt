@@ -1,5 +1,5 @@
 -- Check, recover, list and the tests mean what document 01 says.
-use Rattle.model.proofs.Prelude.{Bool, List, [], _&&_, _*_, _++_, _<_, _∙_, _∷_, _≡_, _≤_, ap, arith, clash, cond, drop, false, length, length-replicate, ltb, ltb-false, ltb-true, refl, replicate, set, some, sym, take, take-all, true, ℕ}
+use Rattle.model.proofs.Prelude.{Bool, List, List·Memᴰ, List·Memᴰ·cases-cons, List·Memᴰ·head, List·Memᴰ·not-nil, List·Memᴰ·tail, [], _&&_, _*_, _++_, _<_, _∙_, _∷_, _≡_, _≤_, _⊎_, ap, arith, clash, cond, drop, false, inl, inr, length, length-replicate, ltb, ltb-false, ltb-true, refl, replicate, set, some, suc, sym, take, take-all, true, ℕ}
 use Rattle.model.specs.declared.Cause.the-variants.{BadFile as is-a-bad-file, IllegalName, ShortOutput, WrongSize}
 use Rattle.model.specs.declared.Layout.{Layout}
 use Rattle.model.specs.declared.ListAnswer.the-variants.{Listed, Refused as ListRefused}
@@ -26,7 +26,7 @@ use Rattle.model.proofs.Places.{place-lt}
 use Rattle.model.proofs.Format.{headed-slots, readFile-read}
 use Rattle.model.proofs.Stores.{left-freed}
 use Rattle.promises.specs.Calls.{our-calls}
-use Rattle.promises.specs.Meanings.{Distinct, Meanings, OneFreed, Tests, Wrote}
+use Rattle.promises.specs.Meanings.{AllStrings, Distinct, Meanings, OneFreed, Tests, Wrote}
 use Rattle.promises.proofs.Demand1.{legal-name, name-legal}
 use Rattle.promises.proofs.Leading.{Passed, looked-passed}
 use Rattle.promises.proofs.Listings.{listed-right}
@@ -220,6 +220,35 @@ distinct : {l : Low} {u : Str} (ss : List Str) → Asc l ss u → Distinct ss
 distinct [] end = tt
 distinct (x ∷ ss) (step a c r) = (λ m. over (asc-mem r m .0) (le-refl x), distinct ss r)
 
+all-strings : (b : ℕ) (fs : List Slot) → Sound b fs → AllStrings fs (strings-of fs)
+all-strings b fs S = record { once = distinct (strings-of fs) (strings-asc b S); only = strings-only b S; every = strings-every b S }
+
+-- A list without its element x, which is there.
+parted : (x : Str) (ys : List Str) → List·Memᴰ x ys → (zs : List Str) × (length ys ≡ suc (length zs)) × ((z : Str) → List·Memᴰ z ys → (z ≡ x) ⊎ List·Memᴰ z zs)
+parted x [] m = absurd (List·Memᴰ·not-nil m)
+parted x (y ∷ ys) m = elim (List·Memᴰ·cases-cons m) [
+  | inl e ↦ (ys, refl, λ z k. elim (List·Memᴰ·cases-cons k) [ inl q ↦ inl (q ∙ sym e) | inr j ↦ inr j ])
+  | inr k ↦ onward (parted x ys k)
+]
+  where
+    onward : (zs : List Str) × (length ys ≡ suc (length zs)) × ((z : Str) → List·Memᴰ z ys → (z ≡ x) ⊎ List·Memᴰ z zs)
+        → (zs : List Str) × (length (y ∷ ys) ≡ suc (length zs)) × ((z : Str) → List·Memᴰ z (y ∷ ys) → (z ≡ x) ⊎ List·Memᴰ z zs)
+    onward (zs, e, f) = (
+      y ∷ zs,
+      ap suc e,
+      λ z k. elim (List·Memᴰ·cases-cons k) [
+        | inl q ↦ inr (List·Memᴰ·head q)
+        | inr j ↦ elim (f z j) [ inl q ↦ inl q | inr i ↦ inr (List·Memᴰ·tail i) ]
+      ],
+    )
+
+-- Distinct strings that are all in a list are not more than the list has.
+fewer : (xs ys : List Str) → Distinct xs → ((x : Str) → List·Memᴰ x xs → List·Memᴰ x ys) → length xs ≤ length ys
+fewer [] ys d f = omega arith
+fewer (x ∷ xs) ys (n, d) f =
+    let p = parted x ys (f x (List·Memᴰ·head refl)) in
+    omega (arith, p .1, fewer xs (p .0) d (λ z m. elim (p .2 z (f z (List·Memᴰ·tail m))) [ inl q ↦ absurd (n (rw q at m)) | inr k ↦ k ]))
+
 pub tests : Tests
 unfolding string-count
 tests = record {
@@ -234,7 +263,10 @@ tests = record {
   bad = λ b fs. (λ e. rw e at (check-right b fs), check-bad b fs);
   agreeing = λ b fs t S. (isAgreeing-agrees b S t, agrees-isAgreeing b S);
   passes = λ xs t y fs. (λ e. let p = looked-passed xs t y fs e in (p .is, p .sound, p .agrees), λ h. passed-looked xs t y fs (h .0) (h .1) (h .2));
-  counted = λ b fs S. (strings-of fs, record { once = distinct (strings-of fs) (strings-asc b S); only = strings-only b S; every = strings-every b S }, refl);
+  listable = λ b fs S. (strings-of fs, all-strings b fs S);
+  counted = λ b fs S ss A.
+      let L = all-strings b fs S in
+      omega (arith, fewer (strings-of fs) ss (L .once) (λ x m. A .every x (L .only x m)), fewer ss (strings-of fs) (A .once) (λ x m. L .every x (A .only x m)));
   after-split = λ y fs A N l u es n v two S is g lo up big low.
       second-sound (y .b) fs S A l u es is n v g lo up big (place-of y (insert n v es)) (place-lt y two (insert n v es)) N low;
 }

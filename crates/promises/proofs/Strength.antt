@@ -1,5 +1,5 @@
 -- The public statements rule the wrong versions out: files with two slots are computed, and the rest follows.
-use Rattle.model.proofs.Prelude.{Bool, List, Option, [], _+_, _/_, _∙_, _∷_, _≡_, arith, clash, cond, decLe, decLt, false, le-ltb, length, ltb, ltb-true, nothing, refl, some, sym, take, true, ℕ, ℕ-discrete}
+use Rattle.model.proofs.Prelude.{Bool, List, Option, [], _+_, _/_, _∙_, _∷_, _≡_, arith, clash, cond, decLe, decLt, false, length, ltb, ltb-true, nothing, refl, some, sym, take, true, ℕ, ℕ-discrete}
 use Rattle.model.specs.declared.Side.the-variants.{Slot as slot}
 use Rattle.model.specs.declared.Trie.{Trie}
 use Rattle.model.specs.declared.Layout.{Layout}
@@ -17,19 +17,19 @@ use Rattle.model.proofs.Names.{legalName-legal, never-both}
 use Rattle.model.proofs.Format.{legalSizes-sizes}
 use Rattle.model.specs.declared.LookUpAnswer.the-variants.{Absent as NotFound, Found, Refused as LookUpRefused}
 use Rattle.model.specs.declared.PutAnswer.the-variants.{Added, Refused as PutRefused, Stopped as PutStopped}
-use Rattle.model.specs.declared.RecoverAnswer.the-variants.{Freed, Nothing, Refused as RecoverRefused, Stopped as RecoverStopped}
-use Rattle.model.specs.declared.RemoveAnswer.the-variants.{Absent as NotHeld, Refused as RemoveRefused, Removed, Stopped as RemoveStopped}
+use Rattle.model.specs.declared.RecoverAnswer.the-variants.{Freed, Nothing, Refused as RecoverRefused}
+use Rattle.model.specs.declared.RemoveAnswer.the-variants.{Absent as NotHeld, Refused as RemoveRefused}
 use Rattle.model.specs.Order.{Str, le?, low?, str?}
 use Rattle.model.specs.Names.{areDigits, atMost, blankEnded, blanks, filled, legalBound, legalFilled, legalName, notGreater, smaller, splitFrom, splitString, within}
 use Rattle.model.specs.Entries.{chosen, find, insert, keep, not?}
 use Rattle.model.specs.Files.{Slot, entries-of, first, free, low-same?, order-from, slot-at, starts?, string-count}
-use Rattle.model.specs.Changes.{Map, Result, absent, call, free?, holds?, put, put-in, refuse, remove, remove-in, removes, split-of, split-string, stores, stores-if}
-use Rattle.model.specs.Checks.{Kind, allWell, check, cutBelow, hasTwin, is-bad, is-cut, is-sound, isAbove, isChain, isCopied, isCutBy, isIn, isListed, isRow, isSound, isTwin, isUsed, isWell, legalLow, oneMore, sameEntries, sameLow, sameStr}
+use Rattle.model.specs.Changes.{Map, Result, call, free?, holds?, put, put-in, refuse, remove, remove-in, split-of, split-string, stores, stores-if}
+use Rattle.model.specs.Checks.{allWell, check, cutBelow, hasTwin, is-bad, isAbove, isChain, isCopied, isCutBy, isIn, isListed, isRow, isSound, isTwin, isUsed, isWell, legalLow, oneMore, sameEntries, sameLow, sameStr}
 use Rattle.model.specs.Agreeing.{areNumbers, areZeroCells, eachOnce, isAgreeing, isTrieOf, joinTrees, readTree, sameSide, sameStrs, slotsBetween, times}
 use Rattle.model.specs.Format.{checkFile, checkRead, entriesBytes, entriesOf, entryBytes, entrySize, fileBytes, fileSize, headerBytes, headerOf, isOffered, joined, laidOut, layoutOf, legalSizes, littleEndian, lowDigits, lowOf, padded, readBy, readFile, readSlot, readSlots, readUsed, rightHeader, slotAt, slotBytes, slotSize, slotsBytes, storeBytes, usedOf, valueOf, version-1}
 use Rattle.model.specs.Places.{place-of}
-use Rattle.model.specs.Calls.{Looked, PutDone, Recovered, RemoveDone, arrive, arrivedAnswer, between, createOf, entriesIn, fine, headedAnswer, heldAnswer, listEntries, listLooked, listOf, lookUpOf, lookedBy, lookedOf, new-trie, putAnswer, putLooked, putMade, putOf, rebuildBy, rebuildOf, recoverBy, recoverOf, refusalOf, refusing, removeLooked, removeMade, removeOf, slotAnswer, storesBytes, trieAfter}
-use Rattle.model.proofs.Calls.{Answered, is-denied, is-made, put-right, remove-right}
+use Rattle.model.specs.Calls.{Looked, PutDone, arrive, arrivedAnswer, between, createOf, entriesIn, fine, headedAnswer, heldAnswer, listEntries, listLooked, listOf, lookUpOf, lookedBy, lookedOf, new-trie, putAnswer, putLooked, putMade, putOf, rebuildBy, rebuildOf, recoverBy, recoverOf, refusalOf, refusing, removeLooked, removeMade, removeOf, slotAnswer, storesBytes, trieAfter}
+use Rattle.model.proofs.Calls.{Answered, is-denied, is-made, put-right}
 use Rattle.promises.specs.Texts.{bytes, name}
 use Rattle.promises.specs.Growing.{of-cells}
 use Rattle.promises.specs.Situations.{a-cell, entries, names, rates-slots, rz-slots}
@@ -382,58 +382,6 @@ module _ (xs : List ℕ) (t : Trie) (name : List ℕ) (v limit made : ℕ) where
       go false false e q = clash cc
       go false true e q = after-looked (lookedOf xs t) refl e q
 
--- Remove and recover, stopped, made no store.
-module _ (xs : List ℕ) (t : Trie) (name : List ℕ) (limit made : ℕ) where
-  abbrev RemoveNone : RemoveDone → Type 0
-  RemoveNone d = d .answer ≡ RemoveStopped made → (made ≡ 0) × (d .file ≡ xs)
-
-  remove-none : (y : Layout) (fs : List Slot) {r : Result} → Answered (y .b) (place-of y) fs (remove (filled name)) r → RemoveNone (removeMade xs y limit r)
-  unfolding removeMade storesBytes
-  remove-none y fs (is-denied d) = λ e. clash cc
-  remove-none y fs (is-made (absent A is lo up q)) = rw (le-ltb limit 0 (omega arith)) (λ e. clash cc)
-  remove-none y fs (is-made {ss = ss} (removes is lo up q)) = go (ltb limit 1) refl
-    where
-      go : (s : Bool) → ltb limit 1 ≡ s
-          → RemoveNone (cond s (record { answer = RemoveStopped limit; file = storesBytes y (take limit ss) xs }) (record { answer = Removed; file = storesBytes y ss xs }))
-      go true h e =
-          let z : limit ≡ 0 = omega (arith, ltb-true limit 1 h) in
-          let q : limit ≡ made = cc in
-          (sym q ∙ z, rw z)
-      go false h e = clash cc
-
-  remove-looked : (l : Looked) → lookedOf xs t ≡ l → RemoveNone (removeLooked xs (filled name) limit l)
-  unfolding removeLooked
-  remove-looked (refusing c) e q = clash cc
-  remove-looked (fine y fs) e q = remove-none y fs (remove-right (y .b) (place-of y) fs (looked-passed xs t y fs e .sound) (filled name)) q
-
-  none-removed : RemoveNone (removeOf xs t name limit)
-  unfolding removeOf
-  none-removed = go (ltb 2 limit) (legalName name)
-    where
-      go : (l g : Bool)
-          → RemoveNone (cond l (record { answer = RemoveRefused WrongSize; file = xs }) (cond g (removeLooked xs (filled name) limit (lookedOf xs t)) (record { answer = RemoveRefused IllegalName; file = xs })))
-      go true g e = clash cc
-      go false false e = clash cc
-      go false true e = remove-looked (lookedOf xs t) refl e
-
-module _ (xs : List ℕ) (limit made : ℕ) where
-  abbrev RecoverNone : Recovered → Type 0
-  RecoverNone d = d .answer ≡ RecoverStopped made → (made ≡ 0) × (d .file ≡ xs)
-
-  none-freed : RecoverNone (recoverOf xs limit)
-  unfolding recoverOf recoverBy
-  none-freed = go (ltb 2 limit) (checkFile xs)
-    where
-      freed : (N : ℕ) (c : Bool) → RecoverNone (cond c (record { answer = RecoverStopped 0; file = xs }) (record { answer = Freed N; file = storeBytes (layoutOf xs) N free xs }))
-      freed N true e = let q : 0 ≡ made = cc in (sym q, refl)
-      freed N false e = clash cc
-
-      go : (l : Bool) (k : Kind) → RecoverNone (cond l (record { answer = RecoverRefused WrongSize; file = xs }) (recoverBy xs limit k))
-      go true k e = clash cc
-      go false is-bad e = clash cc
-      go false is-sound e = clash cc
-      go false (is-cut N) e = freed N (ltb limit 1) e
-
 pub strength : Strength
 strength = record {
   refuses-all = not-all;
@@ -448,8 +396,6 @@ strength = record {
   not-cut-first = not-cut-first;
   not-inner = not-inner;
   stopped-after = first-stores;
-  remove-stopped = none-removed;
-  recover-stopped = none-freed;
   stopped-0 = computed .stopped-0;
   stopped-1 = computed .stopped-1;
   made-2 = computed .made-2;

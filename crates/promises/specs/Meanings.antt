@@ -86,9 +86,10 @@ pub record Tests : Type 0 where
   -- R9.10: "Put, remove and list check the whole file and full agreement."
   pub passes : (xs : List ℕ) (t : Trie) (y : Layout) (fs : List Slot)
       → (lookedOf xs t ≡ fine y fs) ↔ ((readFile xs ≡ some (y, fs)) × Sound (y .b) fs × Agrees fs t)
-  -- R10.6: "the bounds and their beginnings": what is counted of a sound file is how many there are, and the file after a
-  -- split, whose strings put counts, is sound.
-  pub counted : (b : ℕ) (fs : List Slot) → Sound b fs → (ss : List Str) × AllStrings fs ss × (string-count fs ≡ length ss)
+  -- R10.6: "the bounds and their beginnings": a sound file's strings can be listed, and what is counted is how many there are,
+  -- however they are listed. The file after a split, whose strings put counts, is sound.
+  pub listable : (b : ℕ) (fs : List Slot) → Sound b fs → (ss : List Str) × AllStrings fs ss
+  pub counted : (b : ℕ) (fs : List Slot) → Sound b fs → (ss : List Str) → AllStrings fs ss → string-count fs ≡ length ss
   pub after-split : (y : Layout) (fs : List Slot) (A N : ℕ) (l : Low) (u : Str) (es : List Entry) (n : Str) (v : ℕ) → 2 ≤ y .b → Sound (y .b) fs
       → slot-at fs A ≡ used l u es → Legal n → l ◁ n → n ⊑ u → y .b < length (insert n v es) → Lowest fs N
       → Sound (y .b) (stored (halves (y .b) (place-of y) N A l u (insert n v es)) fs)

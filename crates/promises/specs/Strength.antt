@@ -8,8 +8,7 @@ use Rattle.model.specs.declared.Cause.the-variants.{CutFile, StaleTrie}
 use Rattle.model.specs.declared.Layout.{Layout}
 use Rattle.model.specs.declared.LookUpAnswer.the-variants.{Refused as LookUpRefused}
 use Rattle.model.specs.declared.PutAnswer.the-variants.{Added, Refused as PutRefused, Stopped as PutStopped}
-use Rattle.model.specs.declared.RecoverAnswer.the-variants.{Freed, Stopped as RecoverStopped}
-use Rattle.model.specs.declared.RemoveAnswer.the-variants.{Stopped as RemoveStopped}
+use Rattle.model.specs.declared.RecoverAnswer.the-variants.{Freed}
 use Rattle.model.specs.declared.Side.the-variants.{Cell as further, Slot as slot}
 use Rattle.model.specs.declared.Trie.{Trie}
 use Rattle.model.specs.Order.{at, none}
@@ -20,7 +19,7 @@ use Rattle.model.specs.Changes.{Change, Store, put, split-of, split-string}
 use Rattle.model.specs.Places.{place-of}
 use Rattle.model.specs.Checks.{is-bad}
 use Rattle.model.specs.Format.{checkFile, fileBytes, readFile, storeBytes, version-1}
-use Rattle.model.specs.Calls.{new-trie, putOf, recoverOf, removeOf, storesBytes}
+use Rattle.model.specs.Calls.{new-trie, putOf, recoverOf, storesBytes}
 use Rattle.promises.specs.Texts.{bytes}
 use Rattle.promises.specs.Growing.{of-cells}
 use Rattle.promises.specs.Situations.{a-cell, entries, names, rates-slots, rz-slots}
@@ -103,11 +102,6 @@ pub record Strength : Type 0 where
   -- A put that says stopped made the first of its stores, as many as it says.
   pub stopped-after : (xs : List ℕ) (t : Trie) (name : List ℕ) (v limit made : ℕ)
       → putOf xs t name v limit .answer ≡ PutStopped made → StoppedAfter xs name v made (putOf xs t name v limit .file)
-  -- Remove and recover need one store at most: stopped, they made none.
-  pub remove-stopped : (xs : List ℕ) (t : Trie) (name : List ℕ) (limit made : ℕ) → removeOf xs t name limit .answer ≡ RemoveStopped made
-      → (made ≡ 0) × (removeOf xs t name limit .file ≡ xs)
-  pub recover-stopped : (xs : List ℕ) (limit made : ℕ) → recoverOf xs limit .answer ≡ RecoverStopped made
-      → (made ≡ 0) × (recoverOf xs limit .file ≡ xs)
   -- In numbers: of a put of c that needs two stores, none, one and two were made.
   pub stopped-0 : putOf full-file new-trie (bytes "c") 3 0 ≡ record { answer = PutStopped 0; file = full-file; trie = new-trie }
   pub stopped-1 : putOf full-file new-trie (bytes "c") 3 1 ≡ record { answer = PutStopped 1; file = stopped-file; trie = new-trie }

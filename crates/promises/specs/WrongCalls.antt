@@ -72,17 +72,21 @@ module _ (stopped : ℕ → List Store → List Store) (says : ℕ → ℕ) (who
       cond (ltb 2 limit) (record { answer = PutRefused WrongSize; file = xs; trie = t })
       (cond (legalName name) d (record { answer = PutRefused IllegalName; file = xs; trie = t }))
 
-abbrev pub with-put : (List ℕ → Trie → List ℕ → ℕ → ℕ → PutDone) → Calls
-with-put f = record {
+-- Our calls, with another recover, put and remove.
+abbrev pub instead : (List ℕ → ℕ → Recovered) → (List ℕ → Trie → List ℕ → ℕ → ℕ → PutDone) → (List ℕ → Trie → List ℕ → ℕ → RemoveDone) → Calls
+instead f g h = record {
   create = createOf;
   check = checkFile;
-  recover = recoverOf;
+  recover = f;
   rebuild = rebuildOf;
   look-up = lookUpOf;
-  put = f;
-  remove = removeOf;
+  put = g;
+  remove = h;
   list = listOf;
 }
+
+abbrev pub with-put : (List ℕ → Trie → List ℕ → ℕ → ℕ → PutDone) → Calls
+with-put g = instead recoverOf g removeOf
 
 -- R15.3: a put that stores nothing and yet says that it is done.
 abbrev pub stores-nothing : Calls
@@ -96,16 +100,7 @@ absent-instead xs (RemoveStopped made) = record { answer = RemoveStopped made; f
 absent-instead xs (RemoveRefused c) = record { answer = RemoveRefused c; file = xs }
 
 abbrev pub removes-nothing : Calls
-removes-nothing = record {
-  create = createOf;
-  check = checkFile;
-  recover = recoverOf;
-  rebuild = rebuildOf;
-  look-up = lookUpOf;
-  put = putOf;
-  remove = λ xs t name limit. absent-instead xs (removeOf xs t name limit .answer);
-  list = listOf;
-}
+removes-nothing = instead recoverOf putOf (λ xs t name limit. absent-instead xs (removeOf xs t name limit .answer))
 
 -- R15.4: a split that replaces two slots in its first store.
 unfoldable pub both : ℕ → List Store → List Store
@@ -151,16 +146,7 @@ unfoldable pub inner-kept : List ℕ → ℕ → Recovered
 inner-kept xs limit = let d = recoverOf xs limit in free-outer xs d (d .answer) (readFile xs)
 
 abbrev pub keeps-inner : Calls
-keeps-inner = record {
-  create = createOf;
-  check = checkFile;
-  recover = inner-kept;
-  rebuild = rebuildOf;
-  look-up = lookUpOf;
-  put = putOf;
-  remove = removeOf;
-  list = listOf;
-}
+keeps-inner = instead inner-kept putOf removeOf
 
 -- What happens in the histories that they are put to, in a file with b = 2 and two slots. Any two of the three names fill the
 -- first bucket, so the third is a split; its put may be stopped after its first store.
