@@ -29,6 +29,7 @@ use Rattle.model.proofs.Agreeing.{agrees-isAgreeing}
 use Rattle.model.proofs.Calls.{Answered, denied-not-made, denied-one, is-denied, is-made, put-right, remove-right}
 use Rattle.model.proofs.CheckedFiles.{CheckedFile, checkFile-right, sound-not-cut}
 use Rattle.model.proofs.Format.{legalSizes-sizes, readSlot-slotBytes, sizes-legalSizes, slotBytes-readSlot}
+use Rattle.promises.specs.Calls.{our-calls}
 use Rattle.promises.specs.Demand1.{Creatable, Demand1, Ends, IsCut, IsElsewhere, IsMalformed, IsZero, LegalName, Listing, Lost, Many, PutDenied, RightHeader, Short, Stale, Strays, Table, create-table, list-table, look-up-table, put-table, rebuild-table, recover-table, remove-table, slots-of}
 use Rattle.promises.proofs.Leading.{Passed, looked-passed}
 use Rattle.promises.proofs.Listings.{listed-right, listings-same}
@@ -36,14 +37,14 @@ use Rattle.promises.proofs.Tables.{Verdict, exactly, leaves, pass, skip
 use Rattle.promises.proofs.Walking.{arrives-walked, strays-walked, walked, walked-right}
 
 -- The tests of names and headers say what is so.
-legal-name : (name : List ℕ) → legalName name ≡ true → LegalName name
+pub legal-name : (name : List ℕ) → legalName name ≡ true → LegalName name
 unfolding legalName
 legal-name name e =
     let p = both-true (leb 1 (length name) && leb (length name) 24) (areDigits 0x21 name) e in
     let q = both-true (leb 1 (length name)) (leb (length name) 24) (p .0) in
     record { least = leb-true 1 (length name) (q .0); most = leb-true (length name) 24 (q .1); digits = areDigits-digits 0x21 name (p .1) }
 
-name-legal : {name : List ℕ} → LegalName name → legalName name ≡ true
+pub name-legal : {name : List ℕ} → LegalName name → legalName name ≡ true
 unfolding legalName
 name-legal {name} L = rw (le-leb 1 (length name) (L .least), le-leb (length name) 24 (L .most)) (digits-areDigits 0x21 name (L .digits))
 
@@ -78,7 +79,7 @@ module _ {xs : List ℕ} {y : Layout} {fs : List Slot} (e : readFile xs ≡ some
   same-layout : S .layout ≡ y
   same-layout = ap (λ (f : Layout × List Slot). f .0) same-file
 
-  same-slots : S .slots ≡ fs
+  pub same-slots : S .slots ≡ fs
   same-slots = ap (λ (f : Layout × List Slot). f .1) same-file
 
 -- Create.
@@ -426,7 +427,7 @@ module _ (xs : List ℕ) (t : Trie) (name : List ℕ) where
 
 -- "A refusal carries the number of the first cause that holds in the table's stated order (look up has its own), is given
 -- exactly then, and changes no file, trie or output."
-pub demand-1 : Demand1
+pub demand-1 : Demand1 our-calls
 demand-1 = record {
   create = λ xs v b slots. exactly (λ c d e. cc) (create-table xs v b slots) (create-verdict xs v b slots);
   recover = λ xs limit. exactly (λ c d e. cc) (recover-table xs limit) (recover-verdict xs limit);

@@ -1,23 +1,23 @@
 -- Demand 2: grown and rebuilt tries lead every possible name to the one bucket whose range holds it.
-use Rattle.model.proofs.Prelude.{Bool, List, Option, _<_, _^_, _∙_, _≡_, _≤_, ap, clash, cond, false, leb, leb-true, length, ltb, nothing, refl, some, sym, take, true, ℕ}
+use Rattle.model.proofs.Prelude.{Bool, List, Option, _&&_, _<_, _^_, _∙_, _≡_, _≤_, ap, clash, cond, eqb, false, leb, leb-true, length, ltb, nothing, refl, some, sym, take, true, ℕ}
 use Rattle.model.specs.declared.Trie.{Trie}
 use Rattle.model.specs.declared.Layout.{Layout}
 use Rattle.model.specs.declared.Cause.the-variants.{IllegalName, ManyStrings, StaleTrie, WrongSize}
 use Rattle.model.specs.declared.PutAnswer.the-variants.{Refused as PutRefused, Stopped as PutStopped}
-use Rattle.model.specs.declared.TrieAnswer.the-variants.{Given}
+use Rattle.model.specs.declared.TrieAnswer.the-variants.{Given, Refused as TrieRefused}
 use Rattle.model.specs.Order.{Str}
 use Rattle.model.specs.Names.{Legal, filled, legalName}
 use Rattle.model.specs.Entries.{find, insert}
-use Rattle.model.specs.Files.{Slot, Sound, entries-of, first, slot-at, string-count}
+use Rattle.model.specs.Files.{Slot, Sound, created, entries-of, first, slot-at, string-count}
 use Rattle.model.specs.Tries.{Agrees}
 use Rattle.model.specs.Rebuilding.{rebuilt-trie}
 use Rattle.model.specs.Changes.{Change, Result, Store, fits, holds?, put, splits, stored}
 use Rattle.model.specs.Checks.{Kind, is-bad, is-cut, is-sound}
 use Rattle.model.specs.Agreeing.{isAgreeing}
-use Rattle.model.specs.Format.{Bytes, SoundFile, checkFile, readFile}
+use Rattle.model.specs.Format.{Bytes, SoundFile, checkFile, fileBytes, fileSize, legalSizes, readFile}
 use Rattle.model.specs.Places.{place-of}
-use Rattle.model.specs.Calls.{Looked, PutDone, fine, lookedBy, lookedOf, no-rebuilt, putAnswer, putLooked, putMade, putOf, rebuildBy, rebuildOf, refusing, storesBytes, trieAfter}
-use Rattle.model.proofs.Names.{legalName-legal}
+use Rattle.model.specs.Calls.{Created, Looked, PutDone, createOf, fine, lookedBy, lookedOf, new-trie, no-rebuilt, putAnswer, putLooked, putMade, putOf, rebuildBy, rebuildOf, refusing, storesBytes, trieAfter}
+use Rattle.model.proofs.Names.{both-true, legalName-legal}
 use Rattle.model.proofs.Files.{one-range}
 use Rattle.model.proofs.Agreement.{agrees-walk, rebuilt-trie-agrees}
 use Rattle.model.proofs.Agreeing.{isAgreeing-agrees}
@@ -26,7 +26,8 @@ use Rattle.model.proofs.Places.{place-lt}
 use Rattle.model.proofs.Changes.{one-sound, second-sound, well-a}
 use Rattle.model.proofs.Calls.{Answered, is-denied, is-made, put-right}
 use Rattle.model.proofs.CheckedFiles.{CheckedFile, checkFile-right}
-use Rattle.model.proofs.Format.{fileBytes-readFile, value-fits}
+use Rattle.model.proofs.Format.{fileBytes-readFile, legalSizes-sizes, value-fits}
+use Rattle.model.proofs.Created.{created-agrees, created-fine, created-left}
 use Rattle.model.proofs.GrownTries.{change-agrees}
 use Rattle.model.proofs.Stores.{read-stored, trieAfter-is}
 use Rattle.promises.specs.Demand2.{LeadsRight, Made}
@@ -39,6 +40,33 @@ leads xs t S A = record {
   arrives = λ n. agrees-walk (S .layout .b) (S .sound) A n;
   alone = λ n B h. one-range (S .layout .b) (S .sound) n h (agrees-walk (S .layout .b) (S .sound) A n);
 }
+
+-- The trie that create gives.
+pub created-leads : (xs : List ℕ) (v b slots : ℕ) → createOf xs v b slots .answer ≡ Given → LeadsRight (createOf xs v b slots .file) (createOf xs v b slots .trie)
+unfolding createOf
+created-leads xs v b slots = go (legalSizes y slots && eqb (length xs) (fileSize y slots)) refl
+  where
+    y : Layout
+    y = record { version = v; b = b }
+
+    made : Created
+    made = record { answer = Given; file = fileBytes y (created slots); trie = new-trie }
+
+    denied : Created
+    denied = record { answer = TrieRefused WrongSize; file = xs; trie = new-trie }
+
+    go : (c : Bool) → (legalSizes y slots && eqb (length xs) (fileSize y slots)) ≡ c → cond c made denied .answer ≡ Given
+        → LeadsRight (cond c made denied .file) (cond c made denied .trie)
+    go true e h =
+        let p = both-true (legalSizes y slots) (eqb (length xs) (fileSize y slots)) e in
+        let S : SoundFile (fileBytes y (created slots)) = record {
+          layout = y;
+          slots = created slots;
+          is = created-left y slots (legalSizes-sizes y slots (p .0)) .is;
+          sound = created-fine b slots .sound;
+        } in
+        leads (fileBytes y (created slots)) new-trie S (created-agrees b slots)
+    go false e h = clash cc
 
 -- "the trie rebuilt from the bucket headers alone"
 pub rebuilt-leads : (xs : List ℕ) → rebuildOf xs .answer ≡ Given → LeadsRight xs (rebuildOf xs .trie)

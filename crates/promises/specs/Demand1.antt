@@ -27,7 +27,8 @@ use Rattle.model.specs.Changes.{Denied, put}
 use Rattle.model.specs.Places.{place-of}
 use Rattle.model.specs.Format.{BadFile, CutFile, Sizes, SoundFile, entrySize, fileSize, headerBytes, layoutOf, readSlot, slotAt, slotSize}
 use Rattle.model.specs.Answers.{number}
-use Rattle.model.specs.Calls.{createOf, listOf, lookUpOf, new-trie, putOf, rebuildOf, recoverOf, removeOf}
+use Rattle.model.specs.Calls.{new-trie}
+use Rattle.promises.specs.Calls.{Calls}
 
 -- A call's causes in their stated order, each with what must be so of the call's inputs for it to hold.
 abbrev pub Table : Type 1
@@ -187,29 +188,29 @@ list-table xs t low high out =
 
 -- Demand 1 of the calls. Check refuses nothing. What a call may only read it cannot change: the file of check, rebuild, look
 -- up and list, and the trie of look up, remove and list.
-pub record Demand1 : Type 0 where
-  pub create : (xs : List ℕ) (v b slots : ℕ) → Exactly TrieRefused (createOf xs v b slots .answer) (create-table xs v b slots)
-  pub recover : (xs : List ℕ) (limit : ℕ) → Exactly RecoverRefused (recoverOf xs limit .answer) (recover-table xs limit)
-  pub rebuild : (xs : List ℕ) → Exactly TrieRefused (rebuildOf xs .answer) (rebuild-table xs)
-  pub look-up : (xs : List ℕ) (t : Trie) (name : List ℕ) → Exactly LookUpRefused (lookUpOf xs t name) (look-up-table xs t name)
+pub record Demand1 (C : Calls) : Type 0 where
+  pub create : (xs : List ℕ) (v b slots : ℕ) → Exactly TrieRefused (C .create xs v b slots .answer) (create-table xs v b slots)
+  pub recover : (xs : List ℕ) (limit : ℕ) → Exactly RecoverRefused (C .recover xs limit .answer) (recover-table xs limit)
+  pub rebuild : (xs : List ℕ) → Exactly TrieRefused (C .rebuild xs .answer) (rebuild-table xs)
+  pub look-up : (xs : List ℕ) (t : Trie) (name : List ℕ) → Exactly LookUpRefused (C .look-up xs t name) (look-up-table xs t name)
   pub put : (xs : List ℕ) (t : Trie) (name : List ℕ) (v limit : ℕ)
-      → Exactly PutRefused (putOf xs t name v limit .answer) (put-table xs t name v limit)
+      → Exactly PutRefused (C .put xs t name v limit .answer) (put-table xs t name v limit)
   pub remove : (xs : List ℕ) (t : Trie) (name : List ℕ) (limit : ℕ)
-      → Exactly RemoveRefused (removeOf xs t name limit .answer) (remove-table xs t name limit)
+      → Exactly RemoveRefused (C .remove xs t name limit .answer) (remove-table xs t name limit)
   pub list : (xs : List ℕ) (t : Trie) (low high out : List ℕ)
-      → Exactly ListRefused (listOf xs t low high out .answer) (list-table xs t low high out)
+      → Exactly ListRefused (C .list xs t low high out .answer) (list-table xs t low high out)
   -- "and changes no file, trie or output"; "rebuild and create, which give a trie, then give beside the number one with
   -- count 0 and first leaf 0"
-  pub create-leaves : (xs : List ℕ) (v b slots : ℕ) (c : Cause) → createOf xs v b slots .answer ≡ TrieRefused c
-      → (createOf xs v b slots .file ≡ xs) × (createOf xs v b slots .trie ≡ new-trie)
-  pub recover-leaves : (xs : List ℕ) (limit : ℕ) (c : Cause) → recoverOf xs limit .answer ≡ RecoverRefused c → recoverOf xs limit .file ≡ xs
-  pub rebuild-leaves : (xs : List ℕ) (c : Cause) → rebuildOf xs .answer ≡ TrieRefused c → rebuildOf xs .trie ≡ new-trie
-  pub put-leaves : (xs : List ℕ) (t : Trie) (name : List ℕ) (v limit : ℕ) (c : Cause) → putOf xs t name v limit .answer ≡ PutRefused c
-      → (putOf xs t name v limit .file ≡ xs) × (putOf xs t name v limit .trie ≡ t)
-  pub remove-leaves : (xs : List ℕ) (t : Trie) (name : List ℕ) (limit : ℕ) (c : Cause) → removeOf xs t name limit .answer ≡ RemoveRefused c
-      → removeOf xs t name limit .file ≡ xs
-  pub list-leaves : (xs : List ℕ) (t : Trie) (low high out : List ℕ) (c : Cause) → listOf xs t low high out .answer ≡ ListRefused c
-      → listOf xs t low high out .output ≡ out
+  pub create-leaves : (xs : List ℕ) (v b slots : ℕ) (c : Cause) → C .create xs v b slots .answer ≡ TrieRefused c
+      → (C .create xs v b slots .file ≡ xs) × (C .create xs v b slots .trie ≡ new-trie)
+  pub recover-leaves : (xs : List ℕ) (limit : ℕ) (c : Cause) → C .recover xs limit .answer ≡ RecoverRefused c → C .recover xs limit .file ≡ xs
+  pub rebuild-leaves : (xs : List ℕ) (c : Cause) → C .rebuild xs .answer ≡ TrieRefused c → C .rebuild xs .trie ≡ new-trie
+  pub put-leaves : (xs : List ℕ) (t : Trie) (name : List ℕ) (v limit : ℕ) (c : Cause) → C .put xs t name v limit .answer ≡ PutRefused c
+      → (C .put xs t name v limit .file ≡ xs) × (C .put xs t name v limit .trie ≡ t)
+  pub remove-leaves : (xs : List ℕ) (t : Trie) (name : List ℕ) (limit : ℕ) (c : Cause) → C .remove xs t name limit .answer ≡ RemoveRefused c
+      → C .remove xs t name limit .file ≡ xs
+  pub list-leaves : (xs : List ℕ) (t : Trie) (low high out : List ℕ) (c : Cause) → C .list xs t low high out .answer ≡ ListRefused c
+      → C .list xs t low high out .output ≡ out
   -- "Order: 8, 1, 2, 3, 4, 5, 6, 7", as far as a call has the causes; look up has its own.
   pub create-order : (xs : List ℕ) (v b slots : ℕ) → numbers (create-table xs v b slots) ≡ 8 ∷ []
   pub recover-order : (xs : List ℕ) (limit : ℕ) → numbers (recover-table xs limit) ≡ 8 ∷ 2 ∷ []
