@@ -9,7 +9,7 @@ use lib.ListN.{drop, take}
 use Rattle.model.specs.Checks.{isWell}
 use Rattle.model.specs.Entries.{Entry}
 use Rattle.model.specs.Files.{Slot, used}
-use Rattle.model.specs.Format.{readUsed}
+use Rattle.model.specs.Format.{readUsed, version-1}
 use Rattle.model.specs.Names.{legalFilled}
 use Rattle.model.specs.Order.{Low, Str}
 use Rattle.digits.specs.Keys.{continued, isZero, keyValue, lowValue, value}
@@ -44,11 +44,11 @@ pub record WellRead (b : ℕ) (xs : List ℕ) (k : Bucket) : Type 0 where
   pub lower : Low
   pub upper : Str
   pub entries : List Entry
-  pub is : readUsed b xs ≡ some (used lower upper entries)
+  pub is : readUsed (version-1 b) xs ≡ some (used lower upper entries)
   pub well : isWell b (used lower upper entries) ≡ true
   pub low-is : keyValue (k .low) ≡ lowValue lower
   pub high-is : keyValue (k .high) ≡ value (continued upper)
 
 abbrev pub Formed : ℕ → List ℕ → Form → Type 0
 Formed b xs (Well k) = WellRead b xs k
-Formed b xs Ill = (s : Slot) → readUsed b xs ≡ some s → isWell b s ≡ false
+Formed b xs Ill = (s : Slot) → readUsed (version-1 b) xs ≡ some s → isWell b s ≡ false

@@ -1,4 +1,6 @@
 -- Put into a full bucket: what refuses the split, and what its two stores leave.
+use Rattle.model.specs.declared.Layout.{Layout}
+use Rattle.model.specs.Places.{place-of}
 use Rattle.model.proofs.Prelude.{List, Option, [], _*_, _+_, _-_, _/_, _<_, _∙_, _≡_, _≤_, ap, ap₂, arith, clash, decLe, decLt, drop, le-ltb, length, lt-ltb, paste, some, subst, suc, sym, take, ℕ}
 use Rattle.model.specs.declared.Cause.the-variants.{ManyStrings, NoFreeSlot}
 use Rattle.model.specs.declared.PutAnswer.the-variants.{Added, Refused, Stopped}
@@ -11,7 +13,7 @@ use Rattle.model.specs.Files.{In, Slot, Sound, first, head, slot-at, string-cou
 use Rattle.model.specs.Tries.{Agrees, walk-trie}
 use Rattle.model.specs.Growth.{grown-trie, path-cells, root, spot-cells}
 use Rattle.model.specs.Changes.{Lowest, Result, call, free?, halves, new-half, old-half, put as asked, put-in, refuse, split-of, stored, stores}
-use Rattle.model.specs.Format.{headerOf, readFile, storeBytes}
+use Rattle.model.specs.Format.{headerOf, readFile, storeBytes, version-1}
 use Rattle.model.specs.Calls.{PutDone, putMade, refusalOf, storesBytes, trieAfter}
 use Rattle.model.proofs.Entries.{chosen-no, chosen-yes, row-at, row-insert}
 use Rattle.model.proofs.Names.{legal-length}
@@ -54,22 +56,22 @@ record Known (c : Checked) (xs : List ℕ) (t : Trie) (fs : List Slot) : Type 0 
   lens-are : take (length (strings-of fs)) (c .strings .lens) ≡ lengths (strings-of fs)
   map-is : c .survey .used ≡ map-of fs
 
-known : {c : Checked} {xs : List ℕ} {t : Trie} {fs : List Slot} → Agreed c xs t → readFile xs ≡ some (c .size .b, fs) → Known c xs t fs
+known : {c : Checked} {xs : List ℕ} {t : Trie} {fs : List Slot} → Agreed c xs t → readFile xs ≡ some (version-1 (c .size .b), fs) → Known c xs t fs
 known {c} {xs} {t} {fs} G e =
-    let f : _≡_ {A = Option (ℕ × List Slot)} (some (c .size .b, G .ready .slots)) (some (c .size .b, fs)) = sym (G .ready .is) ∙ e in
-    let g : _≡_ {A = ℕ × List Slot} (c .size .b, G .ready .slots) (c .size .b, fs) = cc in
-    subst (Known c xs t) (ap (λ (x : ℕ × List Slot). x .1) g)
+    let f : _≡_ {A = Option (Layout × List Slot)} (some (version-1 (c .size .b), G .ready .slots)) (some (version-1 (c .size .b), fs)) = sym (G .ready .is) ∙ e in
+    let g : _≡_ {A = Layout × List Slot} (version-1 (c .size .b), G .ready .slots) (version-1 (c .size .b), fs) = cc in
+    subst (Known c xs t) (ap (λ (x : Layout × List Slot). x .1) g)
     (record { sound = G .ready .sound; agrees = G .agrees; lens-are = G .ready .strings-held .lens-are; map-is = G .ready .used-is })
 
 -- As many slots as the header says.
-slots-are : (xs : List ℕ) {b slots : ℕ} {fs : List Slot} → readFile xs ≡ some (b, fs) → headerOf xs ≡ some (b, slots) → length fs ≡ slots
+slots-are : (xs : List ℕ) {b slots : ℕ} {fs : List Slot} → readFile xs ≡ some (version-1 b, fs) → headerOf xs ≡ some (version-1 b, slots) → length fs ≡ slots
 slots-are xs {b} {slots} {fs} e h =
-    let q : _≡_ {A = Option (ℕ × ℕ)} (some (b, length fs)) (some (b, slots)) = sym (headed-headerOf (readFile-read xs e .headed)) ∙ h in
-    let p : _≡_ {A = ℕ × ℕ} (b, length fs) (b, slots) = cc in
-    ap (λ (x : ℕ × ℕ). x .1) p
+    let q : _≡_ {A = Option (Layout × ℕ)} (some (version-1 b, length fs)) (some (version-1 b, slots)) = sym (headed-headerOf (readFile-read xs e .headed)) ∙ h in
+    let p : _≡_ {A = Layout × ℕ} (version-1 b, length fs) (version-1 b, slots) = cc in
+    ap (λ (x : Layout × ℕ). x .1) p
 
 -- A new name of a full bucket, in a file whose slots are fs.
-module _ (b : ℕ) (two : 2 ≤ b) (few : b ≤ 16) (xs : List ℕ) {fs : List Slot} (e : readFile xs ≡ some (b, fs)) (S : Sound b fs) (t : Trie)
+module _ (b : ℕ) (two : 2 ≤ b) (few : b ≤ 16) (xs : List ℕ) {fs : List Slot} (e : readFile xs ≡ some (version-1 b, fs)) (S : Sound b fs) (t : Trie)
     {A : ℕ} {n : Str} {v : ℕ} {l : Low} {u : Str} {es : List Entry} {entries : List ℕ} (F : Full b fs A n v l u es entries) where
   abbrev ws : List Entry
   ws = insert n v es
@@ -86,7 +88,7 @@ module _ (b : ℕ) (two : 2 ≤ b) (few : b ≤ 16) (xs : List ℕ) {fs : List S
   -- The stores of a split, made in part and whole.
   module _ {s : Split} (D : Divides s b t ws) (N limit : ℕ) (r : PutGiven) where
     abbrev made : PutDone
-    made = putMade xs t b fs n v limit (stores (halves b N A l u ws))
+    made = putMade xs t (version-1 b) fs n v limit (stores (halves b (place-of (version-1 b)) N A l u ws))
 
     pub none-stored : limit < 1 → (r .answer ≡ Stopped 0) × (r .trie ≡ t) → put r xs ≡ made
     unfolding putMade storesBytes
@@ -98,9 +100,9 @@ module _ (b : ℕ) (two : 2 ≤ b) (few : b ≤ 16) (xs : List ℕ) {fs : List S
       at-slot : Reads b slot l u es
       at-slot = subst (λ (z : List ℕ). Reads b z l u es) (sym here) at-a
 
-      first-is : ys ≡ storeBytes b N (new-half b ws u) xs
+      first-is : ys ≡ storeBytes (version-1 b) N (new-half b (place-of (version-1 b)) ws u) xs
       first-is =
-          first-made ∙ store-is b N (new-half b ws u) xs new
+          first-made ∙ store-is b N (new-half b (place-of (version-1 b)) ws u) xs new
           (new-slot-is row-all b two few length-all entries (F .entries-are) slot at-slot (s .string) (s .len) (s .stay) (D .string-is) (D .len-is) (D .stay-is) new new-is)
 
       pub one-stored : 1 ≤ limit → limit < 2 → (r .answer ≡ Stopped 1) × (r .trie ≡ t) → put r ys ≡ made
@@ -109,11 +111,11 @@ module _ (b : ℕ) (two : 2 ≤ b) (few : b ≤ 16) (xs : List ℕ) {fs : List S
 
       pub two-stored : (zs old : List ℕ) → old ≡ writtenBytes (lowerAt slot) (take (s .len) (s .string)) (take (32 * s .stay) entries)
           → zs ≡ paste ys (16 + A * (64 + 32 * b)) (take (64 + 32 * b) old) (64 + 32 * b) → 2 ≤ limit
-          → (r .answer ≡ Added) × (r .trie ≡ grown-trie t (name-at ws (b / 2)) (split-of b ws) A N) → put r zs ≡ made
+          → (r .answer ≡ Added) × (r .trie ≡ grown-trie t (name-at ws (b / 2)) (split-of b (place-of (version-1 b)) ws) A N) → put r zs ≡ made
       unfolding putMade storesBytes trieAfter
       two-stored zs old old-is second-made h g =
-          let q : zs ≡ storeBytes b A (old-half b ws l) ys =
-          second-made ∙ store-is b A (old-half b ws l) ys old
+          let q : zs ≡ storeBytes (version-1 b) A (old-half b (place-of (version-1 b)) ws l) ys =
+          second-made ∙ store-is b A (old-half b (place-of (version-1 b)) ws l) ys old
           (old-slot-is row-all b two few length-all entries (F .entries-are) slot at-slot (s .string) (s .len) (s .stay) (D .string-is) (D .len-is) (D .stay-is) old old-is) in
           rw (le-ltb limit 2 h, ← F .slot-is, F .is, F .new, q, first-is, g .0, g .1)
 
@@ -135,16 +137,16 @@ module _ (b : ℕ) (two : 2 ≤ b) (few : b ≤ 16) (xs : List ℕ) {fs : List S
     walk-ended = rw (agreed-walk S G c c-length) at (D .walked)
 
     pub grown-is : {places lens : List ℕ} → Placed t places → take (length (strings-of fs)) lens ≡ lengths (strings-of fs) → (N : ℕ) (r : Trie)
-        → Grows t places lens (s .walk) (take (s .len) (s .string)) (s .shared) A N r → r ≡ grown-trie t c (split-of b ws) A N
+        → Grows t places lens (s .walk) (take (s .len) (s .string)) (s .shared) A N r → r ≡ grown-trie t c (split-of b (place-of (version-1 b)) ws) A N
     grown-is {places} {lens} P k N r g =
-        let q : take (s .len) (s .string) ≡ split-of b ws = rw (D .len-is, D .string-is) (string-front row-all b two few length-all entries (F .entries-are)) in
+        let q : take (s .len) (s .string) ≡ split-of b (place-of (version-1 b)) ws = rw (D .len-is, D .string-is) (string-front row-all b two few length-all entries (F .entries-are)) in
         let i : In (head (slot-at fs A)) c = rw (F .is) (tt, c-in .1, c-in .2) in
         subst (λ (z : Str). Grows t places lens (s .walk) z (s .shared) A N r) q g c
         (grown-asked S G (s .walk) P k c-length (split-some row-all b two few length-all entries (F .entries-are)) (split-begins row-all b two few length-all entries (F .entries-are)) i (D .walked) (D .shares))
 
-    pub count-after : (N : ℕ) → Lowest fs N → string-count (stored (halves b N A l u ws) fs) ≡ t .count + (s .len - s .shared)
+    pub count-after : (N : ℕ) → Lowest fs N → string-count (stored (halves b (place-of (version-1 b)) N A l u ws) fs) ≡ t .count + (s .len - s .shared)
     count-after N L =
-        let h : s .shared ≡ diff (split-of b ws) path = D .shares ∙ ap (diff (split-of b ws)) (walk-ended .path) in
+        let h : s .shared ≡ diff (split-of b (place-of (version-1 b)) ws) path = D .shares ∙ ap (diff (split-of b (place-of (version-1 b)) ws)) (walk-ended .path) in
         split-count b fs S G A l u es (F .is) n v (F .legal) (F .above) (F .within) (omega (arith, length-all)) (b / 2) (omega arith) N L
         ∙ ap₂ (λ (x y : ℕ). t .count + (x - y)) (sym (D .len-is)) (sym h)
 
@@ -153,26 +155,26 @@ module _ (b : ℕ) (two : 2 ≤ b) (few : b ≤ 16) (xs : List ℕ) {fs : List S
   N = first free? fs
 
   abbrev two-stores : Result
-  two-stores = stores (halves b N A l u ws)
+  two-stores = stores (halves b (place-of (version-1 b)) N A l u ws)
 
-  call-split : call b fs (asked n v)
-      ≡ chosen (decLt N (length fs)) (chosen (decLe (string-count (stored (halves b N A l u ws) fs)) 256) two-stores (refuse 6)) (refuse 5)
+  call-split : call b (place-of (version-1 b)) fs (asked n v)
+      ≡ chosen (decLt N (length fs)) (chosen (decLe (string-count (stored (halves b (place-of (version-1 b)) N A l u ws) fs)) 256) two-stores (refuse 6)) (refuse 5)
   unfolding call put-in
   call-split = rw (← F .slot-is, F .is) (chosen-no (decLe (length ws) b) (λ h. omega (arith, h, length-all)) _ _)
 
-  pub no-room : (r : PutGiven) (limit : ℕ) → length fs ≤ N → (r .answer ≡ Refused NoFreeSlot) × (r .trie ≡ t) → put r xs ≡ putMade xs t b fs n v limit (call b fs (asked n v))
+  pub no-room : (r : PutGiven) (limit : ℕ) → length fs ≤ N → (r .answer ≡ Refused NoFreeSlot) × (r .trie ≡ t) → put r xs ≡ putMade xs t (version-1 b) fs n v limit (call b (place-of (version-1 b)) fs (asked n v))
   unfolding putMade refusalOf
   no-room r limit h g = rw (call-split, chosen-no (decLt N (length fs)) (λ k. omega (arith, h, k)), g .0, g .1)
 
-  pub too-many : (r : PutGiven) (limit : ℕ) → N < length fs → 256 < string-count (stored (halves b N A l u ws) fs)
-      → (r .answer ≡ Refused ManyStrings) × (r .trie ≡ t) → put r xs ≡ putMade xs t b fs n v limit (call b fs (asked n v))
+  pub too-many : (r : PutGiven) (limit : ℕ) → N < length fs → 256 < string-count (stored (halves b (place-of (version-1 b)) N A l u ws) fs)
+      → (r .answer ≡ Refused ManyStrings) × (r .trie ≡ t) → put r xs ≡ putMade xs t (version-1 b) fs n v limit (call b (place-of (version-1 b)) fs (asked n v))
   unfolding putMade refusalOf
   too-many r limit h k g =
-      rw (call-split, chosen-yes (decLt N (length fs)) h, chosen-no (decLe (string-count (stored (halves b N A l u ws) fs)) 256) (λ i. omega (arith, i, k)), g .0, g .1)
+      rw (call-split, chosen-yes (decLt N (length fs)) h, chosen-no (decLe (string-count (stored (halves b (place-of (version-1 b)) N A l u ws) fs)) 256) (λ i. omega (arith, i, k)), g .0, g .1)
 
-  pub both-made : N < length fs → string-count (stored (halves b N A l u ws) fs) ≤ 256 → call b fs (asked n v) ≡ two-stores
+  pub both-made : N < length fs → string-count (stored (halves b (place-of (version-1 b)) N A l u ws) fs) ≤ 256 → call b (place-of (version-1 b)) fs (asked n v) ≡ two-stores
   both-made h k =
-      call-split ∙ chosen-yes (decLt N (length fs)) h _ _ ∙ chosen-yes (decLe (string-count (stored (halves b N A l u ws) fs)) 256) k _ _
+      call-split ∙ chosen-yes (decLt N (length fs)) h _ _ ∙ chosen-yes (decLe (string-count (stored (halves b (place-of (version-1 b)) N A l u ws) fs)) 256) k _ _
 
 -- The room that was found.
 room-full : (fs : List Slot) → room-of fs ≡ NoRoom → length fs ≤ first free? fs
@@ -200,7 +202,7 @@ module _ {c : Checked} {xs : List ℕ} {t : Trie} (G : Agreed c xs t) where
   few : c .size .b ≤ 16
   few = G .ready .said .sized .legal .b-most
 
-  lowest : {room : Room} → RoomTold (c .survey .used) (c .size .slots) room → {fs : List Slot} → readFile xs ≡ some (c .size .b, fs) → room ≡ room-of fs
+  lowest : {room : Room} → RoomTold (c .survey .used) (c .size .slots) room → {fs : List Slot} → readFile xs ≡ some (version-1 (c .size .b), fs) → room ≡ room-of fs
   lowest R {fs} e = R .lowest fs (slots-are xs e (G .ready .said .header)) (G .ready .said .sized .legal .slots-most) (known G e .map-is)
 
 module _ {c : Checked} {xs : List ℕ} {t : Trie} (G : Agreed c xs t) (A : ℕ) (entries : List ℕ) (limit : ℕ) where
@@ -251,5 +253,5 @@ module _ {c : Checked} {xs : List ℕ} {t : Trie} (G : Agreed c xs t) (A : ℕ) 
           let y = both-made (c .size .b) (two G) (few G) xs e S t F (m .1)
           (omega (arith, p .shared-most, h, count-after (c .size .b) (two G) (few G) xs e S t F (known G e .agrees) D (first free? fs) (free-lowest fs (m .1)))) in
           d fs e n v l u es F D
-          ∙ ap (λ (x : ℕ). putMade xs t (c .size .b) fs n v limit (stores (halves (c .size .b) x A l u (insert n v es)))) (m .0)
-          ∙ ap (putMade xs t (c .size .b) fs n v limit) (sym y)
+          ∙ ap (λ (x : ℕ). putMade xs t (version-1 (c .size .b)) fs n v limit (stores (halves (c .size .b) (place-of (version-1 (c .size .b))) x A l u (insert n v es)))) (m .0)
+          ∙ ap (putMade xs t (version-1 (c .size .b)) fs n v limit) (sym y)

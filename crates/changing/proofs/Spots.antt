@@ -1,11 +1,12 @@
 -- The spot of a name in a file that is read and sound, and the bytes of one whole-slot store.
 use Rattle.model.proofs.Prelude.{Bool, List, Option, [], _*_, _+_, _-_, _<_, _∙_, _≡_, _≤_, ap, arith, clash, drop, drop-drop, eq-eqb, eqb, eqb-true, false, getD, getD-take, le-ltb, length, lt-ltb, ltb, ltb-true, nothing, paste, refl, some, subst, suc, sym, take, take-all, true, zero, ℕ}
+use Rattle.model.specs.declared.Layout.{Layout}
 use Rattle.model.specs.Order.{Low, Str}
 use Rattle.model.specs.Names.{Legal}
 use Rattle.model.specs.Entries.{Entry, find, insert, without}
 use Rattle.model.specs.Files.{In, Slot, Sound, free, head, order-of, slot-at, used}
 use Rattle.model.specs.Changes.{holds?}
-use Rattle.model.specs.Format.{entriesBytes, entriesOf, padded, readFile, readUsed, slotAt, slotBytes, slotSize, storeBytes, usedOf, valueOf}
+use Rattle.model.specs.Format.{entriesBytes, entriesOf, entrySize, padded, readFile, readUsed, slotAt, slotBytes, slotSize, storeBytes, usedOf, valueOf, version-1}
 use Rattle.model.proofs.Names.{both-true, legal-length}
 use Rattle.model.proofs.Entries.{row-insert}
 use Rattle.model.proofs.Files.{first-right, one-range, used-inside}
@@ -28,12 +29,12 @@ use Rattle.checking.specs.Ready.{Ready}
 use Rattle.changing.specs.Spots.{SpotIn, isHeld}
 
 -- What the checks found is what is read.
-module _ {c : Checked} {xs : List ℕ} {fs : List Slot} (R : Ready c xs) (e : readFile xs ≡ some (c .size .b, fs)) where
+module _ {c : Checked} {xs : List ℕ} {fs : List Slot} (R : Ready c xs) (e : readFile xs ≡ some (version-1 (c .size .b), fs)) where
   same-slots : R .slots ≡ fs
   same-slots =
-      let f : _≡_ {A = Option (ℕ × List Slot)} (some (c .size .b, R .slots)) (some (c .size .b, fs)) = sym (R .is) ∙ e in
-      let g : _≡_ {A = ℕ × List Slot} (c .size .b, R .slots) (c .size .b, fs) = cc in
-      ap (λ (x : ℕ × List Slot). x .1) g
+      let f : _≡_ {A = Option (Layout × List Slot)} (some (version-1 (c .size .b), R .slots)) (some (version-1 (c .size .b), fs)) = sym (R .is) ∙ e in
+      let g : _≡_ {A = Layout × List Slot} (version-1 (c .size .b), R .slots) (version-1 (c .size .b), fs) = cc in
+      ap (λ (x : Layout × List Slot). x .1) g
 
   pub ready-sound : Sound (c .size .b) fs
   ready-sound = subst (Sound (c .size .b)) same-slots (R .sound)
@@ -55,7 +56,7 @@ module _ {c : Checked} {xs : List ℕ} {fs : List Slot} (R : Ready c xs) (e : re
       subst (λ (j : ℕ). In (head (slot-at fs j)) n) q (H .range)
 
 -- The values are the bytes as they are read.
-entriesOf-at : (n i : ℕ) (xs : List ℕ) → i < n → getD (entriesOf n xs) i ([], 0) .1 ≡ valueOf (take 8 (drop (32 * i + 24) xs))
+entriesOf-at : (n i : ℕ) (xs : List ℕ) → i < n → getD (entriesOf 32 n xs) i ([], 0) .1 ≡ valueOf (take 8 (drop (32 * i + 24) xs))
 unfolding entriesOf
 entriesOf-at zero i xs h = absurd (omega arith)
 entriesOf-at (suc n) zero xs h = refl
@@ -63,20 +64,20 @@ entriesOf-at (suc n) (suc i) xs h =
     let z : 32 * suc i + 24 ≡ 32 + (32 * i + 24) = omega arith in
     entriesOf-at n i (drop 32 xs) (omega arith) ∙ ap (λ (x : List ℕ). valueOf (take 8 x)) (drop-drop (32 * i + 24) 32 xs ∙ ap (λ (k : ℕ). drop k xs) (sym z))
 
-value-read : (b : ℕ) (ys : List ℕ) {l : Low} {u : Str} {es : List Entry} → readUsed b ys ≡ some (used l u es) → (i : ℕ) → i < length es → getD ys 1 0 ≡ length es
+value-read : (b : ℕ) (ys : List ℕ) {l : Low} {u : Str} {es : List Entry} → readUsed (version-1 b) ys ≡ some (used l u es) → (i : ℕ) → i < length es → getD ys 1 0 ≡ length es
     → valueOf (take 8 (drop (32 * i + 24) (drop 64 ys))) ≡ getD es i ([], 0) .1
 unfolding usedOf
 value-read b ys {l} {u} {es} e i h q =
     let p = read-written b ys (used l u es) e .0 in
-    let f : entriesOf (getD ys 1 0) (drop 64 ys) ≡ es = cc in
+    let f : entriesOf 32 (getD ys 1 0) (drop 64 ys) ≡ es = cc in
     sym (entriesOf-at (getD ys 1 0) i (drop 64 ys) (omega arith)) ∙ ap (λ (x : List Entry). getD x i ([], 0) .1) f
 
-module _ (xs : List ℕ) {b : ℕ} {fs : List Slot} (e : readFile xs ≡ some (b, fs)) (S : Sound b fs) where
+module _ (xs : List ℕ) {b : ℕ} {fs : List Slot} (e : readFile xs ≡ some (version-1 b, fs)) (S : Sound b fs) where
   abbrev bytes : ℕ → List ℕ
   bytes k = take (64 + 32 * b) (drop (16 + k * (64 + 32 * b)) xs)
 
-  slot-used : (k : ℕ) {l : Low} {u : Str} {es : List Entry} → slot-at fs k ≡ used l u es → readUsed b (bytes k) ≡ some (used l u es)
-  unfolding slotAt slotSize
+  slot-used : (k : ℕ) {l : Low} {u : Str} {es : List Entry} → slot-at fs k ≡ used l u es → readUsed (version-1 b) (bytes k) ≡ some (used l u es)
+  unfolding slotAt slotSize entrySize
   slot-used k {l} {u} {es} i = used-read b (bytes k) (used l u es) tt (readSlot-readFile xs e k (used-inside fs k (rw i tt)) ∙ ap some i)
 
   pub slot-reads : (k : ℕ) {l : Low} {u : Str} {es : List Entry} → slot-at fs k ≡ used l u es → Reads b (bytes k) l u es
@@ -134,14 +135,14 @@ module _ (xs : List ℕ) {b : ℕ} {fs : List Slot} (e : readFile xs ≡ some (b
 
     -- The entries with the new one.
     pub entries-new : (v : ℕ) (zs : List ℕ) → find n (P .entries) ≡ nothing → zs ≡ padded 544 (withEntry (drop 64 ys) (s .count) (s .place) n v)
-        → zs ≡ padded 544 (entriesBytes (insert n v (P .entries)))
+        → zs ≡ padded 544 (entriesBytes 32 (insert n v (P .entries)))
     entries-new v zs h z = z ∙ ap (padded 544) (rw (P .counted, P .placed) (put-new spot-reads n v h))
 
     -- The old value, as it is read.
     pub old-value : (w : ℕ) → find n (P .entries) ≡ some w → valueOf (take 8 (drop (32 * s .place + 24) (drop 64 ys))) ≡ w
     old-value w h =
         let f = place-found n w (spot-reads .row) h in
-        let r : readUsed b ys ≡ some (used (P .low) (P .up) (P .entries)) = ap (readUsed b) i ∙ slot-used (s .slot) (P .is) in
+        let r : readUsed (version-1 b) ys ≡ some (used (P .low) (P .up) (P .entries)) = ap (readUsed (version-1 b)) i ∙ slot-used (s .slot) (P .is) in
         ap (λ (k : ℕ). valueOf (take 8 (drop (32 * k + 24) (drop 64 ys)))) (P .placed)
         ∙ value-read b ys r (place n (P .entries)) (f .0) (spot-reads .count) ∙ ap (λ (x : Entry). x .1) (f .1)
 
@@ -149,30 +150,30 @@ module _ (xs : List ℕ) {b : ℕ} {fs : List Slot} (e : readFile xs ≡ some (b
     module _ (few : b ≤ 16) (zs : List ℕ) where
       pub lessened-is : (w : ℕ) → find n (P .entries) ≡ some w
           → zs ≡ writtenBytes (lowerAt ys) (upperAt ys) (take (32 * (s .count - 1)) (padded 544 (withoutEntry (drop 64 ys) (s .count) (s .place))))
-          → take (slotSize b) zs ≡ slotBytes b (used (P .low) (P .up) (without n (P .entries)))
+          → take (slotSize (version-1 b)) zs ≡ slotBytes (version-1 b) (used (P .low) (P .up) (without n (P .entries)))
       lessened-is w h z =
-          let d : take (32 * (s .count - 1)) (padded 544 (withoutEntry (drop 64 ys) (s .count) (s .place))) ≡ entriesBytes (without n (P .entries)) =
+          let d : take (32 * (s .count - 1)) (padded 544 (withoutEntry (drop 64 ys) (s .count) (s .place))) ≡ entriesBytes 32 (without n (P .entries)) =
           rw (P .counted, P .placed) (removed-part spot-reads few n w h) in
-          ap (take (slotSize b)) (z ∙ ap (writtenBytes (lowerAt ys) (upperAt ys)) d) ∙ rewritten-is spot-reads (row-without spot-reads n) few
+          ap (take (slotSize (version-1 b))) (z ∙ ap (writtenBytes (lowerAt ys) (upperAt ys)) d) ∙ rewritten-is spot-reads (row-without spot-reads n) few
 
       pub replaced-is : (v w : ℕ) → Legal n → find n (P .entries) ≡ some w
           → zs ≡ writtenBytes (lowerAt ys) (upperAt ys) (take (32 * s .count) (padded 544 (changedValue (drop 64 ys) (s .count) (s .place) v)))
-          → take (slotSize b) zs ≡ slotBytes b (used (P .low) (P .up) (insert n v (P .entries)))
+          → take (slotSize (version-1 b)) zs ≡ slotBytes (version-1 b) (used (P .low) (P .up) (insert n v (P .entries)))
       replaced-is v w g h z =
-          let d : take (32 * s .count) (padded 544 (changedValue (drop 64 ys) (s .count) (s .place) v)) ≡ entriesBytes (insert n v (P .entries)) =
+          let d : take (32 * s .count) (padded 544 (changedValue (drop 64 ys) (s .count) (s .place) v)) ≡ entriesBytes 32 (insert n v (P .entries)) =
           rw (P .counted, P .placed) (put-held-part spot-reads few n v w g (P .above) (P .within) h) in
-          ap (take (slotSize b)) (z ∙ ap (writtenBytes (lowerAt ys) (upperAt ys)) d) ∙ rewritten-is spot-reads (row-insert n v g (P .above) (P .within) (spot-reads .row)) few
+          ap (take (slotSize (version-1 b))) (z ∙ ap (writtenBytes (lowerAt ys) (upperAt ys)) d) ∙ rewritten-is spot-reads (row-insert n v g (P .above) (P .within) (spot-reads .row)) few
 
-      pub added-is : (v : ℕ) (entries : List ℕ) → Legal n → find n (P .entries) ≡ nothing → entries ≡ padded 544 (entriesBytes (insert n v (P .entries)))
+      pub added-is : (v : ℕ) (entries : List ℕ) → Legal n → find n (P .entries) ≡ nothing → entries ≡ padded 544 (entriesBytes 32 (insert n v (P .entries)))
           → zs ≡ writtenBytes (lowerAt ys) (upperAt ys) (take (32 * (s .count + 1)) entries)
-          → take (slotSize b) zs ≡ slotBytes b (used (P .low) (P .up) (insert n v (P .entries)))
+          → take (slotSize (version-1 b)) zs ≡ slotBytes (version-1 b) (used (P .low) (P .up) (insert n v (P .entries)))
       added-is v entries g h q z =
           let r = row-insert n v g (P .above) (P .within) (spot-reads .row) in
-          let d : take (32 * (s .count + 1)) entries ≡ entriesBytes (insert n v (P .entries)) =
+          let d : take (32 * (s .count + 1)) entries ≡ entriesBytes 32 (insert n v (P .entries)) =
           ap (take (32 * (s .count + 1))) q
-          ∙ take-padded-whole (32 * (s .count + 1)) 544 (entriesBytes (insert n v (P .entries)))
-          (omega (arith, length-entriesBytes r, length-new n v (P .entries) h, P .counted)) (omega (arith, spot-reads .most, P .counted)) in
-          ap (take (slotSize b)) (z ∙ ap (writtenBytes (lowerAt ys) (upperAt ys)) d) ∙ rewritten-is spot-reads r few
+          ∙ take-padded-whole (32 * (s .count + 1)) 544 (entriesBytes 32 (insert n v (P .entries)))
+          (omega (arith, length-entriesBytes 32 (omega arith) r, length-new n v (P .entries) h, P .counted)) (omega (arith, spot-reads .most, P .counted)) in
+          ap (take (slotSize (version-1 b))) (z ∙ ap (writtenBytes (lowerAt ys) (upperAt ys)) d) ∙ rewritten-is spot-reads r few
 
   -- How many entries there are then.
   pub held-fits : {s : Spot} {n : Str} (P : SpotIn s fs n) (v w : ℕ) → find n (P .entries) ≡ some w → length (insert n v (P .entries)) ≤ b
@@ -186,9 +187,9 @@ pub key-whole : (n : Str) (v : ℕ) → Legal n → v ≡ value (take 24 (drop 0
 key-whole n v g e = e ∙ ap value (take-all 24 n (omega (arith, legal-length g)))
 
 -- One store.
-pub store-is : (b k : ℕ) (s : Slot) (xs zs : List ℕ) → take (slotSize b) zs ≡ slotBytes b s
-    → paste xs (16 + k * (64 + 32 * b)) (take (64 + 32 * b) zs) (64 + 32 * b) ≡ storeBytes b k s xs
-unfolding storeBytes slotSize
+pub store-is : (b k : ℕ) (s : Slot) (xs zs : List ℕ) → take (slotSize (version-1 b)) zs ≡ slotBytes (version-1 b) s
+    → paste xs (16 + k * (64 + 32 * b)) (take (64 + 32 * b) zs) (64 + 32 * b) ≡ storeBytes (version-1 b) k s xs
+unfolding storeBytes slotSize entrySize
 store-is b k s xs zs h = ap (λ (z : List ℕ). paste xs (16 + k * (64 + 32 * b)) z (64 + 32 * b)) h
 
 -- Parts of arrays, from their start on.

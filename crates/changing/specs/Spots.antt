@@ -11,7 +11,7 @@ use Rattle.model.specs.Names.{Legal}
 use Rattle.model.specs.Entries.{Entry}
 use Rattle.model.specs.Files.{Slot, first, slot-at, used}
 use Rattle.model.specs.Changes.{holds?}
-use Rattle.model.specs.Format.{readFile}
+use Rattle.model.specs.Format.{readFile, version-1}
 use Rattle.digits.specs.declared.Key.{Key}
 use Rattle.digits.specs.Keys.{keyValue, value}
 use Rattle.entries.specs.Rows.{place}
@@ -38,7 +38,7 @@ pub record SpotIn (s : Spot) (fs : List Slot) (n : Str) : Type 0 where
 
 pub record SpotTold (s : Spot) (size : Size) (xs : List ℕ) (name : Key) : Type 0 where
   pub inside : Spotted s size
-  pub right : (fs : List Slot) → readFile xs ≡ some (size .b, fs) → (n : Str) → Legal n → keyValue name ≡ value n → SpotIn s fs n
+  pub right : (fs : List Slot) → readFile xs ≡ some (version-1 (size .b), fs) → (n : Str) → Legal n → keyValue name ≡ value n → SpotIn s fs n
 
 -- The name at a place, among so many entries, is the one whose number is v.
 unfoldable pub isHeld : List ℕ → ℕ → ℕ → ℕ → Bool

@@ -5,7 +5,7 @@ use Rattle.model.specs.declared.Trie.{Trie}
 use Rattle.model.specs.Files.{Slot, strings-of}
 use Rattle.model.specs.Checks.{is-bad, is-cut, is-sound}
 use Rattle.model.specs.Agreeing.{isAgreeing}
-use Rattle.model.specs.Format.{checkFile, readFile}
+use Rattle.model.specs.Format.{checkFile, readFile, version-1}
 use Rattle.model.specs.Calls.{fine, lookedBy, lookedOf, refusing}
 use Rattle.model.proofs.Agreeing.{isAgreeing-agrees}
 use Rattle.file.specs.declared.Size.{Size}
@@ -31,8 +31,8 @@ pub looked-cut : (xs : List ℕ) (t : Trie) {N : ℕ} → checkFile xs ≡ is-cu
 unfolding lookedOf lookedBy
 looked-cut xs t e = rw e
 
-looked-by : (xs : List ℕ) (t : Trie) {b : ℕ} {fs : List Slot} → checkFile xs ≡ is-sound → readFile xs ≡ some (b, fs)
-    → lookedOf xs t ≡ cond (isAgreeing fs t) (fine b fs) (refusing StaleTrie)
+looked-by : (xs : List ℕ) (t : Trie) {b : ℕ} {fs : List Slot} → checkFile xs ≡ is-sound → readFile xs ≡ some (version-1 b, fs)
+    → lookedOf xs t ≡ cond (isAgreeing fs t) (fine (version-1 b) fs) (refusing StaleTrie)
 unfolding lookedOf lookedBy
 looked-by xs t e f = rw (e, f)
 
@@ -46,7 +46,7 @@ module _ (xs : List ℕ) (t : Trie) (s : Size) (v : Survey) (g : Strings) (a : A
   decided = d (s .b) (R .slots) (R .sound) (strung R z l)
 
   pub agreed-not : a .agrees ≡ false → lookedOf xs t ≡ refusing StaleTrie
-  agreed-not f = looked-by xs t e (R .is) ∙ ap (λ (x : Bool). cond x (fine (s .b) (R .slots)) (refusing StaleTrie)) (sym (decided .agrees-is) ∙ f)
+  agreed-not f = looked-by xs t e (R .is) ∙ ap (λ (x : Bool). cond x (fine (version-1 (s .b)) (R .slots)) (refusing StaleTrie)) (sym (decided .agrees-is) ∙ f)
 
   pub agreed-all : (c : Checked) → a .agrees ≡ true → c .size ≡ s → c .survey ≡ v → c .strings ≡ g → c .places ≡ a .places → Agreed c xs t
   agreed-all c f p q r u =
@@ -70,5 +70,5 @@ module _ (xs : List ℕ) (t : Trie) (s : Size) (v : Survey) (g : Strings) (a : A
         };
         agrees = A;
         placed = rw u (decided .placed f);
-        looked = rw p (looked-by xs t e (R .is) ∙ ap (λ (x : Bool). cond x (fine (s .b) (R .slots)) (refusing StaleTrie)) y);
+        looked = rw p (looked-by xs t e (R .is) ∙ ap (λ (x : Bool). cond x (fine (version-1 (s .b)) (R .slots)) (refusing StaleTrie)) y);
       }

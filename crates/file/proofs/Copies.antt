@@ -4,7 +4,7 @@ use Rattle.model.specs.Order.{Low, Str, _◁_, at}
 use Rattle.model.specs.Entries.{Entry, move}
 use Rattle.model.specs.Files.{Copied, Well, used}
 use Rattle.model.specs.Checks.{legalLow}
-use Rattle.model.specs.Format.{lowOf, readUsed}
+use Rattle.model.specs.Format.{lowOf, readUsed, version-1}
 use Rattle.model.proofs.Names.{never-both}
 use Rattle.digits.specs.Keys.{isZero, lowValue}
 use Rattle.entries.specs.Rows.{areAmong, notAbove, pieces, values}
@@ -22,7 +22,7 @@ module _ (b : ℕ) (n a : List ℕ) where
   -- Nothing that reads as used and is well formed is refused wrongly.
   abbrev Refuses : Type 0
   Refuses = (ln la : Low) (un ua : Str) (en ea : List Entry)
-      → readUsed b n ≡ some (used ln un en) → Well b (used ln un en) → readUsed b a ≡ some (used la ua ea) → Well b (used la ua ea)
+      → readUsed (version-1 b) n ≡ some (used ln un en) → Well b (used ln un en) → readUsed (version-1 b) a ≡ some (used la ua ea) → Well b (used la ua ea)
       → (low : Str) → ln ≡ at low → la ◁ low → length ea ≡ b → Copied (move low ea) en → ⊥
 
   refusal : Refuses → CopyTold b n a false
@@ -51,7 +51,7 @@ module _ (b : ℕ) (n a : List ℕ) where
     tested count stay bn ba full h c s r e = record { copied = λ t rn wn ra wa. yes-copy t rn wn ra wa; refused = λ t rn wn ra wa low i j k m. no-copy t rn wn ra wa low i m }
       where
         yes-copy : r ≡ true → {ln la : Low} {un ua : Str} {en ea : List Entry}
-            → readUsed b n ≡ some (used ln un en) → Well b (used ln un en) → readUsed b a ≡ some (used la ua ea) → Well b (used la ua ea)
+            → readUsed (version-1 b) n ≡ some (used ln un en) → Well b (used ln un en) → readUsed (version-1 b) a ≡ some (used la ua ea) → Well b (used la ua ea)
             → (low : Str) × (ln ≡ at low) × (la ◁ low) × (length ea ≡ b) × Copied (move low ea) en
         yes-copy t {ln} {la} {un} {ua} {en} {ea} rn wn ra wa =
             let N = reads b n rn wn in
@@ -64,7 +64,7 @@ module _ (b : ℕ) (n a : List ℕ) where
             (p .0, p .1, p .2, f, copy-copied N A (p .0) f l (read-values b n bn rn) (read-values b a ba ra) count (c ∙ N .count) (sym (ap (test count) q) ∙ sym e ∙ t))
 
         no-copy : r ≡ false → {ln la : Low} {un ua : Str} {en ea : List Entry}
-            → readUsed b n ≡ some (used ln un en) → Well b (used ln un en) → readUsed b a ≡ some (used la ua ea) → Well b (used la ua ea)
+            → readUsed (version-1 b) n ≡ some (used ln un en) → Well b (used ln un en) → readUsed (version-1 b) a ≡ some (used la ua ea) → Well b (used la ua ea)
             → (low : Str) → ln ≡ at low → Copied (move low ea) en → ⊥
         no-copy t {ln} {la} {un} {ua} {en} {ea} rn wn ra wa low i m =
             let N = reads b n rn wn in

@@ -3,7 +3,7 @@ use Rattle.model.proofs.Prelude.{Bool, List, [], _*_, _+_, _-_, _<_, _∙_, _�
 use Rattle.model.specs.Order.{Low, Str, _≺_, _⊑_, _⊴_, _◁_, above, at, least as unlimited, none, over, top}
 use Rattle.model.specs.Names.{Legal, atMost}
 use Rattle.model.specs.Files.{Chain, IsUsed, Ranges, Slot, entries-of, head, last, lower-of, next, order-of, ranges, slot-at}
-use Rattle.model.specs.Format.{readSlot, slotAt, slotSize}
+use Rattle.model.specs.Format.{entrySize, readSlot, slotAt, slotSize, version-1}
 use Rattle.model.proofs.Lists.{at-taken}
 use Rattle.model.proofs.Order.{le-refl, le-trans, low-lower, lt-le}
 use Rattle.model.proofs.Names.{atMost-le, atMost-lt}
@@ -58,12 +58,12 @@ module _ {xs : List ℕ} {s : Size} {order : List ℕ} {count : ℕ} {fs : List 
   -- The bytes of the slot at a place read as that slot.
   pub place-reads : (i k : ℕ) (ys : List ℕ) → i < count → k ≡ getD order i 0 → ys ≡ take (64 + 32 * s .b) (drop (16 + k * (64 + 32 * s .b)) xs)
       → Reads (s .b) ys (lower-of (head (placed fs i))) (upper-at fs i) (entries-of (placed fs i))
-  unfolding slotAt slotSize
+  unfolding slotAt slotSize entrySize
   place-reads i k ys h e f =
       let B = getD (order-of fs) i 0 in
       let p : k ≡ B = e ∙ place-number i h in
       let u = place-used i h in
-      let r : readSlot (s .b) ys ≡ some (slot-at fs B) = rw (f, p) (readSlot-readFile xs (O .is) B (used-inside fs B u)) in
+      let r : readSlot (version-1 (s .b)) ys ≡ some (slot-at fs B) = rw (f, p) (readSlot-readFile xs (O .is) B (used-inside fs B u)) in
       used-reads (s .b) ys (slot-at fs B) u (used-read (s .b) ys (slot-at fs B) u r) (O .sound .well B)
 
   -- Places ascend with their bounds.

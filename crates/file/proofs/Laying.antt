@@ -5,7 +5,7 @@ use Rattle.model.specs.Entries.{Entry}
 use Rattle.model.specs.Files.{IsUsed, Slot, Well, free, head, slot-at, used, well-free}
 use Rattle.model.specs.Tries.{occ, one-if}
 use Rattle.model.specs.Checks.{is-bad, isWell}
-use Rattle.model.specs.Format.{readSlot, readSlots, readUsed, slotAt, slotSize}
+use Rattle.model.specs.Format.{entrySize, readSlot, readSlots, readUsed, slotAt, slotSize, version-1}
 use Rattle.model.proofs.Lists.{at-replicate}
 use Rattle.model.proofs.Names.{never-both}
 use Rattle.model.proofs.Cells.{occ-append, occ-mem, one-if-equal, one-if-not}
@@ -56,9 +56,9 @@ module _ {xs : List ℕ} {size : Size} {k : ℕ} {order : List ℕ} {count map :
   k-inside : k < length (L .slots)
   k-inside = omega (arith, L .long)
 
-  k-read : readSlot (size .b) (slotAt (size .b) k xs) ≡ cond (isZero ys) (some free) (readUsed (size .b) ys)
-  unfolding slotSize
-  k-read = ap (readSlot (size .b)) (sym (is ∙ bytes-at (size .b) k xs)) ∙ read-by-zero (size .b) ys whole
+  k-read : readSlot (version-1 (size .b)) (slotAt (version-1 (size .b)) k xs) ≡ cond (isZero ys) (some free) (readUsed (version-1 (size .b)) ys)
+  unfolding slotSize entrySize
+  k-read = ap (readSlot (version-1 (size .b))) (sym (is ∙ bytes-at (size .b) k xs)) ∙ read-by-zero (size .b) ys whole
 
   pub laid-free : isZero ys ≡ true → (v : ℕ) → (2 * map + 0 < 2 ^ 64 → v ≡ 2 * map + 0) → Laid xs size k order count v
   laid-free z v f =
@@ -82,17 +82,17 @@ module _ {xs : List ℕ} {size : Size} {k : ℕ} {order : List ℕ} {count map :
       }
 
   -- A used slot that is not well formed.
-  module _ (z : isZero ys ≡ false) (ill : (s : Slot) → readUsed (size .b) ys ≡ some s → isWell (size .b) s ≡ false) where
-    pub ill-slot : (fs : List Slot) → readSlots (size .b) (size .slots) 0 xs ≡ some fs → Well (size .b) (slot-at fs k) → ⊥
+  module _ (z : isZero ys ≡ false) (ill : (s : Slot) → readUsed (version-1 (size .b)) ys ≡ some s → isWell (size .b) s ≡ false) where
+    pub ill-slot : (fs : List Slot) → readSlots (version-1 (size .b)) (size .slots) 0 xs ≡ some fs → Well (size .b) (slot-at fs k) → ⊥
     ill-slot fs e w =
-        let r : readSlot (size .b) (slotAt (size .b) k xs) ≡ some (slot-at fs k) = rw zero-add at (readSlots-each (size .b) (size .slots) 0 k xs inside e) in
-        let u : readUsed (size .b) ys ≡ some (slot-at fs k) = sym (k-read ∙ rw z) ∙ r in
+        let r : readSlot (version-1 (size .b)) (slotAt (version-1 (size .b)) k xs) ≡ some (slot-at fs k) = rw zero-add at (readSlots-each (version-1 (size .b)) (size .slots) 0 k xs inside e) in
+        let u : readUsed (version-1 (size .b)) ys ≡ some (slot-at fs k) = sym (k-read ∙ rw z) ∙ r in
         never-both (isWell (size .b) (slot-at fs k)) (well-isWell (size .b) w) (ill (slot-at fs k) u)
 
     pub ill-said : is-bad ≡ checkSlots (size .b) (size .slots) xs
-    ill-said = sym (go (readSlots (size .b) (size .slots) 0 xs) refl)
+    ill-said = sym (go (readSlots (version-1 (size .b)) (size .slots) 0 xs) refl)
       where
-        go : (r : Option (List Slot)) → readSlots (size .b) (size .slots) 0 xs ≡ r → checkSlots (size .b) (size .slots) xs ≡ is-bad
+        go : (r : Option (List Slot)) → readSlots (version-1 (size .b)) (size .slots) 0 xs ≡ r → checkSlots (size .b) (size .slots) xs ≡ is-bad
         go nothing e = check-none (size .b) (size .slots) xs e
         go (some fs) e = check-slots (size .b) (size .slots) xs fs e
             ∙ check-bad (size .b) fs (λ S. ill-slot fs e (S .well k), λ N C. ill-slot fs e (cut-well (size .b) C k))
@@ -104,7 +104,7 @@ module _ {xs : List ℕ} {size : Size} {k : ℕ} {order : List ℕ} {count map :
     ill-map v fs e S = absurd (ill-slot fs e (S .well k))
 
   -- A used slot that is well formed.
-  module _ (few : count < 64) {l : Low} {u : Str} {es : List Entry} (z : isZero ys ≡ false) (r : readUsed (size .b) ys ≡ some (used l u es)) (w : isWell (size .b) (used l u es) ≡ true)
+  module _ (few : count < 64) {l : Low} {u : Str} {es : List Entry} (z : isZero ys ≡ false) (r : readUsed (version-1 (size .b)) ys ≡ some (used l u es)) (w : isWell (size .b) (used l u es) ≡ true)
       (hv lv : ℕ) (high : hv ≡ value (continued u)) (low : lv ≡ lowValue l) (place : ℕ) (fits : place ≤ count)
       (P : (fs : List Slot) → Known (size .b) xs fs → Listed fs order count → Placed fs order count hv lv place)
       (n : ℕ) (n-is : n ≡ k) (new : List ℕ) (long : length new ≡ 64) (q : take (count + 1) new ≡ take place order ++ (n ∷ drop place (take count order))) where

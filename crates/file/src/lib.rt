@@ -8,7 +8,7 @@ ghost use lib.ListN.{length, take, drop, getD, replicate};
 ghost use lib.Seq.{paste};
 ghost use Rattle.model.specs.Files.{created};
 ghost use Rattle.model.specs.Checks.{sameStr};
-ghost use Rattle.model.specs.Format.{fileBytes, headerBytes};
+ghost use Rattle.model.specs.Format.{fileBytes, headerBytes, version-1};
 ghost use Rattle.file.specs.Maps.{RoomTold};
 ghost use Rattle.file.specs.Sizes.{Legal, Sized, Fitting, Told};
 use digits::u8_of_usize;
@@ -73,7 +73,7 @@ pub fn sizes(length: usize, b: usize, slots: usize) -> Header
 // Whether the bytes that say what kind of file it is are right.
 fn is_marked(file: &[u8]) -> bool
     requires { ⌜ 16 ≤ length (now file) ⌝ }
-    ensures { λ r. ⌜ r ≡ sameStr (take 16 (now (file .entry))) (headerBytes (getD (now (file .entry)) 5 0) (getD (now (file .entry)) 6 0)) ⌝ }
+    ensures { λ r. ⌜ r ≡ sameStr (take 16 (now (file .entry))) (headerBytes (version-1 (getD (now (file .entry)) 5 0)) (getD (now (file .entry)) 6 0)) ⌝ }
 {
     if file[0] != b'T' {
         return false;
@@ -140,7 +140,7 @@ fn clear(file: &mut [u8])
 // Writes the whole buffer: slot 0 used, no limits, no entries.
 pub fn create(file: &mut [u8], size: Size)
     requires { ⌜ Sized (length (now file)) size ⌝ }
-    ensures { λ _. ⌜ now (file .exit) ≡ fileBytes (size .b) (created (size .slots)) ⌝ }
+    ensures { λ _. ⌜ now (file .exit) ≡ fileBytes (version-1 (size .b)) (created (size .slots)) ⌝ }
 {
     clear(file);
     file[0] = b'T';

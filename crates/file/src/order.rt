@@ -5,7 +5,7 @@ ghost use Prim.Native.Nat.{ℕ, _≤_, _<_, _+_, _-_, suc};
 ghost use lib.ListN.{drop, length, take};
 ghost use mathlib.Core.Option.{some};
 ghost use Rattle.model.specs.Files.{IsUsed, Slot, Well, head};
-ghost use Rattle.model.specs.Format.{readSlot};
+ghost use Rattle.model.specs.Format.{readSlot, version-1};
 ghost use Rattle.digits.specs.Keys.{keyValue};
 ghost use Rattle.file.specs.Sizes.{Sized, Below};
 ghost use Rattle.file.specs.Orders.{Known, Listed, Placed, stands};
@@ -18,7 +18,7 @@ use digits::usize_of_u8;
 // Whether the range (low, high] stands before that of a slot. The low ends matter only where the high ends are equal.
 fn is_before(high: Key, low: Key, slot: &[u8]) -> bool
     requires { ⌜ 64 ≤ length (now slot) ⌝ }
-    ensures { λ r. ⌜ ((b : ℕ) (s : Slot) → IsUsed (head s) → readSlot b (now (slot .entry)) ≡ some s → Well b s → r ≡ stands (keyValue high) (keyValue low) s) ⌝ }
+    ensures { λ r. ⌜ ((b : ℕ) (s : Slot) → IsUsed (head s) → readSlot (version-1 b) (now (slot .entry)) ≡ some s → Well b s → r ≡ stands (keyValue high) (keyValue low) s) ⌝ }
 {
     let other = bucket::high_key(slot);
     if digits::is_below(high, other) {

@@ -16,6 +16,7 @@ pub mod Splitting
 pub mod GrownCells
 pub mod Changes
 pub mod Calls
+pub mod Places
 pub mod Checks
 pub mod Agreeing
 pub mod Surveys

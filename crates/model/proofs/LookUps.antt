@@ -83,8 +83,8 @@ pub lookup-agrees : (xs : List ℕ) (t : Trie) (name : List ℕ) (S : SoundFile 
     → lookUpOf xs t name ≡ heldAnswer (find (filled name) (entries-of (slot-at (S .slots) (walk-trie t (filled name)))))
 unfolding lookUpOf headedAnswer arrivedAnswer
 lookup-agrees xs t name S A legal =
-    rw (legal, header, le-leb (t .count) 256 (A .few), arrive-agrees (S .b) (S .sound) A n (length-filled name) (length (S .slots)) refl, readSlot-readFile xs (S .is) k (used-inside (S .slots) k (i .0)))
-    (slot-answers (S .b) n (slot-at (S .slots) k) (S .sound .well k) i)
+    rw (legal, header, le-leb (t .count) 256 (A .few), arrive-agrees (S .layout .b) (S .sound) A n (length-filled name) (length (S .slots)) refl, readSlot-readFile xs (S .is) k (used-inside (S .slots) k (i .0)))
+    (slot-answers (S .layout .b) n (slot-at (S .slots) k) (S .sound .well k) i)
   where
     n : Str
     n = filled name
@@ -93,7 +93,7 @@ lookup-agrees xs t name S A legal =
     k = walk-trie t n
 
     i : In (head (slot-at (S .slots) k)) n
-    i = agrees-walk (S .b) (S .sound) A n
+    i = agrees-walk (S .layout .b) (S .sound) A n
 
-    header : headerOf xs ≡ some (S .b, length (S .slots))
+    header : headerOf xs ≡ some (S .layout, length (S .slots))
     header = headed-headerOf (readFile-read xs (S .is) .headed)

@@ -5,7 +5,7 @@ pub use mathlib.Core.Bool.{Bool, Bool·not-not, _&&_, _||_, and-assoc, and-false
 pub use mathlib.Core.Option.{Option, none as nothing, some}
 pub use mathlib.Core.List.{List, List·Memᴰ, List·Memᴰ·append-cases, List·Memᴰ·cases-cons, List·Memᴰ·eq-of-singleton, List·Memᴰ·head, List·Memᴰ·not-nil, List·Memᴰ·tail, Memᴰ·append-left, Memᴰ·append-right, Memᴰ·cast, [], _++_, _∷_, append-assoc, append-nil, map}
 pub use Prim.Native.Nat.{_%_, _*_, _+_, _-_, _/_, _<_, _^_, _≤_, max, min, suc, zero, ℕ}
-pub use native.Mathlib.Nat.{add-mul, add-sub-cancel-left, add-suc, add-zero, le-of-eq, mod-eq-of-lt, mul-assoc, mul-le-mul, mul-le-mul-right, one-le-pow, pow-suc, pow-succ', pow-zero, sub-zero, suc-mul, zero-add, zero-mul}
+pub use native.Mathlib.Nat.{add-mul, add-sub-cancel-left, add-suc, add-zero, le-of-eq, mod-eq-of-lt, mul-assoc, mul-le-mul, mul-le-mul-left, mul-le-mul-right, one-le-pow, pow-suc, pow-succ', pow-zero, sub-zero, suc-mul, zero-add, zero-mul}
 pub use native.Mathlib.Numerals.{add-one, towards-suc, unary-clauses}
 unfoldable pub use native.Mathlib.Decide.{decLe, decLt, ℕ-discrete}
 pub use native.Mathlib.Omega.{arith}

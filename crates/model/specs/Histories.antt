@@ -7,6 +7,7 @@ use lib.Dec.{leb, ltb}
 use lib.ListN.{length, set, take}
 use Rattle.model.specs.Order.{Str}
 use Rattle.model.specs.Names.{legalFilled}
+use Rattle.model.specs.Entries.{Entry}
 use Rattle.model.specs.Files.{Slot, created, free}
 use Rattle.model.specs.Changes.{Map, Request, Result, call, meant, put, refuse, remove, stored, stores}
 use Rattle.model.specs.Checks.{Kind, check, is-bad, is-cut, is-sound}
@@ -39,11 +40,11 @@ recovered fs m zero (is-cut N) = down fs m
 recovered fs m (suc j) (is-cut N) = ready (set fs N free) m
 recovered fs m j is-bad = down fs m
 
-module _ (b slots : ℕ) where
+module _ (b slots : ℕ) (place : List Entry → ℕ) where
   -- Refused: a store limit above 2, an illegal name, and every change while there is no trie.
   unfoldable pub act : Act → World → World
   act (ask q j) (ready fs m) =
-      let w = answered q j fs m (call b fs q) in
+      let w = answered q j fs m (call b place fs q) in
       cond (leb j 2 && legalFilled (asked-name q)) w (ready fs m)
   act (ask q j) (down fs m) = down fs m
   act lose (ready fs m) = down fs m

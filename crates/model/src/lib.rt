@@ -22,6 +22,12 @@ pub struct Trie {
     pub first: u16,
 }
 
+// What a file's header says of its slots: the version, and b, the entries that a bucket holds.
+pub struct Layout {
+    pub version: usize,
+    pub b: usize,
+}
+
 // Why a call refuses, in the order of the numbers.
 pub enum Cause {
     IllegalName,

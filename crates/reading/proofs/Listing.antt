@@ -9,7 +9,7 @@ use Rattle.model.specs.Order.{Low, Str, _⊑_, le?, over}
 use Rattle.model.specs.Names.{Legal, atMost, filled, legalName}
 use Rattle.model.specs.Entries.{Entry, Row, entry, name-at, no-entries}
 use Rattle.model.specs.Files.{Slot, entries-of, head, lower-of, order-of, slot-at}
-use Rattle.model.specs.Format.{entriesBytes, entryBytes}
+use Rattle.model.specs.Format.{entriesBytes, entryBytes, entrySize, version-1}
 use Rattle.model.specs.Calls.{between, entriesIn, fine, listEntries, listLooked, listOf, lookedOf, refusing}
 use Rattle.model.proofs.Order.{le-trans, low-lower}
 use Rattle.model.proofs.Names.{le-atMost, lt-atMost}
@@ -50,20 +50,20 @@ between-none n m (e ∷ es) f =
       | yes p ↦ rw (le-atMost n (e .0) p, lt-atMost (e .0) m (f 0 (omega arith) p)) rest
     ]
 
-entries-append : (es fs : List Entry) → entriesBytes (es ++ fs) ≡ entriesBytes es ++ entriesBytes fs
+entries-append : (es fs : List Entry) → entriesBytes 32 (es ++ fs) ≡ entriesBytes 32 es ++ entriesBytes 32 fs
 unfolding entriesBytes
 entries-append [] fs = refl
-entries-append (e ∷ es) fs = ap (λ (x : List ℕ). entryBytes e ++ x) (entries-append es fs) ∙ sym (append-assoc (entryBytes e) (entriesBytes es) (entriesBytes fs))
+entries-append (e ∷ es) fs = ap (λ (x : List ℕ). entryBytes 32 e ++ x) (entries-append es fs) ∙ sym (append-assoc (entryBytes 32 e) (entriesBytes 32 es) (entriesBytes 32 fs))
 
 -- An entry has 32 bytes.
-between-length : {l : Low} {u : Str} {es : List Entry} (n m : Str) → Row l es u → length (entriesBytes (between n m es)) ≡ 32 * length (between n m es)
+between-length : {l : Low} {u : Str} {es : List Entry} (n m : Str) → Row l es u → length (entriesBytes 32 (between n m es)) ≡ 32 * length (between n m es)
 unfolding between entriesBytes
 between-length n m no-entries = refl
 between-length n m (entry {e = e} {es = es} g a c r) = go (atMost n (e .0) && atMost (e .0) m) (between-length n m r)
   where
-    go : (t : Bool) → length (entriesBytes (between n m es)) ≡ 32 * length (between n m es)
-        → length (entriesBytes (cond t (e ∷ between n m es) (between n m es))) ≡ 32 * length (cond t (e ∷ between n m es) (between n m es))
-    go true i = omega (arith, length-append (entryBytes e) (entriesBytes (between n m es)), length-entryBytes e g)
+    go : (t : Bool) → length (entriesBytes 32 (between n m es)) ≡ 32 * length (between n m es)
+        → length (entriesBytes 32 (cond t (e ∷ between n m es) (between n m es))) ≡ 32 * length (cond t (e ∷ between n m es) (between n m es))
+    go true i = omega (arith, length-append (entryBytes 32 e) (entriesBytes 32 (between n m es)), length-entryBytes e g)
     go false i = i
 
 entriesIn-append : (fs : List Slot) (Bs Cs : List ℕ) → entriesIn fs (Bs ++ Cs) ≡ entriesIn fs Bs ++ entriesIn fs Cs
@@ -85,7 +85,7 @@ module _ {xs : List ℕ} {s : Size} {order : List ℕ} {count : ℕ} {fs : List 
   module _ (n m : Str) (f : Legal n) (g : Legal m) where
     -- The bytes of the slots at places one after another are the entries there.
     pub parts-entries : (v w : ℕ) → v ≡ value n → w ≡ value m → (k j : ℕ) → j + k ≤ count
-        → parts k xs s order v w j ≡ entriesBytes (between n m (entriesIn fs (take k (drop j (order-of fs)))))
+        → parts k xs s order v w j ≡ entriesBytes 32 (between n m (entriesIn fs (take k (drop j (order-of fs)))))
     unfolding parts partAt entriesIn entriesBytes between
     parts-entries v w p q zero j h = refl
     parts-entries v w p q (suc k) j h =
@@ -93,13 +93,13 @@ module _ {xs : List ℕ} {s : Size} {order : List ℕ} {count : ℕ} {fs : List 
         let Cs = take k (drop (suc j) (order-of fs)) in
         let ys = take (64 + 32 * s .b) (drop (16 + getD order j 0 * (64 + 32 * s .b)) xs) in
         let R = place-reads O j (getD order j 0) ys (omega arith) refl refl in
-        let a : partBetween ys (countAt (s .b) ys) v w ≡ entriesBytes (between n m es) = rw (count-is R) (part-between R n m v w f g p q) in
+        let a : partBetween ys (countAt (s .b) ys) v w ≡ entriesBytes 32 (between n m es) = rw (count-is R) (part-between R n m v w f g p q) in
         let c : take (suc k) (drop j (order-of fs)) ≡ getD (order-of fs) j 0 ∷ Cs = ap (take (suc k)) (drop-cons (order-of fs) j 0 (omega (arith, O .count-is))) in
         ap₂ (λ (x y : List ℕ). x ++ y) a (parts-entries v w p q k (suc j) (omega arith))
-        ∙ sym (ap (λ (x : List ℕ). entriesBytes (between n m (entriesIn fs x))) c ∙ ap entriesBytes (between-append n m es (entriesIn fs Cs)) ∙ entries-append (between n m es) (between n m (entriesIn fs Cs)))
+        ∙ sym (ap (λ (x : List ℕ). entriesBytes 32 (between n m (entriesIn fs x))) c ∙ ap (entriesBytes 32) (between-append n m es (entriesIn fs Cs)) ∙ entries-append (between n m es) (between n m (entriesIn fs Cs)))
 
     parts-length : (k j : ℕ) → j + k ≤ count
-        → length (entriesBytes (between n m (entriesIn fs (take k (drop j (order-of fs)))))) ≡ 32 * length (between n m (entriesIn fs (take k (drop j (order-of fs)))))
+        → length (entriesBytes 32 (between n m (entriesIn fs (take k (drop j (order-of fs)))))) ≡ 32 * length (between n m (entriesIn fs (take k (drop j (order-of fs)))))
     unfolding entriesIn entriesBytes between
     parts-length zero j h = refl
     parts-length (suc k) j h =
@@ -109,7 +109,7 @@ module _ {xs : List ℕ} {s : Size} {order : List ℕ} {count : ℕ} {fs : List 
         let c : take (suc k) (drop j (order-of fs)) ≡ getD (order-of fs) j 0 ∷ Cs = ap (take (suc k)) (drop-cons (order-of fs) j 0 (omega (arith, O .count-is))) in
         let e : between n m (entriesIn fs (take (suc k) (drop j (order-of fs)))) ≡ es ++ ds =
         ap (λ (x : List ℕ). between n m (entriesIn fs x)) c ∙ between-append n m (entries-of (placed fs j)) (entriesIn fs Cs) in
-        rw (e, entries-append es ds, length-append (entriesBytes es) (entriesBytes ds), length-append es ds) (omega (arith, between-length n m (place-row j (omega arith)), parts-length k (suc j) (omega arith)))
+        rw (e, entries-append es ds, length-append (entriesBytes 32 es) (entriesBytes 32 ds), length-append es ds) (omega (arith, between-length n m (place-row j (omega arith)), parts-length k (suc j) (omega arith)))
 
     -- The buckets before the first name's have names below it, those behind the second name's names above it.
     module _ (from to : ℕ) (P : Holder fs n from) (Q : Holder fs m to) where
@@ -155,10 +155,10 @@ module _ {xs : List ℕ} {s : Size} {order : List ℕ} {count : ℕ} {fs : List 
         | yes h ↦ within-none h (entriesIn fs (take (to + 1 - from) (drop from (order-of fs)))) ∙ sym (within-none h (entriesIn fs (order-of fs)))
       ]
 
-      pub parts-are : (v w : ℕ) → v ≡ value n → w ≡ value m → parts (to + 1 - from) xs s order v w from ≡ entriesBytes (between n m (entriesIn fs (order-of fs)))
-      parts-are v w p q = parts-entries v w p q (to + 1 - from) from (omega (arith, P .inside, Q .inside, O .count-is)) ∙ ap entriesBytes all-between
+      pub parts-are : (v w : ℕ) → v ≡ value n → w ≡ value m → parts (to + 1 - from) xs s order v w from ≡ entriesBytes 32 (between n m (entriesIn fs (order-of fs)))
+      parts-are v w p q = parts-entries v w p q (to + 1 - from) from (omega (arith, P .inside, Q .inside, O .count-is)) ∙ ap (entriesBytes 32) all-between
 
-      pub all-length : length (entriesBytes (between n m (entriesIn fs (order-of fs)))) ≡ 32 * length (between n m (entriesIn fs (order-of fs)))
+      pub all-length : length (entriesBytes 32 (between n m (entriesIn fs (order-of fs)))) ≡ 32 * length (between n m (entriesIn fs (order-of fs)))
       all-length = rw all-between at (parts-length (to + 1 - from) from (omega (arith, P .inside, Q .inside, O .count-is)))
 
 -- What passed the checks is in order.
@@ -176,15 +176,15 @@ module _ {xs : List ℕ} {s : Size} {order : List ℕ} {count : ℕ} {fs : List 
   bytes-are : bytes ≡ 32 * length all
   bytes-are = e ∙ ap length (parts-are O n m f g from to P Q v w p q) ∙ all-length O n m f g from to P Q
 
-  pub list-short : length out < bytes → listed (Refused ShortOutput) out ≡ listEntries all out
+  pub list-short : length out < bytes → listed (Refused ShortOutput) out ≡ listEntries 32 all out
   unfolding listEntries
   list-short h = rw (lt-ltb (length out) (32 * length all) (omega (arith, bytes-are)))
 
-  pub list-all : (left : List ℕ) → bytes ≤ length out → Written (parts (to + 1 - from) xs s order v w from) out left → listed (Listed (bytes / 32)) left ≡ listEntries all out
+  pub list-all : (left : List ℕ) → bytes ≤ length out → Written (parts (to + 1 - from) xs s order v w from) out left → listed (Listed (bytes / 32)) left ≡ listEntries 32 all out
   unfolding listEntries
   list-all left h u =
       let i : bytes / 32 ≡ length all = omega (arith, bytes-are) in
-      let a : left ≡ entriesBytes all ++ drop (32 * length all) out =
+      let a : left ≡ entriesBytes 32 all ++ drop (32 * length all) out =
       u ∙ ap₂ (λ (x : List ℕ) (k : ℕ). x ++ drop k out) (parts-are O n m f g from to P Q v w p q) (sym e ∙ bytes-are) in
       rw (le-ltb (length out) (32 * length all) (omega (arith, bytes-are)), a, i)
 
@@ -202,7 +202,7 @@ module _ (xs : List ℕ) (t : Trie) (low high out : List ℕ) where
   unfolding listOf listLooked
   list-refused e f g = rw (e, f, g)
 
-  pub list-fine : {b : ℕ} {fs : List Slot} (r : ListAnswer) (left : List ℕ) → legalName low ≡ true → legalName high ≡ true → lookedOf xs t ≡ fine b fs
-      → listed r left ≡ listEntries (between (filled low) (filled high) (entriesIn fs (order-of fs))) out → listed r left ≡ listOf xs t low high out
-  unfolding listOf listLooked
+  pub list-fine : {b : ℕ} {fs : List Slot} (r : ListAnswer) (left : List ℕ) → legalName low ≡ true → legalName high ≡ true → lookedOf xs t ≡ fine (version-1 b) fs
+      → listed r left ≡ listEntries 32 (between (filled low) (filled high) (entriesIn fs (order-of fs))) out → listed r left ≡ listOf xs t low high out
+  unfolding listOf listLooked entrySize
   list-fine r left e f g h = h ∙ rw (e, f, g)

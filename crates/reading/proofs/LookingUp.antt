@@ -10,7 +10,7 @@ use Rattle.model.specs.Entries.{find}
 use Rattle.model.specs.Files.{Slot, free, used}
 use Rattle.model.specs.Tries.{root-side}
 use Rattle.model.specs.Growth.{Spot, root}
-use Rattle.model.specs.Format.{headerOf, readSlot, slotAt, slotSize}
+use Rattle.model.specs.Format.{entrySize, headerOf, readSlot, slotAt, slotSize, version-1}
 use Rattle.model.specs.Calls.{arrivedAnswer, headedAnswer, heldAnswer, lookUpOf, slotAnswer}
 use Rattle.digits.specs.Keys.{isZero, keyValue, value}
 use Rattle.bucket.specs.declared.Bucket.{Bucket}
@@ -54,15 +54,15 @@ no-slot (inr e) = absurd (omega arith)
 -- "4 if the slot is free (all zero); 2 if it is not well formed; 4 if its range lacks the name. Only then found with value,
 -- or absent."
 module _ (b : ℕ) (xs : List ℕ) (n : Str) where
-  pub answer-free : length xs ≡ 64 + 32 * b → isZero xs ≡ true → Refused StaleTrie ≡ slotAnswer b n (readSlot b xs)
-  unfolding slotAnswer slotSize
+  pub answer-free : length xs ≡ 64 + 32 * b → isZero xs ≡ true → Refused StaleTrie ≡ slotAnswer b n (readSlot (version-1 b) xs)
+  unfolding slotAnswer slotSize entrySize
   answer-free h e = rw (zero-free b xs h e)
 
-  pub answer-ill : length xs ≡ 64 + 32 * b → isZero xs ≡ false → Formed b xs Ill → Refused BadFile ≡ slotAnswer b n (readSlot b xs)
-  unfolding slotAnswer slotSize
-  answer-ill h e f = go (readSlot b xs) refl
+  pub answer-ill : length xs ≡ 64 + 32 * b → isZero xs ≡ false → Formed b xs Ill → Refused BadFile ≡ slotAnswer b n (readSlot (version-1 b) xs)
+  unfolding slotAnswer slotSize entrySize
+  answer-ill h e f = go (readSlot (version-1 b) xs) refl
     where
-      go : (o : Option Slot) → readSlot b xs ≡ o → Refused BadFile ≡ slotAnswer b n o
+      go : (o : Option Slot) → readSlot (version-1 b) xs ≡ o → Refused BadFile ≡ slotAnswer b n o
       go nothing r = refl
       go (some free) r =
           let y : true ≡ false = sym (free-zero b xs r) ∙ e in
@@ -73,12 +73,12 @@ module _ (b : ℕ) (xs : List ℕ) (n : Str) where
     abbrev ranged : Bool
     ranged = ltb (keyValue (k .low)) v && not (ltb (keyValue (k .high)) v)
 
-    pub answer-lacks : ranged ≡ false → Refused StaleTrie ≡ slotAnswer b n (readSlot b xs)
+    pub answer-lacks : ranged ≡ false → Refused StaleTrie ≡ slotAnswer b n (readSlot (version-1 b) xs)
     unfolding slotAnswer
     answer-lacks h = rw (read-used b xs (W .is), W .well, sym (range-holds W (W .is) n v g e) ∙ h)
 
     answer-held : (h : Held) (a : LookUpAnswer) → ((i : ℕ) → getD xs i 0 < 256) → ranged ≡ true → h ≡ heldUnder (drop 64 xs) (countAt b xs) v
-        → ((o : Option ℕ) → h ≡ held o → a ≡ heldAnswer o) → a ≡ slotAnswer b n (readSlot b xs)
+        → ((o : Option ℕ) → h ≡ held o → a ≡ heldAnswer o) → a ≡ slotAnswer b n (readSlot (version-1 b) xs)
     unfolding slotAnswer
     answer-held h a bytes r f go =
         let R = well-reads W in
@@ -86,7 +86,7 @@ module _ (b : ℕ) (xs : List ℕ) (n : Str) where
         rw (read-used b xs (W .is), W .well, sym (range-holds W (W .is) n v g e) ∙ r) (go (find n (W .entries)) w)
 
     pub answer-absent : {h : Held} → ((i : ℕ) → getD xs i 0 < 256) → ranged ≡ true → h ≡ heldUnder (drop 64 xs) (countAt b xs) v → h ≡ Absent
-        → NotFound ≡ slotAnswer b n (readSlot b xs)
+        → NotFound ≡ slotAnswer b n (readSlot (version-1 b) xs)
     answer-absent {h} bytes r f s = answer-held h NotFound bytes r f go
       where
         go : (o : Option ℕ) → h ≡ held o → NotFound ≡ heldAnswer o
@@ -94,7 +94,7 @@ module _ (b : ℕ) (xs : List ℕ) (n : Str) where
         go (some x) q = clash cc
 
     pub answer-found : {h : Held} {x : ℕ} → ((i : ℕ) → getD xs i 0 < 256) → ranged ≡ true → h ≡ heldUnder (drop 64 xs) (countAt b xs) v → h ≡ Value x
-        → Found x ≡ slotAnswer b n (readSlot b xs)
+        → Found x ≡ slotAnswer b n (readSlot (version-1 b) xs)
     answer-found {h} {x} bytes r f s = answer-held h (Found x) bytes r f go
       where
         go : (o : Option ℕ) → h ≡ held o → Found x ≡ heldAnswer o
@@ -111,15 +111,15 @@ module _ (xs : List ℕ) (t : Trie) (name : List ℕ) where
   unfolding lookUpOf headedAnswer
   headless-looked e h = rw (e, h)
 
-  module _ {b slots : ℕ} (e : legalName name ≡ true) (h : headerOf xs ≡ some (b, slots)) where
+  module _ {b slots : ℕ} (e : legalName name ≡ true) (h : headerOf xs ≡ some (version-1 b, slots)) where
     -- Where the walk lands, and what is answered there.
-    landed-looked : lookUpOf xs t name ≡ arrivedAnswer xs b (filled name) (landed slots (walkOf t (filled name)))
+    landed-looked : lookUpOf xs t name ≡ arrivedAnswer xs (version-1 b) (filled name) (landed slots (walkOf t (filled name)))
     unfolding lookUpOf headedAnswer walkOf arrivedAnswer
     landed-looked =
         rw (e, h, arrive-run (t .count) slots (t .count) (t .cells) (filled name) [] root (root-side (t .count) (t .first))) (go (leb (t .count) 256) _)
       where
-        go : (c : Bool) (o : Option (Str × Spot × ℕ)) → cond c (arrivedAnswer xs b (filled name) (landed slots o)) (Refused StaleTrie)
-            ≡ arrivedAnswer xs b (filled name) (landed slots (cond c o nothing))
+        go : (c : Bool) (o : Option (Str × Spot × ℕ)) → cond c (arrivedAnswer xs (version-1 b) (filled name) (landed slots o)) (Refused StaleTrie)
+            ≡ arrivedAnswer xs (version-1 b) (filled name) (landed slots (cond c o nothing))
         go false o = refl
         go true o = refl
 
@@ -128,7 +128,7 @@ module _ (xs : List ℕ) (t : Trie) (name : List ℕ) where
       unfolding arrivedAnswer
       stray-looked apart = sym (landed-looked ∙ go (walkOf t (filled name)) W)
         where
-          go : (o : Option (Str × Spot × ℕ)) → Walks w o → arrivedAnswer xs b (filled name) (landed slots o) ≡ Refused StaleTrie
+          go : (o : Option (Str × Spot × ℕ)) → Walks w o → arrivedAnswer xs (version-1 b) (filled name) (landed slots o) ≡ Refused StaleTrie
           go nothing W = refl
           go (some (p, k, s)) W = absurd (apart s (W .place))
 
@@ -137,6 +137,6 @@ module _ (xs : List ℕ) (t : Trie) (name : List ℕ) where
       past-looked {s} q i = sym (landed-looked ∙ rw (lands-at slots w s q (walkOf t (filled name)) W, le-ltb s slots i))
 
       pub arrived-looked : {s k : ℕ} {ys : List ℕ} (r : LookUpAnswer) → w .place ≡ at-slot s → k ≡ s → k < slots
-          → ys ≡ take (64 + 32 * b) (drop (16 + k * (64 + 32 * b)) xs) → r ≡ slotAnswer b (filled name) (readSlot b ys) → r ≡ lookUpOf xs t name
-      unfolding arrivedAnswer slotAt slotSize
+          → ys ≡ take (64 + 32 * b) (drop (16 + k * (64 + 32 * b)) xs) → r ≡ slotAnswer b (filled name) (readSlot (version-1 b) ys) → r ≡ lookUpOf xs t name
+      unfolding arrivedAnswer slotAt slotSize entrySize
       arrived-looked {s} {k} r q l i y a = a ∙ rw (y, l) (sym (landed-looked ∙ rw (lands-at slots w s q (walkOf t (filled name)) W, lt-ltb s slots (omega arith))))

@@ -1,6 +1,5 @@
 -- The parts that list counts and writes, one after another.
 use Rattle.model.proofs.Prelude.{List, [], _*_, _++_, _+_, _-_, _<_, _∙_, _≡_, _≤_, ap, append-assoc, arith, drop, drop-append-seam, drop-at, drop-drop, getD, length, length-append, length-drop, length-take, paste, refl, suc, sym, take, take-add, take-append-seam, take-at, take-length, ℕ}
-use Rattle.bucket.specs.Forms.{partBetween}
 use Rattle.writing.specs.Entries.{partBetween}
 use Rattle.bucket.specs.Slots.{countAt}
 use Rattle.file.specs.declared.Size.{Size}

@@ -5,7 +5,7 @@ ghost use Prim.Native.Nat.{_≤_, _<_, _+_, _-_, _*_};
 ghost use lib.ListN.{length};
 ghost use Rattle.model.specs.Order.{Str};
 ghost use Rattle.model.specs.Names.{Legal, filled};
-ghost use Rattle.model.specs.Format.{readSlot};
+ghost use Rattle.model.specs.Format.{readSlot, version-1};
 ghost use Rattle.model.specs.Files.{order-of};
 ghost use Rattle.model.specs.Calls.{between, entriesIn, listEntries, listOf, lookUpOf, slotAnswer};
 ghost use Rattle.trie.specs.Walks.{Walks, walkOf};
@@ -36,7 +36,7 @@ use trie::Walk;
 // What one slot answers to a name.
 fn answer_of(slot: &[u8], b: usize, name: Key) -> LookUpAnswer
     requires { ⌜ (length (now slot) ≡ 64 + 32 * b) × (b ≤ 16) ⌝ }
-    ensures { λ r. ⌜ ((n : Str) → Legal n → keyValue name ≡ value n → r ≡ slotAnswer b n (readSlot b (now (slot .entry)))) ⌝ }
+    ensures { λ r. ⌜ ((n : Str) → Legal n → keyValue name ≡ value n → r ≡ slotAnswer b n (readSlot (version-1 b) (now (slot .entry)))) ⌝ }
 {
     let Vacancy::Taken = bucket::vacancy_of(slot) else {
         return LookUpAnswer::Refused(Cause::StaleTrie);
@@ -150,7 +150,7 @@ fn list_checked(
 ) -> ListAnswer
     requires { ⌜ Ready checked (now file) ⌝ }
     ensures { λ r. ⌜ ((R : Ready checked (now (file .entry))) → (n m : Str) → Legal n → Legal m → keyValue first ≡ value n → keyValue second ≡ value m
-        → listed r (now (output .exit)) ≡ listEntries (between n m (entriesIn (R .slots) (order-of (R .slots)))) (now (output .entry))) ⌝ }
+        → listed r (now (output .exit)) ≡ listEntries 32 (between n m (entriesIn (R .slots) (order-of (R .slots)))) (now (output .entry))) ⌝ }
 {
     let size = checked.size;
     let survey = checked.survey;

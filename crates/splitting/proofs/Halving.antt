@@ -1,11 +1,12 @@
 -- The halves of b + 1 entries as the code finds them in their bytes: the split string, what stays and what moves.
+use Rattle.model.specs.Places.{place-of}
 use Rattle.model.proofs.Prelude.{Bool, List, [], _*_, _++_, _+_, _-_, _/_, _<_, _∙_, _∷_, _≡_, _≤_, ap, arith, cond, drop, drop-at, false, length, length-drop, length-replicate, length-take, length-take-le, ltb, paste, refl, replicate, subst, suc, sym, take, take-all, true, zero, ℕ, ℕ-discrete}
 use Rattle.model.specs.declared.Trie.{Trie}
 use Rattle.model.specs.Order.{Low, Str, _≺_, at, diff, diff-at, le?, over}
 use Rattle.model.specs.Names.{Bound, legalBound}
 use Rattle.model.specs.Entries.{Entry, Row, entry, keep, move, name-at, no-entries, not?, stay}
 use Rattle.model.specs.Changes.{new-half, old-half, split-of}
-use Rattle.model.specs.Format.{entriesBytes, lowDigits, padded, slotBytes, slotSize}
+use Rattle.model.specs.Format.{entriesBytes, lowDigits, padded, slotBytes, slotSize, version-1}
 use Rattle.model.proofs.Order.{diff-lt-left, le-trans, lt-le}
 use Rattle.model.proofs.Names.{bound-legalBound, legal-length}
 use Rattle.model.proofs.Entries.{chosen-no, chosen-yes, keep-all, keep-parts, keep-some, row-at, row-keep, row-lt, split-bound, split-key, split-last, split-take}
@@ -120,7 +121,7 @@ stayed s (entry {e = e} {es = es} g a c r) = elim (le? (e .0) s) [
 
 -- The bytes xs of b + 1 entries, in 544.
 module _ {l : Low} {u : Str} {ws : List Entry} (R : Row l ws u) (b : ℕ) (two : 2 ≤ b) (few : b ≤ 16) (size : length ws ≡ b + 1)
-    (xs : List ℕ) (e : xs ≡ padded 544 (entriesBytes ws)) where
+    (xs : List ℕ) (e : xs ≡ padded 544 (entriesBytes 32 ws)) where
   abbrev c : Str
   c = name-at ws (b / 2)
 
@@ -128,7 +129,7 @@ module _ {l : Low} {u : Str} {ws : List Entry} (R : Row l ws u) (b : ℕ) (two :
   z = name-at ws b
 
   abbrev s : Str
-  s = split-of b ws
+  s = split-of b (place-of (version-1 b)) ws
 
   half : b / 2 < b
   half = omega arith
@@ -137,10 +138,10 @@ module _ {l : Low} {u : Str} {ws : List Entry} (R : Row l ws u) (b : ℕ) (two :
   last-in = omega arith
 
   abbrev zeros : List ℕ
-  zeros = replicate (544 - length (entriesBytes ws)) 0
+  zeros = replicate (544 - length (entriesBytes 32 ws)) 0
 
-  bytes : xs ≡ entriesBytes ws ++ zeros
-  bytes = e ∙ padded-short 544 (entriesBytes ws) (omega (arith, length-entriesBytes R))
+  bytes : xs ≡ entriesBytes 32 ws ++ zeros
+  bytes = e ∙ padded-short 544 (entriesBytes 32 ws) (omega (arith, length-entriesBytes 32 (omega arith) R))
 
   pub key-read : take 24 (drop (32 * (b / 2)) xs) ≡ c
   key-read = rw bytes (entry-at zeros R (b / 2) (omega arith) .0)
@@ -244,19 +245,19 @@ module _ {l : Low} {u : Str} {ws : List Entry} (R : Row l ws u) (b : ℕ) (two :
       }
 
   -- Their bytes, and those of the others.
-  stay-bytes : take (32 * length (stay s ws)) xs ≡ entriesBytes (stay s ws)
-  stay-bytes = rw bytes (part-row zeros R 0 (length (stay s ws)) (omega (arith, stay-most)) ∙ ap entriesBytes (stayed s R))
+  stay-bytes : take (32 * length (stay s ws)) xs ≡ entriesBytes 32 (stay s ws)
+  stay-bytes = rw bytes (part-row zeros R 0 (length (stay s ws)) (omega (arith, stay-most)) ∙ ap (entriesBytes 32) (stayed s R))
 
   moved-are : drop (length (stay s ws)) ws ≡ move s ws
   moved-are = ap (λ (k : ℕ). drop k ws) (sym stays) ∙ moved s legal-s R .0
 
-  move-bytes : take (32 * (b + 1) - 32 * length (stay s ws)) (drop (32 * length (stay s ws)) xs) ≡ entriesBytes (move s ws)
+  move-bytes : take (32 * (b + 1) - 32 * length (stay s ws)) (drop (32 * length (stay s ws)) xs) ≡ entriesBytes 32 (move s ws)
   move-bytes =
       let j = length (stay s ws) in
       let k = b + 1 - j in
       let i : 32 * (b + 1) - 32 * j ≡ 32 * k = omega arith in
       let t : take k (drop j ws) ≡ drop j ws = take-all k (drop j ws) (omega (arith, length-drop j ws)) in
-      rw (i, bytes) (part-row zeros R j k (omega (arith, stay-most)) ∙ ap entriesBytes (t ∙ moved-are))
+      rw (i, bytes) (part-row zeros R j k (omega (arith, stay-most)) ∙ ap (entriesBytes 32) (t ∙ moved-are))
 
   -- The two slots, of which A's bytes are ys.
   module _ (ys : List ℕ) {es : List Entry} (A : Reads b ys l u es) (string : List ℕ) (len st : ℕ) (string-is : string ≡ padded 24 s) (len-is : len ≡ length s)
@@ -265,13 +266,13 @@ module _ {l : Low} {u : Str} {ws : List Entry} (R : Row l ws u) (b : ℕ) (two :
     string-of = rw (len-is, string-is) string-front
 
     pub new-slot-is : r ≡ writtenBytes (take len string) (upperAt ys) (take (32 * (b + 1) - 32 * st) (drop (32 * st) xs))
-        → take (slotSize b) r ≡ slotBytes b (new-half b ws u)
+        → take (slotSize (version-1 b)) r ≡ slotBytes (version-1 b) (new-half b (place-of (version-1 b)) ws u)
     unfolding lowDigits
     new-slot-is q =
-        ap (take (slotSize b)) (q ∙ rw (string-of, upper-at A, stay-is, move-bytes))
+        ap (take (slotSize (version-1 b))) (q ∙ rw (string-of, upper-at A, stay-is, move-bytes))
         ∙ written-slot b (at s) u (row-keep (λ k. not? (le? k s)) l u R (λ k p c d. (c, d))) few
 
-    pub old-slot-is : r ≡ writtenBytes (lowerAt ys) (take len string) (take (32 * st) xs) → take (slotSize b) r ≡ slotBytes b (old-half b ws l)
+    pub old-slot-is : r ≡ writtenBytes (lowerAt ys) (take len string) (take (32 * st) xs) → take (slotSize (version-1 b)) r ≡ slotBytes (version-1 b) (old-half b (place-of (version-1 b)) ws l)
     old-slot-is q =
-        ap (take (slotSize b)) (q ∙ rw (lower-at A, string-of, stay-is, stay-bytes))
+        ap (take (slotSize (version-1 b))) (q ∙ rw (lower-at A, string-of, stay-is, stay-bytes))
         ∙ written-slot b l s (row-keep (λ k. le? k s) l u R (λ k p c d. (c, d))) few

@@ -3,9 +3,9 @@ use Rattle.model.proofs.Prelude.{List, _*_, _++_, _+_, _-_, _<_, _∙_, _≡_, 
 use Rattle.model.specs.declared.Cause.the-variants.{BadFile, WrongSize}
 use Rattle.model.specs.declared.RecoverAnswer.the-variants.{Freed, Nothing, Refused as RecoverRefused, Stopped as RecoverStopped}
 use Rattle.model.specs.Checks.{is-bad, is-cut, is-sound}
-use Rattle.model.specs.Format.{checkFile, headerOf, slotBytes, slotSize, storeBytes}
+use Rattle.model.specs.Format.{checkFile, entrySize, headerOf, layoutOf, slotBytes, slotSize, storeBytes, version-1}
 use Rattle.model.specs.Calls.{recoverBy, recoverOf}
-use Rattle.model.proofs.Format.{headed-b, headerOf-headed}
+use Rattle.model.proofs.Format.{headed-layout, headerOf-headed}
 use Rattle.file.specs.declared.Size.{Size}
 use Rattle.file.specs.declared.survey.Kind.{Kind as Found}
 use Rattle.file.specs.declared.survey.Kind.the-variants.{Bad, Cut, Sound}
@@ -54,7 +54,7 @@ free-bytes n m e h =
 
 pub recover-freed : (xs ys zs : List ℕ) (limit : ℕ) (s : Size) {N : ℕ} → limit ≤ 2 → 1 ≤ limit → checkFile xs ≡ is-cut N → Said s xs
     → ys ≡ paste xs (16 + N * (64 + 32 * s .b)) zs (64 + 32 * s .b) → zs ≡ replicate (64 + 32 * s .b) 0 → recovered (Freed N) ys ≡ recoverOf xs limit
-unfolding recoverOf recoverBy storeBytes slotBytes slotSize
+unfolding recoverOf recoverBy storeBytes slotBytes slotSize entrySize
 recover-freed xs ys zs limit s h l e a p q =
-    let b : getD xs 5 0 ≡ s .b = headed-b (headerOf-headed xs (a .header)) in
+    let b : layoutOf xs ≡ version-1 (s .b) = headed-layout (headerOf-headed xs (a .header)) in
     rw (le-ltb 2 limit h, e, le-ltb limit 1 l, b, p, q)

@@ -2,7 +2,7 @@
 use Rattle.model.proofs.Prelude.{List, Option, [], _*_, _+_, _-_, _<_, _∙_, _∷_, _≡_, _≤_, ap, ap₂, arith, clash, drop, drop-drop, getD, length, nothing, refl, replicate, some, suc, sym, take, ℕ}
 use Rattle.model.specs.Entries.{Entry, Row, entry, find, insert, keep, name-at, no-entries, not?, without}
 use Rattle.model.specs.Files.{used}
-use Rattle.model.specs.Format.{entriesBytes, lowDigits, padded, slotBytes, slotSize}
+use Rattle.model.specs.Format.{entriesBytes, lowDigits, padded, slotBytes, slotSize, version-1}
 use Rattle.model.specs.Names.{Legal}
 use Rattle.model.specs.Order.{Low, Str, _⊑_, _◁_, le?, over, str?}
 use Rattle.model.proofs.Entries.{at-find, chosen-no, chosen-yes, keep-all, row-at, row-insert, row-keep}
@@ -64,9 +64,9 @@ module _ {b : ℕ} {xs : List ℕ} {l : Low} {u : Str} {es : List Entry} (R : Re
   upper-at = ap upperAt (R .is) ∙ upperAt-slot b l u es (legalBound-bound u (R .high) .fits)
 
   pub rewritten-is : {k : Low} {v : Str} {fs : List Entry} → Row k fs v → b ≤ 16
-      → take (slotSize b) (writtenBytes (lowerAt xs) (upperAt xs) (entriesBytes fs)) ≡ slotBytes b (used l u fs)
+      → take (slotSize (version-1 b)) (writtenBytes (lowerAt xs) (upperAt xs) (entriesBytes 32 fs)) ≡ slotBytes (version-1 b) (used l u fs)
   rewritten-is {fs = fs} r h =
-      ap₂ (λ (x y : List ℕ). take (slotSize b) (writtenBytes x y (entriesBytes fs))) lower-at upper-at ∙ written-slot b l u r h
+      ap₂ (λ (x y : List ℕ). take (slotSize (version-1 b)) (writtenBytes x y (entriesBytes 32 fs))) lower-at upper-at ∙ written-slot b l u r h
 
   -- Whether a name is held, as the code tests it at the name's place.
   module _ (n : Str) (v : ℕ) (g : Legal n) (e : v ≡ value n) where
@@ -93,13 +93,13 @@ module _ {b : ℕ} {xs : List ℕ} {l : Low} {u : Str} {es : List Entry} (R : Re
             absurd (f (p .0) (there-is (p .0) ∙ ap (λ (x : Entry). value (x .0)) (p .1) ∙ sym e))
 
   -- The entries that put and remove make, in their 544 bytes.
-  pub put-new : (n : Str) (v : ℕ) → find n es ≡ nothing → withEntry (drop 64 xs) (length es) (place n es) n v ≡ entriesBytes (insert n v es)
+  pub put-new : (n : Str) (v : ℕ) → find n es ≡ nothing → withEntry (drop 64 xs) (length es) (place n es) n v ≡ entriesBytes 32 (insert n v es)
   put-new n v h = ap (λ (z : List ℕ). withEntry z (length es) (place n es) n v) (R .behind) ∙ with-insert n v zeros (R .row) h
 
-  pub put-held : (n : Str) (v w : ℕ) → find n es ≡ some w → changedValue (drop 64 xs) (length es) (place n es) v ≡ entriesBytes (insert n v es)
+  pub put-held : (n : Str) (v w : ℕ) → find n es ≡ some w → changedValue (drop 64 xs) (length es) (place n es) v ≡ entriesBytes 32 (insert n v es)
   put-held n v w h = ap (λ (z : List ℕ). changedValue z (length es) (place n es) v) (R .behind) ∙ changed-insert n v w zeros (R .row) h
 
-  pub removed : (n : Str) (w : ℕ) → find n es ≡ some w → withoutEntry (drop 64 xs) (length es) (place n es) ≡ entriesBytes (without n es)
+  pub removed : (n : Str) (w : ℕ) → find n es ≡ some w → withoutEntry (drop 64 xs) (length es) (place n es) ≡ entriesBytes 32 (without n es)
   removed n w h = ap (λ (z : List ℕ). withoutEntry z (length es) (place n es)) (R .behind) ∙ without-removal n w zeros (R .row) h
 
   pub row-without : (n : Str) → Row l (without n es) u
@@ -107,15 +107,15 @@ module _ {b : ℕ} {xs : List ℕ} {l : Low} {u : Str} {es : List Entry} (R : Re
 
   module _ (few : b ≤ 16) (n : Str) where
     pub put-held-part : (v w : ℕ) → Legal n → l ◁ n → n ⊑ u → find n es ≡ some w
-        → take (32 * length es) (padded 544 (changedValue (drop 64 xs) (length es) (place n es) v)) ≡ entriesBytes (insert n v es)
+        → take (32 * length es) (padded 544 (changedValue (drop 64 xs) (length es) (place n es) v)) ≡ entriesBytes 32 (insert n v es)
     put-held-part v w g lo up h =
         ap (λ (z : List ℕ). take (32 * length es) (padded 544 z)) (put-held n v w h)
-        ∙ take-padded-whole (32 * length es) 544 (entriesBytes (insert n v es))
-        (omega (arith, length-entriesBytes (row-insert n v g lo up (R .row)), length-held n v w (R .row) h)) (omega (arith, R .most))
+        ∙ take-padded-whole (32 * length es) 544 (entriesBytes 32 (insert n v es))
+        (omega (arith, length-entriesBytes 32 (omega arith) (row-insert n v g lo up (R .row)), length-held n v w (R .row) h)) (omega (arith, R .most))
 
     pub removed-part : (w : ℕ) → find n es ≡ some w
-        → take (32 * (length es - 1)) (padded 544 (withoutEntry (drop 64 xs) (length es) (place n es))) ≡ entriesBytes (without n es)
+        → take (32 * (length es - 1)) (padded 544 (withoutEntry (drop 64 xs) (length es) (place n es))) ≡ entriesBytes 32 (without n es)
     removed-part w h =
         ap (λ (z : List ℕ). take (32 * (length es - 1)) (padded 544 z)) (removed n w h)
-        ∙ take-padded-whole (32 * (length es - 1)) 544 (entriesBytes (without n es))
-        (omega (arith, length-entriesBytes (row-without n), length-less n w (R .row) h)) (omega (arith, R .most))
+        ∙ take-padded-whole (32 * (length es - 1)) 544 (entriesBytes 32 (without n es))
+        (omega (arith, length-entriesBytes 32 (omega arith) (row-without n), length-less n w (R .row) h)) (omega (arith, R .most))

@@ -2,11 +2,11 @@
 use Rattle.model.proofs.Prelude.{List, Option, [], _*_, _+_, _-_, _<_, _∙_, _≡_, _≤_, ap, ap₂, arith, decLt, drop, drop-drop, eq-eqb, getD, length, ne-eqb, nothing, refl, replicate, some, sym, take, ℕ}
 use Rattle.model.specs.Calls.{between}
 use Rattle.model.specs.Entries.{Entry, find, name-at}
-use Rattle.model.specs.Format.{Values, entriesBytes, valueOf}
+use Rattle.model.specs.Format.{Contents, entriesBytes, valueOf}
 use Rattle.model.specs.Names.{Legal}
 use Rattle.model.specs.Order.{Low, Str}
 use Rattle.model.proofs.Entries.{row-at}
-use Rattle.model.proofs.Format.{valueOf-valueBytes}
+use Rattle.model.proofs.Format.{valueOf-littleEndian}
 use Rattle.digits.proofs.Bounds.{names-same}
 use Rattle.digits.specs.Keys.{value}
 use Rattle.entries.proofs.Places.{below-row, between-part, held, notAbove-most, place-found, place-lost, place-most}
@@ -41,12 +41,12 @@ module _ {b : ℕ} {xs : List ℕ} {l : Low} {u : Str} {es : List Entry} (R : Re
   pub name-there : (i : ℕ) → i < length es → take 24 (drop (32 * i) (drop 64 xs)) ≡ name-at es i
   name-there i h = ap (λ (z : List ℕ). take 24 (drop (32 * i) z)) (R .behind) ∙ entry-at zeros (R .row) i h .0
 
-  pub value-there : (i : ℕ) → i < length es → Values es → valueOf (take 8 (drop (32 * i + 24) (drop 64 xs))) ≡ getD es i ([], 0) .1
+  pub value-there : (i : ℕ) → i < length es → Contents 32 es → valueOf (take 8 (drop (32 * i + 24) (drop 64 xs))) ≡ getD es i ([], 0) .1
   value-there i h v =
       ap (λ (z : List ℕ). valueOf (take 8 (drop (32 * i + 24) z))) (R .behind) ∙ ap valueOf (entry-at zeros (R .row) i h .1)
-      ∙ valueOf-valueBytes (getD es i ([], 0) .1) (values-at es i v h)
+      ∙ valueOf-littleEndian 8 (getD es i ([], 0) .1) (values-at es i v h)
 
-  pub held-find : (n : Str) (v : ℕ) → Legal n → v ≡ value n → Values es → heldUnder (drop 64 xs) (length es) v ≡ held (find n es)
+  pub held-find : (n : Str) (v : ℕ) → Legal n → v ≡ value n → Contents 32 es → heldUnder (drop 64 xs) (length es) v ≡ held (find n es)
   held-find n v g e w = go (find n es) refl
     where
       i : ℕ
@@ -68,7 +68,7 @@ module _ {b : ℕ} {xs : List ℕ} {l : Low} {u : Str} {es : List Entry} (R : Re
       ])
 
 module _ {b : ℕ} {xs : List ℕ} {l : Low} {u : Str} {es : List Entry} (R : Reads b xs l u es) where
-  pub part-between : (n m : Str) (v w : ℕ) → Legal n → Legal m → v ≡ value n → w ≡ value m → partBetween xs (length es) v w ≡ entriesBytes (between n m es)
+  pub part-between : (n m : Str) (v w : ℕ) → Legal n → Legal m → v ≡ value n → w ≡ value m → partBetween xs (length es) v w ≡ entriesBytes 32 (between n m es)
   unfolding entriesFrom
   part-between n m v w f g d e =
       let i = place n es in
@@ -76,4 +76,4 @@ module _ {b : ℕ} {xs : List ℕ} {l : Low} {u : Str} {es : List Entry} (R : Re
       ap₂ (λ (x y : ℕ). entriesFrom x y xs) (below-place R n v f d) (ap₂ notAbove e (values-are R))
       ∙ ap (take (32 * (j - i))) (sym (drop-drop (32 * i) 64 xs) ∙ ap (drop (32 * i)) (R .behind))
       ∙ part-row (replicate (R .unused) 0) (R .row) i (j - i) (omega (arith, place-most n es, notAbove-most (value m) es))
-      ∙ ap entriesBytes (between-part n m (R .row) f g)
+      ∙ ap (entriesBytes 32) (between-part n m (R .row) f g)

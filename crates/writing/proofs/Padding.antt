@@ -1,6 +1,6 @@
 -- Bytes put one behind another into zeros.
 use Rattle.model.proofs.Prelude.{List, [], _%_, _++_, _+_, _-_, _/_, _∙_, _∷_, _≡_, _≤_, ap, append-assoc, arith, drop, drop-append-le, length, length-append, length-paste, paste, refl, replicate, replicate-append-replicate, suc, sym, take, take-append-add, take-append-le, take-at, take-length, take-take, zero, ℕ}
-use Rattle.model.specs.Format.{littleEndian, padded, valueBytes}
+use Rattle.model.specs.Format.{littleEndian, padded, littleEndian}
 use Rattle.model.proofs.Format.{padded-short}
 use Rattle.model.proofs.Lists.{drop-past, drop-replicate}
 
@@ -61,8 +61,8 @@ paste-before-zeros k n xs s h i =
 -- The bytes of a value as the code writes them.
 pub eight-bytes : (v : ℕ)
     → v % 256 ∷ v / 256 % 256 ∷ v / 65536 % 256 ∷ v / 16777216 % 256 ∷ v / 4294967296 % 256 ∷ v / 1099511627776 % 256
-    ∷ v / 281474976710656 % 256 ∷ v / 72057594037927936 % 256 ∷ [] ≡ valueBytes v
-unfolding valueBytes littleEndian
+    ∷ v / 281474976710656 % 256 ∷ v / 72057594037927936 % 256 ∷ [] ≡ littleEndian 8 v
+unfolding littleEndian
 eight-bytes v =
     let b : v / 256 / 256 ≡ v / 65536 = omega arith in
     let c : v / 65536 / 256 ≡ v / 16777216 = omega arith in

@@ -2,7 +2,7 @@
 ghost use mathlib.Core.Path.{_≡_};
 ghost use Prim.Native.Nat.{_≤_, _<_, _+_, _*_};
 ghost use lib.ListN.{length};
-ghost use Rattle.model.specs.Format.{padded, valueBytes};
+ghost use Rattle.model.specs.Format.{padded, littleEndian};
 ghost use Rattle.digits.specs.Keys.{keyValue};
 ghost use Rattle.bucket.specs.Slots.{countAt, lowerAt, upperAt};
 ghost use Rattle.writing.specs.Entries.{changedValue, partBetween, withEntry, withoutEntry};
@@ -13,7 +13,7 @@ use entries::copy;
 
 // The eight bytes of a value, the lowest first.
 fn value_bytes(v: u64) -> [u8; 8]
-    ensures { λ r. ⌜ r ≡ valueBytes v ⌝ }
+    ensures { λ r. ⌜ r ≡ littleEndian 8 v ⌝ }
 {
     [
         (v % 256) as u8,

@@ -25,10 +25,9 @@ copy-requires c κs =
 
 add-at : tie.Need-add-at Inv-loop μ-loop
 add-at c =
-    let at-part-between = c .before .before .before .before in
-    let a = at-part-between .before .before .before .before .before .before .before .before .args in
-    let l = at-part-between .before .before .before .before .before .loop in
-    let e = rest-length (a .file .now) (a .size) (a .order .now) (keyValue (a .first)) (keyValue (a .second)) (a .to) (l .j) _ _ _ (omega arith) (at-part-between .before .before .usize-of-u8 .ensures .0) (at-part-between .before .slot-at .ensures .0) (at-part-between .part-between .ensures .1) in
+    let a = c .before .before .before .before .before .before .before .before .before .before .before .before .args in
+    let l = c .before .before .before .before .before .before .before .before .before .loop in
+    let e = rest-length (a .file .now) (a .size) (a .order .now) (keyValue (a .first)) (keyValue (a .second)) (a .to) (l .j) _ _ _ (omega arith) (c .before .before .before .before .before .before .usize-of-u8 .ensures .0) (c .before .before .before .before .before .slot-at .ensures .0) (c .before .before .before .before .part-between .ensures .1) in
     omega (arith, writing-rest (l .inv), e, l .inv .room)
 
 loop-again : tie.Need-loop-again Inv-loop μ-loop
