@@ -1,13 +1,5 @@
 -- What the code tests in a slot's bytes, entry by entry.
-use mathlib.Core.Path.{_∙_, _≡_, ap}
-use mathlib.Core.Bool.{_&&_, false, not, true}
-use mathlib.Core.List.{List, [], _∷_}
-use Prim.Native.Nat.{_*_, _+_, _-_, _<_, _≤_, suc, ℕ}
-use native.Mathlib.Nat.{sub-zero}
-use native.Mathlib.Omega.{arith}
-use lib.Dec.{ltb}
-use lib.ListN.{drop, getD, take}
-use borrow.Author.Tests.{ne-eqb}
+use Rattle.model.proofs.Prelude.{List, [], _&&_, _*_, _+_, _-_, _<_, _∙_, _∷_, _≡_, _≤_, ap, arith, drop, false, getD, ltb, ne-eqb, not, sub-zero, suc, take, true, ℕ}
 use Rattle.model.specs.Names.{legalFilled}
 use Rattle.model.proofs.Lists.{drop-entry}
 use Rattle.digits.specs.Keys.{isZero, value}

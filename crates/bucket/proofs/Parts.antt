@@ -1,11 +1,5 @@
 -- The parts of a slot as the code reads them.
-use mathlib.Core.Path.{_∙_, _≡_, refl}
-use mathlib.Core.List.{List, [], _++_}
-use Prim.Native.Nat.{_*_, _+_, _-_, _<_, _≤_, ℕ}
-use native.Mathlib.Omega.{arith}
-use lib.ListN.{drop, getD, length, length-take, replicate, take}
-use lib.Seq.{drop-at}
-use borrow.Author.Tests.{le-ltb, lt-ltb}
+use Rattle.model.proofs.Prelude.{List, [], _*_, _++_, _+_, _-_, _<_, _∙_, _≡_, _≤_, arith, drop, drop-at, getD, le-ltb, length, length-take, lt-ltb, refl, replicate, take, ℕ}
 use Rattle.model.specs.Entries.{Entry}
 use Rattle.model.specs.Files.{used}
 use Rattle.model.specs.Format.{entriesBytes, lowDigits, padded, slotBytes}

@@ -1,14 +1,5 @@
 -- The code's tests of a used slot hold exactly of the slots that were written and are well formed.
-use mathlib.Core.Path.{_∙_, _≡_, ap, ap₂, refl, sym}
-use mathlib.Core.Bool.{Bool, _&&_, cond, false, true}
-use mathlib.Core.Option.{none as nothing, some}
-use mathlib.Core.List.{List, [], _++_, _∷_, append-assoc}
-use Prim.Native.Nat.{_*_, _+_, _-_, _<_, _≤_, suc, zero, ℕ}
-use native.Mathlib.Omega.{arith}
-use lib.Dec.{eqb, leb, ltb}
-use lib.ListN.{drop, getD, length, length-append, length-drop, replicate, take, take-append-drop}
-use lib.Seq.{drop-at, drop-drop, length-take-le, take-add, take-at, take-take}
-use borrow.Author.Tests.{eqb-true, le-leb, le-ltb, leb-true, ltb-false, ltb-true, not-true}
+use Rattle.model.proofs.Prelude.{Bool, List, [], _&&_, _*_, _++_, _+_, _-_, _<_, _∙_, _∷_, _≡_, _≤_, ap, append-assoc, ap₂, arith, clash, cond, drop, drop-at, drop-drop, eqb, eqb-true, false, getD, le-leb, le-ltb, leb, leb-true, length, length-append, length-drop, length-take-le, ltb, ltb-false, ltb-true, not-true, nothing, refl, replicate, some, suc, sym, take, take-add, take-append-drop, take-at, take-take, true, zero, ℕ}
 use Rattle.model.specs.Checks.{isAbove, isRow, isWell, legalLow, sameStr}
 use Rattle.model.specs.Entries.{Entry}
 use Rattle.model.specs.Files.{Slot, used}
@@ -361,7 +352,7 @@ not-read b xs f s = go (sameStr xs (slotBytes b (usedOf xs))) (isWell b s) refl 
   where
     go : (t r : Bool) → sameStr xs (slotBytes b (usedOf xs)) ≡ t → isWell b s ≡ r → cond t (some (usedOf xs)) nothing ≡ some s → r ≡ false
     go t false e w h = refl
-    go false true e w h = let z : _≡_ {A = ℕ} 0 1 = cc in absurd (omega arith)
+    go false true e w h = clash cc
     go true true e w h =
         let i : usedOf xs ≡ s = cc in
         absurd (f (passes b xs (sameStr-equal xs (slotBytes b (usedOf xs)) e) (ap (isWell b) i ∙ w)))

@@ -1,12 +1,5 @@
 -- A slot as it is read: free, or used and well formed, with its range.
-use mathlib.Core.Path.{_∙_, _≡_, ap, ap₂, refl, sym}
-use mathlib.Core.Bool.{Bool, Bool·not-not, _&&_, cond, false, not, true}
-use mathlib.Core.Option.{none as nothing, some}
-use mathlib.Core.List.{List, [], _++_, _∷_}
-use Prim.Native.Nat.{_*_, _+_, _-_, _<_, _≤_, suc, zero, ℕ}
-use native.Mathlib.Omega.{arith}
-use lib.Dec.{eqb, ltb}
-use lib.ListN.{drop, getD, length, replicate, take}
+use Rattle.model.proofs.Prelude.{Bool, Bool·not-not, List, [], _&&_, _*_, _++_, _+_, _-_, _<_, _∙_, _∷_, _≡_, _≤_, ap, ap₂, arith, clash, cond, drop, eqb, false, getD, length, ltb, not, nothing, refl, replicate, some, suc, sym, take, true, zero, ℕ}
 use Rattle.model.specs.Checks.{isAbove, isWell, legalLow, sameStr}
 use Rattle.model.specs.Entries.{Entry, Row}
 use Rattle.model.specs.Files.{IsUsed, Slot, Well, entries-of, free, head, lower-of, upper-of, used}
@@ -35,7 +28,7 @@ read-written b xs s = go (sameStr xs (slotBytes b (usedOf xs))) refl
   where
     go : (t : Bool) → sameStr xs (slotBytes b (usedOf xs)) ≡ t → cond t (some (usedOf xs)) nothing ≡ some s → (usedOf xs ≡ s) × (xs ≡ slotBytes b s)
     go true e h = let i : usedOf xs ≡ s = cc in (i, sameStr-equal xs (slotBytes b (usedOf xs)) e ∙ ap (slotBytes b) i)
-    go false e h = let z : _≡_ {A = ℕ} 0 1 = cc in absurd (omega arith)
+    go false e h = clash cc
 
 -- A slot is free where it is all zero; else it is read as used.
 pub zero-same : (k : ℕ) (xs : List ℕ) → length xs ≡ k → sameStr xs (replicate k 0) ≡ isZero xs
@@ -133,10 +126,10 @@ free-zero b xs e = ap isZero (slotBytes-readSlot b xs e) ∙ are-zeros (slotSize
 
 pub vacant-free : (t : Bool) → Free ≡ vacant t → t ≡ true
 vacant-free true e = refl
-vacant-free false e = let z : _≡_ {A = ℕ} 0 1 = cc in absurd (omega arith)
+vacant-free false e = clash cc
 
 pub vacant-taken : (t : Bool) → Taken ≡ vacant t → t ≡ false
-vacant-taken true e = let z : _≡_ {A = ℕ} 0 1 = cc in absurd (omega arith)
+vacant-taken true e = clash cc
 vacant-taken false e = refl
 
 -- A slot that form_of finds well formed.

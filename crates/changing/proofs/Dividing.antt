@@ -1,13 +1,5 @@
 -- Put into a full bucket: what refuses the split, and what its two stores leave.
-use mathlib.Core.Path.{_∙_, _≡_, ap, ap₂, subst, sym}
-use mathlib.Core.Option.{Option, some}
-use mathlib.Core.List.{List, []}
-use Prim.Native.Nat.{_*_, _+_, _-_, _/_, _<_, _≤_, suc, ℕ}
-use native.Mathlib.Decide.{decLe, decLt}
-use native.Mathlib.Omega.{arith}
-use lib.ListN.{drop, length, take}
-use lib.Seq.{paste}
-use borrow.Author.Tests.{le-ltb, lt-ltb}
+use Rattle.model.proofs.Prelude.{List, Option, [], _*_, _+_, _-_, _/_, _<_, _∙_, _≡_, _≤_, ap, ap₂, arith, clash, decLe, decLt, drop, le-ltb, length, lt-ltb, paste, some, subst, suc, sym, take, ℕ}
 use Rattle.model.specs.declared.Cause.the-variants.{ManyStrings, NoFreeSlot}
 use Rattle.model.specs.declared.PutAnswer.the-variants.{Added, Refused, Stopped}
 use Rattle.model.specs.declared.PutGiven.{PutGiven}
@@ -188,7 +180,7 @@ unfolding room-of
 room-full fs e = elim (decLt (first free? fs) (length fs)) [
   | no h ↦ omega arith
   | yes h ↦ let q : _≡_ {A = Room} (At (first free? fs)) NoRoom = rw (lt-ltb (first free? fs) (length fs) h) at e in
-      let z : _≡_ {A = ℕ} 0 1 = cc in absurd (omega arith)
+      clash cc
 ]
 
 room-at : (fs : List Slot) (k : ℕ) → room-of fs ≡ At k → (k ≡ first free? fs) × (first free? fs < length fs)
@@ -197,7 +189,7 @@ room-at fs k e = elim (decLt (first free? fs) (length fs)) [
   | yes h ↦ let q : _≡_ {A = Room} (At (first free? fs)) (At k) = rw (lt-ltb (first free? fs) (length fs) h) at e in
       let p : k ≡ first free? fs = cc in (p, h)
   | no h ↦ let q : _≡_ {A = Room} NoRoom (At k) = rw (le-ltb (first free? fs) (length fs) (omega arith)) at e in
-      let z : _≡_ {A = ℕ} 0 1 = cc in absurd (omega arith)
+      clash cc
 ]
 
 -- Of a file and a trie that passed the checks.

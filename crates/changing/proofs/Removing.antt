@@ -1,11 +1,5 @@
 -- Remove, put together from the spot of the name.
-use mathlib.Core.Path.{_≡_}
-use mathlib.Core.Bool.{false, true}
-use mathlib.Core.Option.{none as nothing, some}
-use mathlib.Core.List.{List, [], _∷_}
-use Prim.Native.Nat.{_<_, _≤_, ℕ}
-use native.Mathlib.Omega.{arith}
-use borrow.Author.Tests.{le-ltb, lt-ltb}
+use Rattle.model.proofs.Prelude.{List, [], _<_, _∷_, _≡_, _≤_, arith, false, le-ltb, lt-ltb, nothing, some, true, ℕ}
 use Rattle.model.specs.declared.Cause.{Cause}
 use Rattle.model.specs.declared.Cause.the-variants.{IllegalName, WrongSize}
 use Rattle.model.specs.declared.RemoveAnswer.{RemoveAnswer}

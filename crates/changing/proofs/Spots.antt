@@ -1,14 +1,5 @@
 -- The spot of a name in a file that is read and sound, and the bytes of one whole-slot store.
-use mathlib.Core.Path.{_∙_, _≡_, ap, refl, subst, sym}
-use mathlib.Core.Bool.{Bool, false, true}
-use mathlib.Core.Option.{Option, none as nothing, some}
-use mathlib.Core.List.{List, []}
-use Prim.Native.Nat.{_*_, _+_, _-_, _<_, _≤_, suc, zero, ℕ}
-use native.Mathlib.Omega.{arith}
-use lib.Dec.{eqb, ltb}
-use lib.ListN.{drop, getD, length, take}
-use lib.Seq.{drop-drop, getD-take, paste, take-all}
-use borrow.Author.Tests.{eq-eqb, eqb-true, le-ltb, lt-ltb, ltb-true}
+use Rattle.model.proofs.Prelude.{Bool, List, Option, [], _*_, _+_, _-_, _<_, _∙_, _≡_, _≤_, ap, arith, clash, drop, drop-drop, eq-eqb, eqb, eqb-true, false, getD, getD-take, le-ltb, length, lt-ltb, ltb, ltb-true, nothing, paste, refl, some, subst, suc, sym, take, take-all, true, zero, ℕ}
 use Rattle.model.specs.Order.{Low, Str}
 use Rattle.model.specs.Names.{Legal}
 use Rattle.model.specs.Entries.{Entry, find, insert, without}
@@ -21,14 +12,12 @@ use Rattle.model.proofs.Files.{first-right, one-range, used-inside}
 use Rattle.model.proofs.Format.{length-entriesBytes, readSlot-readFile}
 use Rattle.digits.specs.Keys.{value}
 use Rattle.writing.specs.Entries.{changedValue, withEntry, withoutEntry}
-use Rattle.entries.specs.Rows.{place}
-use Rattle.entries.specs.Rows.{below, values}
+use Rattle.entries.specs.Rows.{below, place, values}
 use Rattle.bucket.specs.Slots.{countAt, lowerAt, upperAt}
 use Rattle.writing.specs.Slots.{writtenBytes}
 use Rattle.writing.proofs.Padding.{take-padded-whole}
-use Rattle.bucket.proofs.Slots.{Reads, read-written, reads}
+use Rattle.bucket.proofs.Slots.{Reads, count-is, read-written, reads}
 use Rattle.writing.proofs.Finding.{below-place}
-use Rattle.bucket.proofs.Slots.{count-is}
 use Rattle.entries.proofs.Places.{place-found}
 use Rattle.writing.proofs.Changing.{is-held, length-held, length-new, not-held, put-held-part, put-new, removed-part, rewritten-is, row-without}
 use Rattle.file.specs.Holders.{Holder, Ordered}
@@ -133,8 +122,7 @@ module _ (xs : List ℕ) {b : ℕ} {fs : List Slot} (e : readFile xs ≡ some (b
           let c : ltb (s .place) (s .count) ≡ true = lt-ltb (s .place) (s .count) (omega (arith, P .counted, P .placed)) in
           let d : eqb there v ≡ true = eq-eqb there v (moved ∙ f) in
           let z : _≡_ {A = Bool} true false = sym (rw (c, d)) ∙ t in
-          let y : _≡_ {A = ℕ} 0 1 = cc in
-          omega arith)
+          clash cc)
 
       pub test-held : isHeld ys (s .count) (s .place) v ≡ true → (s .place < s .count) × ((o : ℕ) × (find n (P .entries) ≡ some o))
       unfolding isHeld

@@ -1,11 +1,5 @@
 -- The checks that put, remove and list make alike: what a sound file's survey, strings and agreement say together.
-use mathlib.Core.Path.{_∙_, _≡_, ap, sym}
-use mathlib.Core.Bool.{Bool, cond, false, true}
-use mathlib.Core.Option.{some}
-use mathlib.Core.List.{List}
-use Prim.Native.Nat.{_≤_, ℕ}
-use native.Mathlib.Omega.{arith}
-use lib.ListN.{length}
+use Rattle.model.proofs.Prelude.{Bool, List, _∙_, _≡_, _≤_, ap, arith, cond, false, length, some, sym, true, ℕ}
 use Rattle.model.specs.declared.Cause.the-variants.{BadFile, CutFile, StaleTrie}
 use Rattle.model.specs.declared.Trie.{Trie}
 use Rattle.model.specs.Files.{Slot, strings-of}

@@ -1,11 +1,5 @@
 -- What the answers of the crates below say, once it is known which answer was given.
-use mathlib.Core.Path.{_∙_, _≡_, ap, refl, subst}
-use mathlib.Core.Bool.{Bool, false, true}
-use mathlib.Core.List.{List}
-use Prim.Native.Nat.{ℕ}
-use native.Mathlib.Omega.{arith}
-use lib.ListN.{drop, length, take}
-use lib.Seq.{take-all}
+use Rattle.model.proofs.Prelude.{Bool, List, _∙_, _≡_, ap, arith, clash, drop, false, refl, subst, take, take-all, true, ℕ}
 use Rattle.model.specs.Names.{filled}
 use Rattle.model.proofs.Names.{length-filled}
 use Rattle.digits.specs.declared.Naming.the-variants.{Illegal, Legal as LegalName}
@@ -31,10 +25,10 @@ refused-looked c {cause} xs t e h = subst (λ (x : Verdict). AgreedWhere x c xs 
 -- which way the test of a name went
 pub naming-legal : (t : Bool) → LegalName ≡ naming t → t ≡ true
 naming-legal true e = refl
-naming-legal false e = let z : _≡_ {A = ℕ} 0 1 = cc in absurd (omega arith)
+naming-legal false e = clash cc
 
 pub naming-illegal : (t : Bool) → Illegal ≡ naming t → t ≡ false
-naming-illegal true e = let z : _≡_ {A = ℕ} 0 1 = cc in absurd (omega arith)
+naming-illegal true e = clash cc
 naming-illegal false e = refl
 
 -- the key of a filled name

@@ -1,13 +1,5 @@
 -- Limits and names as numbers, in the order of the model.
-use mathlib.Core.Path.{_∙_, _≡_, ap, refl, sym}
-use mathlib.Core.Bool.{false, not, true}
-use mathlib.Core.List.{List, [], _∷_}
-use Prim.Native.Nat.{_<_, suc, zero, ℕ}
-use native.Mathlib.Omega.{arith}
-use lib.Dec.{leb, ltb}
-use lib.ListN.{getD, length, take}
-use lib.Seq.{take-all}
-use borrow.Author.Tests.{le-ltb, lt-ltb}
+use Rattle.model.proofs.Prelude.{List, [], _<_, _∙_, _∷_, _≡_, ap, arith, clash, false, getD, le-ltb, leb, length, lt-ltb, ltb, not, refl, suc, sym, take, take-all, true, zero, ℕ}
 use Rattle.model.specs.Checks.{isAbove, legalLow}
 use Rattle.model.specs.Format.{lowDigits, lowOf}
 use Rattle.model.specs.Names.{Digits, Legal, areDigits, atMost, legalBound, legalFilled}
@@ -71,12 +63,12 @@ name-over p n h g = name-low (at p) n h (legal-legalFilled g)
 -- The lower limits of two slots, compared as numbers.
 pub lower-some : (l k : Low) → legalLow l ≡ true → legalLow k ≡ true → ltb (lowValue l) (lowValue k) ≡ true → (low : Str) × (k ≡ at low) × (l ◁ low)
 unfolding lowValue legalLow
-lower-some l none g h t = let z : false ≡ true = sym (le-ltb (lowValue l) 0 (omega arith)) ∙ t in let y : _≡_ {A = ℕ} 0 1 = cc in absurd (omega arith)
+lower-some l none g h t = let z : false ≡ true = sym (le-ltb (lowValue l) 0 (omega arith)) ∙ t in clash cc
 lower-some l (at x) g h t = (x, refl, isAbove-above l x (sym (low-above l x g h) ∙ t))
 
 pub lower-below : (l k : Low) (low : Str) → legalLow l ≡ true → legalLow k ≡ true → k ≡ at low → l ◁ low → ltb (lowValue l) (lowValue k) ≡ true
 unfolding lowValue legalLow
-lower-below l none low g h e a = let y : _≡_ {A = ℕ} 0 1 = cc in absurd (omega arith)
+lower-below l none low g h e a = clash cc
 lower-below l (at x) low g h e a = let i : x ≡ low = cc in low-above l x g h ∙ above-isAbove (rw i a)
 
 -- Two names as numbers.

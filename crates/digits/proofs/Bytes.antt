@@ -1,12 +1,6 @@
 -- Bytes put together by shifts and `|`, and in the other order.
-use mathlib.Core.Path.{_∙_, _≡_, ap, refl, sym}
-use mathlib.Core.List.{List, [], _++_, _∷_}
-use Prim.Native.Nat.{_%_, _*_, _+_, _-_, _/_, _<_, _^_, _≤_, suc, zero, ℕ}
-use native.Mathlib.Nat.{mod-eq-of-lt, mul-assoc, pow-suc, pow-succ'}
-use native.Mathlib.Omega.{arith}
+use Rattle.model.proofs.Prelude.{List, [], _%_, _*_, _++_, _+_, _-_, _/_, _<_, _^_, _∙_, _∷_, _≡_, _≤_, ap, arith, drop, drop-cons, drop-drop, getD, length, length-drop, length-take, mod-eq-of-lt, mul-assoc, pow-suc, pow-succ', refl, suc, sym, take, take-add, take-append-drop, zero, ℕ}
 use lib.Bits.{bitOr, or-shifted, or-shifted-r}
-use lib.ListN.{drop, getD, length, length-drop, length-take, take, take-append-drop}
-use lib.Seq.{drop-cons, drop-drop, take-add}
 use Rattle.model.specs.Format.{Bytes, valueOf}
 use Rattle.model.proofs.Format.{bytes-drop, bytes-take}
 use Rattle.digits.specs.Keys.{value}

@@ -1,17 +1,6 @@
 -- Strings as numbers: a number's parts, and the one order.
-use mathlib.Core.Path.{_∙_, _≡_, ap, refl, sym}
-use mathlib.Core.Bool.{_&&_, and-assoc, cond, false, not, true}
-use mathlib.Core.List.{List, [], _++_, _∷_}
-use Prim.Native.Nat.{_*_, _+_, _-_, _%_, _<_, _^_, _≤_, suc, zero, ℕ}
-use native.Mathlib.Nat.{add-mul, mul-assoc, mul-le-mul-right, one-le-pow, pow-suc, sub-zero, suc-mul}
-use native.Mathlib.Numerals.{unary-clauses}
-use native.Mathlib.Decide.{decLe, decLt, ℕ-discrete}
+use Rattle.model.proofs.Prelude.{List, [], _%_, _&&_, _*_, _++_, _+_, _-_, _<_, _^_, _∙_, _∷_, _≡_, _≤_, add-mul, and-assoc, ap, arith, cond, decLe, decLt, drop, drop-drop, eq-eqb, eqb, eqb-true, false, getD, le-leb, le-ltb, leb, length, length-append, length-drop, length-take, lt-leb, lt-ltb, ltb, mul-assoc, mul-le-mul-right, ne-eqb, not, one-le-pow, pow-suc, refl, replicate, sub-zero, suc, suc-mul, sym, take, take-add, take-at, take-take, true, unary-clauses, zero, ℕ, ℕ-discrete}
 use lib.Pow.{pow-add}
-use native.Mathlib.Omega.{arith}
-use lib.Dec.{eqb, leb, ltb}
-use lib.ListN.{drop, getD, length, length-append, length-drop, length-take, replicate, take}
-use lib.Seq.{drop-drop, take-add, take-at, take-take}
-use borrow.Author.Tests.{eq-eqb, eqb-true, le-leb, le-ltb, lt-leb, lt-ltb, ne-eqb}
 use Rattle.model.specs.Names.{Digits, atMost}
 use Rattle.model.specs.Format.{Bytes}
 use Rattle.model.proofs.Lists.{drop-take, length-made}

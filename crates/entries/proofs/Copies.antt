@@ -1,14 +1,5 @@
 -- Entries that are the upper part of others, or those and one more: the code's test of it.
-use mathlib.Core.Path.{_∙_, _≡_, ap, ap₂, refl, sym}
-use mathlib.Core.Bool.{Bool, _&&_, false, not, true}
-use mathlib.Core.List.{List, [], _∷_}
-use Prim.Native.Nat.{_+_, _<_, _^_, _≤_, suc, zero, ℕ}
-use native.Mathlib.Decide.{decLe}
-use native.Mathlib.Omega.{arith}
-use lib.Dec.{leb, ltb}
-use lib.ListN.{drop, length, take}
-use lib.Seq.{drop-at, take-at}
-use borrow.Author.Tests.{le-leb, leb-true}
+use Rattle.model.proofs.Prelude.{Bool, List, [], _&&_, _+_, _<_, _^_, _∙_, _∷_, _≡_, _≤_, ap, ap₂, arith, clash, decLe, drop, drop-at, false, le-leb, leb, leb-true, length, ltb, not, refl, suc, sym, take, take-at, true, zero, ℕ}
 use Rattle.model.specs.Checks.{sameStr}
 use Rattle.model.specs.Entries.{Entry, Row, entry, keep, move, name-at, no-entries, not?, without}
 use Rattle.model.specs.Files.{Copied, exactly, one-more}
@@ -82,7 +73,7 @@ among-same : {l m : Low} {u v : Str} {es ns : List Entry} → Row l es u → Row
     → areAmong (each ns) (each es) ≡ true → length ns ≤ length es → es ≡ ns
 unfolding areAmong
 among-same no-entries no-entries p q t h = refl
-among-same (entry g a c r) no-entries p q t h = let z : _≡_ {A = ℕ} 0 1 = cc in absurd (omega arith)
+among-same (entry g a c r) no-entries p q t h = clash cc
 among-same no-entries (entry g a c r) p q t h = absurd (omega arith)
 among-same (entry {e = e} {es = es} g a c r) (entry {e = n} {es = ns} g′ a′ c′ r′) p q t h = elim (str? (entryBytes e) (entryBytes n)) [
   | yes s ↦ ap₂ (λ (x : Entry) (xs : List Entry). x ∷ xs) (same-both e n g g′ (p .0) (q .0) s)

@@ -1,12 +1,5 @@
 -- The place of a name in a row, and the entries from one name to another.
-use mathlib.Core.Path.{_∙_, _≡_, ap, ap₂, refl, sym}
-use mathlib.Core.Bool.{Bool, and-false, cond, false, not, true}
-use mathlib.Core.Option.{Option, none as nothing, some}
-use mathlib.Core.List.{List, [], _∷_}
-use Prim.Native.Nat.{_-_, _<_, _≤_, suc, ℕ}
-use native.Mathlib.Omega.{arith}
-use lib.Dec.{ltb}
-use lib.ListN.{drop, getD, length, take}
+use Rattle.model.proofs.Prelude.{Bool, List, Option, [], _-_, _<_, _∙_, _∷_, _≡_, _≤_, and-false, ap, ap₂, arith, clash, cond, drop, false, getD, length, ltb, not, nothing, refl, some, suc, sym, take, true, ℕ}
 use Rattle.model.specs.Calls.{between}
 use Rattle.model.specs.Entries.{Entry, Row, entry, find, name-at, no-entries}
 use Rattle.model.specs.Names.{Legal, atMost}
@@ -38,7 +31,7 @@ unfolding find
 find-first n e {w = w} r q h = elim (str? n (e .0)) [
   | yes p ↦ p
   | no p ↦ let z : _≡_ {A = Option ℕ} nothing (some w) = sym (find-not-over n r (λ c. over c q)) ∙ sym (chosen-no (str? n (e .0)) p _ _) ∙ h in
-      let y : _≡_ {A = ℕ} 0 1 = cc in absurd (omega arith)
+      clash cc
 ]
 
 -- The place of a name: how many names' numbers are below its own.
@@ -64,7 +57,7 @@ place-most n (e ∷ es) = elim (le? n (e .0)) [
 pub place-found : {l : Low} {u : Str} {es : List Entry} (n : Str) (w : ℕ) → Row l es u → find n es ≡ some w
     → (place n es < length es) × (getD es (place n es) ([], 0) ≡ (n, w))
 unfolding place find
-place-found n w no-entries h = let y : _≡_ {A = ℕ} 0 1 = cc in absurd (omega arith)
+place-found n w no-entries h = clash cc
 place-found n w (entry {e = e} {es = es} g a c r) h = elim (le? n (e .0)) [
   | no q ↦ let i = place-found n w r (find-behind n e es q ∙ h) in
       rw (chosen-no (le? n (e .0)) q) (omega (arith, i .0), i .1)
@@ -78,7 +71,7 @@ pub place-lost : (n : Str) (es : List Entry) → find n es ≡ nothing → (i : 
 place-lost n es h i k q =
     let f = at-find es i k in
     let z : _≡_ {A = Option ℕ} nothing (some (f .0)) = sym h ∙ ap (λ (x : Str). find x es) (sym q) ∙ f .1 in
-    let y : _≡_ {A = ℕ} 0 1 = cc in absurd (omega arith)
+    clash cc
 
 -- What is found, in the code's words.
 abbrev pub held : Option ℕ → Held

@@ -1,10 +1,5 @@
 -- The bytes of a row of entries: the numbers of its names, its entries one by one, and a part of it.
-use mathlib.Core.Path.{_∙_, _≡_, ap, refl, sym}
-use mathlib.Core.List.{List, [], _++_, _∷_, append-assoc}
-use Prim.Native.Nat.{_*_, _+_, _<_, _^_, _≤_, suc, zero, ℕ}
-use native.Mathlib.Omega.{arith}
-use lib.ListN.{drop, getD, length, length-append, take}
-use lib.Seq.{drop-at, drop-cons, drop-drop, take-at}
+use Rattle.model.proofs.Prelude.{List, [], _*_, _++_, _+_, _<_, _^_, _∙_, _∷_, _≡_, _≤_, ap, append-assoc, arith, drop, drop-at, drop-cons, drop-drop, getD, length, length-append, refl, suc, sym, take, take-at, zero, ℕ}
 use Rattle.model.specs.Entries.{Entry, Row, entry, name-at, no-entries}
 use Rattle.model.specs.Format.{Values, entriesBytes, entryBytes, valueBytes}
 use Rattle.model.specs.Names.{Legal}

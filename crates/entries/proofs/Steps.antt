@@ -1,15 +1,5 @@
 -- What the code counts and compares in the bytes of entries, entry by entry.
-use mathlib.Core.Path.{_∙_, _≡_, ap, refl, sym}
-use mathlib.Core.Bool.{Bool, _&&_, and-assoc, cond, false, true}
-use mathlib.Core.List.{List, [], _++_, _∷_}
-use Prim.Native.Nat.{_*_, _+_, _-_, _<_, _≤_, suc, ℕ}
-use native.Mathlib.Decide.{decLt, ℕ-discrete}
-use native.Mathlib.Nat.{add-zero, sub-zero, zero-add}
-use native.Mathlib.Omega.{arith}
-use lib.Dec.{eqb, ltb}
-use lib.ListN.{drop, getD, length, take}
-use lib.Seq.{drop-drop, take-add}
-use borrow.Author.Tests.{eq-eqb, le-ltb, lt-ltb, ne-eqb}
+use Rattle.model.proofs.Prelude.{Bool, List, [], _&&_, _*_, _++_, _+_, _-_, _<_, _∙_, _∷_, _≡_, _≤_, add-zero, and-assoc, ap, arith, cond, decLt, drop, drop-drop, eq-eqb, eqb, false, getD, le-ltb, length, lt-ltb, ltb, ne-eqb, refl, sub-zero, suc, sym, take, take-add, true, zero-add, ℕ, ℕ-discrete}
 use Rattle.model.specs.Checks.{sameStr}
 use Rattle.model.specs.Format.{Bytes, valueOf}
 use Rattle.model.proofs.Checks.{sameStr-other, sameStr-self}

@@ -1,12 +1,5 @@
 -- The code's test of a copy, on the bytes of two slots.
-use mathlib.Core.Path.{_∙_, _≡_, ap, ap₂, sym}
-use mathlib.Core.Bool.{Bool, _&&_, true}
-use mathlib.Core.List.{List, _++_}
-use Prim.Native.Nat.{_*_, _+_, _-_, ℕ}
-use native.Mathlib.Omega.{arith}
-use lib.Dec.{leb}
-use lib.ListN.{drop, length, replicate}
-use lib.Seq.{drop-drop}
+use Rattle.model.proofs.Prelude.{Bool, List, _&&_, _*_, _++_, _+_, _-_, _∙_, _≡_, ap, ap₂, arith, drop, drop-drop, leb, length, replicate, sym, true, ℕ}
 use Rattle.model.specs.Entries.{Entry, Row, move, not?}
 use Rattle.model.specs.Files.{Copied}
 use Rattle.model.specs.Format.{Values, entriesBytes}

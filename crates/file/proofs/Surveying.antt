@@ -1,10 +1,5 @@
 -- What a look at the whole file says, once it is known what was found.
-use mathlib.Core.Path.{_∙_, _≡_, ap, refl, subst, sym}
-use mathlib.Core.Option.{Option, none as nothing, some}
-use mathlib.Core.List.{List}
-use Prim.Native.Nat.{ℕ}
-use native.Mathlib.Omega.{arith}
-use lib.ListN.{length}
+use Rattle.model.proofs.Prelude.{List, Option, _∙_, _≡_, ap, clash, length, nothing, refl, some, subst, sym, ℕ}
 use Rattle.model.specs.Checks.{is-bad, is-sound}
 use Rattle.model.specs.Format.{SoundFile, checkFile, checkRead, headerOf, readBy, readFile, readSlots, sized}
 use Rattle.model.specs.Files.{Slot, Sound}
@@ -63,8 +58,7 @@ sound-read xs s h e = go (readSlots (s .b) (s .slots) 0 xs) refl
     go nothing f =
         let p : readFile xs ≡ nothing = said-read xs s h ∙ ap (sized (s .b)) f in
         let q : readFile xs ≡ some (file .b, file .slots) = file .is in
-        let z : _≡_ {A = ℕ} 0 1 = cc in
-        absurd (omega arith)
+        clash cc
     go (some fs) f =
         let p : readFile xs ≡ some (s .b, fs) = said-read xs s h ∙ ap (sized (s .b)) f in
         let q : readFile xs ≡ some (file .b, file .slots) = file .is in

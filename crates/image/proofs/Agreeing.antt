@@ -1,13 +1,5 @@
 -- A trie that agrees with a file has an image of its own: its sides lead to the file's slots and to cells that are not the root.
-use mathlib.Core.Path.{_≡_, refl}
-use mathlib.Core.List.{List, List·Memᴰ, List·Memᴰ·head, Memᴰ·append-left, Memᴰ·append-right, [], _++_, _∷_}
-use mathlib.Core.List.{List·Memᴰ·cases-cons, List·Memᴰ·not-nil}
-use mathlib.Core.Logic.{⊎-elim}
-use Prim.Native.Nat.{_+_, _<_, _≤_, suc, zero, ℕ}
-use native.Mathlib.Decide.{decLt, ℕ-discrete}
-use native.Mathlib.Omega.{arith}
-use lib.ListN.{length, length-take, take}
-use lib.Seq.{getD-take}
+use Rattle.model.proofs.Prelude.{List, List·Memᴰ, List·Memᴰ·cases-cons, List·Memᴰ·head, List·Memᴰ·not-nil, Memᴰ·append-left, Memᴰ·append-right, [], _++_, _+_, _<_, _∷_, _≡_, _≤_, arith, decLt, getD-take, length, length-take, refl, suc, take, zero, ℕ, ℕ-discrete, ⊎-elim}
 use Rattle.model.specs.declared.Cell.{Cell}
 use Rattle.model.specs.declared.Side.{Side}
 use Rattle.model.specs.declared.Side.the-variants.{Cell as further, Slot as slot}

@@ -1,12 +1,5 @@
 -- The image written and read cell by cell, as the code does it.
-use mathlib.Core.Path.{_∙_, _≡_, ap, refl, sym}
-use mathlib.Core.List.{List, [], _++_, _∷_, append-assoc, append-nil}
-use Prim.Native.Nat.{_%_, _*_, _+_, _-_, _/_, _<_, _≤_, suc, zero, ℕ}
-use native.Mathlib.Numerals.{add-one, towards-suc}
-use native.Mathlib.Omega.{arith}
-use borrow.Author.Tests.{le-ltb, lt-ltb}
-use lib.ListN.{drop, getD, length, length-append, replicate, set, take}
-use lib.Seq.{append-snoc, length-sets, length-take-le, set-at, sets, sets-eq, take-all, take-at}
+use Rattle.model.proofs.Prelude.{List, [], _%_, _*_, _++_, _+_, _-_, _/_, _<_, _∙_, _∷_, _≡_, _≤_, add-one, ap, append-assoc, append-nil, append-snoc, arith, drop, getD, le-ltb, length, length-append, length-sets, length-take-le, lt-ltb, refl, replicate, set, set-at, sets, sets-eq, suc, sym, take, take-all, take-at, towards-suc, zero, ℕ}
 use Rattle.model.specs.declared.Cell.{Cell}
 use Rattle.model.specs.declared.Side.the-variants.{Cell as further, Slot as slot}
 use Rattle.model.specs.declared.Trie.{Trie}

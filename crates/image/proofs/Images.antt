@@ -1,15 +1,5 @@
 -- Reading back the image that was written, and the converse: 1,540 bytes and the tries with an image are one to one.
-use mathlib.Core.Path.{_∙_, _≡_, ap, refl, sym}
-use mathlib.Core.Bool.{cond}
-use mathlib.Core.List.{List, [], _++_, _∷_, append-assoc}
-use Prim.Native.Nat.{_%_, _*_, _+_, _-_, _/_, _<_, _≤_, suc, zero, ℕ}
-use native.Mathlib.Decide.{decLt}
-use native.Mathlib.Nat.{add-zero}
-use native.Mathlib.Omega.{arith}
-use lib.Dec.{ltb}
-use borrow.Author.Tests.{le-ltb, lt-ltb}
-use lib.ListN.{List·getD-append, drop, getD, length, length-append, length-drop, take}
-use lib.Seq.{getD-append-add, getD-append-seam, getD-drop, take-add, take-all, take-suc}
+use Rattle.model.proofs.Prelude.{List, List·getD-append, [], _%_, _*_, _++_, _+_, _-_, _/_, _<_, _∙_, _∷_, _≡_, _≤_, add-zero, ap, append-assoc, arith, cond, decLt, drop, getD, getD-append-add, getD-append-seam, getD-drop, le-ltb, length, length-append, length-drop, lt-ltb, ltb, refl, suc, sym, take, take-add, take-all, take-suc, zero, ℕ}
 use Rattle.model.specs.declared.Cell.{Cell}
 use Rattle.model.specs.declared.Side.{Side}
 use Rattle.model.specs.declared.Side.the-variants.{Cell as further, Slot as slot}
@@ -76,10 +66,6 @@ cells-byte n (suc m) cs j h k = go (decLt n m) (λ i. cells-byte n m cs j i k)
 image-byte : (t : Trie) (n j k : ℕ) → n < 256 → j < 6 → k ≡ 4 + (6 * n + j) → getD (imageOf t) k 0 ≡ getD (cellBytes (at-cell (t .cells) n)) j 0
 unfolding imageOf
 image-byte t n j k h l e = rw e (getD-append-add (headBytes t) (cellsBytes 256 (t .cells)) (6 * n + j) 0 ∙ cells-byte n 256 (t .cells) j h l)
-
-pub length-imageOf : (t : Trie) → length (imageOf t) ≡ imageSize
-unfolding imageOf
-length-imageOf t = omega (arith, length-append (headBytes t) (cellsBytes 256 (t .cells)), length-cellsBytes 256 (t .cells))
 
 -- Every trie with an image of its own is read back.
 module _ (t : Trie) (I : Imaged t) where

@@ -1,13 +1,5 @@
 -- Lists: what stands at a place, the parts of a list, and what is in it.
-use mathlib.Core.Path.{_∙_, _≡_, ap, refl, sym}
-use mathlib.Core.Logic.{_⊎_, inl, inr}
-use mathlib.Core.List.{List, List·Memᴰ, List·Memᴰ·append-cases, List·Memᴰ·cases-cons, List·Memᴰ·head, List·Memᴰ·not-nil, List·Memᴰ·tail, Memᴰ·append-left, Memᴰ·append-right, [], _++_, _∷_}
-use Prim.Native.Nat.{_*_, _+_, _-_, _<_, _≤_, suc, zero, ℕ}
-use native.Mathlib.Nat.{sub-zero}
-use native.Mathlib.Numerals.{unary-clauses}
-use native.Mathlib.Omega.{arith}
-use lib.ListN.{drop, getD, length, length-append, length-drop, length-replicate, length-take, replicate, take}
-use lib.Seq.{drop-append-add, drop-drop, getD-append-add, getD-take, take-all, take-append-add, take-nil}
+use Rattle.model.proofs.Prelude.{List, List·Memᴰ, List·Memᴰ·append-cases, List·Memᴰ·cases-cons, List·Memᴰ·head, List·Memᴰ·not-nil, List·Memᴰ·tail, Memᴰ·append-left, Memᴰ·append-right, [], _*_, _++_, _+_, _-_, _<_, _∙_, _∷_, _≡_, _≤_, _⊎_, ap, arith, drop, drop-append-add, drop-drop, getD, getD-append-add, getD-take, inl, inr, length, length-append, length-drop, length-replicate, length-take, refl, replicate, sub-zero, suc, sym, take, take-all, take-append-add, take-nil, unary-clauses, zero, ℕ}
 
 -- One thing many times.
 pub take-replicate : {A : Type 0} (k m : ℕ) (a : A) → k ≤ m → take k (replicate m a) ≡ replicate k a

@@ -1,13 +1,5 @@
 -- List, put together from its stages: the entries between two names stand in the buckets from the first name's to the second's.
-use mathlib.Core.Path.{_∙_, _≡_, ap, ap₂, refl, sym}
-use mathlib.Core.Bool.{Bool, _&&_, cond, false, true}
-use mathlib.Core.List.{List, [], _++_, _∷_, append-assoc, append-nil}
-use Prim.Native.Nat.{_*_, _+_, _-_, _/_, _<_, _≤_, suc, zero, ℕ}
-use native.Mathlib.Decide.{decLt}
-use native.Mathlib.Omega.{arith}
-use lib.ListN.{drop, getD, length, length-append, length-drop, length-take, take, take-append-drop}
-use lib.Seq.{drop-cons, getD-drop, getD-take}
-use borrow.Author.Tests.{le-ltb, lt-ltb}
+use Rattle.model.proofs.Prelude.{Bool, List, [], _&&_, _*_, _++_, _+_, _-_, _/_, _<_, _∙_, _∷_, _≡_, _≤_, ap, append-assoc, append-nil, ap₂, arith, cond, decLt, drop, drop-cons, false, getD, getD-drop, getD-take, le-ltb, length, length-append, length-drop, length-take, lt-ltb, refl, suc, sym, take, take-append-drop, true, zero, ℕ}
 use Rattle.model.specs.declared.Cause.{Cause}
 use Rattle.model.specs.declared.Cause.the-variants.{IllegalName, ShortOutput}
 use Rattle.model.specs.declared.ListAnswer.{ListAnswer}

@@ -1,14 +1,5 @@
 -- Look up, put together from its stages: each refusal, and what one slot answers to a name.
-use mathlib.Core.Path.{_∙_, _≡_, ap, refl, subst, sym}
-use mathlib.Core.Bool.{Bool, _&&_, cond, false, not, true}
-use mathlib.Core.Logic.{_⊎_, inl, inr}
-use mathlib.Core.Option.{Option, none as nothing, some}
-use mathlib.Core.List.{List, []}
-use Prim.Native.Nat.{_*_, _+_, _<_, _≤_, ℕ}
-use native.Mathlib.Omega.{arith}
-use lib.Dec.{leb, ltb}
-use borrow.Author.Tests.{le-ltb, lt-ltb}
-use lib.ListN.{drop, getD, length, take}
+use Rattle.model.proofs.Prelude.{Bool, List, Option, [], _&&_, _*_, _+_, _<_, _∙_, _≡_, _≤_, _⊎_, ap, arith, clash, cond, drop, false, getD, inl, inr, le-ltb, leb, length, lt-ltb, ltb, not, nothing, refl, some, subst, sym, take, true, ℕ}
 use Rattle.model.specs.declared.Cause.the-variants.{BadFile, IllegalName, StaleTrie}
 use Rattle.model.specs.declared.LookUpAnswer.{LookUpAnswer}
 use Rattle.model.specs.declared.LookUpAnswer.the-variants.{Absent as NotFound, Found, Refused}
@@ -31,8 +22,7 @@ use Rattle.bucket.specs.declared.Range.the-variants.{Holds, Lacks}
 use Rattle.bucket.specs.Forms.{Formed, WellRead, holding}
 use Rattle.entries.specs.Rows.{heldUnder}
 use Rattle.bucket.specs.Slots.{countAt}
-use Rattle.bucket.proofs.Slots.{read-used, read-values}
-use Rattle.bucket.proofs.Slots.{count-is, free-zero, ill-read, range-holds, well-reads, zero-free}
+use Rattle.bucket.proofs.Slots.{count-is, free-zero, ill-read, range-holds, read-used, read-values, well-reads, zero-free}
 use Rattle.entries.proofs.Places.{held}
 use Rattle.writing.proofs.Finding.{held-find}
 use Rattle.trie.specs.declared.Place.the-variants.{Slot as at-slot}
@@ -43,10 +33,10 @@ use Rattle.trie.proofs.Laws.{arrive-run, landed, lands-at}
 -- Which way a test went, by the answer that it gave.
 pub holding-holds : (t : Bool) → Holds ≡ holding t → t ≡ true
 holding-holds true e = refl
-holding-holds false e = let z : _≡_ {A = ℕ} 0 1 = cc in absurd (omega arith)
+holding-holds false e = clash cc
 
 pub holding-lacks : (t : Bool) → Lacks ≡ holding t → t ≡ false
-holding-lacks true e = let z : _≡_ {A = ℕ} 0 1 = cc in absurd (omega arith)
+holding-lacks true e = clash cc
 holding-lacks false e = refl
 
 -- A slot that is well formed is read, and one that is not is none that is.
@@ -76,7 +66,7 @@ module _ (b : ℕ) (xs : List ℕ) (n : Str) where
       go nothing r = refl
       go (some free) r =
           let y : true ≡ false = sym (free-zero b xs r) ∙ e in
-          let z : _≡_ {A = ℕ} 0 1 = cc in absurd (omega arith)
+          clash cc
       go (some (used l u es)) r = rw (ill-read b xs h e f (used l u es) r)
 
   module _ {k : Bucket} (W : WellRead b xs k) (v : ℕ) (g : Legal n) (e : v ≡ value n) where
@@ -101,14 +91,14 @@ module _ (b : ℕ) (xs : List ℕ) (n : Str) where
       where
         go : (o : Option ℕ) → h ≡ held o → NotFound ≡ heldAnswer o
         go nothing q = refl
-        go (some x) q = let z : _≡_ {A = ℕ} 0 1 = cc in absurd (omega arith)
+        go (some x) q = clash cc
 
     pub answer-found : {h : Held} {x : ℕ} → ((i : ℕ) → getD xs i 0 < 256) → ranged ≡ true → h ≡ heldUnder (drop 64 xs) (countAt b xs) v → h ≡ Value x
         → Found x ≡ slotAnswer b n (readSlot b xs)
     answer-found {h} {x} bytes r f s = answer-held h (Found x) bytes r f go
       where
         go : (o : Option ℕ) → h ≡ held o → Found x ≡ heldAnswer o
-        go nothing q = let z : _≡_ {A = ℕ} 0 1 = cc in absurd (omega arith)
+        go nothing q = clash cc
         go (some y) q = cc
 
 -- "1; 2 if length or header is wrong; 4 if .. the walk ..": then what the slot answers.

@@ -1,10 +1,6 @@
 -- The parts that list counts and writes, one after another.
-use mathlib.Core.Path.{_∙_, _≡_, ap, refl, sym}
-use mathlib.Core.List.{List, [], _++_, append-assoc}
-use Prim.Native.Nat.{_*_, _+_, _-_, _<_, _≤_, suc, ℕ}
-use native.Mathlib.Omega.{arith}
-use lib.ListN.{drop, getD, length, length-append, length-drop, length-take, take}
-use lib.Seq.{drop-append-seam, drop-at, drop-drop, paste, take-add, take-append-seam, take-at, take-length}
+use Rattle.model.proofs.Prelude.{List, [], _*_, _++_, _+_, _-_, _<_, _∙_, _≡_, _≤_, ap, append-assoc, arith, drop, drop-append-seam, drop-at, drop-drop, getD, length, length-append, length-drop, length-take, paste, refl, suc, sym, take, take-add, take-append-seam, take-at, take-length, ℕ}
+use Rattle.bucket.specs.Forms.{partBetween}
 use Rattle.writing.specs.Entries.{partBetween}
 use Rattle.bucket.specs.Slots.{countAt}
 use Rattle.file.specs.declared.Size.{Size}

@@ -1,11 +1,6 @@
 -- How many strings a file has after a split: one more for each digit of the split string past those that the path of the
 -- split key's leaf shares with it, however many they are then.
-use mathlib.Core.Path.{_∙_, _≡_, ap, refl, sym}
-use mathlib.Core.List.{List, []}
-use Prim.Native.Nat.{_+_, _-_, _<_, suc, zero, ℕ}
-use native.Mathlib.Omega.{arith}
-use lib.ListN.{drop, length, length-append, length-drop, length-set, set, take}
-use lib.Seq.{length-take-le}
+use Rattle.model.proofs.Prelude.{List, [], _+_, _-_, _<_, _∙_, _≡_, ap, arith, drop, length, length-append, length-drop, length-set, length-take-le, refl, set, suc, sym, take, zero, ℕ}
 use Rattle.model.specs.declared.Cell.{Cell}
 use Rattle.model.specs.declared.Side.{Side}
 use Rattle.model.specs.declared.Side.the-variants.{Cell as further, Slot as slot}

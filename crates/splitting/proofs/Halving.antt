@@ -1,13 +1,5 @@
 -- The halves of b + 1 entries as the code finds them in their bytes: the split string, what stays and what moves.
-use mathlib.Core.Path.{_∙_, _≡_, ap, refl, subst, sym}
-use mathlib.Core.Bool.{Bool, cond, false, true}
-use mathlib.Core.List.{List, [], _++_, _∷_}
-use Prim.Native.Nat.{_*_, _+_, _-_, _/_, _<_, _≤_, suc, zero, ℕ}
-use native.Mathlib.Decide.{ℕ-discrete}
-use native.Mathlib.Omega.{arith}
-use lib.Dec.{ltb}
-use lib.ListN.{drop, length, length-drop, length-replicate, length-take, replicate, take}
-use lib.Seq.{drop-at, length-take-le, paste, take-all}
+use Rattle.model.proofs.Prelude.{Bool, List, [], _*_, _++_, _+_, _-_, _/_, _<_, _∙_, _∷_, _≡_, _≤_, ap, arith, cond, drop, drop-at, false, length, length-drop, length-replicate, length-take, length-take-le, ltb, paste, refl, replicate, subst, suc, sym, take, take-all, true, zero, ℕ, ℕ-discrete}
 use Rattle.model.specs.declared.Trie.{Trie}
 use Rattle.model.specs.Order.{Low, Str, _≺_, at, diff, diff-at, le?, over}
 use Rattle.model.specs.Names.{Bound, legalBound}
@@ -27,8 +19,7 @@ use Rattle.writing.proofs.Copies.{written-slot}
 use Rattle.model.proofs.Lists.{rest}
 use Rattle.bucket.proofs.Reading.{are-zeros}
 use Rattle.bucket.proofs.Slots.{Reads}
-use Rattle.entries.proofs.Rows.{numbers, values-row}
-use Rattle.entries.proofs.Rows.{entry-at, part-row}
+use Rattle.entries.proofs.Rows.{entry-at, numbers, part-row, values-row}
 use Rattle.writing.proofs.Changing.{lower-at, upper-at}
 use Rattle.entries.proofs.Copies.{moved}
 use Rattle.trie.specs.declared.Walk.{Walk}

@@ -1,5 +1,5 @@
 -- What every split has: a string of 1 to 24 digits, and parts of 1 to b entries.
-use Prim.Native.Nat.{ℕ, _≤_}
+use Prim.Native.Nat.{_≤_, ℕ}
 use Rattle.splitting.specs.declared.Split.{Split}
 
 pub record Parted (s : Split) (b : ℕ) : Type 0 where

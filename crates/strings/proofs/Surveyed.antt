@@ -1,8 +1,5 @@
 -- The order and the strings of a sound file, by its survey.
-use mathlib.Core.Path.{_≡_}
-use mathlib.Core.List.{List}
-use Prim.Native.Nat.{ℕ}
-use lib.ListN.{length, take}
+use Rattle.model.proofs.Prelude.{List, _≡_, length, take, ℕ}
 use Rattle.model.specs.Order.{none}
 use Rattle.model.specs.Files.{order-of, strings-of}
 use Rattle.model.specs.Agreeing.{slotsBetween}

@@ -1,13 +1,5 @@
 -- Create, put together from the sizes that it takes.
-use mathlib.Core.Path.{_∙_, _≡_, refl, subst}
-use mathlib.Core.Bool.{Bool, _&&_, false, true}
-use mathlib.Core.List.{List}
-use Prim.Native.Nat.{_*_, _+_, _<_, ℕ}
-use native.Mathlib.Decide.{decLe}
-use native.Mathlib.Omega.{arith}
-use borrow.Author.Tests.{eq-eqb, ne-eqb}
-use lib.Dec.{eqb}
-use lib.ListN.{length}
+use Rattle.model.proofs.Prelude.{Bool, List, _&&_, _*_, _+_, _<_, _∙_, _≡_, arith, decLe, eq-eqb, eqb, false, length, ne-eqb, refl, subst, true, ℕ}
 use Rattle.model.specs.declared.Cause.the-variants.{WrongSize}
 use Rattle.model.specs.declared.TrieAnswer.the-variants.{Given, Refused as TrieRefused}
 use Rattle.model.specs.declared.TrieGiven.{TrieGiven}

@@ -1,11 +1,5 @@
 -- Rebuild, by its order of refusals, and the trie that it gives.
-use mathlib.Core.Path.{_∙_, _≡_, sym}
-use mathlib.Core.Bool.{Bool, false, true}
-use mathlib.Core.List.{List}
-use Prim.Native.Nat.{_≤_, ℕ}
-use borrow.Author.Tests.{leb-true}
-use lib.Dec.{leb}
-use lib.ListN.{length}
+use Rattle.model.proofs.Prelude.{Bool, List, _∙_, _≡_, _≤_, false, leb, leb-true, length, sym, true, ℕ}
 use Rattle.model.specs.declared.Cause.the-variants.{BadFile, CutFile, ManyStrings}
 use Rattle.model.specs.declared.TrieAnswer.the-variants.{Given, Refused as TrieRefused}
 use Rattle.model.specs.declared.TrieGiven.{TrieGiven}

@@ -1,12 +1,5 @@
 -- Check, and recover by its order of refusals, from a look at the whole file.
-use mathlib.Core.Path.{_∙_, _≡_, ap, refl, sym}
-use mathlib.Core.Option.{none as nothing}
-use mathlib.Core.List.{List, _++_}
-use Prim.Native.Nat.{_*_, _+_, _-_, _<_, _≤_, ℕ}
-use native.Mathlib.Omega.{arith}
-use borrow.Author.Tests.{le-ltb, lt-ltb}
-use lib.ListN.{getD, length-replicate, replicate, replicate-append-replicate, take}
-use lib.Seq.{paste, take-at}
+use Rattle.model.proofs.Prelude.{List, _*_, _++_, _+_, _-_, _<_, _∙_, _≡_, _≤_, ap, arith, getD, le-ltb, length-replicate, lt-ltb, nothing, paste, refl, replicate, replicate-append-replicate, sym, take, take-at, ℕ}
 use Rattle.model.specs.declared.Cause.the-variants.{BadFile, WrongSize}
 use Rattle.model.specs.declared.RecoverAnswer.the-variants.{Freed, Nothing, Refused as RecoverRefused, Stopped as RecoverStopped}
 use Rattle.model.specs.Checks.{is-bad, is-cut, is-sound}

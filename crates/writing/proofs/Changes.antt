@@ -1,11 +1,5 @@
 -- What the entries of a bucket become on a change.
-use mathlib.Core.Path.{_∙_, _≡_, ap, sym}
-use mathlib.Core.Option.{Option, none as nothing, some}
-use mathlib.Core.List.{List, _++_, _∷_, append-assoc}
-use Prim.Native.Nat.{_*_, _+_, _-_, suc, ℕ}
-use native.Mathlib.Omega.{arith}
-use lib.ListN.{drop, length, take}
-use lib.Seq.{drop-at, take-all, take-at}
+use Rattle.model.proofs.Prelude.{List, Option, _*_, _++_, _+_, _-_, _∙_, _∷_, _≡_, ap, append-assoc, arith, clash, drop, drop-at, length, nothing, some, suc, sym, take, take-all, take-at, ℕ}
 use Rattle.model.specs.Entries.{Entry, Row, entry, find, insert, keep, no-entries, not?, without}
 use Rattle.model.specs.Format.{entriesBytes, entryBytes, valueBytes}
 use Rattle.model.specs.Names.{Legal}
@@ -77,7 +71,7 @@ with-insert n v ys (entry {e = e} {es = es} g a b r) h = elim (le? n (e .0)) [
       ∙ ap (λ (w : List ℕ). entryBytes e ++ w) (with-insert n v ys r f))
   | yes q ↦ elim (str? n (e .0)) [
     | yes p ↦ let z : _≡_ {A = Option ℕ} nothing (some (e .1)) = sym h ∙ chosen-yes (str? n (e .0)) p _ _ in
-        let y : _≡_ {A = ℕ} 0 1 = cc in absurd (omega arith)
+        clash cc
     | no p ↦ rw (chosen-yes (le? n (e .0)) q, chosen-yes (le? n (e .0)) q, chosen-no (str? n (e .0)) p) (with-first n v ys (entry g a b r))
   ]
 ]
@@ -86,7 +80,7 @@ with-insert n v ys (entry {e = e} {es = es} g a b r) h = elim (le? n (e .0)) [
 pub changed-insert : {l : Low} {u : Str} {es : List Entry} (n : Str) (v o : ℕ) (ys : List ℕ) → Row l es u → find n es ≡ some o
     → changedValue (entriesBytes es ++ ys) (length es) (place n es) v ≡ entriesBytes (insert n v es)
 unfolding entriesBytes place insert find
-changed-insert n v o ys no-entries h = let y : _≡_ {A = ℕ} 0 1 = cc in absurd (omega arith)
+changed-insert n v o ys no-entries h = clash cc
 changed-insert n v o ys (entry {e = e} {es = es} g a b r) h = elim (le? n (e .0)) [
   | no q ↦ let f : find n es ≡ some o = find-behind n e es q ∙ h in
       rw (chosen-no (le? n (e .0)) q, chosen-no (le? n (e .0)) q, append-assoc)
@@ -100,7 +94,7 @@ changed-insert n v o ys (entry {e = e} {es = es} g a b r) h = elim (le? n (e .0)
 pub without-removal : {l : Low} {u : Str} {es : List Entry} (n : Str) (o : ℕ) (ys : List ℕ) → Row l es u → find n es ≡ some o
     → withoutEntry (entriesBytes es ++ ys) (length es) (place n es) ≡ entriesBytes (without n es)
 unfolding entriesBytes place keep find
-without-removal n o ys no-entries h = let y : _≡_ {A = ℕ} 0 1 = cc in absurd (omega arith)
+without-removal n o ys no-entries h = clash cc
 without-removal n o ys (entry {e = e} {es = es} g a b r) h = elim (le? n (e .0)) [
   | no q ↦ let f : find n es ≡ some o = find-behind n e es q ∙ h in
       rw (chosen-no (le? n (e .0)) q, chosen-yes (not? (str? (e .0) n)) (λ p. q (rw p (le-refl n))), append-assoc)

@@ -1,11 +1,5 @@
 -- What put and remove find and write in one slot: whether a name is held, and the slot's bytes with its entries changed.
-use mathlib.Core.Path.{_∙_, _≡_, ap, ap₂, refl, sym}
-use mathlib.Core.Option.{Option, none as nothing, some}
-use mathlib.Core.List.{List, [], _∷_}
-use Prim.Native.Nat.{_*_, _+_, _-_, _<_, _≤_, suc, ℕ}
-use native.Mathlib.Omega.{arith}
-use lib.ListN.{drop, getD, length, replicate, take}
-use lib.Seq.{drop-drop}
+use Rattle.model.proofs.Prelude.{List, Option, [], _*_, _+_, _-_, _<_, _∙_, _∷_, _≡_, _≤_, ap, ap₂, arith, clash, drop, drop-drop, getD, length, nothing, refl, replicate, some, suc, sym, take, ℕ}
 use Rattle.model.specs.Entries.{Entry, Row, entry, find, insert, keep, name-at, no-entries, not?, without}
 use Rattle.model.specs.Files.{used}
 use Rattle.model.specs.Format.{entriesBytes, lowDigits, padded, slotBytes, slotSize}
@@ -35,7 +29,7 @@ unfolding insert find
 length-new n v [] h = refl
 length-new n v (e ∷ es) h = elim (str? n (e .0)) [
   | yes p ↦ let z : _≡_ {A = Option ℕ} nothing (some (e .1)) = sym h ∙ chosen-yes (str? n (e .0)) p _ _ in
-      let y : _≡_ {A = ℕ} 0 1 = cc in absurd (omega arith)
+      clash cc
   | no p ↦ elim (le? n (e .0)) [
     | yes q ↦ rw (chosen-yes (le? n (e .0)) q, chosen-no (str? n (e .0)) p)
     | no q ↦ rw (chosen-no (le? n (e .0)) q) (ap suc (length-new n v es (sym (chosen-no (str? n (e .0)) p _ _) ∙ h)))
@@ -44,7 +38,7 @@ length-new n v (e ∷ es) h = elim (str? n (e .0)) [
 
 pub length-held : {l : Low} {u : Str} {es : List Entry} (n : Str) (v w : ℕ) → Row l es u → find n es ≡ some w → length (insert n v es) ≡ length es
 unfolding insert find
-length-held n v w no-entries h = let y : _≡_ {A = ℕ} 0 1 = cc in absurd (omega arith)
+length-held n v w no-entries h = clash cc
 length-held n v w (entry {e = e} {es = es} g a c r) h = elim (le? n (e .0)) [
   | no q ↦ rw (chosen-no (le? n (e .0)) q) (ap suc (length-held n v w r (find-behind n e es q ∙ h)))
   | yes q ↦ rw (chosen-yes (le? n (e .0)) q, chosen-yes (str? n (e .0)) (find-first n e r q h))
@@ -52,7 +46,7 @@ length-held n v w (entry {e = e} {es = es} g a c r) h = elim (le? n (e .0)) [
 
 pub length-less : {l : Low} {u : Str} {es : List Entry} (n : Str) (w : ℕ) → Row l es u → find n es ≡ some w → suc (length (without n es)) ≡ length es
 unfolding keep find
-length-less n w no-entries h = let y : _≡_ {A = ℕ} 0 1 = cc in absurd (omega arith)
+length-less n w no-entries h = clash cc
 length-less n w (entry {e = e} {es = es} g a c r) h = elim (str? n (e .0)) [
   | yes p ↦ rw (chosen-no (not? (str? (e .0) n)) (λ f. f (sym p)), keep-all (λ k. not? (str? k n)) r (λ k d q. over d (rw (q, p) (le-refl (e .0)))))
   | no p ↦ rw (chosen-yes (not? (str? (e .0) n)) (λ q. p (sym q))) (ap suc (length-less n w r (sym (chosen-no (str? n (e .0)) p _ _) ∙ h)))

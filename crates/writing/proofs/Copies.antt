@@ -1,10 +1,5 @@
 -- The copies of which the code makes entries and slots.
-use mathlib.Core.Path.{_∙_, _≡_, ap, refl, sym}
-use mathlib.Core.List.{List, [], _++_, _∷_, append-assoc}
-use Prim.Native.Nat.{_*_, _+_, _-_, _/_, _<_, _≤_, suc, ℕ}
-use native.Mathlib.Omega.{arith}
-use lib.ListN.{drop, length, length-append, length-drop, replicate, set, take}
-use lib.Seq.{length-take-le, paste}
+use Rattle.model.proofs.Prelude.{List, [], _*_, _++_, _+_, _-_, _/_, _<_, _∙_, _∷_, _≡_, _≤_, ap, append-assoc, arith, drop, length, length-append, length-drop, length-take-le, paste, refl, replicate, set, suc, sym, take, ℕ}
 use Rattle.model.specs.Entries.{Entry, Row}
 use Rattle.model.specs.Files.{used}
 use Rattle.model.specs.Format.{entriesBytes, lowDigits, padded, slotBytes, slotSize, valueBytes}

@@ -1,13 +1,5 @@
 -- What look up and list find in the bytes of one slot.
-use mathlib.Core.Path.{_∙_, _≡_, ap, ap₂, refl, sym}
-use mathlib.Core.Option.{Option, none as nothing, some}
-use mathlib.Core.List.{List, []}
-use Prim.Native.Nat.{_*_, _+_, _-_, _<_, _≤_, ℕ}
-use native.Mathlib.Decide.{decLt}
-use native.Mathlib.Omega.{arith}
-use lib.ListN.{drop, getD, length, replicate, take}
-use lib.Seq.{drop-drop}
-use borrow.Author.Tests.{eq-eqb, ne-eqb}
+use Rattle.model.proofs.Prelude.{List, Option, [], _*_, _+_, _-_, _<_, _∙_, _≡_, _≤_, ap, ap₂, arith, decLt, drop, drop-drop, eq-eqb, getD, length, ne-eqb, nothing, refl, replicate, some, sym, take, ℕ}
 use Rattle.model.specs.Calls.{between}
 use Rattle.model.specs.Entries.{Entry, find, name-at}
 use Rattle.model.specs.Format.{Values, entriesBytes, valueOf}

@@ -1,10 +1,5 @@
 -- Bytes put one behind another into zeros.
-use mathlib.Core.Path.{_∙_, _≡_, ap, refl, sym}
-use mathlib.Core.List.{List, [], _++_, _∷_, append-assoc}
-use Prim.Native.Nat.{_%_, _+_, _-_, _/_, _≤_, suc, zero, ℕ}
-use native.Mathlib.Omega.{arith}
-use lib.ListN.{drop, length, length-append, replicate, replicate-append-replicate, take}
-use lib.Seq.{drop-append-le, length-paste, paste, take-append-add, take-append-le, take-at, take-length, take-take}
+use Rattle.model.proofs.Prelude.{List, [], _%_, _++_, _+_, _-_, _/_, _∙_, _∷_, _≡_, _≤_, ap, append-assoc, arith, drop, drop-append-le, length, length-append, length-paste, paste, refl, replicate, replicate-append-replicate, suc, sym, take, take-append-add, take-append-le, take-at, take-length, take-take, zero, ℕ}
 use Rattle.model.specs.Format.{littleEndian, padded, valueBytes}
 use Rattle.model.proofs.Format.{padded-short}
 use Rattle.model.proofs.Lists.{drop-past, drop-replicate}

@@ -1,20 +1,7 @@
 -- `grown` meets its contract.
-use mathlib.Core.Path.{subst}
-use Prim.Native.Nat.{ℕ}
-use lib.ListN.{take}
+use Rattle.model.proofs.Prelude.{needs, subst, take, ℕ}
 use Rattle.growth.specs.Grows.{Grows}
-use borrow.Author.Needs.{needs}
-use Rattle.changing.proofs.grown.Statement.{statement}
 use Rattle.changing.proofs.grown.Tie as tie
-
-u16-of-usize-requires : tie.Need-u16-of-usize-requires
-u16-of-usize-requires c κs = search needs
-
-u16-of-usize-requires-2 : tie.Need-u16-of-usize-requires-2
-u16-of-usize-requires-2 c κs = search needs
-
-grown-at-requires : tie.Need-grown-at-requires
-grown-at-requires c κs = search needs
 
 returns : tie.Need-returns
 returns c =
@@ -25,5 +12,5 @@ returns c =
     (subst (λ (m : ℕ). Grows (a .trie) (a .checked .places) (a .checked .strings .lens) (a .split .walk) s (a .split .shared) m (c .before .u16-of-usize2 .result) r) (c .before .before .u16-of-usize .ensures)
     (c .grown-at .ensures))
 
-pub grown-spec : {M : Type 1} → statement M
-grown-spec = tie.close (tie.spec u16-of-usize-requires u16-of-usize-requires-2 grown-at-requires returns)
+pub grown-spec : {M : Type 1} → Rattle.changing.proofs.grown.Statement.statement M
+grown-spec = tie.close (tie.spec (λ c κs. search needs) (λ c κs. search needs) (λ c κs. search needs) returns)

@@ -1,13 +1,11 @@
 -- `digits::lowest_key` meets its contract.
+use Rattle.model.proofs.Prelude.{refl}
 use Rattle.digits.specs.Keys.{keyValue}
-use Prim.Native.Nat.{_-_}
-use mathlib.Core.Path.{refl}
-use Rattle.digits.proofs.lowest_key.Statement.{statement}
 use Rattle.digits.proofs.lowest_key.Tie as tie
 
 returns : tie.Need-returns
 unfolding keyValue
 returns c = refl
 
-pub lowest-key-spec : {M : Type 1} → statement M
+pub lowest-key-spec : {M : Type 1} → Rattle.digits.proofs.lowest_key.Statement.statement M
 lowest-key-spec = tie.close (tie.spec returns)

@@ -1,27 +1,13 @@
 -- `digits::swapped` meets its contract.
-use mathlib.Core.Path.{_∙_, _≡_}
+use Rattle.model.proofs.Prelude.{_∙_, _≡_, arith, drop, needs, take}
 use lib.Bits.{and-mask, mask-lt}
-use lib.ListN.{drop, take}
 use Rattle.digits.specs.Keys.{value}
 use Rattle.digits.proofs.Bytes.{bytes-lower, bytes-upper, halves, length-lower, length-upper, lower-lt, or-below, value-halves}
-use native.Mathlib.Omega.{arith}
-use borrow.Author.Needs.{needs}
-use Rattle.digits.proofs.swapped.Statement.{statement}
 use Rattle.digits.proofs.swapped.Tie as tie
-
-swapped-four-requires : tie.Need-swapped-four-requires
-swapped-four-requires c κs = mask-lt (c .args .w) 32
-
-swapped-four-requires-2 : tie.Need-swapped-four-requires-2
-swapped-four-requires-2 c κs = search needs
 
 returns : tie.Need-returns
 returns c x W h =
-    let w = c .before .before .args .w in
-    let p = c .before .swapped-four in
-    let q = c .swapped-four2 in
-    let f = W .bytes in
-    let l = W .eight in
+    let w = c .before .before .args .w in let p = c .before .swapped-four in let q = c .swapped-four2 in let f = W .bytes in let l = W .eight in
     let e = or-below 32 (q .result) (p .result) (omega arith) (omega arith) in
     let b = halves 4 x f l in
     let k = lower-lt 4 x f l in
@@ -29,5 +15,5 @@ returns c x W h =
     let second : q .result ≡ value (drop 4 x) = q .ensures .1 (drop 4 x) (bytes-upper 4 x f l) (length-upper 4 x f l) (omega arith) in
     omega (arith, e, value-halves 4 x f l)
 
-pub swapped-spec : {M : Type 1} → statement M
-swapped-spec = tie.close (tie.spec swapped-four-requires swapped-four-requires-2 returns)
+pub swapped-spec : {M : Type 1} → Rattle.digits.proofs.swapped.Statement.statement M
+swapped-spec = tie.close (tie.spec (λ c κs. mask-lt (c .args .w) 32) (λ c κs. search needs) returns)

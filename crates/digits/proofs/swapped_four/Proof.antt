@@ -1,25 +1,13 @@
 -- `digits::swapped_four` meets its contract.
-use mathlib.Core.Path.{_∙_, _≡_}
+use Rattle.model.proofs.Prelude.{_∙_, _≡_, arith, drop, needs, take}
 use lib.Bits.{and-mask, mask-lt}
-use lib.ListN.{drop, take}
 use Rattle.digits.specs.Keys.{value}
 use Rattle.digits.proofs.Bytes.{bytes-lower, bytes-upper, halves, length-lower, length-upper, lower-lt, or-below, value-halves}
-use native.Mathlib.Omega.{arith}
-use borrow.Author.Needs.{needs}
-use Rattle.digits.proofs.swapped_four.Statement.{statement}
 use Rattle.digits.proofs.swapped_four.Tie as tie
-
-swapped-two-requires : tie.Need-swapped-two-requires
-swapped-two-requires c κs = mask-lt (c .args .w) 16
-
-swapped-two-requires-2 : tie.Need-swapped-two-requires-2
-swapped-two-requires-2 c κs = search needs
 
 returns : tie.Need-returns
 returns c =
-    let w = c .before .before .args .w in
-    let p = c .before .swapped-two in
-    let q = c .swapped-two2 in
+    let w = c .before .before .args .w in let p = c .before .swapped-two in let q = c .swapped-two2 in
     let e = or-below 16 (q .result) (p .result) (omega arith) (omega arith) in (
       omega (arith, e),
       λ x f l h.
@@ -30,5 +18,5 @@ returns c =
           omega (arith, e, value-halves 2 x f l),
     )
 
-pub swapped-four-spec : {M : Type 1} → statement M
-swapped-four-spec = tie.close (tie.spec swapped-two-requires swapped-two-requires-2 returns)
+pub swapped-four-spec : {M : Type 1} → Rattle.digits.proofs.swapped_four.Statement.statement M
+swapped-four-spec = tie.close (tie.spec (λ c κs. mask-lt (c .args .w) 16) (λ c κs. search needs) returns)

@@ -1,15 +1,8 @@
 -- `entries::not_above` meets its contract.
-use mathlib.Core.Bool.{false, true}
-use mathlib.Core.Path.{_∙_, _≡_, ap, sym}
-use Prim.Native.Nat.{_*_, _+_, _-_, _≤_, ℕ}
-use native.Mathlib.Omega.{arith}
-use lib.Dec.{ltb}
-use lib.ListN.{drop, take}
+use Rattle.model.proofs.Prelude.{_*_, _+_, _-_, _∙_, _≡_, _≤_, ap, arith, drop, false, ltb, needs, sym, take, true, ℕ}
 use Rattle.digits.specs.Keys.{keyValue, value}
 use Rattle.entries.specs.Rows.{notAbove, values}
 use Rattle.entries.proofs.Steps.{notAbove-end, notAbove-last, notAbove-next, notAbove-start}
-use borrow.Author.Needs.{needs}
-use Rattle.entries.proofs.not_above.Statement.{statement}
 use Rattle.entries.proofs.not_above.Tie as tie
 
 abbrev Inv-loop : tie.InvT-loop
@@ -23,57 +16,26 @@ loop-holds c =
     let a = c .before .args in
     (omega arith, notAbove-start (a .entries .now) (a .count) (keyValue (a .string)))
 
-mul-key-at : tie.Need-mul-key-at Inv-loop μ-loop
-mul-key-at c = search needs
-
-key-at-requires : tie.Need-key-at-requires Inv-loop μ-loop
-key-at-requires c κs = search needs
-
-is-below-requires : tie.Need-is-below-requires Inv-loop μ-loop
-is-below-requires c κs = search needs
-
 returns : tie.Need-returns Inv-loop μ-loop
 returns c =
-    let l = c .before .before .before .before in
-    let a = l .before .before .args in
-    let xs = a .entries .now in
+    let l = c .before .before .before .before in let a = l .before .before .args in let xs = a .entries .now in
     let v = keyValue (a .string) in
     let t : ltb v (value (take 24 (drop (32 * l .loop .i) xs))) ≡ true = ap (λ (w : ℕ). ltb v w) (sym (c .before .before .key-at .ensures)) ∙ sym (c .before .is-below .ensures) ∙ c .if1 .taken in
     (omega arith, sym (l .loop .inv .1 ∙ notAbove-last xs (a .count) (l .loop .i) (omega arith) v t))
 
-add-i : tie.Need-add-i Inv-loop μ-loop
-add-i c = search needs
-
-loop-less : tie.Need-loop-less Inv-loop μ-loop
-loop-less c = search needs
-
 loop-again : tie.Need-loop-again Inv-loop μ-loop
 loop-again c =
-    let l = c .before .before .before .before in
-    let a = l .before .before .args in
-    let xs = a .entries .now in
+    let l = c .before .before .before .before in let a = l .before .before .args in let xs = a .entries .now in
     let v = keyValue (a .string) in
     let t : ltb v (value (take 24 (drop (32 * l .loop .i) xs))) ≡ false = ap (λ (w : ℕ). ltb v w) (sym (c .before .before .key-at .ensures)) ∙ sym (c .before .is-below .ensures) ∙ c .if1 .left in
     (omega arith, l .loop .inv .1 ∙ notAbove-next xs (a .count) (l .loop .i) (omega arith) v t)
 
 returns-2 : tie.Need-returns-2 Inv-loop μ-loop
 returns-2 c =
-    let l = c .before in
-    let a = l .before .before .args in
+    let l = c .before in let a = l .before .before .args in
     (omega arith, sym (l .loop .inv .1 ∙ notAbove-end (drop (32 * l .loop .i) (a .entries .now)) (a .count) (l .loop .i) (omega arith) (keyValue (a .string)) (omega arith)))
 
-pub not-above-spec : {M : Type 1} → statement M
+pub not-above-spec : {M : Type 1} → Rattle.entries.proofs.not_above.Statement.statement M
 not-above-spec =
-    tie.close
-    (tie.spec
-    Inv-loop
-    μ-loop
-    loop-holds
-    mul-key-at
-    key-at-requires
-    is-below-requires
-    returns
-    add-i
-    loop-less
-    loop-again
-    returns-2)
+    tie.close (tie.spec Inv-loop μ-loop loop-holds (λ c. search needs) (λ c κs. search needs) (λ c κs. search needs) returns (λ c. search needs)
+    (λ c. search needs) loop-again returns-2)

@@ -1,8 +1,5 @@
 -- `print_buckets` meets its contract.
-use Prim.Native.Nat.{_≤_, _-_}
-use native.Mathlib.Omega.{arith}
-use borrow.Author.Needs.{needs}
-use Rattle.overview.proofs.print_buckets.Statement.{statement}
+use Rattle.model.proofs.Prelude.{_-_, _≤_, arith, needs}
 use Rattle.overview.proofs.print_buckets.Tie as tie
 
 abbrev Inv-loop : tie.InvT-loop
@@ -11,59 +8,12 @@ Inv-loop file size order count j₀ j = j ≤ count
 abbrev μ-loop : tie.MeasureT-loop
 μ-loop file size order count j₀ j = count - j
 
-slice-aggregate-say : tie.Need-slice-aggregate-say Inv-loop μ-loop
-slice-aggregate-say c = search needs
-
-say-requires : tie.Need-say-requires Inv-loop μ-loop
-say-requires c κs = search needs
-
-loop-holds : tie.Need-loop-holds Inv-loop μ-loop
-loop-holds c = search needs
-
-element-copy-out-k : tie.Need-element-copy-out-k Inv-loop μ-loop
-element-copy-out-k c = search needs
-
-usize-of-u8-requires : tie.Need-usize-of-u8-requires Inv-loop μ-loop
-usize-of-u8-requires c κs = search needs
-
 slot-at-requires : tie.Need-slot-at-requires Inv-loop μ-loop
 slot-at-requires c κs =
     let s = c .before .before .before .before .before .before .before in
     (s .pre .0, omega (arith, s .pre .1 (c .before .before .before .loop .j)))
 
-u64-of-u8-requires : tie.Need-u64-of-u8-requires Inv-loop μ-loop
-u64-of-u8-requires c κs = search needs
-
-print-bucket-requires : tie.Need-print-bucket-requires Inv-loop μ-loop
-print-bucket-requires c κs = search needs
-
-add-j : tie.Need-add-j Inv-loop μ-loop
-add-j c = search needs
-
-loop-less : tie.Need-loop-less Inv-loop μ-loop
-loop-less c = search needs
-
-loop-again : tie.Need-loop-again Inv-loop μ-loop
-loop-again c = search needs
-
-returns : tie.Need-returns Inv-loop μ-loop
-returns c = search needs
-
-pub print-buckets-spec : {M : Type 1} → statement M
+pub print-buckets-spec : {M : Type 1} → Rattle.overview.proofs.print_buckets.Statement.statement M
 print-buckets-spec =
-    tie.close
-    (tie.spec
-    Inv-loop
-    μ-loop
-    slice-aggregate-say
-    say-requires
-    loop-holds
-    element-copy-out-k
-    usize-of-u8-requires
-    slot-at-requires
-    u64-of-u8-requires
-    print-bucket-requires
-    add-j
-    loop-less
-    loop-again
-    returns)
+    tie.close (tie.spec Inv-loop μ-loop (λ c. search needs) (λ c κs. search needs) (λ c. search needs) (λ c. search needs) (λ c κs. search needs)
+    slot-at-requires (λ c κs. search needs) (λ c κs. search needs) (λ c. search needs) (λ c. search needs) (λ c. search needs) (λ c. search needs))

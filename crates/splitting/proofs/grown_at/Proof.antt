@@ -1,24 +1,8 @@
 -- `grown_at` meets its contract.
-use mathlib.Core.Path.{subst}
-use mathlib.Core.List.{List}
-use Prim.Native.Nat.{ℕ}
+use Rattle.model.proofs.Prelude.{List, needs, subst, ℕ}
 use Rattle.growth.specs.Grows.{Grows}
 use Rattle.splitting.proofs.Halving.{front}
-use borrow.Author.Needs.{needs}
-use Rattle.splitting.proofs.grown_at.Statement.{statement}
 use Rattle.splitting.proofs.grown_at.Tie as tie
-
-sub-grown : tie.Need-sub-grown
-sub-grown c = search needs
-
-part-grown-start : tie.Need-part-grown-start
-part-grown-start c = search needs
-
-part-grown-end : tie.Need-part-grown-end
-part-grown-end c = search needs
-
-grown-requires : tie.Need-grown-requires
-grown-requires c κs = search needs
 
 returns : tie.Need-returns
 returns c =
@@ -26,6 +10,5 @@ returns c =
     subst (λ (z : List ℕ). Grows (a .trie) (a .places .now) (a .lens .now) (a .split .walk) z (a .split .shared) (a .a) (a .n) (c .grown .result))
     (front (a .len) (a .string .now)) (c .grown .ensures)
 
-pub grown-at-spec : {M : Type 1} → statement M
-grown-at-spec =
-    tie.close (tie.spec sub-grown part-grown-start part-grown-end grown-requires returns)
+pub grown-at-spec : {M : Type 1} → Rattle.splitting.proofs.grown_at.Statement.statement M
+grown-at-spec = tie.close (tie.spec (λ c. search needs) (λ c. search needs) (λ c. search needs) (λ c κs. search needs) returns)

@@ -1,16 +1,9 @@
 -- `place_of` meets its contract: the halves close in on a place not above the count.
-use Prim.Native.Nat.{_<_, _≤_, _-_, _+_, _/_, suc, ℕ}
-use native.Mathlib.Omega.{arith}
-use mathlib.Core.Path.{_∙_, _≡_, subst, sym}
-use mathlib.Core.Bool.{false, true}
-use mathlib.Core.List.{List}
-use lib.ListN.{getD}
+use Rattle.model.proofs.Prelude.{List, _+_, _-_, _/_, _<_, _∙_, _≡_, _≤_, arith, false, getD, needs, subst, suc, sym, true, ℕ}
 use Rattle.model.specs.Files.{Slot}
 use Rattle.digits.specs.Keys.{keyValue}
 use Rattle.file.specs.Orders.{Known, Listed, placed, stands}
 use Rattle.file.proofs.Comparing.{place-read}
-use borrow.Author.Needs.{needs}
-use Rattle.file.proofs.order.place_of.Statement.{statement}
 use Rattle.file.proofs.order.place_of.Tie as tie
 
 abbrev Inv-loop : tie.InvT-loop
@@ -26,34 +19,14 @@ abbrev μ-loop : tie.MeasureT-loop
 loop-holds : tie.Need-loop-holds Inv-loop μ-loop
 loop-holds c = (omega arith, omega arith, λ fs. λ K. λ L. (λ j. λ e. absurd (omega arith), λ h. absurd (omega arith)))
 
-sub-middle : tie.Need-sub-middle Inv-loop μ-loop
-sub-middle c = search needs
-
-add-middle : tie.Need-add-middle Inv-loop μ-loop
-add-middle c = search needs
-
-element-copy-out-usize-of-u8 : tie.Need-element-copy-out-usize-of-u8 Inv-loop μ-loop
-element-copy-out-usize-of-u8 c = search needs
-
-usize-of-u8-requires : tie.Need-usize-of-u8-requires Inv-loop μ-loop
-usize-of-u8-requires c κs = search needs
-
 slot-at-requires : tie.Need-slot-at-requires Inv-loop μ-loop
 slot-at-requires c κs =
-    let s = c .before .before .before .before .before in
-    let l = c .before .before .before .loop in
+    let s = c .before .before .before .before .before in let l = c .before .before .before .loop in
     (s .pre .0, omega (arith, s .pre .1 (l .least + (l .most - l .least) / 2)))
-
-is-before-requires : tie.Need-is-before-requires Inv-loop μ-loop
-is-before-requires c κs = search needs
-
-loop-less : tie.Need-loop-less Inv-loop μ-loop
-loop-less c = search needs
 
 loop-again : tie.Need-loop-again Inv-loop μ-loop
 loop-again c =
-    let l = c .before .before .before .before .before .before .loop in
-    let s = c .before .before .before .before .before .before .before .before in
+    let s = c .before .before .before .before .before .before .before .before in let l = c .before .before .before .before .before .before .loop in
     let m = l .least + (l .most - l .least) / 2 in
     let told : (fs : List Slot) → Known (s .args .size .b) (s .args .file .now) fs → Listed fs (s .args .order .now) (s .args .count)
     → stands (keyValue (s .args .high)) (keyValue (s .args .low)) (placed fs (s .args .order .now) m) ≡ true =
@@ -62,16 +35,9 @@ loop-again c =
     sym (c .before .is-before .ensures (s .args .size .b) (placed fs (s .args .order .now) m) (L m (omega arith)) y (K .well (getD (s .args .order .now) m 0))) ∙ c .if1 .taken in
     (omega arith, omega arith, λ fs. λ K. λ L. (l .inv .2 fs K L .0, λ h. told fs K L))
 
-add-least : tie.Need-add-least Inv-loop μ-loop
-add-least c = search needs
-
-loop-less-2 : tie.Need-loop-less-2 Inv-loop μ-loop
-loop-less-2 c = search needs
-
 loop-again-2 : tie.Need-loop-again-2 Inv-loop μ-loop
 loop-again-2 c =
-    let l = c .before .before .before .before .before .before .loop in
-    let s = c .before .before .before .before .before .before .before .before in
+    let s = c .before .before .before .before .before .before .before .before in let l = c .before .before .before .before .before .before .loop in
     let m = l .least + (l .most - l .least) / 2 in
     let told : (fs : List Slot) → Known (s .args .size .b) (s .args .file .now) fs → Listed fs (s .args .order .now) (s .args .count)
     → stands (keyValue (s .args .high)) (keyValue (s .args .low)) (placed fs (s .args .order .now) m) ≡ false =
@@ -91,22 +57,7 @@ returns c =
       },
     )
 
-pub place-of-spec : {M : Type 1} → statement M
+pub place-of-spec : {M : Type 1} → Rattle.file.proofs.order.place_of.Statement.statement M
 place-of-spec =
-    tie.close
-    (tie.spec
-    Inv-loop
-    μ-loop
-    loop-holds
-    sub-middle
-    add-middle
-    element-copy-out-usize-of-u8
-    usize-of-u8-requires
-    slot-at-requires
-    is-before-requires
-    loop-less
-    loop-again
-    add-least
-    loop-less-2
-    loop-again-2
-    returns)
+    tie.close (tie.spec Inv-loop μ-loop loop-holds (λ c. search needs) (λ c. search needs) (λ c. search needs) (λ c κs. search needs) slot-at-requires
+    (λ c κs. search needs) (λ c. search needs) loop-again (λ c. search needs) (λ c. search needs) loop-again-2 returns)

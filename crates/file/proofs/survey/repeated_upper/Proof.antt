@@ -1,16 +1,10 @@
 -- `repeated_upper` meets its contract: the neighbours passed have different upper bounds.
-use Prim.Native.Nat.{_<_, _≤_, _-_, suc, ℕ}
-use native.Mathlib.Decide.{ℕ-discrete}
-use native.Mathlib.Omega.{arith}
-use mathlib.Core.Path.{_≡_, subst}
-use mathlib.Core.List.{List}
+use Rattle.model.proofs.Prelude.{List, _-_, _<_, _≡_, _≤_, arith, needs, subst, suc, ℕ, ℕ-discrete}
 use Rattle.model.specs.Files.{Slot, head, upper-of}
 use Rattle.digits.specs.Keys.{keyValue}
 use Rattle.file.specs.Orders.{Known, Listed, placed}
 use Rattle.file.proofs.Comparing.{place-high}
 use Rattle.file.proofs.Chains.{other-upper, same-upper}
-use borrow.Author.Needs.{needs}
-use Rattle.file.proofs.survey.repeated_upper.Statement.{statement}
 use Rattle.file.proofs.survey.repeated_upper.Tie as tie
 
 abbrev Inv-loop : tie.InvT-loop
@@ -21,49 +15,20 @@ Inv-loop file size order count j₀ j =
 abbrev μ-loop : tie.MeasureT-loop
 μ-loop file size order count j₀ j = count - j
 
-loop-holds : tie.Need-loop-holds Inv-loop μ-loop
-loop-holds c = (omega arith, λ fs. λ K. λ L. λ i. λ h. absurd (omega arith))
-
-sub-usize-of-u8 : tie.Need-sub-usize-of-u8 Inv-loop μ-loop
-sub-usize-of-u8 c = search needs
-
-element-copy-out-usize-of-u8 : tie.Need-element-copy-out-usize-of-u8 Inv-loop μ-loop
-element-copy-out-usize-of-u8 c = search needs
-
-usize-of-u8-requires : tie.Need-usize-of-u8-requires Inv-loop μ-loop
-usize-of-u8-requires c κs = search needs
-
 slot-at-requires : tie.Need-slot-at-requires Inv-loop μ-loop
 slot-at-requires c κs =
-    let s = c .before .before .before .before .before in
-    let l = c .before .before .before .loop in
+    let s = c .before .before .before .before .before in let l = c .before .before .before .loop in
     (s .pre .0, omega (arith, s .pre .1 (l .j - 1)))
-
-element-copy-out-usize-of-u8-2 : tie.Need-element-copy-out-usize-of-u8-2 Inv-loop μ-loop
-element-copy-out-usize-of-u8-2 c = search needs
-
-usize-of-u8-requires-2 : tie.Need-usize-of-u8-requires-2 Inv-loop μ-loop
-usize-of-u8-requires-2 c κs = search needs
 
 slot-at-requires-2 : tie.Need-slot-at-requires-2 Inv-loop μ-loop
 slot-at-requires-2 c κs =
-    let s = c .before .before .before .before .before .before .before .before in
-    let l = c .before .before .before .before .before .before .loop in
+    let s = c .before .before .before .before .before .before .before .before in let l = c .before .before .before .before .before .before .loop in
     (s .pre .0, omega (arith, s .pre .1 (l .j)))
-
-high-key-requires : tie.Need-high-key-requires Inv-loop μ-loop
-high-key-requires c κs = search needs
-
-high-key-requires-2 : tie.Need-high-key-requires-2 Inv-loop μ-loop
-high-key-requires-2 c κs = search needs
-
-is-same-requires : tie.Need-is-same-requires Inv-loop μ-loop
-is-same-requires c κs = search needs
 
 returns : tie.Need-returns Inv-loop μ-loop
 returns c =
-    let l = c .before .before .before .before .before .before .before .before .before .before .before .loop in
-    let s = c .before .before .before .before .before .before .before .before .before .before .before .before .before in
+    let at-high-key = c .before .before .before in let at-slot-at = at-high-key .before .before .before .before in
+    let s = at-slot-at .before .before .before .before .before .before in let l = at-slot-at .before .before .before .before .loop in
     let o = s .args .order .now in
     let n = s .args .count in (
       λ h. l .inv .0,
@@ -71,31 +36,24 @@ returns c =
         apart = l .inv .1 fs K L;
         same = λ i e h. subst (λ (k : ℕ). upper-of (head (placed fs o k)) ≡ upper-of (head (placed fs o (l .j)))) (omega arith)
             (same-upper K o n (omega (arith, s .pre .3)) L (l .j - 1) (l .j) (omega arith) (omega arith)
-            (keyValue (c .before .before .before .high-key .result)) (keyValue (c .before .before .high-key2 .result))
-            (place-high K o n L (l .j - 1) (omega arith) _ (c .before .before .before .before .before .before .before .before .usize-of-u8 .ensures .0) _ (c .before .before .before .before .before .before .before .slot-at .ensures .0) _ (c .before .before .before .high-key .ensures))
-            (place-high K o n L (l .j) (omega arith) _ (c .before .before .before .before .before .usize-of-u82 .ensures .0) _ (c .before .before .before .before .slot-at2 .ensures .0) _ (c .before .before .high-key2 .ensures))
+            (keyValue (at-high-key .high-key .result)) (keyValue (c .before .before .high-key2 .result))
+            (place-high K o n L (l .j - 1) (omega arith) _ (at-slot-at .before .usize-of-u8 .ensures .0) _ (at-slot-at .slot-at .ensures .0) _ (at-high-key .high-key .ensures))
+            (place-high K o n L (l .j) (omega arith) _ (at-high-key .before .before .usize-of-u82 .ensures .0) _ (at-high-key .before .slot-at2 .ensures .0) _ (c .before .before .high-key2 .ensures))
             (c .before .is-same .result) (c .before .is-same .ensures) (c .if1 .taken));
       },
     )
 
-add-j : tie.Need-add-j Inv-loop μ-loop
-add-j c = search needs
-
-loop-less : tie.Need-loop-less Inv-loop μ-loop
-loop-less c = search needs
-
 loop-again : tie.Need-loop-again Inv-loop μ-loop
 loop-again c =
-    let l = c .before .before .before .before .before .before .before .before .before .before .before .loop in
-    let s = c .before .before .before .before .before .before .before .before .before .before .before .before .before in
-    let o = s .args .order .now in
-    let n = s .args .count in
+    let at-high-key = c .before .before .before in let at-slot-at = at-high-key .before .before .before .before in
+    let s = at-slot-at .before .before .before .before .before .before in let l = at-slot-at .before .before .before .before .loop in
+    let o = s .args .order .now in let n = s .args .count in
     let now : (fs : List Slot) → Known (s .args .size .b) (s .args .file .now) fs → Listed fs o n
     → upper-of (head (placed fs o (l .j - 1))) ≡ upper-of (head (placed fs o (l .j))) → ⊥ =
     λ fs. λ K. λ L. other-upper K o n (omega (arith, s .pre .3)) L (l .j - 1) (l .j) (omega arith) (omega arith)
-    (keyValue (c .before .before .before .high-key .result)) (keyValue (c .before .before .high-key2 .result))
-    (place-high K o n L (l .j - 1) (omega arith) _ (c .before .before .before .before .before .before .before .before .usize-of-u8 .ensures .0) _ (c .before .before .before .before .before .before .before .slot-at .ensures .0) _ (c .before .before .before .high-key .ensures))
-    (place-high K o n L (l .j) (omega arith) _ (c .before .before .before .before .before .usize-of-u82 .ensures .0) _ (c .before .before .before .before .slot-at2 .ensures .0) _ (c .before .before .high-key2 .ensures))
+    (keyValue (at-high-key .high-key .result)) (keyValue (c .before .before .high-key2 .result))
+    (place-high K o n L (l .j - 1) (omega arith) _ (at-slot-at .before .usize-of-u8 .ensures .0) _ (at-slot-at .slot-at .ensures .0) _ (at-high-key .high-key .ensures))
+    (place-high K o n L (l .j) (omega arith) _ (at-high-key .before .before .usize-of-u82 .ensures .0) _ (at-high-key .before .slot-at2 .ensures .0) _ (c .before .before .high-key2 .ensures))
     (c .before .is-same .result) (c .before .is-same .ensures) (c .if1 .left) in (
       omega arith,
       λ fs. λ K. λ L. λ i. λ h. λ g. elim (ℕ-discrete (suc i) (l .j)) [
@@ -115,25 +73,8 @@ returns-2 c =
       },
     )
 
-pub repeated-upper-spec : {M : Type 1} → statement M
+pub repeated-upper-spec : {M : Type 1} → Rattle.file.proofs.survey.repeated_upper.Statement.statement M
 repeated-upper-spec =
-    tie.close
-    (tie.spec
-    Inv-loop
-    μ-loop
-    loop-holds
-    sub-usize-of-u8
-    element-copy-out-usize-of-u8
-    usize-of-u8-requires
-    slot-at-requires
-    element-copy-out-usize-of-u8-2
-    usize-of-u8-requires-2
-    slot-at-requires-2
-    high-key-requires
-    high-key-requires-2
-    is-same-requires
-    returns
-    add-j
-    loop-less
-    loop-again
-    returns-2)
+    tie.close (tie.spec Inv-loop μ-loop (λ c. (omega arith, λ fs. λ K. λ L. λ i. λ h. absurd (omega arith))) (λ c. search needs) (λ c. search needs)
+    (λ c κs. search needs) slot-at-requires (λ c. search needs) (λ c κs. search needs) slot-at-requires-2 (λ c κs. search needs)
+    (λ c κs. search needs) (λ c κs. search needs) returns (λ c. search needs) (λ c. search needs) loop-again returns-2)
