@@ -24,10 +24,10 @@ import time
 from collections.abc import Callable, ItemsView, Iterator, MutableMapping, ValuesView
 from itertools import pairwise
 from types import TracebackType
-from typing import Literal, TypeVar, Union
+from typing import TypeVar, Union
 
-from palhavento import disk, drawing, layout, library
-from palhavento.errors import BadFile, CutFile, PalhaventoError, StaleTrie, refusal
+from palhavento import disk, drawing, layout, library, reasons
+from palhavento.errors import BadFile, CutFile, PalhaventoError, StaleTrie, illegal, refusal
 
 Name = Union[str, bytes]
 Entry = tuple[str, int]
@@ -43,8 +43,6 @@ _log = logging.getLogger("palhavento")
 # be in the middle of a store.
 _PAUSES = (0.001, 0.003, 0.01, 0.03)
 
-_STATES: dict[int, Literal["sound", "cut", "bad"]] = {library.SOUND: "sound", library.CUT: "cut", library.BAD: "bad"}
-
 
 def _bytes_of(name: Name) -> bytes:
     """A name's bytes; whether they are legal is for the library to say.
@@ -53,7 +51,7 @@ def _bytes_of(name: Name) -> bytes:
     (b'gdp', b'gdp')
     >>> _bytes_of("preço")
     Traceback (most recent call last):
-    palhavento.errors.IllegalName: 'preço': A name has 1 to 24 bytes, each 0x21 to 0x7D.
+    palhavento.errors.IllegalName: 'preço': A name has 1 to 24 bytes, each 0x21 to 0x7D; byte 4 of this one is 0xC3, of 'ç'.
     """
     if isinstance(name, bytes):
         return name
@@ -62,7 +60,7 @@ def _bytes_of(name: Name) -> bytes:
     try:
         return name.encode("ascii")
     except UnicodeEncodeError:
-        raise refusal(1, f"{name!r}") from None
+        raise illegal(name) from None
 
 
 def _value_of(value: int) -> int:
@@ -114,7 +112,7 @@ class Store(MutableMapping[str, int]):
     KeyError: 'run.2'
     >>> store["two words"] = 1
     Traceback (most recent call last):
-    palhavento.errors.IllegalName: 'two words': A name has 1 to 24 bytes, each 0x21 to 0x7D.
+    palhavento.errors.IllegalName: 'two words': A name has 1 to 24 bytes, each 0x21 to 0x7D; byte 4 of this one is 0x20, a blank.
     >>> del store["run.1"]
     >>> store.close()
     >>> store["run.1"]
@@ -266,14 +264,16 @@ class Store(MutableMapping[str, int]):
 
     # The maintainer's calls.
 
-    def check(self) -> Literal["sound", "cut", "bad"]:
-        """What the file on disk is now. A reader may see a file cut while its writer is between two stores.
+    def check(self) -> reasons.State:
+        """What the file on disk is now: the word 'sound', 'cut' or 'bad', whose `reason` says why it is not sound.
+
+        A reader may see a file cut while its writer is between two stores.
 
         >>> palhavento.open("checked.tkf").check()
         'sound'
         """
         with self._alone:
-            return _STATES[library.check(self._disk.read())]
+            return reasons.state(self._disk.read())
 
     def recover(self) -> int | None:
         """Make a cut file sound and give the slot that was freed; None where there was nothing to do.
