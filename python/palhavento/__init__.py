@@ -11,10 +11,13 @@
 
 from __future__ import annotations
 
+from palhavento import starting  # noqa: F401, I001  (first: it tells what keeps the rest from being imported)
+
 import contextlib
 import os
 
 from palhavento import disk, library
+from palhavento.compacting import compact
 from palhavento.errors import (
     BadFile,
     CutFile,
@@ -48,8 +51,11 @@ __all__ = [
     "Trie",
     "TrieFull",
     "WrongSize",
+    "compact",
     "open",
 ]
+
+__version__ = "1.0.0"
 
 
 def open(

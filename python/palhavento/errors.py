@@ -139,7 +139,7 @@ _LEGAL = range(0x21, 0x7E)
 
 def _wrong(name: str | bytes) -> str:
     """What is wrong with a name, or nothing."""
-    digits = name if isinstance(name, bytes) else name.encode("utf-8", "surrogatepass")
+    digits = name if isinstance(name, bytes) else _encoded(name)
     if not digits:
         return "this one is empty"
     length = f"this one has {len(digits)}" if len(digits) > _LONGEST else ""
@@ -153,3 +153,11 @@ def _wrong(name: str | bytes) -> str:
     elif isinstance(name, str) and name[place].isprintable():
         what += f", of {name[place]!r}"
     return f"{length}, and byte {place + 1} is {what}" if length else f"byte {place + 1} of this one is {what}"
+
+
+def _encoded(name: str) -> bytes:
+    """A name's bytes, which on a command line may be no text."""
+    try:
+        return name.encode("utf-8", "surrogateescape")
+    except UnicodeEncodeError:
+        return name.encode("utf-8", "surrogatepass")
