@@ -1,6 +1,6 @@
-"""The first and the last moments of the command line: whatever comes, a script reads one line and the right status.
+"""The first and the last moments of the command line: whatever comes, there is one line at most, and the right status.
 
-`python3 -m palhavento` imports the package before it runs a line of the command line; so the package imports this first.
+The package is imported before a line of the command line runs; so the package imports this module first.
 """
 
 from __future__ import annotations
@@ -61,9 +61,10 @@ def _lost(unraisable: sys.UnraisableHookArgs) -> None:
 
 
 def _is_the_program() -> bool:
-    """Whether this is `python3 -m palhavento`, on its way to `__main__`."""
-    words = sys.orig_argv
-    return sys.argv[:1] == ["-m"] and "palhavento" in (after for word, after in zip(words, words[1:]) if word == "-m")
+    """Whether this is the script, or `python3 -m palhavento` on its way to `__main__`."""
+    if sys.argv[:1] == ["-m"]:
+        return any(pair == ("-m", "palhavento") for pair in zip(sys.orig_argv, sys.orig_argv[1:]))
+    return getattr(sys.modules.get("__main__"), "IS_PALHAVENTO", False)
 
 
 if _is_the_program():
