@@ -65,7 +65,7 @@ def open(
     ...     store["oil"] = 71
     ...     open("prices.tkf")
     Traceback (most recent call last):
-    palhavento.errors.Locked: prices.tkf: The file has one writer at a time, and it is open for writing already, ...
+    palhavento.errors.Locked: prices.tkf, open in process ...: The file has one writer at a time, and it is open ...
     >>> open("prices.tkf", readonly=True)["oil"]
     71
     >>> open("missing.tkf", create=False)

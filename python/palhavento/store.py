@@ -273,7 +273,7 @@ class Store(MutableMapping[str, int]):
         'sound'
         """
         with self._alone:
-            return _STATES[library.check(self._disk.read())]
+            return _STATES[library.check(self._disk.read(anew=True))]
 
     def recover(self) -> int | None:
         """Make a cut file sound and give the slot that was freed; None where there was nothing to do.
@@ -284,7 +284,7 @@ class Store(MutableMapping[str, int]):
         if self._disk.readonly:
             raise io.UnsupportedOperation(f"{self.path}: the store is open for reading only")
         with self._alone:
-            return self._recovered(self._disk.read())[1]
+            return self._recovered(self._disk.read(anew=True))[1]
 
     def rebuild(self) -> None:
         """Make the trie anew from the file's bounds.
@@ -297,7 +297,7 @@ class Store(MutableMapping[str, int]):
         ('o', 'i')
         """
         with self._alone:
-            self._trie = self._rebuilt(self._disk.read())
+            self._trie = self._rebuilt(self._disk.read(anew=True))
 
     def stats(self) -> layout.Stats:
         """How full the file is.

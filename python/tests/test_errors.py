@@ -6,13 +6,14 @@ import contextlib
 import io
 import os
 import pickle
+import time
 import unittest
 from unittest import mock
 
 from support import InFolder, cut_file, sound_file
 
 import palhavento
-from palhavento import errors, library
+from palhavento import disk, errors, library
 
 NUMBERS = {
     errors.IllegalName: 1,
@@ -86,6 +87,8 @@ class Raised(InFolder):
             self.path.write_bytes(sound_file(["a"], b=2, slots=2))
             with self.open(readonly=readonly) as store:
                 self.path.write_bytes(b"TKF")
+                # A writer takes its file for its own, and looks every so often whether it is.
+                time.sleep(disk.LOOK_AGAIN)
                 self.refused(errors.BadFile, store.__getitem__, "a")
                 self.refused(errors.BadFile, store.__len__)
                 self.refused(errors.BadFile, store.rebuild)
