@@ -176,6 +176,11 @@ class Disk:
         """Whether the file was closed."""
         return self._file < 0
 
+    @property
+    def identity(self) -> tuple[int, int]:
+        """What tells this file from every other: its device, and its number there."""
+        return self._identity
+
     def close(self) -> None:
         """Close the file and end its lock; a second time does nothing."""
         file, self._file = self._file, -1

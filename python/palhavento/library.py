@@ -195,6 +195,19 @@ def look_up(file: bytes, trie: bytes, name: bytes) -> int | None:
     return words[0] if _answer(answer, name) == FOUND else None
 
 
+def legal(name: bytes) -> bytes:
+    """A name that some file can hold, as look up tells it before anything else.
+
+    >>> legal(b"gdp.de")
+    b'gdp.de'
+    >>> legal(b"")
+    Traceback (most recent call last):
+    palhavento.errors.IllegalName: '': A name has 1 to 24 bytes, each 0x21 to 0x7D.
+    """
+    look_up(*_EMPTY, name)
+    return name
+
+
 def put(file: bytes, trie: bytes, name: bytes, value: int, limit: int) -> Outcome:
     """ADDED, REPLACED with the old value, or STOPPED with the stores made.
 
@@ -240,3 +253,6 @@ def entries(file: bytes, trie: bytes, first: bytes, second: bytes, room: int) ->
     )
     _answer(answer, first, second)
     return bytes(output[: ENTRY_BYTES * words[0]])
+
+
+_EMPTY = create(b=2, slots=1)
