@@ -18,7 +18,7 @@ import operator
 from typing import NoReturn, Union
 
 from palhavento import library
-from palhavento.errors import refusal
+from palhavento.errors import PalhaventoError, refusal
 
 Name = Union[str, bytes]
 Entry = tuple[str, int]
@@ -103,7 +103,11 @@ class ByCtypes:
     @staticmethod
     def count(file: bytes, trie: bytes) -> int:
         """How many entries there are."""
-        return len(library.entries(file, trie, LOWEST, HIGHEST, library.MOST_ENTRIES)) // library.ENTRY_BYTES
+        try:
+            return len(library.entries(file, trie, LOWEST, HIGHEST, library.MOST_ENTRIES)) // library.ENTRY_BYTES
+        except PalhaventoError as refused:
+            # About no names: nobody has given any.
+            raise refusal(refused.number) from None
 
     @staticmethod
     def changed(before: bytes, after: bytes) -> tuple[int, bytes] | None:
