@@ -245,7 +245,7 @@ def entries(file: bytes, trie: bytes, first: bytes, second: bytes, room: int) ->
     b'm1                      \\x07\\x00\\x00\\x00\\x00\\x00\\x00\\x00'
     >>> entries(put_.file, put_.trie, b"a", b"z", room=0)
     Traceback (most recent call last):
-    palhavento.errors.ShortOutput: 'a' to 'z': The output is shorter than 32 bytes times the entries to be listed.
+    palhavento.errors.ShortOutput: 'a' to 'z': The output is too short: it needs 32 bytes for each entry.
     """
     output, words = bytearray(ENTRY_BYTES * room), _Words()
     answer = _LIBRARY.pal_list(

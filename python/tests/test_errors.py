@@ -1,4 +1,4 @@
-"""Every refusal is raised by its own class, with document 01's number, and changes nothing."""
+"""Every refusal is raised by its own class, with its number, and changes nothing."""
 
 from __future__ import annotations
 
