@@ -24,7 +24,8 @@ from palhavento.drawing import buckets_svg, trie_svg
 from palhavento.errors import BadFile, CutFile, IllegalName, PalhaventoError
 from palhavento.starting import INTERRUPTED, NO_ACCESS, begin, complain, hush
 
-# Beside document 01's numbers: the library's own answer for an absent name, and what sysexits.h has for bad arguments.
+# Beside the refusal numbers (docs/RULES.md, section 10): the library's own answer for an absent name, and what sysexits.h has
+# for bad arguments.
 ABSENT = library.ABSENT
 USAGE = 64
 
@@ -36,7 +37,7 @@ exit status:
   3    cut file (only check says so: what writes recovers it, what reads reads it as recovered)
   4    stale trie, even after it was rebuilt
   5    a split is needed and there is no free slot
-  6    the bounds and their beginnings would exceed 256 strings
+  6    the store would have more than 256 strings
   8    no file has that b or that many slots
   64   bad arguments
   70   a fault of this program itself
@@ -307,7 +308,7 @@ def import_(arguments: argparse.Namespace) -> Report:
         finally:
             progress.end()
         if not arguments.sync:
-            getattr(store, "flush", lambda: None)()
+            store.flush()
     return Report({"imported": len(entries)}, [f"imported {len(entries)}"])
 
 

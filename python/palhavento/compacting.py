@@ -21,9 +21,9 @@ import os
 import random
 from collections.abc import Iterator
 
-from palhavento import disk, layout, library
+from palhavento import calls, disk, layout, library
 from palhavento.errors import PalhaventoError, refusal
-from palhavento.store import HIGHEST, LOWEST, Store
+from palhavento.store import Store
 
 MOST_STRINGS = 256
 # What a plan gives up for one string less, in names of a bucket. Most stores have strings to spare.
@@ -46,9 +46,7 @@ def compact(old: disk.Path, new: disk.Path, b: int | None = None, slots: int | N
     """
     with Store(old, readonly=True) as store:
         file, trie = store._agreed()
-    listed = library.entries(file, trie, LOWEST, HIGHEST, room=library.MOST_ENTRIES)
-    entries = [listed[at : at + library.ENTRY_BYTES] for at in range(0, len(listed), library.ENTRY_BYTES)]
-    values = {entry[:24].rstrip(b" "): int.from_bytes(entry[24:], "little") for entry in entries}
+    values = {name.encode("ascii"): value for name, value in calls.entries(file, trie, calls.LOWEST, calls.HIGHEST)}
     sizes = layout.sizes(file)
     wanted = sizes[0] if b is None else b, sizes[1] if slots is None else slots
     made = [(file, trie)] if wanted == sizes else []
@@ -75,7 +73,7 @@ def _filled(order: list[bytes], values: dict[bytes, int], b: int, slots: int) ->
     file, trie = library.create(b, slots)
     for done, name in enumerate(order):
         try:
-            _, file, trie, _ = library.put(file, trie, name, values[name], limit=2)
+            _, file, trie = calls.put(file, trie, name, values[name], 2)
         except PalhaventoError as error:
             raise _Full(done, error.number) from None
     return file, trie

@@ -20,7 +20,7 @@ from ctypes import c_char_p, c_size_t, c_uint64
 from pathlib import Path
 from typing import NamedTuple
 
-from palhavento.errors import illegal, refusal, shown
+from palhavento.errors import PalhaventoError, illegal, refusal, shown
 
 TRIE_BYTES = 1540
 ENTRY_BYTES = 32
@@ -102,7 +102,8 @@ def _load(path: Path) -> ctypes.CDLL:
     return loaded
 
 
-_LIBRARY = _load(Path(__file__).with_name("libpalhavento.so"))
+PATH = Path(__file__).with_name("libpalhavento.so")
+_LIBRARY = _load(PATH)
 
 
 def _lend(buffer: bytearray) -> ctypes.Array[ctypes.c_char]:
@@ -110,12 +111,19 @@ def _lend(buffer: bytearray) -> ctypes.Array[ctypes.c_char]:
     return (ctypes.c_char * len(buffer)).from_buffer(buffer)
 
 
-def _answer(answer: int, *names: bytes, about: str = "") -> int:
-    """An answer that is no refusal; else the refusal is raised, with the names or whatever it is about."""
-    if answer == 1:
-        raise illegal(*names)
+def refused(number: int, *names: bytes) -> PalhaventoError:
+    """The refusal of a call, about the names that it was given.
+
+    >>> print(refused(7, b"a", b"c"))
+    'a' to 'c': The output is too short: it needs 32 bytes for each entry.
+    """
+    return illegal(*names) if number == 1 else refusal(number, " to ".join(map(shown, names)))
+
+
+def _answer(answer: int, *names: bytes) -> int:
+    """An answer that is no refusal; else the refusal is raised, about these names."""
     if answer < 100 or answer == 255:
-        raise refusal(answer, about or " to ".join(map(shown, names)))
+        raise refused(answer, *names)
     return answer
 
 
@@ -132,12 +140,14 @@ def create(b: int, slots: int) -> tuple[bytes, bytes]:
     for size in (b, slots):
         if not isinstance(size, int):
             raise TypeError(f"b and slots are ints, not {type(size).__name__}")
-    about = f"b = {b}, slots = {slots}"
+    sizes = f"b = {b}, slots = {slots}"
     # A number outside 64 bits would wrap on its way into the call, and a large one would ask for memory first.
     if not (0 <= b < 256 and 0 <= slots < 256):
-        raise refusal(8, about)
+        raise refusal(8, sizes)
     file, trie = bytearray(file_bytes(b, slots)), bytearray(TRIE_BYTES)
-    _answer(_LIBRARY.pal_create(_lend(file), len(file), 1, b, slots, _lend(trie), len(trie)), about=about)
+    answer = _LIBRARY.pal_create(_lend(file), len(file), 1, b, slots, _lend(trie), len(trie))
+    if answer < 100:
+        raise refusal(answer, sizes)
     return bytes(file), bytes(trie)
 
 
@@ -185,6 +195,19 @@ def look_up(file: bytes, trie: bytes, name: bytes) -> int | None:
     return words[0] if _answer(answer, name) == FOUND else None
 
 
+def legal(name: bytes) -> bytes:
+    """A name that some file can hold, as look up tells it before anything else.
+
+    >>> legal(b"gdp.de")
+    b'gdp.de'
+    >>> legal(b"")
+    Traceback (most recent call last):
+    palhavento.errors.IllegalName: '': A name has 1 to 24 bytes, each 0x21 to 0x7D; this one is empty.
+    """
+    look_up(*_EMPTY, name)
+    return name
+
+
 def put(file: bytes, trie: bytes, name: bytes, value: int, limit: int) -> Outcome:
     """ADDED, REPLACED with the old value, or STOPPED with the stores made.
 
@@ -222,7 +245,7 @@ def entries(file: bytes, trie: bytes, first: bytes, second: bytes, room: int) ->
     b'm1                      \\x07\\x00\\x00\\x00\\x00\\x00\\x00\\x00'
     >>> entries(put_.file, put_.trie, b"a", b"z", room=0)
     Traceback (most recent call last):
-    palhavento.errors.ShortOutput: 'a' to 'z': The output is shorter than 32 bytes times the entries to be listed.
+    palhavento.errors.ShortOutput: 'a' to 'z': The output is too short: it needs 32 bytes for each entry.
     """
     output, words = bytearray(ENTRY_BYTES * room), _Words()
     answer = _LIBRARY.pal_list(
@@ -230,3 +253,6 @@ def entries(file: bytes, trie: bytes, first: bytes, second: bytes, room: int) ->
     )
     _answer(answer, first, second)
     return bytes(output[: ENTRY_BYTES * words[0]])
+
+
+_EMPTY = create(b=2, slots=1)

@@ -3,13 +3,14 @@
 from __future__ import annotations
 
 import os
+import time
 import unittest
 from unittest import mock
 
 from support import WORDS, InFolder, cut_file, sound_file
 
 import palhavento
-from palhavento import errors, library
+from palhavento import disk, errors, library
 
 
 class Stores(InFolder):
@@ -121,8 +122,10 @@ class Opening(InFolder):
             (self.folder / "other").write_bytes(sound_file(["b"], b=2, slots=2))
             with palhavento.open(self.path) as writer, palhavento.open(self.path, readonly=True) as reader:
                 away(self.path)
+                # A writer that only reads looks for its file every so often.
+                time.sleep(disk.LOOK_AGAIN)
                 for call in (lambda: writer.__setitem__("a", 2), lambda: writer.get("a"), lambda: reader.get("a")):
-                    with self.assertRaisesRegex(FileNotFoundError, "removed or replaced"):
+                    with self.assertRaisesRegex(FileNotFoundError, "removed, renamed or replaced"):
                         call()
 
     def test_a_store_let_go_ends_its_lock(self) -> None:

@@ -8,6 +8,7 @@ import hashlib
 import os
 import subprocess
 import sys
+import tomllib
 import unittest
 import zipfile
 from pathlib import Path
@@ -27,11 +28,26 @@ class Wheel(InFolder):
             packed.extractall(self.folder / "site")
         here = {path.name for path in Path(palhavento.__file__).parent.iterdir() if path.is_file()}
         self.assertEqual({path.name for path in (self.folder / "site/palhavento").iterdir()}, here)
-        self.assertIn("libpalhavento.so", here)
+        self.assertLessEqual({"libpalhavento.so", packing.EXTENSION}, here)
         program = "import palhavento; store = palhavento.open('a.tkf'); store['a'] = 7; print(palhavento.__file__, store['a'])"
         printed = subprocess.check_output([sys.executable, "-c", program], text=True, cwd=self.folder,
                                           env={**os.environ, "PYTHONPATH": str(self.folder / "site")})
         self.assertEqual(printed, f"{self.folder}/site/palhavento/__init__.py 7\n")
+
+    def test_it_works_without_the_extension(self) -> None:
+        with zipfile.ZipFile(self.folder / packing.build_wheel(str(self.folder))) as packed:
+            packed.extractall(self.folder / "site")
+        (self.folder / "site/palhavento" / packing.EXTENSION).unlink()
+        program = """if True:
+            import palhavento
+            from palhavento import calls
+            with palhavento.open("a.tkf") as store:
+                store.update({"b": 2, "a": 1})
+                print(calls.used.__name__, dict(store), store["b"])
+        """
+        printed = subprocess.check_output([sys.executable, "-c", program], text=True, cwd=self.folder,
+                                          env={**os.environ, "PYTHONPATH": str(self.folder / "site")})
+        self.assertEqual(printed, "ByCtypes {'a': 1, 'b': 2} 2\n")
 
     def test_its_record_lists_every_file_with_its_sum(self) -> None:
         with zipfile.ZipFile(self.folder / packing.build_wheel(str(self.folder))) as packed:
@@ -49,6 +65,44 @@ class Wheel(InFolder):
         with mock.patch.object(packing, "HERE", self.folder), self.assertRaisesRegex(FileNotFoundError, "make python"):
             packing.build_wheel(str(self.folder))
         self.assertEqual(list(self.folder.glob("*.whl")), [])
+
+
+class Extension(InFolder):
+    def setUp(self) -> None:
+        super().setUp()
+        self.here = self.folder / "python"
+        (self.here / "palhavento").mkdir(parents=True)
+        self.source = self.here / "palhavento/_calls.c"
+        self.source.write_bytes((packing.HERE / "palhavento/_calls.c").read_bytes())
+        (self.folder / "include").symlink_to(packing.HERE.parent / "include")
+        self.made = self.here / "palhavento" / packing.EXTENSION
+        self.made.write_text("of an earlier run")
+
+    def compiled(self) -> str:
+        with mock.patch.object(packing, "HERE", self.here):
+            return packing.compile_extension()
+
+    def test_it_is_compiled(self) -> None:
+        self.assertEqual(self.compiled(), f"compiled {packing.EXTENSION}")
+        program = "import _calls; print(_calls.__file__)"
+        printed = subprocess.check_output([sys.executable, "-c", program], text=True, cwd=self.made.parent)
+        self.assertEqual(printed, f"{self.made}\n")
+
+    def test_without_headers_compiler_or_sense_there_is_none_and_that_is_said(self) -> None:
+        with mock.patch("sysconfig.get_path", return_value=str(self.folder)):
+            self.assertRegex(self.compiled(), "Python.h is not here")
+        self.assertFalse(self.made.exists())
+        with mock.patch.dict(os.environ, {"PATH": str(self.folder)}):
+            self.assertRegex(self.compiled(), "gcc is not here")
+        self.source.write_text("#error no sense\n")
+        self.assertRegex(self.compiled(), "no extension; the calls go by ctypes:\n.*no sense")
+        self.assertFalse(self.made.exists())
+
+
+class Version(unittest.TestCase):
+    def test_the_package_knows_its_own(self) -> None:
+        project = tomllib.loads((packing.HERE / "pyproject.toml").read_text(encoding="utf-8"))["project"]
+        self.assertEqual(palhavento.__version__, project["version"])
 
 
 if __name__ == "__main__":

@@ -4,9 +4,9 @@
 //! made counts. The one in flight at a kill counts when its last store has reached the file, and not before; which stores
 //! have is seen by the bytes: the model says what the file holds after each of them.
 //!
-//! A SIGKILL leaves every finished `pwrite` whole, synced or not: only a machine that fails loses what is not yet on disk.
-//! Linux looks for the signal also between two pages of one `pwrite`, so a slot across the edge of a page may be left in
-//! part. Document 01 promises nothing of half a store; such a slot is put back as it was, and counted.
+//! A SIGKILL leaves every finished `pwrite` whole, synced or not: only a machine that fails loses what is not yet on
+//! disk. Linux looks for the signal also between two pages of one `pwrite`, so a slot across the edge of a page may be
+//! left in part. The rules promise nothing of half a store (R7.1); such a slot is put back as it was, and counted.
 
 use std::collections::BTreeMap;
 use std::io::BufReader;
