@@ -57,7 +57,6 @@ __all__ = [
     "open",
 ]
 
-__version__ = "1.0.0"
 
 
 def open(
