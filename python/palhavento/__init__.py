@@ -26,6 +26,7 @@ from palhavento.errors import (
     ShortOutput,
     StaleTrie,
     TrieFull,
+    WrongJournal,
     WrongSize,
 )
 from palhavento.layout import Bucket, Cell, Stats, Trie
@@ -47,6 +48,7 @@ __all__ = [
     "Store",
     "Trie",
     "TrieFull",
+    "WrongJournal",
     "WrongSize",
     "open",
 ]
