@@ -29,6 +29,7 @@ from palhavento.errors import (
     ShortOutput,
     StaleTrie,
     TrieFull,
+    WrongJournal,
     WrongSize,
 )
 from palhavento.layout import Bucket, Cell, Stats, Trie
@@ -52,6 +53,7 @@ __all__ = [
     "Store",
     "Trie",
     "TrieFull",
+    "WrongJournal",
     "WrongSize",
     "compact",
     "open",
