@@ -334,14 +334,17 @@ CHECKED = {"sound": 0, "cut": CutFile.number, "bad": BadFile.number, "unreadable
 
 def check(arguments: argparse.Namespace) -> Report:
     files: list[dict[str, object]] = []
-    lines, worst, unread = [], "sound", None
+    lines: list[str] = []
+    worst, unread = "sound", None
     for path in arguments.stores:
         file: dict[str, object] = {"store": path, "check": "unreadable"}
         try:
             state = reasons.state(bytes_of(path))
-        except OSError as error:
-            unread = told(error, path)[1]
-            complain(f"palhavento: {unread}")
+        except (OSError, PalhaventoError) as error:
+            status, sentence = told(error, path)
+            complain(f"palhavento: {sentence}")
+            file |= {"error": sentence, "status": status}
+            unread = unread or {"error": sentence, "status": status}
         else:
             faults = [{"rule": fault.rule, "slot": fault.slot, "says": fault.says} for fault in state.faults]
             file |= {"check": state, "reason": state.reason or None, "faults": faults}
@@ -349,8 +352,7 @@ def check(arguments: argparse.Namespace) -> Report:
             lines += [f"{about}{state}: {fault}" for fault in state.faults] or [f"{about}{state}"]
         worst = max(worst, str(file["check"]), key=list(CHECKED).index)
         files.append(file)
-    data: dict[str, object] = {"check": worst, "files": files}
-    return Report(data | ({"error": unread, "status": NO_ACCESS} if unread else {}), lines, CHECKED[worst])
+    return Report({"check": worst, "files": files, **(unread or {})}, lines, unread["status"] if unread else CHECKED[worst])
 
 
 def recover(arguments: argparse.Namespace) -> Report:

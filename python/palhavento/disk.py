@@ -19,6 +19,7 @@ import errno
 import fcntl
 import logging
 import os
+import re
 import stat
 import struct
 import time
@@ -53,6 +54,8 @@ def _request(kind: int, start: int, count: int) -> bytes:
 # All bytes that a file can have; and one that none has, whose lock says that a writer is at work.
 _CONTENT = {kind: _request(kind, 0, 1 << 62) for kind in (fcntl.F_RDLCK, fcntl.F_WRLCK, fcntl.F_UNLCK)}
 _AT_WORK = {kind: _request(kind, 1 << 62, 1) for kind in (fcntl.F_RDLCK, fcntl.F_WRLCK, fcntl.F_UNLCK)}
+# Another such byte, of a file that is in the making under a name of its own.
+_IN_THE_MAKING = {kind: _request(kind, (1 << 62) + 1, 1) for kind in (fcntl.F_RDLCK, fcntl.F_WRLCK)}
 
 # How many forks lie between this process and the one that loaded the module.
 _forks = 0
@@ -113,6 +116,35 @@ def _set_aside(target: str) -> None:
         _log.warning("%s is the journal of a file that is gone; it is kept as %s", journal, kept)
 
 
+_MADE_AS = re.compile(r"\.palhavento-[0-9a-f]{16}")
+
+
+def _beside(folder: str) -> tuple[int, str]:
+    """A new file under a name of its own, with a lock that says that it is in the making, and that name."""
+    while True:
+        path = os.path.join(folder, f".palhavento-{os.urandom(8).hex()}")
+        new = _opened(path, os.O_WRONLY | os.O_CREAT | os.O_EXCL, 0o666)
+        fcntl.fcntl(new, fcntl.F_OFD_SETLKW, _IN_THE_MAKING[fcntl.F_WRLCK])
+        # Before it had its lock, another process may have taken it for a leftover.
+        if os.fstat(new).st_nlink:
+            return new, path
+        os.close(new)
+
+
+def _remove_leftovers(folder: str) -> None:
+    """Remove what a `create` that was killed has left in a folder: its file, or the second name of the store it made."""
+    for name in filter(_MADE_AS.fullmatch, os.listdir(folder or os.curdir)):
+        path = os.path.join(folder, name)
+        # What is not to be had, or has its lock, is left alone.
+        with contextlib.suppress(OSError):
+            left = _opened(path, os.O_RDONLY | os.O_NONBLOCK | os.O_NOFOLLOW)
+            try:
+                fcntl.fcntl(left, fcntl.F_OFD_SETLK, _IN_THE_MAKING[fcntl.F_RDLCK])
+                os.unlink(path)
+            finally:
+                os.close(left)
+
+
 def create(path: Path, content: bytes) -> None:
     """Put a file with this content where none is; it appears whole, or not at all.
 
@@ -127,20 +159,20 @@ def create(path: Path, content: bytes) -> None:
     folder, name = os.path.split(target)
     if not name:
         raise FileNotFoundError(errno.ENOENT, os.strerror(errno.ENOENT), target)
-    # A kill may leave this one behind. It is nobody's.
-    beside = os.path.join(folder, f".palhavento-{os.urandom(8).hex()}")
     try:
-        new = _opened(beside, os.O_WRONLY | os.O_CREAT | os.O_EXCL, 0o666)
+        _remove_leftovers(folder)
+        new, beside = _beside(folder)
         try:
             with open(new, "wb") as file:
                 file.write(content)
                 file.flush()
                 os.fsync(new)
-            _set_aside(target)
-            # To link, unlike to rename, never takes the place of a file that another process has put there meanwhile.
-            os.link(beside, target)
+                _set_aside(target)
+                # To link, unlike to rename, never takes the place of a file that another process has put there meanwhile.
+                os.link(beside, target)
         finally:
-            os.unlink(beside)
+            with contextlib.suppress(FileNotFoundError):
+                os.unlink(beside)
         listing = os.open(folder or os.curdir, os.O_RDONLY | os.O_DIRECTORY)
         try:
             os.fsync(listing)
