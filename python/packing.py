@@ -84,7 +84,7 @@ def _wheel(folder: str, files: dict[str, bytes]) -> str:
             member = zipfile.ZipInfo(name)
             member.compress_type = zipfile.ZIP_DEFLATED
             # Only so does pip install a script that can be run.
-            member.external_attr = (0o755 if "/scripts/" in name else 0o644) << 16
+            member.external_attr = (0o100755 if "/scripts/" in name else 0o100644) << 16
             wheel.writestr(member, content)
     return f"{release}-{tag}.whl"
 

@@ -53,7 +53,7 @@ class Wheel(InFolder):
         with zipfile.ZipFile(self.folder / packing.build_wheel(str(self.folder))) as packed:
             [data] = {name.split("/")[0] for name in packed.namelist() if ".data/" in name}
             script = packed.read(f"{data}/scripts/palhavento").decode()
-            self.assertEqual(packed.getinfo(f"{data}/scripts/palhavento").external_attr >> 16, 0o755)
+            self.assertEqual(packed.getinfo(f"{data}/scripts/palhavento").external_attr >> 16, 0o100755)
             for place, here in (("man/man1/palhavento.1", "man/palhavento.1"),
                                 ("bash-completion/completions/palhavento", "completion/palhavento.bash")):
                 self.assertEqual(packed.read(f"{data}/data/share/{place}"), (packing.HERE / here).read_bytes())
