@@ -36,7 +36,7 @@ def bytes_of(name: Name) -> bytes:
     (b'gdp', b'gdp')
     >>> bytes_of("preço")
     Traceback (most recent call last):
-    palhavento.errors.IllegalName: 'preço': A name has 1 to 24 bytes, each 0x21 to 0x7D; byte 4 of this one is 0xC3, of 'ç'.
+    palhavento.errors.IllegalName: 'preço': A name has 1 to 24 bytes, each 0x21 to 0x7D; byte 4 of this one is 0xC3 (of 'ç').
     """
     if isinstance(name, bytes):
         return name

@@ -303,9 +303,11 @@ def import_(arguments: argparse.Namespace) -> Report:
                 progress.reach(number)
         except (PalhaventoError, OSError, KeyboardInterrupt) as error:
             status, sentence = told(error, arguments.store)
-            # A refusal has changed nothing. After any other end the put may be made, though nobody was told.
-            itself = "" if isinstance(error, PalhaventoError) else f", and line {number} may be"
-            raise Trouble(status, f"{origin}:{number}: {sentence} {earlier(number - 1)} in the store{itself}.") from None
+            # Unless it is known that nothing was changed, the put may be made, though nobody was told.
+            unchanged = isinstance(error, PalhaventoError) or disk.NOT_MADE in sentence
+            itself = "" if unchanged else f", and line {number} may be"
+            lines = f"{earlier(number - 1)} in the store{itself}."
+            raise Trouble(status, f"{origin}:{number}: {sentence.rstrip('.')}. {lines}") from None
         finally:
             progress.end()
         if not arguments.sync:
@@ -375,7 +377,7 @@ def compact(arguments: argparse.Namespace) -> Report:
         before = store.stats()
     after = compacting.compact(arguments.store, arguments.new, arguments.b, arguments.slots)
     strings = compacting.MOST_STRINGS - after.strings
-    lines = [f"compacted {after.entries} names from {before.used} slots into {after.used}: {arguments.new}",
+    lines = [f"compacted {arguments.new}: names {after.entries}, slots {after.used} in place of {before.used}",
              f"room left: {after.free} of {after.slots} slots, {strings} of {compacting.MOST_STRINGS} strings"]
     data = {"compacted": arguments.new, "used_before": before.used, **dataclasses.asdict(after), "strings_free": strings}
     return Report(data, lines)

@@ -126,9 +126,9 @@ def illegal(*names: str | bytes) -> PalhaventoError:
     """The refusal of the first of these names that is illegal: how long it is, and which byte of it is wrong.
 
     >>> print(illegal("gdp", "a b"))
-    'a b': A name has 1 to 24 bytes, each 0x21 to 0x7D; byte 2 of this one is 0x20, a blank.
+    'a b': A name has 1 to 24 bytes, each 0x21 to 0x7D; byte 2 of this one is 0x20 (a blank).
     >>> print(illegal("preço"))
-    'preço': A name has 1 to 24 bytes, each 0x21 to 0x7D; byte 4 of this one is 0xC3, of 'ç'.
+    'preço': A name has 1 to 24 bytes, each 0x21 to 0x7D; byte 4 of this one is 0xC3 (of 'ç').
     >>> print(illegal(b"x" * 25))
     'xxxxxxxxxxxxxxxxxxxxxxxxx': A name has 1 to 24 bytes, each 0x21 to 0x7D; this one has 25.
     """
@@ -141,6 +141,7 @@ def illegal(*names: str | bytes) -> PalhaventoError:
 _RULE = (IllegalName.__doc__ or "").rstrip(".")
 _LONGEST = 24
 _LEGAL = range(0x21, 0x7E)
+_NAMED = {0x00: "zero", 0x09: "a tab", 0x0A: "a line feed", 0x0D: "a carriage return", 0x20: "a blank", 0x7E: "'~'"}
 
 
 def _wrong(name: str | bytes) -> str:
@@ -154,10 +155,10 @@ def _wrong(name: str | bytes) -> str:
         return length
     # All bytes before it are ASCII, so its place among the characters is the same.
     what = f"0x{digits[place]:02X}"
-    if digits[place] == 0x20:
-        what += ", a blank"
+    if digits[place] in _NAMED:
+        what += f" ({_NAMED[digits[place]]})"
     elif isinstance(name, str) and name[place].isprintable():
-        what += f", of {name[place]!r}"
+        what += f" (of {name[place]!r})"
     return f"{length}, and byte {place + 1} is {what}" if length else f"byte {place + 1} of this one is {what}"
 
 

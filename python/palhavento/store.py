@@ -136,7 +136,7 @@ class Store(MutableMapping[str, int]):
     KeyError: 'run.2'
     >>> store["two words"] = 1
     Traceback (most recent call last):
-    palhavento.errors.IllegalName: 'two words': A name has 1 to 24 bytes, each 0x21 to 0x7D; byte 4 of this one is 0x20, a blank.
+    palhavento.errors.IllegalName: 'two words': A name has 1 to 24 bytes, each 0x21 to 0x7D; byte 4 of this one is 0x20 (a blank).
     >>> del store["run.1"]
     >>> store.close()
     >>> store["run.1"]

@@ -135,6 +135,27 @@ class CommandLine(InFolder):
         self.assertTrue(ended.stderr.endswith(" The 2 lines before it are in the store.\n"), ended.stderr)
         self.assertEqual(self.done("ls", self.store), "a 1\nb 2\n")
 
+    def test_import_onto_a_full_disk(self):
+        self.nine_words()
+        # No file may grow any further: as on a full disk, but for one process alone.
+        full = ["bash", "-c", 'trap "" XFSZ; ulimit -f 0; exec "$0" "$@"']
+        ended = self.run_("import", self.store, "-", input="the 2\nof 3\n", before=full)
+        self.assertEqual((ended.returncode, ended.stdout, ended.stderr.count("\n")), (74, "", 1))
+        self.assertIn(f"standard input:1: {self.store}: File too large; the change was not made. No line before it is in the store.",
+                      ended.stderr)
+        self.assertEqual(self.done("get", self.store, "the"), "1\n")
+
+    def test_import_without_sync_ends_with_one(self):
+        self.nine_words()
+        program = ("import sys; from unittest import mock; from palhavento import cli, store; "
+                   "sys.argv[1:] = ['import', '--no-sync', 'store.tkf', 'lines.txt']; "
+                   "flush = mock.patch.object(store.Store, 'flush', autospec=True).start(); status = cli.main(); "
+                   "sys.exit(status or 10 * flush.call_count)")
+        (self.folder / "lines.txt").write_text("oil 71\ngas 72\n")
+        ended = subprocess.run([sys.executable, "-c", program], cwd=self.folder, capture_output=True, text=True,
+                               env={**os.environ, "PYTHONPATH": str(PACKAGE)}, timeout=60)
+        self.assertEqual((ended.returncode, ended.stdout, ended.stderr), (10, "imported 2\n", ""))
+
     def test_a_bar_where_somebody_looks(self):
         self.done("create", self.store)
         lines = self.folder / "lines.txt"
@@ -197,9 +218,9 @@ class CommandLine(InFolder):
         self.nine_words()
         self.all_refused(1, [["get", self.store, name] for name in ("a b", "", "x" * 25, "~", "preço", "a\nb")])
         for words in (["put", self.store, "a b", 1], ["rm", self.store, "a b"], ["ls", self.store, "a b", "z"]):
-            self.assertIn("byte 2 of this one is 0x20, a blank", self.refused(1, *words))
+            self.assertIn("byte 2 of this one is 0x20 (a blank)", self.refused(1, *words))
         self.assertIn("this one has 25.", self.refused(1, "get", self.store, "x" * 25))
-        self.assertIn("byte 4 of this one is 0xC3, of 'ç'", self.refused(1, "get", self.store, "preço"))
+        self.assertIn("byte 4 of this one is 0xC3 (of 'ç')", self.refused(1, "get", self.store, "preço"))
         self.assertIn("byte 2 of this one is 0xFF.", self.refused(1, "get", self.store, os.fsdecode(b"a\xff")))
 
     def test_bad_files(self):
@@ -299,7 +320,7 @@ class CommandLine(InFolder):
         self.store.write_bytes(sound_file(names[::-1], b=16, slots=64))
         new = self.folder / "new.tkf"
         said = self.done("compact", self.store, new)
-        self.assertRegex(said, r"^compacted 299 names from 5\d slots into 30: \S+/new.tkf\n"
+        self.assertRegex(said, r"^compacted \S+/new.tkf: names 299, slots 30 in place of 5\d\n"
                                r"room left: 34 of 64 slots, \d+ of 256 strings\n$")
         self.assertEqual(self.done("ls", new), self.done("ls", self.store))
         self.assertIn(f"{new}: File exists", self.refused(74, "compact", self.store, new))
