@@ -111,19 +111,10 @@ def _lend(buffer: bytearray) -> ctypes.Array[ctypes.c_char]:
     return (ctypes.c_char * len(buffer)).from_buffer(buffer)
 
 
-def about(*names: bytes) -> str:
-    """The names that a refusal is about, as it shows them.
-
-    >>> about(b"a b", b"c")
-    "'a b' to 'c'"
-    """
-    return " to ".join(repr(name)[1:] for name in names)
-
-
-def _answer(answer: int, *names: bytes) -> int:
-    """An answer that is no refusal; else the refusal is raised, about these names."""
+def _answer(answer: int, *names: bytes, about: str = "") -> int:
+    """An answer that is no refusal; else the refusal is raised, with the names or whatever it is about."""
     if answer < 100 or answer == 255:
-        raise refusal(answer, about(*names))
+        raise refusal(answer, about or " to ".join(repr(name)[1:] for name in names))
     return answer
 
 
@@ -140,14 +131,12 @@ def create(b: int, slots: int) -> tuple[bytes, bytes]:
     for size in (b, slots):
         if not isinstance(size, int):
             raise TypeError(f"b and slots are ints, not {type(size).__name__}")
-    sizes = f"b = {b}, slots = {slots}"
+    about = f"b = {b}, slots = {slots}"
     # A number outside 64 bits would wrap on its way into the call, and a large one would ask for memory first.
     if not (0 <= b < 256 and 0 <= slots < 256):
-        raise refusal(8, sizes)
+        raise refusal(8, about)
     file, trie = bytearray(file_bytes(b, slots)), bytearray(TRIE_BYTES)
-    answer = _LIBRARY.pal_create(_lend(file), len(file), 1, b, slots, _lend(trie), len(trie))
-    if answer < 100:
-        raise refusal(answer, sizes)
+    _answer(_LIBRARY.pal_create(_lend(file), len(file), 1, b, slots, _lend(trie), len(trie)), about=about)
     return bytes(file), bytes(trie)
 
 
@@ -195,19 +184,6 @@ def look_up(file: bytes, trie: bytes, name: bytes) -> int | None:
     return words[0] if _answer(answer, name) == FOUND else None
 
 
-def legal(name: bytes) -> bytes:
-    """A name that some file can hold, as look up tells it before anything else.
-
-    >>> legal(b"gdp.de")
-    b'gdp.de'
-    >>> legal(b"")
-    Traceback (most recent call last):
-    palhavento.errors.IllegalName: '': A name has 1 to 24 bytes, each 0x21 to 0x7D.
-    """
-    look_up(*_EMPTY, name)
-    return name
-
-
 def put(file: bytes, trie: bytes, name: bytes, value: int, limit: int) -> Outcome:
     """ADDED, REPLACED with the old value, or STOPPED with the stores made.
 
@@ -253,6 +229,3 @@ def entries(file: bytes, trie: bytes, first: bytes, second: bytes, room: int) ->
     )
     _answer(answer, first, second)
     return bytes(output[: ENTRY_BYTES * words[0]])
-
-
-_EMPTY = create(b=2, slots=1)

@@ -57,7 +57,7 @@ class Opened:
         self.sync = sync
         # The stores that use it. One that nobody has in hand any more is not among them.
         self.stores: weakref.WeakValueDictionary[int, object] = weakref.WeakValueDictionary()
-        # Readings that a function which asks several times shares; see `store.py`.
+        # The reading of each thread that a function which asks several times shares; see `store.py`.
         self.told: dict[int, Any] = {}
         self.alone = threading.RLock()
         # What a writer knows, file and trie, and until when it need not look whether the file is in its place.
@@ -73,6 +73,11 @@ class Opened:
             raise
         self.b, self.slots = layout.sizes(file)
         _ALL.add(self)
+
+    def is_closed(self) -> bool:
+        """Whether the file is closed; and if another thread closes it this moment, then when that is done."""
+        with self.alone:
+            return self.disk.closed
 
     def share(self, store: object) -> bool:
         """One store more uses it; unless it was closed meanwhile."""
@@ -191,7 +196,7 @@ class Opened:
             files, (answer, file, trie) = self.ask(_stores_of, call, *given)
             # Until all is on disk the file may be any of them.
             self._now = None
-            self.told.clear()
+            self.told.pop(threading.get_ident(), None)
             for at in range(len(files) - 1):
                 self._store(files[at], files[at + 1])
             self.trie = trie
@@ -234,12 +239,11 @@ def of(path: disk.Path, readonly: bool, sync: bool, timeout: float) -> Opened:
         turn = _TURNS.setdefault((found.st_dev, found.st_ino), threading.RLock())
     with turn:
         shared = _WRITERS.get((found.st_dev, found.st_ino))
-        if shared is None or shared.disk.closed:
+        if shared is None or shared.is_closed():
             new = Opened(path, readonly, sync, timeout)
             _WRITERS[new.disk.identity] = new
             return new
         if shared.sync != sync:
-            raise Locked(
-                Locked.number, f"{shared.path}: It is open in this process with sync={shared.sync}: open it so, or close it first."
-            )
+            said = f"{shared.path}: It is open in this process with sync={shared.sync}: open it so, or close it first."
+            raise Locked(Locked.number, said)
         return shared
