@@ -26,6 +26,7 @@ from palhavento.errors import (
     ShortOutput,
     StaleTrie,
     TrieFull,
+    WrongJournal,
     WrongSize,
 )
 from palhavento.layout import Bucket, Cell, Stats, Trie
@@ -49,6 +50,7 @@ __all__ = [
     "Store",
     "Trie",
     "TrieFull",
+    "WrongJournal",
     "WrongSize",
     "open",
 ]

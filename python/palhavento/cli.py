@@ -43,6 +43,7 @@ exit status:
   74   the file cannot be read or written
   101  the name is absent
   130  interrupted
+  253  the journal beside the file does not fit it
   254  another process has the file open for writing
 What is refused has changed nothing; an import says how far it came.
 docs/OPERATIONS.md says what to do for each."""

@@ -91,6 +91,12 @@ class Locked(PalhaventoError):
     number = 254
 
 
+class WrongJournal(PalhaventoError):
+    """The journal beside the file does not fit it; nothing was changed. docs/OPERATIONS.md says what to do."""
+
+    number = 253
+
+
 _BY_NUMBER: dict[int, type[PalhaventoError]] = {kind.number: kind for kind in PalhaventoError.__subclasses__()}
 
 

@@ -241,7 +241,7 @@ def of(path: disk.Path, readonly: bool, sync: bool, timeout: float) -> Opened:
         shared = _WRITERS.get((found.st_dev, found.st_ino))
         if shared is None or shared.is_closed():
             new = Opened(path, readonly, sync, timeout)
-            _WRITERS[new.disk.identity] = new
+            _WRITERS[new.disk._identity] = new
             return new
         if shared.sync != sync:
             said = f"{shared.path}: It is open in this process with sync={shared.sync}: open it so, or close it first."
