@@ -45,7 +45,7 @@ static PyObject *read_locked(PyObject *self, PyObject *given)
     unsigned long long device, inode;
     struct flock asked[3];
     struct stat found;
-    if (!PyArg_ParseTuple(given, "iny#y#y#isKKs", &file, &most, &locks[0], &sizes[0], &locks[1], &sizes[1], &locks[2],
+    if (!PyArg_ParseTuple(given, "iny#y#y#iyKKy", &file, &most, &locks[0], &sizes[0], &locks[1], &sizes[1], &locks[2],
                           &sizes[2], &folder, &name, &device, &inode, &journal))
         return NULL;
     for (int at = 0; at < 3; at++) {

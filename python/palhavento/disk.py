@@ -286,6 +286,12 @@ class Disk:
             self._find()
         return self._content
 
+    def request(self) -> tuple[object, ...]:
+        """What a reader asks of the system for one reading while nothing is unusual, as `_system.c` takes it."""
+        locks = _CONTENT[fcntl.F_RDLCK], _AT_WORK[fcntl.F_WRLCK], _CONTENT[fcntl.F_UNLCK]
+        name, journal = os.fsencode(self._name), os.fsencode(self._beside)
+        return self._file, LARGEST_FILE + 1, *locks, self._folder, name, *self._identity, journal
+
     def _bytes(self) -> bytes:
         return os.pread(self._file, LARGEST_FILE + 1, 0)
 
@@ -425,8 +431,11 @@ class Disk:
             self._turn(journal, content)
         return journal
 
-    def store(self, offset: int, slot: bytes) -> None:
-        """Replace one slot whole, and wait until that cannot be lost where this was asked for."""
+    def store(self, offset: int, slot: bytes, before: bytes | None = None, after: bytes | None = None) -> None:
+        """Replace one slot whole, and wait until that cannot be lost where this was asked for.
+
+        Whoever has the bytes from `read` and knows what they become can tell both, which saves to find it here.
+        """
         self._usable()
         self._look()
         if self._content is None:
@@ -453,7 +462,8 @@ class Disk:
             self._at_work(False)
             raise
         journal.next += 1
-        self._content = b"".join((content[:offset], slot, content[offset + len(slot) :]))
+        known = after is not None and content is before
+        self._content = after if known else b"".join((content[:offset], slot, content[offset + len(slot) :]))
         self._doubt = self._renew = self._unsafe = False
         self._seen()
 

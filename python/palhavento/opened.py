@@ -30,6 +30,11 @@ from typing import Any, TypeVar
 from palhavento import calls, disk, layout, library
 from palhavento.errors import BadFile, CutFile, Locked, PalhaventoError, StaleTrie, refusal
 
+try:
+    from palhavento import _system
+except ImportError:
+    _system = None
+
 Given = TypeVar("Given")
 Identity = tuple[int, int]
 
@@ -64,11 +69,14 @@ class Opened:
         self._now: tuple[bytes, bytes, float] | None = None
         self._forked = False
         self.disk = disk.Disk(path, readonly, sync, timeout)
+        # A reader's short cut, for where the extension was compiled.
+        self._request = self.disk.request() if readonly and _system else None
         self.path = self.disk.path
         try:
             file = self._settled()
             self.trie = self._rebuilt(file)
         except BaseException:
+            self._request = None
             self.disk.close()
             raise
         self.b, self.slots = layout.sizes(file)
@@ -91,13 +99,13 @@ class Opened:
         with self.alone:
             self.stores.pop(id(store), None)
             if not self.stores:
-                self._now = None
+                self._now = self._request = None
                 self.disk.close()
 
     def in_child(self) -> None:
         """After a fork, in the child: a lock that another thread had is nobody's here, and the file is the parent's."""
         self.alone = threading.RLock()
-        self._now = None
+        self._now = self._request = None
         self._forked = True
         # Else the parent's lock would last as long as the child.
         self.disk.close()
@@ -106,6 +114,10 @@ class Opened:
 
     def read(self, anew: bool = False) -> bytes:
         """The file's bytes now."""
+        if self._request is not None:
+            file = _system.read_locked(*self._request)
+            if file is not None:
+                return file
         if self._forked:
             how = "again here" if self.readonly else "here with readonly=True, or for writing once its opener has closed it"
             raise Locked(Locked.number, f"{self.path}: It was opened before this process was forked: open it {how}.")
@@ -207,7 +219,7 @@ class Opened:
         """Make on disk the one store between two states. A slot that stays as it was has nothing to be written."""
         change = calls.changed(before, after)
         if change is not None:
-            self.disk.store(*change)
+            self.disk.store(*change, before, after)
 
 
 _ALL: weakref.WeakSet[Opened] = weakref.WeakSet()
