@@ -48,6 +48,10 @@ static PyObject *read_locked(PyObject *self, PyObject *given)
     if (!PyArg_ParseTuple(given, "iny#y#y#iyKKy", &file, &most, &locks[0], &sizes[0], &locks[1], &sizes[1], &locks[2],
                           &sizes[2], &folder, &name, &device, &inode, &journal))
         return NULL;
+    if (most < 0) {
+        PyErr_SetString(PyExc_ValueError, "no bytes are fewer than none");
+        return NULL;
+    }
     for (int at = 0; at < 3; at++) {
         if (sizes[at] != sizeof asked[at]) {
             PyErr_SetString(PyExc_ValueError, "a lock has another length");
@@ -58,7 +62,7 @@ static PyObject *read_locked(PyObject *self, PyObject *given)
     if (fstatat(folder, name, &found, AT_SYMLINK_NOFOLLOW) || found.st_dev != device || found.st_ino != inode)
         Py_RETURN_NONE;
     Py_ssize_t length = found.st_size < most ? found.st_size : most, done;
-    PyObject *content = PyBytes_FromStringAndSize(NULL, length < 0 ? 0 : length);
+    PyObject *content = PyBytes_FromStringAndSize(NULL, length);
     if (!content)
         return NULL;
     char *into = PyBytes_AsString(content);
