@@ -45,13 +45,9 @@ _log = logging.getLogger("palhavento")
 _PAUSES = (0.001, 0.003, 0.01, 0.03)
 
 
-def _stores_of(file: bytes, trie: bytes, call: Callable[..., calls.Change], *given: object) -> tuple[Any, ...]:
-    """A call on copies, with limit 1 and, where that stops it, 2: the file before, after each store, and the outcome."""
-    outcome = call(file, trie, *given, 1)
-    if outcome[0] != library.STOPPED:
-        return (file, outcome[1]), outcome
-    last = call(file, trie, *given, 2)
-    return (file, outcome[1], last[1]), last
+def _first_store(file: bytes, trie: bytes, call: Callable[..., calls.Change], *given: object) -> tuple[bytes, calls.Change]:
+    """A call on copies that may make one store: the file before, and the outcome."""
+    return file, call(file, trie, *given, 1)
 
 
 class Opened:
@@ -205,12 +201,18 @@ class Opened:
         """Make a call on copies, to find its stores; then make them on disk, in order. Gives the call's answer."""
         self.must_write()
         with self.alone:
-            files, (answer, file, trie) = self.ask(_stores_of, call, *given)
+            before, (answer, file, trie) = self.ask(_first_store, call, *given)
+            stopped = answer == library.STOPPED
+            if stopped:
+                # Called with what it was called with before, since a stop leaves the old trie.
+                answer, last, trie = call(before, self.trie, *given, 2)
             # Until all is on disk the file may be any of them.
             self._now = None
             self.told.pop(threading.get_ident(), None)
-            for at in range(len(files) - 1):
-                self._store(files[at], files[at + 1])
+            self._store(before, file)
+            if stopped:
+                self._store(file, last)
+                file = last
             self.trie = trie
             self._now = file, trie, time.monotonic() + disk.LOOK_AGAIN
             return answer
