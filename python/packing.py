@@ -2,7 +2,7 @@
 
     make python && python3 -m pip install ./python
 
-As a program it compiles the extension, which `make python` asks for.
+As a program it compiles the extensions, which `make python` asks for.
 """
 
 from __future__ import annotations
@@ -16,25 +16,34 @@ import zipfile
 from pathlib import Path
 
 HERE = Path(__file__).resolve().parent
-EXTENSION = "_calls.abi3.so"
+# Each is compiled from the file of its name; the package works without them.
+EXTENSIONS = "_calls", "_system"
 
 
-def compile_extension() -> str:
-    """Compile the extension, for every Python from 3.11 on, and say what came of it. The package works without it."""
-    package = HERE / "palhavento"
-    made = package / EXTENSION
+def compiled(name: str) -> Path:
+    """Where an extension is when it is compiled: one file for every Python from 3.11 on."""
+    return HERE / "palhavento" / f"{name}.abi3.so"
+
+
+def compile_extensions() -> str:
+    """Compile the extensions, and say what came of it."""
     # What an earlier run has left must not stay if this one fails.
-    made.unlink(missing_ok=True)
+    for name in EXTENSIONS:
+        compiled(name).unlink(missing_ok=True)
     include = Path(sysconfig.get_path("include"))
     if not (include / "Python.h").exists():
-        return "no extension, for Python.h is not here (Debian has it in python3-dev); the calls go by ctypes"
-    command = ["gcc", "-shared", "-fPIC", "-O2", "-std=gnu11", "-Wall", "-Wextra", "-Wno-unused-parameter", "-Werror",
-               f"-I{include}", f"-I{HERE.parent / 'include'}", str(package / "_calls.c"), "-o", str(made)]
-    try:
-        ran = subprocess.run(command, capture_output=True, text=True)
-    except FileNotFoundError:
-        return "no extension, for gcc is not here; the calls go by ctypes"
-    return f"no extension; the calls go by ctypes:\n{ran.stderr}" if ran.returncode else f"compiled {EXTENSION}"
+        return "no extensions, for Python.h is not here (Debian has it in python3-dev); ctypes takes their place"
+    flags = ["-shared", "-fPIC", "-O2", "-std=gnu11", "-Wall", "-Wextra", "-Wno-unused-parameter", "-Werror"]
+    for name in EXTENSIONS:
+        source = HERE / "palhavento" / f"{name}.c"
+        command = ["gcc", *flags, f"-I{include}", f"-I{HERE.parent / 'include'}", source, "-o", compiled(name)]
+        try:
+            ran = subprocess.run(command, capture_output=True, text=True)
+        except FileNotFoundError:
+            return "no extensions, for gcc is not here; ctypes takes their place"
+        if ran.returncode:
+            return f"no extension {name}; ctypes takes its place:\n{ran.stderr}"
+    return f"compiled {', '.join(EXTENSIONS)}"
 
 
 def build_wheel(wheel_directory: str, config_settings: object = None, metadata_directory: object = None) -> str:
@@ -94,4 +103,4 @@ def _sum(content: bytes) -> str:
 
 
 if __name__ == "__main__":
-    print(f"palhavento: {compile_extension()}")
+    print(f"palhavento: {compile_extensions()}")

@@ -15,7 +15,7 @@ Both ways lend the bytes to the same proved library, and both raise the same. A 
 from __future__ import annotations
 
 import operator
-from typing import NoReturn, Union
+from typing import Union
 
 from palhavento import library
 from palhavento.errors import PalhaventoError, illegal, refusal
@@ -36,7 +36,7 @@ def bytes_of(name: Name) -> bytes:
     (b'gdp', b'gdp')
     >>> bytes_of("preço")
     Traceback (most recent call last):
-    palhavento.errors.IllegalName: 'preço': A name has 1 to 24 bytes, each 0x21 to 0x7D; byte 4 of this one is 0xC3 (of 'ç').
+    palhavento.errors.IllegalName: 'preço': A name has 1 to 24 bytes, each 0x21 to 0x7D...
     """
     if isinstance(name, bytes):
         return name
@@ -67,9 +67,9 @@ def value_of(value: int) -> int:
     return number
 
 
-def _refuse(number: int, *names: Name) -> NoReturn:
+def _refuse(number: int, *names: Name) -> None:
     """What the extension calls for a refusal: here its message is formed."""
-    raise library.refused(number, *map(bytes_of, names))
+    library._answer(number, *map(bytes_of, names))
 
 
 class ByCtypes:
@@ -132,3 +132,18 @@ else:
 look_up, put, remove, entries, count, changed = (
     used.look_up, used.put, used.remove, used.entries, used.count, used.changed
 )
+
+_EMPTY = library.create(b=2, slots=1)
+
+
+def legal(name: Name) -> Name:
+    """A name that some file can hold. To look it up says so, before anything else, in any file.
+
+    >>> legal("gdp.de")
+    'gdp.de'
+    >>> legal("two words")
+    Traceback (most recent call last):
+    palhavento.errors.IllegalName: 'two words': A name has 1 to 24 bytes, each 0x21 to 0x7D...
+    """
+    look_up(*_EMPTY, name)
+    return name

@@ -27,7 +27,7 @@ from collections.abc import Iterator
 from typing import Union
 
 from palhavento.errors import refusal
-from palhavento.journal import Found, Journal, Unfit, found, length, write
+from palhavento.journal import LARGEST, Found, Journal, Unfit, found, write
 from palhavento.library import HEADER_BYTES, LARGEST_FILE
 
 Path = Union[str, bytes, "os.PathLike[str]", "os.PathLike[bytes]"]
@@ -318,6 +318,12 @@ class Disk:
             self._find()
         return self._content
 
+    def request(self) -> tuple[object, ...]:
+        """What a reader asks of the system for one reading while nothing is unusual, as `_system.c` takes it."""
+        locks = _CONTENT[fcntl.F_RDLCK], _AT_WORK[fcntl.F_WRLCK], _CONTENT[fcntl.F_UNLCK]
+        name, journal = os.fsencode(self._name), os.fsencode(self._beside)
+        return self._file, LARGEST_FILE + 1, *locks, self._folder, name, *self._identity, journal
+
     def _bytes(self) -> bytes:
         return os.pread(self._file, LARGEST_FILE + 1, 0)
 
@@ -350,7 +356,7 @@ class Disk:
         try:
             if not stat.S_ISREG(os.fstat(journal).st_mode):
                 raise refusal(253, f"{journal_name(self.path)}: it is no regular file")
-            return os.pread(journal, length(16), 0)
+            return os.pread(journal, LARGEST, 0)
         finally:
             os.close(journal)
 
@@ -365,7 +371,7 @@ class Disk:
         """Find the bytes of our own file: after a store that failed, by the journal."""
         content = self._bytes()
         if self._doubt and self._journal:
-            finished = self._found(os.pread(self._journal.file, length(16), 0), content)
+            finished = self._found(os.pread(self._journal.file, LARGEST, 0), content)
             if finished:
                 content, self._journal.next = finished.content, finished.next
         self._content = content
@@ -386,6 +392,8 @@ class Disk:
                 if finished.content != content:
                     _log.warning("%s: its last writer was stopped in a store; finished by its journal", self.path)
             os.unlink(self._beside, dir_fd=self._folder)
+        except OSError as error:
+            raise self._failed(error, "what its last writer has left in its journal stays there") from None
         finally:
             self._unlock()
 
@@ -457,8 +465,11 @@ class Disk:
             self._turn(journal, content)
         return journal
 
-    def store(self, offset: int, slot: bytes) -> None:
-        """Replace one slot whole, and wait until that cannot be lost where this was asked for."""
+    def store(self, offset: int, slot: bytes, before: bytes | None = None, after: bytes | None = None) -> None:
+        """Replace one slot whole, and wait until that cannot be lost where this was asked for.
+
+        Whoever has the bytes from `read` and knows what they become can tell both, which saves to find it here.
+        """
         self._usable()
         self._look()
         if self._content is None:
@@ -473,56 +484,50 @@ class Disk:
             journal.append((offset - HEADER_BYTES) // len(slot), slot)
             if self._sync:
                 os.fdatasync(journal.file)
-            try:
-                self._lock(fcntl.F_WRLCK)
-                self._write(offset, slot, content)
-            finally:
-                self._unlock()
+            self._lock(fcntl.F_WRLCK)
+            write(self._file, slot, offset)
         except OSError as error:
+            # Still under the lock, so that no reader sees what is taken back.
             raise self._failed(error, self._taken_back(content)) from None
         except BaseException:
             # An interrupt, perhaps in the middle: readers must look into the journal too.
             self._at_work(False)
             raise
+        finally:
+            self._unlock()
         journal.next += 1
-        self._content = b"".join((content[:offset], slot, content[offset + len(slot) :]))
+        known = after is not None and content is before
+        self._content = after if known else b"".join((content[:offset], slot, content[offset + len(slot) :]))
         self._doubt = self._renew = self._unsafe = False
         self._seen()
 
-    def _write(self, offset: int, slot: bytes, content: bytes) -> None:
-        """Write a slot; where that fails, the slot is as it was, or readers must look into the journal too."""
-        try:
-            write(self._file, slot, offset)
-        except OSError:
-            try:
-                self._put_back(offset, content[offset : offset + len(slot)])
-            except OSError:
-                self._at_work(False)
-            raise
-
-    def _put_back(self, offset: int, slot: bytes) -> None:
-        """Write what a slot was, but only where it is not so: there may be no room on the disk for more."""
-        now = os.pread(self._file, len(slot), offset)
-        others = [at for at, (is_, was) in enumerate(zip(now, slot)) if is_ != was]
-        if others:
-            write(self._file, slot[others[0] : others[-1] + 1], offset + others[0])
-
     def _taken_back(self, content: bytes) -> str:
-        """Take back the record of a store that failed; and what is then to be said of the store."""
+        """Take back a store that failed; and what is then to be said of it."""
         try:
-            if self._bytes() != content:
-                return UNKNOWN
+            now = self._bytes()
+            if now != content:
+                self._put_back(now, content)
             self._journal.undo()
             if self._sync:
                 os.fdatasync(self._journal.file)
         except OSError:
+            # The record stays, and readers must look at it.
+            self._at_work(False)
             return UNKNOWN
         self._content, self._doubt = content, False
         self._seen()
         return NOT_MADE
 
+    def _put_back(self, now: bytes, content: bytes) -> None:
+        """Write what the file was, but only where it is not so: there may be no room on the disk for more."""
+        others = [at for at in range(len(content)) if now[at : at + 1] != content[at : at + 1]]
+        write(self._file, content[others[0] : others[-1] + 1], others[0])
+        # The record may be forgotten only when the slot is on disk as it was.
+        if self._sync:
+            os.fdatasync(self._file)
+
     def _failed(self, error: OSError, outcome: str) -> OSError:
-        """What is told of a store that failed."""
+        """An error with what came of it."""
         return OSError(error.errno, f"{error.strerror or error}; {outcome}", self.path)
 
     def flush(self) -> None:
@@ -539,11 +544,6 @@ class Disk:
     # Its end.
 
     @property
-    def identity(self) -> tuple[int, int]:
-        """What tells this file from every other: its device, and its number there."""
-        return self._identity
-
-    @property
     def closed(self) -> bool:
         """Whether the file was closed."""
         return self._file < 0
@@ -558,8 +558,8 @@ class Disk:
                 self._make_safe(self._content if self._content is not None else self.read())
                 self._remove_journal()
         except OSError as error:
-            told = "what was stored is kept in its journal, and the next to open the store finishes it"
-            raise OSError(error.errno, f"{error.strerror or error}; {told}", self.path) from None
+            kept = "what was stored is kept in its journal, and the next to open the store finishes it"
+            raise self._failed(error, kept) from None
         finally:
             self._let_go()
 

@@ -1,25 +1,24 @@
-"""The journal of a store: the slots that its writer is about to store, in a file beside, until they are safe in the store.
+"""The journal of a store: the slots that its writer stores, in a file beside, until they are safe in the store itself.
 
 docs/FORMAT.md has it byte by byte. Before a slot is written to the file, a record with all its bytes stands here, with a
 checksum, so that a record in part is none. A writer that is stopped leaves the journal behind, and whoever opens the store
 next makes all stores of its records again, in their order: then each slot is whole.
 
-The records take turns in two halves. When a half is full, the file is synced, so that all its records may be forgotten,
-and the other half begins with a head. A head tells the checksum of each slot as it was then. A slot without a record must
-still be so, or the journal is not this file's.
+The records take turns in two halves. When one is full, the file is synced, and the other begins with a copy of the file as
+it then is. So a journal knows every byte that its file can have by now, and is not taken for another file's.
 
     >>> from palhavento import library
     >>> content = library.create(b=2, slots=2)[0]
-    >>> slot = bytes(library.slot_bytes(2))
+    >>> slot = content[16:20] + b"?" + content[21:144]
     >>> with open("new.journal", "wb+", buffering=0) as file:
     ...     journal = Journal.begun(file.fileno(), content)
-    ...     journal.append(1, slot)
-    ...     written = file.seek(0) or file.read()
-    >>> found(written, content[:-1] + b"?").content == content
+    ...     journal.append(0, slot)
+    ...     said = file.seek(0) or file.read()
+    >>> found(said, content).content == content[:16] + slot + content[144:]
     True
-    >>> found(written, b"?" + content[1:])
+    >>> found(said, content[:30] + b"!" + content[31:])
     Traceback (most recent call last):
-    palhavento.journal.Unfit: it is of another file than this, or the file was changed by other means
+    palhavento.journal.Unfit: it is of another file, or the file was changed by other means
 """
 
 from __future__ import annotations
@@ -30,22 +29,21 @@ import struct
 import zlib
 from typing import NamedTuple
 
-from palhavento.library import HEADER_BYTES, file_bytes, slot_bytes
+from palhavento.library import HEADER_BYTES, LARGEST_FILE, slot_bytes
 
-SECTOR = 512
-# Where the two heads are, and where the records of the first half begin.
-HEADS = 0, SECTOR
-RECORDS = 4096
+SECTOR, PAGE = 512, 4096
 # How many records a half has.
 PLACES = 64
 
-_HEAD = struct.Struct("<4sI8sQ16s64I")
-_HEAD_MARK = b"TKJH"
 _VERSION = 1
+_HEAD = struct.Struct("<4sI8sQII")
+_HEAD_MARK = b"TKJH"
 _RECORD = struct.Struct("<4sI8sQII")
 _RECORD_MARK = b"TKJR"
 # A record's checksum is of all that follows it.
 _SUMMED = 8
+
+_OTHER_FILE = "it is of another file, or the file was changed by other means"
 
 
 class Unfit(Exception):
@@ -69,51 +67,74 @@ def write(file: int, content: bytes, offset: int) -> None:
         content, offset = content[written:], offset + written
 
 
-def stride(b: int) -> int:
-    """From one record to the next: whole sectors, so that no sector has bytes of two.
+def _up(count: int, unit: int) -> int:
+    """The next multiple of a unit."""
+    return -(-count // unit) * unit
 
-    >>> stride(13), stride(14)
-    (512, 1024)
+
+class Layout(NamedTuple):
+    """Where things are in the journal of a file with this b and this length.
+
+    >>> Layout(16, 36_880)
+    Layout(b=16, length=36880)
+    >>> Layout(16, 36_880).whole, Layout(16, 36_880).records(1), Layout(13, 6_816).stride
+    (212992, 147456, 512)
     """
-    return -(-(_RECORD.size + slot_bytes(b)) // SECTOR) * SECTOR
+
+    b: int
+    length: int
+
+    @property
+    def stride(self) -> int:
+        """From one record to the next: whole sectors, so that no sector has bytes of two."""
+        return _up(_RECORD.size + slot_bytes(self.b), SECTOR)
+
+    @property
+    def half(self) -> int:
+        """The bytes of a half: a head, a copy of the file, and the records."""
+        return _up(_up(SECTOR + self.length, PAGE) + PLACES * self.stride, PAGE)
+
+    def records(self, half: int) -> int:
+        """Where the records of a half begin."""
+        return half * self.half + _up(SECTOR + self.length, PAGE)
+
+    @property
+    def whole(self) -> int:
+        """The bytes of the journal."""
+        return 2 * self.half
 
 
-def length(b: int) -> int:
-    """The bytes of a journal.
-
-    >>> length(16)
-    135168
-    """
-    return RECORDS + 2 * PLACES * stride(b)
+LARGEST = Layout(16, LARGEST_FILE).whole
 
 
 def _head(identity: bytes, first: int, content: bytes) -> bytes:
-    """The head of a half: from which record on, and the file as it is before that."""
-    size = slot_bytes(content[5])
-    sums = [zlib.crc32(content[at : at + size]) for at in range(HEADER_BYTES, len(content), size)]
-    sums += [0] * (64 - len(sums))
-    head = _HEAD.pack(_HEAD_MARK, _VERSION, identity, first, content[:HEADER_BYTES], *sums)
-    head = head.ljust(SECTOR - 4, b"\0")
-    return head + zlib.crc32(head).to_bytes(4, "little")
+    """The beginning of a half: the number of its first record, and the file as it is before that."""
+    head = _HEAD.pack(_HEAD_MARK, _VERSION, identity, first, len(content), zlib.crc32(content)).ljust(SECTOR - 4, b"\0")
+    return head + zlib.crc32(head).to_bytes(4, "little") + content
 
 
 class _Head(NamedTuple):
     identity: bytes
     first: int
-    header: bytes
-    sums: tuple[int, ...]
+    content: bytes
 
 
-def _head_of(sector: bytes) -> _Head | None:
-    """The head that a sector is, if it is one."""
-    if len(sector) < SECTOR or zlib.crc32(sector[:-4]) != int.from_bytes(sector[-4:], "little"):
+def _is_head(sector: bytes) -> bool:
+    """Whether a sector is a whole head, whatever comes behind it."""
+    summed = int.from_bytes(sector[-4:], "little")
+    return len(sector) == SECTOR and sector[:4] == _HEAD_MARK and zlib.crc32(sector[:-4]) == summed
+
+
+def _head_at(journal: bytes, place: int) -> _Head | None:
+    """The head that is at a place with its copy of the file, if both are whole."""
+    sector = journal[place : place + SECTOR]
+    if not _is_head(sector):
         return None
-    mark, version, identity, first, header, *sums = _HEAD.unpack_from(sector)
-    if mark != _HEAD_MARK:
-        return None
+    _, version, identity, first, length, summed = _HEAD.unpack_from(sector)
     if version != _VERSION:
         raise Unfit(f"it is of version {version}, which this program does not know")
-    return _Head(identity, first, header, tuple(sums))
+    content = journal[place + SECTOR : place + SECTOR + length]
+    return _Head(identity, first, content) if zlib.crc32(content) == summed else None
 
 
 class _Record(NamedTuple):
@@ -136,39 +157,56 @@ def _record_at(journal: bytes, place: int) -> _Record | None:
 
 def found(journal: bytes, file: bytes) -> Found | None:
     """What a journal makes of a file; None where nothing was ever said in it. One that does not fit is `Unfit`."""
-    heads = [head for at in HEADS if (head := _head_of(journal[at : at + SECTOR]))]
-    records = [record for at in range(RECORDS, len(journal), SECTOR) if (record := _record_at(journal, at))]
+    begins = _head_at(journal, 0)
+    if begins and len(begins.content) != len(file):
+        raise Unfit(_OTHER_FILE)
+    layout = Layout(file[5] if len(file) > 5 else 0, len(file))
+    heads = [head for head in (begins, _head_at(journal, layout.half)) if head]
+    records = [
+        record
+        for half in (0, 1)
+        for place in range(PLACES)
+        if (record := _record_at(journal, layout.records(half) + place * layout.stride))
+    ]
     if not heads:
-        # The head is on disk when the first record is. Where it was never written, there is at most that one, under way.
-        if journal[:SECTOR].strip(b"\0") or any(record.sequence > 1 for record in records):
+        # A head and its copy are on disk when the first record is. Before that, there is at most this record, under way.
+        head = journal[:SECTOR]
+        if head.strip(b"\0") and not _is_head(head) or any(record.sequence > 1 for record in records):
             raise Unfit("it is damaged, or is no journal")
         return None
     newest = max(heads, key=lambda head: head.first)
-    header = newest.header
-    b, slots = header[5], header[6]
-    if len(file) != file_bytes(b, slots) or file[:HEADER_BYTES] != header:
-        raise Unfit("it is of another file than this, or the file was changed by other means")
-    size = slot_bytes(b)
-    # A half that has begun is told by its records also where its head has not come to be written.
+    if any(head.identity != newest.identity for head in heads):
+        raise Unfit("it is damaged: its halves are of two journals")
+    # A half that has begun is known by its records also where its head has not come to be written.
     said = {record.sequence: record for record in records if record.identity == newest.identity}
     end = newest.first
-    slots_said: dict[int, bytes] = {}
-    while record := said.get(end):
-        if len(record.slot) != size or record.number >= slots:
-            raise Unfit("it is damaged")
-        slots_said[record.number] = record.slot
+    while end in said:
         end += 1
-    if any(sequence > end for sequence in said) or any(head.identity != newest.identity for head in heads):
+    if any(sequence > end for sequence in said):
         raise Unfit("it is damaged: a record in the middle is gone")
-    made = [file[:HEADER_BYTES]]
+    return Found(_finished(newest.content, [said[at] for at in range(newest.first, end)], file), end - newest.first, end)
+
+
+def _finished(content: bytes, records: list[_Record], file: bytes) -> bytes:
+    """The file after all stores of the records. Each byte of it now must be one that it had at some time since."""
+    size = slot_bytes(content[5])
+    versions: dict[int, list[bytes]] = {}
+    for record in records:
+        versions.setdefault(record.number, []).append(record.slot)
+    made = [content[:HEADER_BYTES]]
+    if len(file) != len(content) or file[:HEADER_BYTES] != made[0]:
+        raise Unfit(_OTHER_FILE)
     for number, at in enumerate(range(HEADER_BYTES, len(file), size)):
-        slot = slots_said.get(number)
-        if slot is None:
-            slot = file[at : at + size]
-            if zlib.crc32(slot) != newest.sums[number]:
-                raise Unfit("it is of another file than this, or the file was changed by other means")
-        made.append(slot)
-    return Found(b"".join(made), end - newest.first, end)
+        since = [content[at : at + size], *versions.pop(number, ())]
+        now = file[at : at + size]
+        # A slot may be any mixture: of pages after a kill, of sectors after a power loss, of bytes after a failing disk.
+        if now not in since and not all(byte in column for byte, *column in zip(now, *since)):
+            raise Unfit(_OTHER_FILE)
+        made.append(since[-1])
+    finished = b"".join(made)
+    if versions or len(finished) != len(file):
+        raise Unfit("it is damaged: a record is of no slot")
+    return finished
 
 
 class Journal:
@@ -177,17 +215,18 @@ class Journal:
     def __init__(self, file: int, identity: bytes, content: bytes) -> None:
         self.file = file
         self._identity = identity
-        self._stride = stride(content[5])
-        # The record that is written next, and the first one of the half in use.
-        self.next = 1
-        self._first = 1
+        self._layout = Layout(content[5], len(content))
+        self._stride = self._layout.stride
+        # The number of the record that is written next, and of the first one in the half in use.
+        self.next = self._first = 1
         self._half = 0
+        self._records = self._layout.records(0)
 
     @classmethod
     def begun(cls, file: int, content: bytes) -> Journal:
         """A new journal for a file with this content. All of it is written, so that later records change no length."""
         journal = cls(file, os.urandom(8), content)
-        write(file, _head(journal._identity, 1, content).ljust(length(content[5]), b"\0"), 0)
+        write(file, _head(journal._identity, 1, content).ljust(journal._layout.whole, b"\0"), 0)
         return journal
 
     @property
@@ -198,11 +237,11 @@ class Journal:
     def turn(self, content: bytes) -> None:
         """Begin the other half, with a file of which this content is on disk."""
         half = 1 - self._half
-        write(self.file, _head(self._identity, self.next, content), HEADS[half])
-        self._half, self._first = half, self.next
+        write(self.file, _head(self._identity, self.next, content), half * self._layout.half)
+        self._half, self._first, self._records = half, self.next, self._layout.records(half)
 
     def _place(self) -> int:
-        return RECORDS + (self._half * PLACES + self.next - self._first) * self._stride
+        return self._records + (self.next - self._first) * self._stride
 
     def append(self, number: int, slot: bytes) -> None:
         """Write the next record; it counts from when `next` is past it."""

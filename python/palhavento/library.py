@@ -20,7 +20,7 @@ from ctypes import c_char_p, c_size_t, c_uint64
 from pathlib import Path
 from typing import NamedTuple
 
-from palhavento.errors import PalhaventoError, illegal, refusal, shown
+from palhavento.errors import illegal, refusal, shown
 
 TRIE_BYTES = 1540
 ENTRY_BYTES = 32
@@ -111,19 +111,12 @@ def _lend(buffer: bytearray) -> ctypes.Array[ctypes.c_char]:
     return (ctypes.c_char * len(buffer)).from_buffer(buffer)
 
 
-def refused(number: int, *names: bytes) -> PalhaventoError:
-    """The refusal of a call, about the names that it was given.
-
-    >>> print(refused(7, b"a", b"c"))
-    'a' to 'c': The output is too short: it needs 32 bytes for each entry.
-    """
-    return illegal(*names) if number == 1 else refusal(number, " to ".join(map(shown, names)))
-
-
-def _answer(answer: int, *names: bytes) -> int:
-    """An answer that is no refusal; else the refusal is raised, about these names."""
+def _answer(answer: int, *names: bytes, about: str = "") -> int:
+    """An answer that is no refusal; else the refusal is raised, with the names or whatever it is about."""
+    if answer == 1:
+        raise illegal(*names)
     if answer < 100 or answer == 255:
-        raise refused(answer, *names)
+        raise refusal(answer, about or " to ".join(map(shown, names)))
     return answer
 
 
@@ -140,14 +133,12 @@ def create(b: int, slots: int) -> tuple[bytes, bytes]:
     for size in (b, slots):
         if not isinstance(size, int):
             raise TypeError(f"b and slots are ints, not {type(size).__name__}")
-    sizes = f"b = {b}, slots = {slots}"
+    about = f"b = {b}, slots = {slots}"
     # A number outside 64 bits would wrap on its way into the call, and a large one would ask for memory first.
     if not (0 <= b < 256 and 0 <= slots < 256):
-        raise refusal(8, sizes)
+        raise refusal(8, about)
     file, trie = bytearray(file_bytes(b, slots)), bytearray(TRIE_BYTES)
-    answer = _LIBRARY.pal_create(_lend(file), len(file), 1, b, slots, _lend(trie), len(trie))
-    if answer < 100:
-        raise refusal(answer, sizes)
+    _answer(_LIBRARY.pal_create(_lend(file), len(file), 1, b, slots, _lend(trie), len(trie)), about=about)
     return bytes(file), bytes(trie)
 
 
@@ -195,19 +186,6 @@ def look_up(file: bytes, trie: bytes, name: bytes) -> int | None:
     return words[0] if _answer(answer, name) == FOUND else None
 
 
-def legal(name: bytes) -> bytes:
-    """A name that some file can hold, as look up tells it before anything else.
-
-    >>> legal(b"gdp.de")
-    b'gdp.de'
-    >>> legal(b"")
-    Traceback (most recent call last):
-    palhavento.errors.IllegalName: '': A name has 1 to 24 bytes, each 0x21 to 0x7D; this one is empty.
-    """
-    look_up(*_EMPTY, name)
-    return name
-
-
 def put(file: bytes, trie: bytes, name: bytes, value: int, limit: int) -> Outcome:
     """ADDED, REPLACED with the old value, or STOPPED with the stores made.
 
@@ -253,6 +231,3 @@ def entries(file: bytes, trie: bytes, first: bytes, second: bytes, room: int) ->
     )
     _answer(answer, first, second)
     return bytes(output[: ENTRY_BYTES * words[0]])
-
-
-_EMPTY = create(b=2, slots=1)

@@ -30,6 +30,11 @@ from typing import Any, TypeVar
 from palhavento import calls, disk, layout, library, reasons
 from palhavento.errors import BadFile, CutFile, Locked, PalhaventoError, StaleTrie, refusal
 
+try:
+    from palhavento import _system
+except ImportError:
+    _system = None
+
 Given = TypeVar("Given")
 Identity = tuple[int, int]
 
@@ -40,13 +45,9 @@ _log = logging.getLogger("palhavento")
 _PAUSES = (0.001, 0.003, 0.01, 0.03)
 
 
-def _stores_of(file: bytes, trie: bytes, call: Callable[..., calls.Change], *given: object) -> tuple[Any, ...]:
-    """A call on copies, with limit 1 and, where that stops it, 2: the file before, after each store, and the outcome."""
-    outcome = call(file, trie, *given, 1)
-    if outcome[0] != library.STOPPED:
-        return (file, outcome[1]), outcome
-    last = call(file, trie, *given, 2)
-    return (file, outcome[1], last[1]), last
+def _first_store(file: bytes, trie: bytes, call: Callable[..., calls.Change], *given: object) -> tuple[bytes, calls.Change]:
+    """A call on copies that may make one store: the file before, and the outcome."""
+    return file, call(file, trie, *given, 1)
 
 
 class Opened:
@@ -57,22 +58,30 @@ class Opened:
         self.sync = sync
         # The stores that use it. One that nobody has in hand any more is not among them.
         self.stores: weakref.WeakValueDictionary[int, object] = weakref.WeakValueDictionary()
-        # Readings that a function which asks several times shares; see `store.py`.
+        # The reading of each thread that a function which asks several times shares; see `store.py`.
         self.told: dict[int, Any] = {}
         self.alone = threading.RLock()
         # What a writer knows, file and trie, and until when it need not look whether the file is in its place.
         self._now: tuple[bytes, bytes, float] | None = None
         self._forked = False
         self.disk = disk.Disk(path, readonly, sync, timeout)
+        # A reader's short cut, for where the extension was compiled.
+        self._request = self.disk.request() if readonly and _system else None
         self.path = self.disk.path
         try:
             file = self._settled()
             self.trie = self._rebuilt(file)
         except BaseException:
+            self._request = None
             self.disk.close()
             raise
         self.b, self.slots = layout.sizes(file)
         _ALL.add(self)
+
+    def is_closed(self) -> bool:
+        """Whether the file is closed; and if another thread closes it this moment, then when that is done."""
+        with self.alone:
+            return self.disk.closed
 
     def share(self, store: object) -> bool:
         """One store more uses it; unless it was closed meanwhile."""
@@ -86,13 +95,13 @@ class Opened:
         with self.alone:
             self.stores.pop(id(store), None)
             if not self.stores:
-                self._now = None
+                self._now = self._request = None
                 self.disk.close()
 
     def in_child(self) -> None:
         """After a fork, in the child: a lock that another thread had is nobody's here, and the file is the parent's."""
         self.alone = threading.RLock()
-        self._now = None
+        self._now = self._request = None
         self._forked = True
         # Else the parent's lock would last as long as the child.
         self.disk.close()
@@ -101,6 +110,10 @@ class Opened:
 
     def read(self, anew: bool = False) -> bytes:
         """The file's bytes now."""
+        if self._request is not None:
+            file = _system.read_locked(*self._request)
+            if file is not None:
+                return file
         if self._forked:
             how = "again here" if self.readonly else "here with readonly=True, or for writing once its opener has closed it"
             raise Locked(Locked.number, f"{self.path}: It was opened before this process was forked: open it {how}.")
@@ -192,12 +205,18 @@ class Opened:
         """Make a call on copies, to find its stores; then make them on disk, in order. Gives the call's answer."""
         self.must_write()
         with self.alone:
-            files, (answer, file, trie) = self.ask(_stores_of, call, *given)
+            before, (answer, file, trie) = self.ask(_first_store, call, *given)
+            stopped = answer == library.STOPPED
+            if stopped:
+                # Called with what it was called with before, since a stop leaves the old trie.
+                answer, last, trie = call(before, self.trie, *given, 2)
             # Until all is on disk the file may be any of them.
             self._now = None
-            self.told.clear()
-            for at in range(len(files) - 1):
-                self._store(files[at], files[at + 1])
+            self.told.pop(threading.get_ident(), None)
+            self._store(before, file)
+            if stopped:
+                self._store(file, last)
+                file = last
             self.trie = trie
             self._now = file, trie, time.monotonic() + disk.LOOK_AGAIN
             return answer
@@ -206,7 +225,7 @@ class Opened:
         """Make on disk the one store between two states. A slot that stays as it was has nothing to be written."""
         change = calls.changed(before, after)
         if change is not None:
-            self.disk.store(*change)
+            self.disk.store(*change, before, after)
 
 
 _ALL: weakref.WeakSet[Opened] = weakref.WeakSet()
@@ -238,12 +257,11 @@ def of(path: disk.Path, readonly: bool, sync: bool, timeout: float) -> Opened:
         turn = _TURNS.setdefault((found.st_dev, found.st_ino), threading.RLock())
     with turn:
         shared = _WRITERS.get((found.st_dev, found.st_ino))
-        if shared is None or shared.disk.closed:
+        if shared is None or shared.is_closed():
             new = Opened(path, readonly, sync, timeout)
-            _WRITERS[new.disk.identity] = new
+            _WRITERS[new.disk._identity] = new
             return new
         if shared.sync != sync:
-            raise Locked(
-                Locked.number, f"{shared.path}: It is open in this process with sync={shared.sync}: open it so, or close it first."
-            )
+            said = f"{shared.path}: It is open in this process with sync={shared.sync}: open it so, or close it first."
+            raise Locked(Locked.number, said)
         return shared

@@ -14,11 +14,12 @@ Every call looks at the file once and sees it as it then is; `opened.py` has the
 
 from __future__ import annotations
 
+import operator
 import os
 import sys
 import threading
 import time
-from collections.abc import ItemsView, Iterable, Iterator, KeysView, Mapping, MutableMapping, ValuesView
+from collections.abc import Callable, ItemsView, Iterable, Iterator, KeysView, Mapping, MutableMapping, ValuesView
 from types import FrameType, TracebackType
 from typing import Any, NoReturn, TypeVar, Union, cast, overload
 
@@ -26,6 +27,7 @@ from palhavento import calls, disk, drawing, layout, library, opened, reasons
 from palhavento.calls import HIGHEST, LARGEST_VALUE, LOWEST, Entry, Name
 from palhavento.errors import PalhaventoError
 
+Given = TypeVar("Given")
 Other = TypeVar("Other")
 
 _ABSENT = object()
@@ -42,16 +44,23 @@ class _Reading:
     # Some such function might be slow. What it is told must not become old.
     SECONDS = 1.0
 
-    def __init__(self, frame: FrameType, entries: list[Entry], for_values: bool) -> None:
+    def __init__(self, frame: FrameType, entries: list[Entry], given: list[Given], for_values: bool) -> None:
         self.place = _place(frame)
-        self.entries = entries
-        # The values are asked for in the order of the names, and with the very objects that were given.
-        self.values = iter(entries if for_values else ())
         self.until = time.monotonic() + self.SECONDS
+        # What the function is given to go through. Before it begins it may ask, once, how much that is.
+        self.given = iter(given)
+        self._number: int | None = len(entries)
+        # The values are asked for in the order of the names, and with the very objects that were given.
+        self._values = iter(entries if for_values else ())
+
+    def number(self) -> int | None:
+        """The number of entries, or None."""
+        number, self._number = self._number, None
+        return number if self.given.__length_hint__() == number else None
 
     def value(self, name: object) -> int | None:
         """The value of the name that is next, or None."""
-        next_name, value = next(self.values, (None, None))
+        next_name, value = next(self._values, (None, None))
         return value if next_name is name else None
 
 
@@ -70,13 +79,13 @@ class _Names(KeysView[str]):
 
     def __iter__(self) -> Iterator[str]:
         frame = sys._getframe(1)
-        return (name for name, _ in self._mapping._read(frame, for_values=self._place == _place(frame)))
+        return self._mapping._read(frame, _names, for_values=self._place == _place(frame))
 
     def __len__(self) -> int:
         return self._mapping._count(sys._getframe(1))
 
     def __repr__(self) -> str:
-        return f"keys({_shown(self._mapping, list)})"
+        return f"keys({_shown(self._mapping, _names)})"
 
 
 class _Items(ItemsView[str, int]):
@@ -85,13 +94,13 @@ class _Items(ItemsView[str, int]):
     _mapping: Store
 
     def __iter__(self) -> Iterator[Entry]:
-        return iter(self._mapping._read(sys._getframe(1)))
+        return self._mapping._read(sys._getframe(1), list)
 
     def __len__(self) -> int:
         return self._mapping._count(sys._getframe(1))
 
     def __repr__(self) -> str:
-        return f"items({_shown(self._mapping, Store.range)})"
+        return f"items({_shown(self._mapping, list)})"
 
 
 class _Values(ValuesView[int]):
@@ -100,18 +109,26 @@ class _Values(ValuesView[int]):
     _mapping: Store
 
     def __iter__(self) -> Iterator[int]:
-        return (value for _, value in self._mapping._read(sys._getframe(1)))
+        return self._mapping._read(sys._getframe(1), _values)
 
     def __len__(self) -> int:
         return self._mapping._count(sys._getframe(1))
 
     def __repr__(self) -> str:
-        return f"values({_shown(self._mapping, lambda store: [value for _, value in store.range()])})"
+        return f"values({_shown(self._mapping, _values)})"
 
 
-def _shown(store: Store, listed: Any) -> object:
+def _names(entries: list[Entry]) -> list[str]:
+    return [name for name, _ in entries]
+
+
+def _values(entries: list[Entry]) -> list[int]:
+    return [value for _, value in entries]
+
+
+def _shown(store: Store, part: Callable[[list[Entry]], list[Given]]) -> object:
     """What a view shows: its list, or the store if that is closed."""
-    return store if store.closed else listed(store)
+    return store if store.closed else part(store.range())
 
 
 class _Closed:
@@ -136,7 +153,7 @@ class Store(MutableMapping[str, int]):
     KeyError: 'run.2'
     >>> store["two words"] = 1
     Traceback (most recent call last):
-    palhavento.errors.IllegalName: 'two words': A name has 1 to 24 bytes, each 0x21 to 0x7D; byte 4 of this one is 0x20 (a blank).
+    palhavento.errors.IllegalName: 'two words': A name has 1 to 24 bytes, each 0x21 to 0x7D...
     >>> del store["run.1"]
     >>> store.close()
     >>> store["run.1"]
@@ -189,7 +206,7 @@ class Store(MutableMapping[str, int]):
 
     def __iter__(self) -> Iterator[str]:
         """The names in order, as they were when the iteration began."""
-        return (name for name, _ in self._read(sys._getframe(1)))
+        return self._read(sys._getframe(1), _names)
 
     def __len__(self) -> int:
         return self._count(sys._getframe(1))
@@ -214,11 +231,14 @@ class Store(MutableMapping[str, int]):
 
     # Readings.
 
-    def _read(self, frame: FrameType, for_values: bool = False) -> list[Entry]:
-        """All entries; and whatever else the calling function asks for at once it is told from the same reading."""
+    def _read(
+        self, frame: FrameType, part: Callable[[list[Entry]], list[Given]], for_values: bool = False
+    ) -> Iterator[Given]:
+        """A part of all entries; whatever else the calling function asks for at once it is told from the same reading."""
         entries = self.range()
-        self._opened.told[threading.get_ident()] = _Reading(frame, entries, for_values)
-        return entries
+        reading = _Reading(frame, entries, part(entries), for_values)
+        self._opened.told[threading.get_ident()] = reading
+        return reading.given
 
     def _told(self, frame: FrameType) -> _Reading | None:
         """The reading of the function that asks now, if it has one."""
@@ -231,7 +251,8 @@ class Store(MutableMapping[str, int]):
 
     def _count(self, frame: FrameType) -> int:
         reading = self._told(frame) if self._opened.told else None
-        return self._opened.ask(calls.count) if reading is None else len(reading.entries)
+        number = reading and reading.number()
+        return self._opened.ask(calls.count) if number is None else number
 
     def range(self, first: Name = LOWEST, second: Name = HIGHEST) -> list[Entry]:
         """The entries whose names lie from the first to the second, both included.
@@ -277,7 +298,7 @@ class Store(MutableMapping[str, int]):
         file = self._opened
         file.must_write()
         with file.alone:
-            total = (file.look_up(name) or 0) + by
+            total = (file.look_up(name) or 0) + operator.index(by)
             file.change(calls.put, name, total)
             return total
 
@@ -342,7 +363,7 @@ class Store(MutableMapping[str, int]):
         >>> store.snapshot()
         {'a': 1, 'b': 2}
         """
-        entries = [(library.legal(calls.bytes_of(name)), calls.value_of(value)) for name, value in _pairs(other, named)]
+        entries = [(calls.legal(name), calls.value_of(value)) for name, value in _pairs(other, named)]
         file = self._opened
         file.must_write()
         with file.alone:

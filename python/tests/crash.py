@@ -9,6 +9,10 @@ removed since the folder was last synced is there or not. After a kill, all that
 part. Each state is opened, by a reader and then by a writer, and must hold exactly what was acknowledged, or that and the
 store under way. Some of these openings fail in their turn, and the states they leave are opened as well; some are the
 beginning of a further life.
+
+In some histories the disk fails without a crash: a write ends in part or with an error, a sync with an error, after which the
+system takes for written what may not be on disk. A store that then counts as not made must not be found; one of which nothing
+is known may be.
 """
 
 from __future__ import annotations
@@ -39,10 +43,30 @@ PATH = f"/nowhere/{STORE}"
 Files = dict[str, bytes]
 
 
+class Faults:
+    """When calls of the system fail: one in so many, and from a failure on perhaps all."""
+
+    def __init__(self, chance: random.Random, one_in: int) -> None:
+        self.chance = chance
+        self.one_in = one_in
+        self.for_good = False
+
+    def strike(self) -> bool:
+        if not self.for_good and self.chance.randrange(self.one_in) == 0:
+            self.for_good = self.chance.random() < 0.1
+            return True
+        return self.for_good
+
+    def error(self) -> OSError:
+        number = self.chance.choice((errno.EIO, errno.ENOSPC, errno.EROFS))
+        return OSError(number, os.strerror(number))
+
+
 class Machine:
     """What `disk.py` and `journal.py` ask of the system, over files in memory; and all that was asked for, in order."""
 
     def __init__(self, files: Files) -> None:
+        self.faults: Faults | None = None
         self.names: dict[str, int] = {}
         self.nodes: dict[int, bytearray] = {}
         self.open_files: dict[int, int] = {}
@@ -66,6 +90,7 @@ class Machine:
                 raise FileExistsError(errno.EEXIST, os.strerror(errno.EEXIST), path)
             node = self.names[name]
         elif flags & os.O_CREAT:
+            self.may_fail()
             node = self.names[name] = len(self.nodes) + 1
             self.nodes[node] = bytearray()
             self.log.append(("name", name, node))
@@ -75,10 +100,15 @@ class Machine:
         self.open_files[number] = node
         return number
 
+    def may_fail(self) -> None:
+        if self.faults and self.faults.strike():
+            raise self.faults.error()
+
     def close(self, file: int) -> None:
         del self.open_files[file]
 
     def unlink(self, path: str, *, dir_fd: int | None = None) -> None:
+        self.may_fail()
         del self.names[path]
         self.log.append(("name", path, None))
 
@@ -87,11 +117,20 @@ class Machine:
 
     def pwrite(self, file: int, content: bytes, offset: int) -> int:
         node = self.open_files[file]
-        overwrite(self.nodes[node], content, offset)
-        self.log.append(("write", node, content, offset))
+        strikes = self.faults is not None and self.faults.strike()
+        if strikes:
+            content = content[: self.faults.chance.randint(0, len(content))]
+        if content:
+            overwrite(self.nodes[node], content, offset)
+            self.log.append(("write", node, content, offset))
+        if strikes and (not content or self.faults.chance.random() < 0.7):
+            raise self.faults.error()
         return len(content)
 
     def fdatasync(self, file: int) -> None:
+        if self.faults and self.faults.strike():
+            self.log.append(("not synced", self.open_files[file]))
+            raise self.faults.error()
         self.log.append(("sync", self.open_files[file]))
 
     fsync = fdatasync
@@ -144,6 +183,8 @@ class Node:
         self.last = bytearray(content)
         self.before = self.last
         self.since: dict[int, list[bytes]] = {}
+        # Sectors of which a sync has failed. Only to write them again makes sure of them.
+        self.doubtful: dict[int, list[bytes]] = {}
 
     def write(self, content: bytes, offset: int) -> None:
         self.before = bytearray(self.last)
@@ -154,14 +195,21 @@ class Node:
     def sync(self) -> None:
         for sector, versions in self.since.items():
             overwrite(self.safe, versions[-1], sector * SECTOR)
+            self.doubtful.pop(sector, None)
+        self.since.clear()
+
+    def fail_to_sync(self) -> None:
+        for sector, versions in self.since.items():
+            self.doubtful.setdefault(sector, []).extend(versions)
         self.since.clear()
 
     def lost(self, choose: Callable[[int, int], int]) -> bytearray:
         """The file after a power loss: of each sector the version that is chosen by its number, 0 for none."""
         left = bytearray(self.safe)
-        for sector, versions in self.since.items():
-            if version := choose(sector, len(versions)):
-                overwrite(left, versions[version - 1], sector * SECTOR)
+        for found in (self.doubtful, self.since):
+            for sector, versions in found.items():
+                if version := choose(sector, len(versions)):
+                    overwrite(left, versions[version - 1], sector * SECTOR)
         return left
 
 
@@ -174,8 +222,8 @@ class Fate:
         self.nodes = {number: Node(content) for number, content in enumerate(files.values(), 1)}
         # The node that each name has had since the folder was synced.
         self.names: dict[str, list[int | None]] = {name: [number] for number, name in enumerate(files, 1)}
-        # The store that was acknowledged last, and the one that was begun last.
-        self.made = self.begun = 0
+        # What may be found in the store.
+        self.allowed: list[bytes] = []
 
     def follow(self, until: int) -> None:
         for event in self.log[self.done : until]:
@@ -184,16 +232,18 @@ class Fate:
                     self.nodes[node].write(content, offset)
                 case "sync", 0:
                     self.names = {name: versions[-1:] for name, versions in self.names.items()}
+                case "not synced", 0:
+                    pass
                 case "sync", node:
                     self.nodes[node].sync()
+                case "not synced", node:
+                    self.nodes[node].fail_to_sync()
                 case "name", name, node:
                     if node is not None:
                         self.nodes[node] = Node()
                     self.names.setdefault(name, [None]).append(node)
-                case "begun", number:
-                    self.begun = number
-                case "made", number:
-                    self.made = number
+                case "allowed", contents:
+                    self.allowed = contents
         self.done = until
 
     def power_loss(self, chance: random.Random) -> Files:
@@ -265,47 +315,34 @@ def entries(content: bytes) -> dict[bytes, int]:
     return {name.rstrip(b" "): value for name, value in struct.iter_unpack("<24sQ", listed)}
 
 
-def stores(content: bytes, names: dict[bytes, int], chance: random.Random, calls: int) -> Iterator[tuple[int, bytes, bytes]]:
-    """The stores of random calls: where, the slot, and the file after it. `names` follows the calls that are made."""
+def a_call(content: bytes, letters: str, chance: random.Random) -> tuple[list[bytes], dict[bytes, int]]:
+    """The file after each store of a random call, and what it then holds; a cut file is recovered."""
     file = library.recover(content, limit=1).file
+    held = entries(file)
     if file != content:
-        yield changed(content, file)
+        return [file], held
     trie = library.rebuild(file)
-    letters = chance.choice(("abcdefg}", "xy", "!abcdefghijklmnopqrstuvwxyz0123456789}"))
-    for _ in range(calls):
-        name = "".join(chance.choices(letters, k=chance.choice((1, 2, 3, 5, 8, 24)))).encode()
-        if names and chance.random() < 0.5:
-            name = chance.choice(list(names))
-        value = chance.getrandbits(64)
-        if name in names and chance.random() < 0.3:
-            outcomes = [library.remove(file, trie, name, limit=1)]
-        else:
-            try:
-                outcomes = [library.put(file, trie, name, value, limit=1)]
-                if outcomes[0].answer == library.STOPPED:
-                    outcomes.append(library.put(file, trie, name, value, limit=2))
-            except PalhaventoError:
-                continue
-        for outcome in outcomes:
-            if outcome.file != file:
-                store = changed(file, outcome.file)
-                file = outcome.file
-                # Before it is known to be made, for the call counts from its last store on.
-                if outcome is outcomes[-1]:
-                    if outcome.answer == library.REMOVED:
-                        del names[name]
-                    else:
-                        names[name] = value
-                yield store
-        trie = outcomes[-1].trie
+    name = "".join(chance.choices(letters, k=chance.choice((1, 2, 3, 5, 8, 24)))).encode()
+    if held and chance.random() < 0.5:
+        name = chance.choice(list(held))
+    if name in held and chance.random() < 0.3:
+        del held[name]
+        return [library.remove(file, trie, name, limit=1).file], held
+    value = chance.getrandbits(64)
+    try:
+        outcomes = [library.put(file, trie, name, value, limit) for limit in (1, 2)]
+    except PalhaventoError:
+        return [], held
+    held[name] = value
+    return [outcome.file for outcome in outcomes[: 2 if outcomes[0].answer == library.STOPPED else 1]], held
 
 
-def changed(before: bytes, after: bytes) -> tuple[int, bytes, bytes]:
-    """The one slot in which two files differ: its place, its bytes, and the whole file after."""
+def changed(before: bytes, after: bytes) -> tuple[int, bytes]:
+    """The one slot in which two files differ: its place and its bytes."""
     size = library.slot_bytes(before[5])
     for at in range(library.HEADER_BYTES, len(before), size):
         if before[at : at + size] != after[at : at + size]:
-            return at, after[at : at + size], after
+            return at, after[at : at + size]
     raise AssertionError("no slot is another")
 
 
@@ -344,37 +381,50 @@ class Trial:
             return self.judge(left, [content], chance, depth + 1)
         return content
 
-    def life(self, files: Files, names: dict[bytes, int], chance: random.Random, states: int) -> Files | None:
-        """One process with its stores, and crash states of its disk; one of these for the next life, with its names."""
+    def life(self, files: Files, chance: random.Random, states: int, faults: Faults | None) -> Files | None:
+        """One process with its stores, and crash states of its disk; one of these is for the next life."""
         machine = Machine(files)
+        letters = chance.choice(("abcdefg}", "xy", "!abcdefghijklmnopqrstuvwxyz0123456789}"))
         with machine.runs():
             writer = self.kind(PATH, False, True)
-            contents = [writer.read()]
-            held = [dict(names)]
-            for at, slot, after in stores(contents[0], names, chance, chance.randint(1, 80)):
-                machine.log.append(("begun", len(contents)))
-                writer.store(at, slot)
-                machine.log.append(("made", len(contents)))
-                assert writer.read() == after
-                contents.append(after)
-                held.append(dict(names))
-            if chance.random() < 0.3:
-                writer.close()
-            else:
-                writer._journal, writer._file, writer._folder = None, -1, -1
-        self.counts["stores"] += len(contents) - 1
-        for content, expected in list(zip(contents, held))[:: max(1, len(contents) // 8)]:
-            assert entries(content) == expected
+            machine.faults = faults
+            allowed = [writer.read()]
+            for _ in range(chance.randint(1, 60)):
+                content = writer.read()
+                assert content in allowed
+                for after in a_call(content, letters, chance)[0]:
+                    if after == content:
+                        continue
+                    machine.log.append(("allowed", [*allowed, after]))
+                    try:
+                        writer.store(*changed(content, after))
+                        allowed, content = [after], after
+                    except OSError as error:
+                        self.counts["stores that failed"] += 1
+                        # If it is not known whether it was made, that is so until a further store is made.
+                        if disk.UNKNOWN in str(error):
+                            allowed = [*allowed, after]
+                        machine.log.append(("allowed", allowed))
+                        break
+                    self.counts["stores"] += 1
+                    machine.log.append(("allowed", allowed))
+                    assert writer.read() == after
+            try:
+                if chance.random() < 0.3:
+                    writer.close()
+            except OSError:
+                self.counts["closings that failed"] += 1
+            # Whatever happens now happens to the disk alone.
+            writer._journal, writer._file, writer._folder = None, -1, -1
         fate = Fate(files, machine.log)
         last = None
         for until in sorted(chance.choices(range(1, len(machine.log) + 1), k=states)) if machine.log else ():
             fate.follow(until)
-            left = fate.power_loss(chance) if chance.random() < 0.75 else fate.kill(chance)
-            content = self.judge(left, contents[fate.made : fate.begun + 1], chance)
-            if content is not None and (last is None or chance.random() < 0.2):
-                last = left
-                names.clear()
-                names.update(entries(content))
+            if fate.allowed:
+                left = fate.power_loss(chance) if chance.random() < 0.75 else fate.kill(chance)
+                content = self.judge(left, fate.allowed, chance)
+                if content is not None and (last is None or chance.random() < 0.2):
+                    last = left
         return last
 
     def world(self, seed: int, states: int) -> None:
@@ -384,15 +434,17 @@ class Trial:
         b = 2 + seed % 15
         # From files within one sector to the largest.
         slots = chance.choice((1, 2, 3, chance.randint(4, 20), chance.randint(21, 63), 64))
-        content, names = library.create(b, slots)[0], {}
-        for _, _, content in stores(content, names, chance, chance.choice((0, 20, 600))):
-            pass
-        names = entries(content)
+        content = library.create(b, slots)[0]
+        for _ in range(chance.choice((0, 20, 400))):
+            states_of_call, held = a_call(content, "abcdefghij", chance)
+            content = states_of_call[-1] if states_of_call else content
+            assert entries(content) == held
         files: Files | None = {STORE: content}
+        faults = Faults(chance, chance.choice((20, 100))) if seed % 3 == 2 and self.kind is disk.Disk else None
         with mock.patch.object(journal, "PLACES", chance.choice((1, 2, 3, 8, 64))):
             for _ in range(3):
                 if files is not None:
-                    files = self.life(files, names, chance, states // 3)
+                    files = self.life(files, chance, states // 3, faults)
         self.counts["worlds"] += 1
 
 

@@ -43,7 +43,7 @@ class Stores(InFolder):
         with palhavento.open(self.path) as store:
             self.assertEqual(
                 self.asked_by(store, "rate2", 5),
-                [("tkf.journal", 0, 69_632), ("tkf.journal", 4096, 160), "tkf.journal synced", ("tkf", 16, 128)],
+                [("tkf.journal", 0, 73_728), ("tkf.journal", 4096, 160), "tkf.journal synced", ("tkf", 16, 128)],
             )
             # A split is two stores, the new slot's first.
             self.assertEqual(
@@ -62,10 +62,11 @@ class Stores(InFolder):
             asked = [self.asked_by(store, "rate2", value) for value in range(5, 200)]
             turns = [place for place, calls in enumerate(asked) if "tkf synced" in calls]
             self.assertEqual(turns, [64, 128, 192])
-            second = 4096 + 64 * 512
+            half = 4096 + 64 * 512
             self.assertEqual(
                 asked[64],
-                ["tkf synced", ("tkf.journal", 512, 512), ("tkf.journal", second, 160), "tkf.journal synced", ("tkf", 16, 128)],
+                ["tkf synced", ("tkf.journal", half, 512 + 400), ("tkf.journal", half + 4096, 160), "tkf.journal synced",
+                 ("tkf", 16, 128)],
             )
             # All others wait for the disk once.
             self.assertEqual({tuple(map(str, calls)).count("tkf.journal synced") for calls in asked}, {1})

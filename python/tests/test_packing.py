@@ -28,22 +28,23 @@ class Wheel(InFolder):
             packed.extractall(self.folder / "site")
         here = {path.name for path in Path(palhavento.__file__).parent.iterdir() if path.is_file()}
         self.assertEqual({path.name for path in (self.folder / "site/palhavento").iterdir()}, here)
-        self.assertLessEqual({"libpalhavento.so", packing.EXTENSION}, here)
+        self.assertLessEqual({"libpalhavento.so", *(packing.compiled(name).name for name in packing.EXTENSIONS)}, here)
         program = "import palhavento; store = palhavento.open('a.tkf'); store['a'] = 7; print(palhavento.__file__, store['a'])"
         printed = subprocess.check_output([sys.executable, "-c", program], text=True, cwd=self.folder,
                                           env={**os.environ, "PYTHONPATH": str(self.folder / "site")})
         self.assertEqual(printed, f"{self.folder}/site/palhavento/__init__.py 7\n")
 
-    def test_it_works_without_the_extension(self) -> None:
+    def test_it_works_without_the_extensions(self) -> None:
         with zipfile.ZipFile(self.folder / packing.build_wheel(str(self.folder))) as packed:
             packed.extractall(self.folder / "site")
-        (self.folder / "site/palhavento" / packing.EXTENSION).unlink()
+        for name in packing.EXTENSIONS:
+            (self.folder / "site/palhavento" / packing.compiled(name).name).unlink()
         program = """if True:
             import palhavento
             from palhavento import calls
             with palhavento.open("a.tkf") as store:
                 store.update({"b": 2, "a": 1})
-                print(calls.used.__name__, dict(store), store["b"])
+                print(calls.used.__name__, dict(palhavento.open("a.tkf", readonly=True)), store["b"])
         """
         printed = subprocess.check_output([sys.executable, "-c", program], text=True, cwd=self.folder,
                                           env={**os.environ, "PYTHONPATH": str(self.folder / "site")})
@@ -93,36 +94,37 @@ class Wheel(InFolder):
         self.assertEqual(list(self.folder.glob("*.whl")), [])
 
 
-class Extension(InFolder):
+class Extensions(InFolder):
     def setUp(self) -> None:
         super().setUp()
-        self.here = self.folder / "python"
-        (self.here / "palhavento").mkdir(parents=True)
-        self.source = self.here / "palhavento/_calls.c"
-        self.source.write_bytes((packing.HERE / "palhavento/_calls.c").read_bytes())
+        package = self.folder / "python/palhavento"
+        package.mkdir(parents=True)
         (self.folder / "include").symlink_to(packing.HERE.parent / "include")
-        self.made = self.here / "palhavento" / packing.EXTENSION
-        self.made.write_text("of an earlier run")
+        for name in packing.EXTENSIONS:
+            (package / f"{name}.c").write_bytes((packing.HERE / f"palhavento/{name}.c").read_bytes())
+        here = mock.patch.object(packing, "HERE", self.folder / "python")
+        here.start()
+        self.addCleanup(here.stop)
+        self.made = [packing.compiled(name) for name in packing.EXTENSIONS]
+        for path in self.made:
+            path.write_text("of an earlier run")
 
-    def compiled(self) -> str:
-        with mock.patch.object(packing, "HERE", self.here):
-            return packing.compile_extension()
+    def test_they_are_compiled(self) -> None:
+        self.assertEqual(packing.compile_extensions(), "compiled _calls, _system")
+        program = "import _calls, _system; print(_calls.__file__, _system.__file__)"
+        printed = subprocess.check_output([sys.executable, "-c", program], text=True, cwd=self.made[0].parent)
+        self.assertEqual(printed.split(), [str(path) for path in self.made])
 
-    def test_it_is_compiled(self) -> None:
-        self.assertEqual(self.compiled(), f"compiled {packing.EXTENSION}")
-        program = "import _calls; print(_calls.__file__)"
-        printed = subprocess.check_output([sys.executable, "-c", program], text=True, cwd=self.made.parent)
-        self.assertEqual(printed, f"{self.made}\n")
-
-    def test_without_headers_compiler_or_sense_there_is_none_and_that_is_said(self) -> None:
+    def test_without_headers_compiler_or_sense_there_are_none_and_that_is_said(self) -> None:
         with mock.patch("sysconfig.get_path", return_value=str(self.folder)):
-            self.assertRegex(self.compiled(), "Python.h is not here")
-        self.assertFalse(self.made.exists())
+            self.assertRegex(packing.compile_extensions(), "Python.h is not here")
+        self.assertEqual([path.exists() for path in self.made], [False, False])
         with mock.patch.dict(os.environ, {"PATH": str(self.folder)}):
-            self.assertRegex(self.compiled(), "gcc is not here")
-        self.source.write_text("#error no sense\n")
-        self.assertRegex(self.compiled(), "no extension; the calls go by ctypes:\n.*no sense")
-        self.assertFalse(self.made.exists())
+            self.assertRegex(packing.compile_extensions(), "gcc is not here")
+        self.made[1].write_text("of an earlier run")
+        (self.made[0].parent / "_calls.c").write_text("#error no sense\n")
+        self.assertRegex(packing.compile_extensions(), "no extension _calls; ctypes takes its place:\n.*no sense")
+        self.assertEqual([path.exists() for path in self.made], [False, False])
 
 
 class Version(unittest.TestCase):
