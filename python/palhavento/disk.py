@@ -455,7 +455,8 @@ class Disk:
         finally:
             self._unlock()
         journal.next += 1
-        self._content = b"".join((content[:offset], slot, content[offset + len(slot) :]))
+        before = memoryview(content)
+        self._content = b"".join((before[:offset], slot, before[offset + len(slot) :]))
         self._doubt = self._renew = self._unsafe = False
         self._seen()
 
