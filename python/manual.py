@@ -77,7 +77,7 @@ def page() -> str:
         ".SH EXAMPLES", *verbatim(cli.EXAMPLES.removeprefix("examples:\n").partition("\n\n")[0]),
         ".SH FILES", ".TP", plain("STORE.journal"),
         plain("is there while a store is open for writing, and after a kill until it is opened next. It belongs to the store."),
-        ".TP", plain(".palhavento-*"), plain("what a killed create has left. The next create in the folder removes it."),
+        ".TP", plain(".palhavento-*"), plain("what a killed create may have left. The next create in the folder removes it."),
     ]
     return "\n".join([*lines, ""])
 

@@ -14,68 +14,122 @@
 #include <sys/stat.h>
 #include <unistd.h>
 
-/* The reading itself, without Python: how many bytes, or -1 where anything is unusual. */
-static Py_ssize_t read_into(char *into, Py_ssize_t length, int file, struct flock *lock, struct flock *at_work,
-                            struct flock *unlock, int folder, const char *journal)
+/* More than a file's name can have, with whatever its journal's adds. */
+enum { LONGEST = 512 };
+
+/* What is asked for at each reading, prepared once. */
+struct request {
+    int file, folder;
+    Py_ssize_t most;
+    struct flock lock, at_work, unlock;
+    dev_t device;
+    ino_t inode;
+    char name[LONGEST], journal[LONGEST];
+};
+
+static const char KIND[] = "palhavento._system.request";
+
+static void forget(PyObject *prepared)
 {
-    if (fcntl(file, F_OFD_SETLK, lock))
-        return -1;
-    Py_ssize_t done = pread(file, into, length, 0);
-    if (fcntl(file, F_OFD_GETLK, at_work)) {
-        done = -1;
-    } else if (at_work->l_type == F_UNLCK) {
-        struct stat beside;
-        if (!fstatat(folder, journal, &beside, AT_SYMLINK_NOFOLLOW) || errno != ENOENT)
-            done = -1;
+    PyMem_Free(PyCapsule_GetPointer(prepared, KIND));
+}
+
+static int copy_lock(struct flock *lock, const char *given, Py_ssize_t length)
+{
+    if (length != sizeof *lock)
+        return 0;
+    memcpy(lock, given, sizeof *lock);
+    return 1;
+}
+
+static int copy_name(char name[LONGEST], const char *given)
+{
+    if (strlen(given) >= LONGEST)
+        return 0;
+    strcpy(name, given);
+    return 1;
+}
+
+/* prepare(file, most, lock, at_work, unlock, folder, name, device, inode, journal), the locks as `fcntl` takes them. */
+static PyObject *prepare(PyObject *self, PyObject *given)
+{
+    struct request *made;
+    const char *locks[3], *name, *journal;
+    Py_ssize_t lengths[3], most;
+    int file, folder;
+    unsigned long long device, inode;
+    if (!PyArg_ParseTuple(given, "iny#y#y#iyKKy", &file, &most, &locks[0], &lengths[0], &locks[1], &lengths[1], &locks[2],
+                          &lengths[2], &folder, &name, &device, &inode, &journal))
+        return NULL;
+    made = PyMem_Malloc(sizeof *made);
+    if (!made)
+        return PyErr_NoMemory();
+    made->file = file;
+    made->folder = folder;
+    made->most = most;
+    made->device = device;
+    made->inode = inode;
+    if (most < 0 || !copy_lock(&made->lock, locks[0], lengths[0]) || !copy_lock(&made->at_work, locks[1], lengths[1])
+        || !copy_lock(&made->unlock, locks[2], lengths[2]) || !copy_name(made->name, name)
+        || !copy_name(made->journal, journal)) {
+        PyMem_Free(made);
+        PyErr_SetString(PyExc_ValueError, "a length that cannot be");
+        return NULL;
     }
-    return fcntl(file, F_OFD_SETLK, unlock) ? -1 : done;
+    PyObject *prepared = PyCapsule_New(made, KIND, forget);
+    if (!prepared)
+        PyMem_Free(made);
+    return prepared;
+}
+
+/* The reading itself, without Python: whether so many bytes were read and nothing was unusual. */
+static int read_into(char *into, Py_ssize_t length, const struct request *of)
+{
+    struct flock lock = of->lock, at_work = of->at_work, unlock = of->unlock;
+    struct stat beside;
+    if (fcntl(of->file, F_OFD_SETLK, &lock))
+        return 0;
+    int usual = pread(of->file, into, length, 0) == length && !fcntl(of->file, F_OFD_GETLK, &at_work)
+                && (at_work.l_type != F_UNLCK
+                    || (fstatat(of->folder, of->journal, &beside, AT_SYMLINK_NOFOLLOW) && errno == ENOENT));
+    return !fcntl(of->file, F_OFD_SETLK, &unlock) && usual;
 }
 
 /*
- * read_locked(file, most, lock, at_work, unlock, folder, name, device, inode, journal)
+ * read_locked(request)
  *
  * The bytes of a file, at most so many, while it is locked for reading: if the folder still has that very file under that
- * name; and if a writer is at work, or the folder has no such journal. Else None. The locks are given as `fcntl` takes them.
+ * name; and if a writer is at work, or the folder has no such journal. Else None.
  */
-static PyObject *read_locked(PyObject *self, PyObject *given)
+static PyObject *read_locked(PyObject *self, PyObject *prepared)
 {
-    int file, folder;
-    Py_ssize_t most, sizes[3];
-    const char *locks[3], *name, *journal;
-    unsigned long long device, inode;
-    struct flock asked[3];
+    const struct request *of = PyCapsule_GetPointer(prepared, KIND);
     struct stat found;
-    if (!PyArg_ParseTuple(given, "iny#y#y#iyKKy", &file, &most, &locks[0], &sizes[0], &locks[1], &sizes[1], &locks[2],
-                          &sizes[2], &folder, &name, &device, &inode, &journal))
+    int usual;
+    if (!of)
         return NULL;
-    if (most < 0) {
-        PyErr_SetString(PyExc_ValueError, "no bytes are fewer than none");
-        return NULL;
-    }
-    for (int at = 0; at < 3; at++) {
-        if (sizes[at] != sizeof asked[at]) {
-            PyErr_SetString(PyExc_ValueError, "a lock has another length");
-            return NULL;
-        }
-        memcpy(&asked[at], locks[at], sizeof asked[at]);
-    }
-    if (fstatat(folder, name, &found, AT_SYMLINK_NOFOLLOW) || found.st_dev != device || found.st_ino != inode)
+    if (fstatat(of->folder, of->name, &found, AT_SYMLINK_NOFOLLOW) || found.st_dev != of->device
+        || found.st_ino != of->inode)
         Py_RETURN_NONE;
-    Py_ssize_t length = found.st_size < most ? found.st_size : most, done;
+    Py_ssize_t length = found.st_size < of->most ? found.st_size : of->most;
     PyObject *content = PyBytes_FromStringAndSize(NULL, length);
     if (!content)
         return NULL;
     char *into = PyBytes_AsString(content);
     Py_BEGIN_ALLOW_THREADS
-    done = read_into(into, length, file, &asked[0], &asked[1], &asked[2], folder, journal);
+    usual = read_into(into, length, of);
     Py_END_ALLOW_THREADS
-    if (done == length)
+    if (usual)
         return content;
     Py_DecRef(content);
     Py_RETURN_NONE;
 }
 
-static PyMethodDef functions[] = {{"read_locked", read_locked, METH_VARARGS, NULL}, {NULL, NULL, 0, NULL}};
+static PyMethodDef functions[] = {
+    {"prepare", prepare, METH_VARARGS, NULL},
+    {"read_locked", read_locked, METH_O, NULL},
+    {NULL, NULL, 0, NULL},
+};
 
 static struct PyModuleDef module = {
     PyModuleDef_HEAD_INIT, "palhavento._system", "One reading by one call; see disk.py.", -1, functions, NULL, NULL, NULL, NULL,

@@ -23,7 +23,6 @@ import re
 import stat
 import struct
 import time
-from collections.abc import Iterator
 from typing import Union
 
 from palhavento.errors import refusal
@@ -82,24 +81,24 @@ def _opened(path: Path, flags: int, mode: int = 0o666, folder: int | None = None
         os.close(file)
 
 
-def _holders(file: int, kind: str) -> str:
-    """The processes that hold a lock of this kind on an open file, in words; one that we may not look at is not found."""
+def _holders(file: int, *words: str) -> str:
+    """The processes that hold a lock with these words on a file, by another opening than ours."""
     own = os.fstat(file)
-    found = []
+    holders = []
     for process in filter(str.isdigit, os.listdir("/proc")):
-        try:
+        # A process may end meanwhile, or not be ours to look at.
+        with contextlib.suppress(OSError):
             for number in os.listdir(f"/proc/{process}/fd"):
-                other = os.stat(f"/proc/{process}/fd/{number}")
-                if (other.st_dev, other.st_ino) != (own.st_dev, own.st_ino):
+                if (int(process), int(number)) == (os.getpid(), file):
+                    continue
+                if not os.path.samestat(os.stat(f"/proc/{process}/fd/{number}"), own):
                     continue
                 with open(f"/proc/{process}/fdinfo/{number}") as info:
-                    if any(line.startswith("lock:") and kind in line.split() for line in info):
+                    if any(line.startswith("lock:") and {*words} <= {*line.split()} for line in info):
                         with open(f"/proc/{process}/comm") as name:
-                            found.append(f"process {process} ({name.read().strip()})")
+                            holders.append(f"process {process} ({name.read().strip()})")
                         break
-        except OSError:
-            continue
-    return " and ".join(found) or "a process of another user"
+    return " and ".join(holders) or "a process that cannot be seen from here"
 
 
 def journal_name(store: str) -> str:
@@ -114,35 +113,6 @@ def _set_aside(target: str) -> None:
         kept = f"{journal}.{os.urandom(4).hex()}"
         os.rename(journal, kept)
         _log.warning("%s is the journal of a file that is gone; it is kept as %s", journal, kept)
-
-
-_MADE_AS = re.compile(r"\.palhavento-[0-9a-f]{16}")
-
-
-def _beside(folder: str) -> tuple[int, str]:
-    """A new file under a name of its own, with a lock that says that it is in the making, and that name."""
-    while True:
-        path = os.path.join(folder, f".palhavento-{os.urandom(8).hex()}")
-        new = _opened(path, os.O_WRONLY | os.O_CREAT | os.O_EXCL, 0o666)
-        fcntl.fcntl(new, fcntl.F_OFD_SETLKW, _IN_THE_MAKING[fcntl.F_WRLCK])
-        # Before it had its lock, another process may have taken it for a leftover.
-        if os.fstat(new).st_nlink:
-            return new, path
-        os.close(new)
-
-
-def _remove_leftovers(folder: str) -> None:
-    """Remove what a `create` that was killed has left in a folder: its file, or the second name of the store it made."""
-    for name in filter(_MADE_AS.fullmatch, os.listdir(folder or os.curdir)):
-        path = os.path.join(folder, name)
-        # What is not to be had, or has its lock, is left alone.
-        with contextlib.suppress(OSError):
-            left = _opened(path, os.O_RDONLY | os.O_NONBLOCK | os.O_NOFOLLOW)
-            try:
-                fcntl.fcntl(left, fcntl.F_OFD_SETLK, _IN_THE_MAKING[fcntl.F_RDLCK])
-                os.unlink(path)
-            finally:
-                os.close(left)
 
 
 def create(path: Path, content: bytes) -> None:
@@ -160,27 +130,69 @@ def create(path: Path, content: bytes) -> None:
     if not name:
         raise FileNotFoundError(errno.ENOENT, os.strerror(errno.ENOENT), target)
     try:
-        _remove_leftovers(folder)
-        new, beside = _beside(folder)
+        listing = _opened(folder or os.curdir, os.O_RDONLY | os.O_DIRECTORY)
         try:
-            with open(new, "wb") as file:
-                file.write(content)
-                file.flush()
-                os.fsync(new)
-                _set_aside(target)
-                # To link, unlike to rename, never takes the place of a file that another process has put there meanwhile.
-                os.link(beside, target)
-        finally:
-            with contextlib.suppress(FileNotFoundError):
-                os.unlink(beside)
-        listing = os.open(folder or os.curdir, os.O_RDONLY | os.O_DIRECTORY)
-        try:
+            _remove_leftovers(listing)
+            _create(target, content, listing)
             os.fsync(listing)
         finally:
             os.close(listing)
     except OSError as error:
-        # It may name the file beside, of which nobody has heard.
+        # It may name a file of which nobody has heard.
         raise OSError(error.errno, error.strerror, target) from None
+
+
+def _create(target: str, content: bytes, listing: int) -> None:
+    """Write the file where it has no name yet, and then give it one."""
+    beside = ""
+    try:
+        new = _opened(".", os.O_WRONLY | os.O_TMPFILE, folder=listing)
+    except OSError as error:
+        if error.errno not in (errno.EOPNOTSUPP, errno.EISDIR):
+            raise
+        # A file system without files that have no name.
+        new, beside = _beside(listing)
+    try:
+        write(new, content, 0)
+        os.fsync(new)
+        _set_aside(target)
+        # To link, unlike to rename, never takes the place of a file that another process has put there meanwhile. With a
+        # folder given it follows the link by which the system knows a file without a name.
+        os.link(beside or f"/proc/self/fd/{new}", target, src_dir_fd=listing)
+    finally:
+        # Its lock ends with it, so its name goes first.
+        if beside:
+            with contextlib.suppress(FileNotFoundError):
+                os.unlink(beside, dir_fd=listing)
+        os.close(new)
+
+
+_MADE_AS = re.compile(r"\.palhavento-[0-9a-f]{16}")
+
+
+def _beside(listing: int) -> tuple[int, str]:
+    """A new file under a name of its own in a folder, with a lock that says that it is in the making, and that name."""
+    while True:
+        name = f".palhavento-{os.urandom(8).hex()}"
+        new = _opened(name, os.O_WRONLY | os.O_CREAT | os.O_EXCL, folder=listing)
+        fcntl.fcntl(new, fcntl.F_OFD_SETLKW, _IN_THE_MAKING[fcntl.F_WRLCK])
+        # Before it had its lock, another process may have taken it for a leftover.
+        if os.fstat(new).st_nlink:
+            return new, name
+        os.close(new)
+
+
+def _remove_leftovers(listing: int) -> None:
+    """Remove what a `create` that was killed has left in a folder: its file, or the second name of the store it made."""
+    for name in filter(_MADE_AS.fullmatch, os.listdir(listing)):
+        # What is not to be had, or has its lock, is left alone.
+        with contextlib.suppress(OSError):
+            left = _opened(name, os.O_RDONLY | os.O_NONBLOCK | os.O_NOFOLLOW, folder=listing)
+            try:
+                fcntl.fcntl(left, fcntl.F_OFD_SETLK, _IN_THE_MAKING[fcntl.F_RDLCK])
+                os.unlink(name, dir_fd=listing)
+            finally:
+                os.close(left)
 
 
 class Disk:
@@ -238,7 +250,7 @@ class Disk:
             except BlockingIOError:
                 left = end - time.monotonic()
                 if left <= 0:
-                    raise refusal(254, f"{self.path}, open in {_holders(self._file, 'FLOCK')}") from None
+                    raise refusal(254, f"{self.path}, open in {_holders(self._file, 'FLOCK', 'WRITE')}") from None
                 time.sleep(min(left, 0.01))
         self._look()
         left_behind = self._left_behind()
@@ -266,7 +278,7 @@ class Disk:
                 now = time.monotonic()
                 end = end or now + PATIENCE
                 if now >= end:
-                    who = _holders(self._file, "OFDLCK")
+                    who = _holders(self._file, "OFDLCK", "WRITE" if kind == fcntl.F_RDLCK else "READ")
                     raise TimeoutError(
                         errno.ETIMEDOUT, f"{who} has kept it locked for {PATIENCE:g} seconds", self.path
                     ) from None
@@ -400,11 +412,22 @@ class Disk:
     def _begin_journal(self, content: bytes) -> Journal:
         """A journal beside the file, which is there after a power loss too."""
         own = os.fstat(self._file)
+        # Whoever opens the file by another name would not find it.
+        if own.st_nlink > 1:
+            raise OSError(errno.EMLINK, f"the file has {own.st_nlink} names, and its journal is beside one; remove the others")
         # A file with holes would need room on the disk in the middle of a store.
         if own.st_blocks * 512 < own.st_size:
             os.posix_fallocate(self._file, 0, own.st_size)
         flags = os.O_RDWR | os.O_CREAT | os.O_EXCL | os.O_NOFOLLOW
-        file = _opened(self._beside, flags, stat.S_IMODE(own.st_mode) & 0o666, self._folder)
+        try:
+            file = _opened(self._beside, flags, stat.S_IMODE(own.st_mode) & 0o666, self._folder)
+        except FileExistsError:
+            # Ours, if an interrupt came when it had just been made; then nothing is said in it.
+            finished = self._found(self._left_behind() or b"", content)
+            if finished and finished.stores:
+                raise
+            os.unlink(self._beside, dir_fd=self._folder)
+            file = _opened(self._beside, flags, stat.S_IMODE(own.st_mode) & 0o666, self._folder)
         try:
             # Whoever may read the store may read its journal.
             os.fchmod(file, stat.S_IMODE(own.st_mode) & 0o666)
@@ -496,8 +519,10 @@ class Disk:
         finally:
             self._unlock()
         journal.next += 1
-        known = after is not None and content is before
-        self._content = after if known else b"".join((content[:offset], slot, content[offset + len(slot) :]))
+        if after is None or content is not before:
+            old = memoryview(content)
+            after = b"".join((old[:offset], slot, old[offset + len(slot) :]))
+        self._content = after
         self._doubt = self._renew = self._unsafe = False
         self._seen()
 

@@ -38,10 +38,11 @@ PLACES = 64
 _VERSION = 1
 _HEAD = struct.Struct("<4sI8sQII")
 _HEAD_MARK = b"TKJH"
-_RECORD = struct.Struct("<4sI8sQII")
 _RECORD_MARK = b"TKJR"
-# A record's checksum is of all that follows it.
-_SUMMED = 8
+# Behind the mark and the checksum: what the checksum is of, but for the slot.
+_SAID = struct.Struct("<8sQII")
+_SAID_AT = 8
+_SLOT_AT = _SAID_AT + _SAID.size
 
 _OTHER_FILE = "it is of another file, or the file was changed by other means"
 
@@ -60,8 +61,7 @@ class Found(NamedTuple):
 
 def write(file: int, content: bytes, offset: int) -> None:
     """Write all of it, or raise what kept the system from it."""
-    while content:
-        written = os.pwrite(file, content, offset)
+    while (written := os.pwrite(file, content, offset)) != len(content):
         if written == 0:
             raise OSError(errno.EIO, "nothing more was written")
         content, offset = content[written:], offset + written
@@ -87,7 +87,7 @@ class Layout(NamedTuple):
     @property
     def stride(self) -> int:
         """From one record to the next: whole sectors, so that no sector has bytes of two."""
-        return _up(_RECORD.size + slot_bytes(self.b), SECTOR)
+        return _up(_SLOT_AT + slot_bytes(self.b), SECTOR)
 
     @property
     def half(self) -> int:
@@ -146,13 +146,14 @@ class _Record(NamedTuple):
 
 def _record_at(journal: bytes, place: int) -> _Record | None:
     """The record that begins at a place, if a whole one does."""
-    if journal[place : place + 4] != _RECORD_MARK or place + _RECORD.size > len(journal):
+    if journal[place : place + 4] != _RECORD_MARK or place + _SLOT_AT > len(journal):
         return None
-    _, summed, identity, sequence, number, size = _RECORD.unpack_from(journal, place)
-    end = place + _RECORD.size + size
-    if end > len(journal) or zlib.crc32(journal[place + _SUMMED : end]) != summed:
+    identity, sequence, number, size = _SAID.unpack_from(journal, place + _SAID_AT)
+    end = place + _SLOT_AT + size
+    summed = int.from_bytes(journal[place + 4 : place + _SAID_AT], "little")
+    if end > len(journal) or zlib.crc32(journal[place + _SAID_AT : end]) != summed:
         return None
-    return _Record(identity, sequence, number, journal[place + _RECORD.size : end])
+    return _Record(identity, sequence, number, journal[place + _SLOT_AT : end])
 
 
 def found(journal: bytes, file: bytes) -> Found | None:
@@ -245,9 +246,8 @@ class Journal:
 
     def append(self, number: int, slot: bytes) -> None:
         """Write the next record; it counts from when `next` is past it."""
-        said = _RECORD.pack(_RECORD_MARK, 0, self._identity, self.next, number, len(slot)) + slot
-        summed = zlib.crc32(said[_SUMMED:]).to_bytes(4, "little")
-        write(self.file, said[:4] + summed + said[_SUMMED:], self._place())
+        said = _SAID.pack(self._identity, self.next, number, len(slot)) + slot
+        write(self.file, _RECORD_MARK + zlib.crc32(said).to_bytes(4, "little") + said, self._place())
 
     def undo(self) -> None:
         """Make the record that was written last, and does not count yet, none."""

@@ -349,8 +349,9 @@ def changed(before: bytes, after: bytes) -> tuple[int, bytes]:
 class Trial:
     """Random histories with their crash states; `counts` tells what was seen."""
 
-    def __init__(self, kind: Callable[..., Plain | disk.Disk] = disk.Disk) -> None:
+    def __init__(self, kind: Callable[..., Plain | disk.Disk] = disk.Disk, faulty: bool = True) -> None:
         self.kind = kind
+        self.faulty = faulty
         self.counts: Counter[str] = Counter()
 
     def judge(self, files: Files, allowed: list[bytes], chance: random.Random, depth: int = 0) -> bytes | None:
@@ -440,7 +441,7 @@ class Trial:
             content = states_of_call[-1] if states_of_call else content
             assert entries(content) == held
         files: Files | None = {STORE: content}
-        faults = Faults(chance, chance.choice((20, 100))) if seed % 3 == 2 and self.kind is disk.Disk else None
+        faults = Faults(chance, chance.choice((20, 100))) if self.faulty and seed % 3 == 2 else None
         with mock.patch.object(journal, "PLACES", chance.choice((1, 2, 3, 8, 64))):
             for _ in range(3):
                 if files is not None:

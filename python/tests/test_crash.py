@@ -25,19 +25,19 @@ class Crashes(unittest.TestCase):
         logging.disable(logging.WARNING)
         self.addCleanup(logging.disable, logging.NOTSET)
 
-    def counted(self, states: int, kind: Callable[..., object] = disk.Disk, first: int = 0) -> Counter[str]:
-        trial = Trial(kind)
-        seed = first
+    def counted(self, states: int, kind: Callable[..., object] = disk.Disk, faulty: bool = False) -> Counter[str]:
+        trial = Trial(kind, faulty)
+        seed = 0
         while trial.counts["states"] < states:
             trial.world(seed, states=120)
             seed += 1
         return trial.counts
 
     def test_nothing_is_lost(self) -> None:
-        counts = self.counted(20_000)
+        counts = self.counted(20_000, faulty=True)
         self.assertEqual(losses(counts), 0, counts)
-        for seen in ("journals finished", "store under way is made", "openings that failed"):
-            self.assertGreater(counts[seen], 1000, counts)
+        for seen in ("journals finished", "store under way is made", "openings that failed", "stores that failed"):
+            self.assertGreater(counts[seen], 500, counts)
 
     def test_without_a_journal_much_is(self) -> None:
         counts = self.counted(2_000, Plain)

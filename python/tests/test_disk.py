@@ -135,6 +135,21 @@ class Opening(InFolder):
             palhavento.open(self.path)
         self.assertEqual(os.listdir(self.folder), [])
 
+    def test_where_files_without_a_name_are_not_to_be_had(self) -> None:
+        real = os.open
+
+        def without(path: object, flags: int, *words: object, **more: object) -> int:
+            if flags & os.O_TMPFILE == os.O_TMPFILE:
+                raise OSError(95, "Operation not supported")
+            return real(path, flags, *words, **more)
+
+        with mock.patch("os.open", without):
+            palhavento.open(self.path, b=4, slots=8).close()
+            with mock.patch("os.link", side_effect=OSError(5, "the disk fails")), self.assertRaises(OSError):
+                disk.create(self.folder / "other", b"")
+        self.assertEqual(self.path.read_bytes(), library.create(4, 8)[0])
+        self.assertEqual((os.listdir(self.folder), self.path.stat().st_nlink), ([self.path.name], 1))
+
     def test_a_file_that_another_process_was_first_to_create_is_opened(self) -> None:
         self.path.write_bytes(sound_file(["a"], b=2, slots=2))
         with mock.patch("os.path.exists", return_value=False), palhavento.open(self.path) as store:

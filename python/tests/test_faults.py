@@ -392,6 +392,23 @@ class LeftBehind(InFolder):
         self.assertEqual(os.listdir(self.folder / "b"), ["store.tkf"])
         self.assertEqual(palhavento.open(self.folder / "b" / "store.tkf")["rate2"], 7)
 
+    def test_a_file_of_two_names_is_not_written(self) -> None:
+        os.link(self.path, self.folder / "other.tkf")
+        with palhavento.open(self.path) as store, self.assertRaisesRegex(OSError, f"2 names.*{disk.NOT_MADE}"):
+            store["rate2"] = 6
+        (self.folder / "other.tkf").unlink()
+        with palhavento.open(self.path) as store:
+            store["rate2"] = 6
+
+    def test_one_that_was_made_just_before_an_interrupt(self) -> None:
+        with palhavento.open(self.path) as store:
+            with mock.patch.object(disk.Disk, "_sync_folder", side_effect=KeyboardInterrupt):
+                with mock.patch("os.unlink"), self.assertRaises(KeyboardInterrupt):
+                    store["rate2"] = 6
+            self.assertTrue(self.beside.exists())
+            store["rate2"] = 7
+        self.assertEqual(palhavento.open(self.path)["rate2"], 7)
+
     def test_its_rights_are_those_of_the_store(self) -> None:
         for mode in (0o600, 0o644, 0o664):
             self.path.chmod(mode)
@@ -415,7 +432,7 @@ class InTheWay(InFolder):
             self.assertEqual(os.read(listen, 1), b"h")
             os.kill(child, signal.SIGSTOP)
             with mock.patch.object(disk, "PATIENCE", 0.2):
-                with self.assertRaisesRegex(TimeoutError, rf"process {child} \(.*{disk.NOT_MADE}"):
+                with self.assertRaisesRegex(TimeoutError, rf"\] process {child} \([^)]*\) has .*{disk.NOT_MADE}"):
                     store["rate1"] = 2
             self.assertEqual(store["rate1"], 1)
             os.kill(child, signal.SIGKILL)
@@ -435,7 +452,7 @@ class InTheWay(InFolder):
 
         child, listen = forked(hold)
         self.assertEqual(os.read(listen, 1), b"h")
-        with mock.patch.object(disk, "PATIENCE", 0.2), self.assertRaisesRegex(TimeoutError, rf"process {child} "):
+        with mock.patch.object(disk, "PATIENCE", 0.2), self.assertRaisesRegex(TimeoutError, rf"\] process {child} \([^)]*\) has"):
             palhavento.open(self.path, readonly=True)
         os.kill(child, signal.SIGKILL)
         os.waitpid(child, 0)

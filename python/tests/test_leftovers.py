@@ -2,6 +2,7 @@
 
 from __future__ import annotations
 
+import errno
 import os
 import subprocess
 import sys
@@ -18,10 +19,21 @@ PACKAGE = Path(__file__).resolve().parent.parent
 # A process that dies in `create`: before it has linked its file, or after, before it has removed the other name.
 DYING = """
 import os, signal, sys
-from palhavento import disk
+sys.path.insert(0, {tests!r})
+from test_leftovers import disk, with_names_only
+disk._opened = with_names_only
 os.{call} = lambda *_, **__: os.kill(os.getpid(), signal.SIGKILL)
-disk.create("{name}", b"TKF")
+disk.create({name!r}, b"TKF")
 """
+
+opened = disk._opened
+
+
+def with_names_only(path: disk.Path, flags: int, *more: int, **how: int) -> int:
+    """As a file system opens a file that has no files without a name."""
+    if flags & os.O_TMPFILE == os.O_TMPFILE:
+        raise OSError(errno.EOPNOTSUPP, os.strerror(errno.EOPNOTSUPP))
+    return opened(path, flags, *more, **how)
 
 
 class Leftovers(InFolder):
@@ -31,12 +43,17 @@ class Leftovers(InFolder):
     def killed(self, call: str, name: str) -> str:
         """The leftover of a process that is killed where it makes this call."""
         before = self.files()
-        ended = subprocess.run([sys.executable, "-c", DYING.format(call=call, name=name)], cwd=self.folder,
+        ended = subprocess.run([sys.executable, "-c", DYING.format(call=call, name=name, tests=str(PACKAGE / "tests"))], cwd=self.folder,
                                env={**os.environ, "PYTHONPATH": str(PACKAGE)}, timeout=60)
         self.assertEqual(ended.returncode, -9)
         [left] = [file for file in self.files() if file not in before and file != name]
         self.assertRegex(left, r"^\.palhavento-[0-9a-f]{16}$")
         return left
+
+    def test_where_files_need_no_name_there_are_none(self) -> None:
+        with mock.patch("os.link", side_effect=KeyboardInterrupt), self.assertRaises(KeyboardInterrupt):
+            disk.create(self.path, b"TKF")
+        self.assertEqual(self.files(), [])
 
     def test_the_next_create_removes_them(self) -> None:
         first = self.killed("link", "a.tkf")
@@ -50,8 +67,8 @@ class Leftovers(InFolder):
         left = self.killed("unlink", "store.tkf")
         self.assertEqual((self.folder / left).stat().st_ino, self.path.stat().st_ino)
         self.path.write_bytes(sound_file(["a"], b=2, slots=2))
+        palhavento.open(self.folder / "other.tkf").close()
         with palhavento.open(self.path) as store:
-            palhavento.open(self.folder / "other.tkf").close()
             self.assertEqual(dict(store), {"a": 1})
             store["b"] = 2
         self.assertEqual(self.files(), ["other.tkf", "store.tkf"])
@@ -59,24 +76,23 @@ class Leftovers(InFolder):
     def test_what_is_in_the_making_stays(self) -> None:
         os_link = os.link
 
-        def link(beside: str, target: str) -> None:
+        def link(beside: str, target: str, **how: int) -> None:
             with mock.patch("os.link", os_link):
                 disk.create(self.folder / "meanwhile.tkf", b"TKF")
-            os_link(beside, target)
+            os_link(beside, target, **how)
 
-        with mock.patch("os.link", link):
+        with mock.patch("os.link", link), mock.patch.object(disk, "_opened", with_names_only):
             disk.create(self.path, b"TKF")
         self.assertEqual(self.files(), ["meanwhile.tkf", "store.tkf"])
 
     def test_a_file_taken_for_a_leftover_is_made_again(self) -> None:
         taken = []
-        opened = disk._opened
 
-        def quickly(path: str, *how: object, **more: object) -> int:
-            file = opened(path, *how, **more)  # type: ignore[arg-type]
-            if not taken:
+        def quickly(path: disk.Path, flags: int, *more: int, **how: int) -> int:
+            file = with_names_only(path, flags, *more, **how)
+            if flags & os.O_CREAT and not taken:
                 taken.append(path)
-                os.unlink(path)
+                os.unlink(self.folder / os.fsdecode(path))
             return file
 
         with mock.patch.object(disk, "_opened", quickly):

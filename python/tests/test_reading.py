@@ -22,7 +22,7 @@ class ShortCut(InFolder):
         self.addCleanup(self.disk.close)
 
     def read(self) -> bytes | None:
-        return _system.read_locked(*self.disk.request())
+        return _system.read_locked(_system.prepare(*self.disk.request()))
 
     def test_it_reads_what_the_long_way_reads(self) -> None:
         self.assertEqual(self.read(), self.disk.read())
@@ -39,7 +39,7 @@ class ShortCut(InFolder):
             self.path.write_bytes(sound_file(WORDS, b=4, slots=8))
             with palhavento.open(self.path, readonly=True) as reader:
                 away(self.path)
-                self.assertIsNone(_system.read_locked(*reader._opened.disk.request()))
+                self.assertIsNone(_system.read_locked(reader._opened._request))
                 with self.assertRaisesRegex(FileNotFoundError, "removed, renamed or replaced"):
                     reader["the"]
 
@@ -49,11 +49,11 @@ class ShortCut(InFolder):
 
     def test_a_file_that_is_locked(self) -> None:
         with open(self.path, "r+b") as other:
-            request = self.disk.request()
+            request = _system.prepare(*self.disk.request())
             fcntl.fcntl(other, fcntl.F_OFD_SETLK, disk._CONTENT[fcntl.F_WRLCK])
-            self.assertIsNone(_system.read_locked(*request))
+            self.assertIsNone(_system.read_locked(request))
             fcntl.fcntl(other, fcntl.F_OFD_SETLK, disk._CONTENT[fcntl.F_RDLCK])
-            self.assertEqual(_system.read_locked(*request), self.path.read_bytes())
+            self.assertEqual(_system.read_locked(request), self.path.read_bytes())
             # It has left no lock behind.
             fcntl.fcntl(other, fcntl.F_OFD_SETLK, disk._CONTENT[fcntl.F_WRLCK])
 
@@ -80,6 +80,12 @@ class ShortCut(InFolder):
             with mock.patch.object(_system, "read_locked", return_value=None):
                 self.assertEqual((reader["the"], len(reader), reader.get("x"), reader.check()), (1, 9, None, "sound"))
 
+    def test_a_name_as_long_as_names_can_be(self) -> None:
+        path = self.folder / ("x" * 255)
+        path.write_bytes(self.path.read_bytes())
+        with palhavento.open(path, readonly=True) as reader:
+            self.assertEqual(reader["the"], 1)
+
     def test_no_store_takes_it_that_is_closed(self) -> None:
         reader = palhavento.open(self.path, readonly=True)
         opened = reader._opened
@@ -93,21 +99,24 @@ class ShortCut(InFolder):
 
     def test_what_it_takes(self) -> None:
         request = self.disk.request()
-        for at in (2, 3, 4):
-            for lock in (b"", request[at][:-1], request[at] + b"\0"):
-                with self.assertRaisesRegex(ValueError, "a lock has another length"):
-                    _system.read_locked(*request[:at], lock, *request[at + 1 :])
+        for at, others in ((1, (-1,)), *((at, (b"", request[at][:-1], request[at] + b"\0")) for at in (2, 3, 4)),
+                           *((at, (b"x" * 512, b"a\0b")) for at in (6, 9))):
+            for other in others:
+                with self.assertRaises(ValueError):
+                    _system.prepare(*request[:at], other, *request[at + 1 :])
         for at in range(len(request)):
             for other in (None, "a", 1.5):
                 with self.assertRaises(TypeError):
-                    _system.read_locked(*request[:at], other, *request[at + 1 :])
+                    _system.prepare(*request[:at], other, *request[at + 1 :])
         for count in range(len(request)):
             with self.assertRaises(TypeError):
-                _system.read_locked(*request[:count])
-        self.assertIsNone(_system.read_locked(-1, *request[1:]))
-        self.assertIsNone(_system.read_locked(*request[:5], -1, *request[6:]))
-        with self.assertRaises(ValueError):
-            _system.read_locked(request[0], -1, *request[2:])
+                _system.prepare(*request[:count])
+        for at in (0, 5):
+            self.assertIsNone(_system.read_locked(_system.prepare(*request[:at], -1, *request[at + 1 :])))
+        self.assertEqual(_system.read_locked(_system.prepare(request[0], 0, *request[2:])), b"")
+        for other in (None, 1, request):
+            with self.assertRaises(ValueError):
+                _system.read_locked(other)
 
 
 if __name__ == "__main__":

@@ -91,21 +91,21 @@ class Sharing(InFolder):
             self.assertEqual(store["a"], 2)
 
     def test_other_names_of_the_file(self) -> None:
-        soft, hard = self.folder / "soft.tkf", self.folder / "hard.tkf"
+        link = self.folder / "link.tkf"
         with palhavento.open(self.path, sync=False) as store:
-            soft.symlink_to(self.path)
-            hard.hardlink_to(self.path)
-            for path in (soft, hard, str(self.path), os.fsencode(self.path), os.path.relpath(self.path)):
+            link.symlink_to(self.path)
+            for path in (link, str(self.path), os.fsencode(self.path), os.path.relpath(self.path)):
                 with palhavento.open(path, sync=False) as same:
                     same.increment("n")
                     self.assertEqual((same.path, store["n"]), (os.fsdecode(path), same["n"]))
-            self.assertEqual(store["n"], 5)
+            self.assertEqual(store["n"], 4)
 
     def test_another_file_under_the_same_name_is_another(self) -> None:
         with palhavento.open(self.path, sync=False) as old:
             old["a"] = 1
             os.rename(self.path, self.folder / "moved.tkf")
-            with palhavento.open(self.path, sync=False) as new:
+            # The new one finds the old one's journal, and puts it aside.
+            with self.assertLogs("palhavento", "WARNING"), palhavento.open(self.path, sync=False) as new:
                 self.assertEqual(dict(new), {})
                 new["a"] = 2
             with palhavento.open(self.path, readonly=True) as reader:
