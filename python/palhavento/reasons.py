@@ -143,7 +143,7 @@ def _slot(slot: bytes, b: int) -> Iterator[tuple[str, str]]:
             yield "R3.13", f"entry {place}: {fault}"
     for place, (before, name) in enumerate(pairwise(names), 1):
         if name <= before:
-            yield "R3.14", f"entry {place}: the name {_shown(name.rstrip())} is not above {_shown(before.rstrip())}, the name before it"
+            yield "R3.14", f"entry {place}: the name {_shown(name.rstrip())} is not above the one before, {_shown(before.rstrip())}"
     for place, name in enumerate(names):
         if name[: len(high)] > high:
             yield "R3.15", f"entry {place}: the name {_shown(name.rstrip())} is not within the upper bound {_shown(high)}"

@@ -100,7 +100,7 @@ class Raised(InFolder):
     def test_a_bad_file_is_told_what_is_wrong_with_it(self) -> None:
         self.path.write_bytes(sound_file(["a"], b=2, slots=2)[:-1])
         for readonly in (False, True):
-            with self.assertRaisesRegex(errors.BadFile, r"store\.tkf: length: it has 271 bytes, .* \(R2\.7\): The file is neither"):
+            with self.assertRaisesRegex(errors.BadFile, r"store\.tkf: length: it has 271 bytes, .* \(R2\.7\): The file is"):
                 palhavento.open(self.path, readonly=readonly)
 
     def test_bad_file(self) -> None:

@@ -43,8 +43,8 @@ class Leftovers(InFolder):
     def killed(self, call: str, name: str) -> str:
         """The leftover of a process that is killed where it makes this call."""
         before = self.files()
-        ended = subprocess.run([sys.executable, "-c", DYING.format(call=call, name=name, tests=str(PACKAGE / "tests"))], cwd=self.folder,
-                               env={**os.environ, "PYTHONPATH": str(PACKAGE)}, timeout=60)
+        program = DYING.format(call=call, name=name, tests=str(PACKAGE / "tests"))
+        ended = subprocess.run([sys.executable, "-c", program], cwd=self.folder, timeout=60)
         self.assertEqual(ended.returncode, -9)
         [left] = [file for file in self.files() if file not in before and file != name]
         self.assertRegex(left, r"^\.palhavento-[0-9a-f]{16}$")

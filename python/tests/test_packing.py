@@ -64,7 +64,8 @@ class Wheel(InFolder):
         installed = self.folder / "bin" / "palhavento"
         installed.parent.mkdir()
         installed.write_text(script)
-        printed = subprocess.check_output([sys.executable, installed, "create", "a.tkf", "--slots", "2"], text=True, cwd=self.folder,
+        command = [sys.executable, installed, "create", "a.tkf", "--slots", "2"]
+        printed = subprocess.check_output(command, text=True, cwd=self.folder,
                                           env={**os.environ, "PYTHONPATH": str(self.folder / "site")})
         self.assertEqual(printed, "created a.tkf: 2 slots of up to 16 names\n")
 

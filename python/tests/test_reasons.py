@@ -119,7 +119,8 @@ class Reasons(unittest.TestCase):
 
     def test_sound_and_cut_files(self) -> None:
         self.assertEqual((reasons.state(NINE), reasons.state(NINE).reason, reasons.state(NINE).faults), ("sound", "", ()))
-        self.assertEqual(reasons.state(cut_file()).reason, "slot 1: is left of a split that was stopped; to recover frees it (R4.8)")
+        cut = "slot 1: is left of a split that was stopped; to recover frees it (R4.8)"
+        self.assertEqual(reasons.state(cut_file()).reason, cut)
 
     def test_every_bad_slot_is_told(self) -> None:
         state = reasons.state(edited((at(0, 4), b"\x01"), (at(3, 60), b"\x01"), (at(5, 9), b"\x01")))
@@ -155,7 +156,8 @@ class Reasons(unittest.TestCase):
 
     def test_the_rules_are_those_of_the_document(self) -> None:
         cited = set(re.findall(r'"(R\d+\.\d+)"', Path(reasons.__file__).read_text(encoding="utf-8")))
-        stated = set(re.findall(r"^- \*\*(R\d+\.\d+)\*\*", (PROJECT / "docs/RULES.md").read_text(encoding="utf-8"), re.MULTILINE))
+        rules = (PROJECT / "docs/RULES.md").read_text(encoding="utf-8")
+        stated = set(re.findall(r"^- \*\*(R\d+\.\d+)\*\*", rules, re.MULTILINE))
         self.assertLessEqual(cited, stated)
         self.assertGreater(len(cited), 25)
 

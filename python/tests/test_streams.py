@@ -72,8 +72,8 @@ class Streams(InShell):
         self.assertEqual(self.shell("palhavento get store.tkf oil").stdout, "71\n")
 
     def test_what_needs_no_output_needs_none(self) -> None:
-        absent = (101, "", "palhavento: oil: absent\n")
-        self.assertEqual(self.shells("palhavento get store.tkf oil >&-", "palhavento get store.tkf oil >/dev/full"), [absent] * 2)
+        ended = self.shells("palhavento get store.tkf oil >&-", "palhavento get store.tkf oil >/dev/full")
+        self.assertEqual(ended, [(101, "", "palhavento: oil: absent\n")] * 2)
 
     def test_a_complaint_that_cannot_be_made_leaves_the_status(self) -> None:
         for closed in ("2>&-", "2>/dev/full"):
@@ -136,8 +136,9 @@ class Interrupts(InShell):
         started.send_signal(signal.SIGINT)
         said, complaint = started.communicate(timeout=60)
         self.assertEqual((started.returncode, said), (130, ""))
-        self.assertRegex(complaint, r"^palhavento: \S+many\.txt:(\d+): interrupted\. (The \d+ lines before it are|The line before "
-                                    r"it is|No line before it is) in the store, and line \1 may be\.\n$")
+        self.assertRegex(complaint, r"^palhavento: \S+many\.txt:(\d+): interrupted\. "
+                                    r"(The \d+ lines before it are|The line before it is|No line before it is) in the store, "
+                                    r"and line \1 may be\.\n$")
 
     def test_a_process_that_ignores_interrupts_ignores_them(self) -> None:
         ended = self.shell(f"trap '' INT; {MODULE} get store.tkf the")
