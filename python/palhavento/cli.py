@@ -21,7 +21,7 @@ from typing import Any, NamedTuple, NoReturn
 import palhavento
 from palhavento import compacting, disk, library, reasons
 from palhavento.drawing import buckets_svg, trie_svg
-from palhavento.errors import BadFile, CutFile, IllegalName, PalhaventoError
+from palhavento.errors import BadFile, CutFile, FileFull, IllegalName, PalhaventoError, TrieFull
 from palhavento.starting import INTERRUPTED, NO_ACCESS, begin, complain, hush
 
 # Beside the refusal numbers (docs/RULES.md, section 10): the library's own answer for an absent name, and what sysexits.h has
@@ -141,6 +141,8 @@ def hint(words: Sequence[str]) -> str:
 def told(error: BaseException, path: str) -> tuple[int, str]:
     """The exit status for an error, and the sentence that tells it."""
     match error:
+        case FileFull() | TrieFull():
+            return error.number, f"{error} `palhavento compact` may make room."
         case PalhaventoError():
             return error.number, str(error)
         case Trouble():
@@ -375,7 +377,10 @@ def stats(arguments: argparse.Namespace) -> Report:
 def compact(arguments: argparse.Namespace) -> Report:
     with reading(arguments) as store:
         before = store.stats()
-    after = compacting.compact(arguments.store, arguments.new, arguments.b, arguments.slots)
+    try:
+        after = compacting.compact(arguments.store, arguments.new, arguments.b, arguments.slots)
+    except (FileFull, TrieFull) as full:
+        raise Trouble(full.number, str(full)) from None
     strings = compacting.MOST_STRINGS - after.strings
     lines = [f"compacted {arguments.new}: names {after.entries}, slots {after.used} in place of {before.used}",
              f"room left: {after.free} of {after.slots} slots, {strings} of {compacting.MOST_STRINGS} strings"]

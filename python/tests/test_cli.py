@@ -255,7 +255,8 @@ class CommandLine(InFolder):
         self.done("create", self.store, "--b", 2, "--slots", 1)
         for name in "ab":
             self.done("put", self.store, name, 1)
-        self.refused(5, "put", self.store, "c", 1)
+        said = self.refused(5, "put", self.store, "c", 1)
+        self.assertEqual(said, "palhavento: 'c': A split is needed and there is no free slot. `palhavento compact` may make room.\n")
         self.store.unlink()
         with palhavento.open(self.store, b=2, slots=64, sync=False) as store:
             # Three names that differ in their last digit alone give a bound of 24 digits, so 24 strings.
@@ -323,7 +324,8 @@ class CommandLine(InFolder):
                                r"room left: 45 of 64 slots, \d+ of 256 strings\n$")
         self.assertEqual(self.done("ls", new), self.done("ls", self.store))
         self.assertIn(f"{new}: File exists", self.refused(74, "compact", self.store, new))
-        self.assertIn("of 299 names", self.refused(5, "compact", self.store, self.folder / "small.tkf", "--b", 4))
+        said = self.refused(5, "compact", self.store, self.folder / "small.tkf", "--b", 4)
+        self.assertIn("small.tkf: of 299 names 256 fit at best: A split is needed and there is no free slot.\n", said)
         self.assertIn("b = 17", self.refused(8, "compact", self.store, self.folder / "small.tkf", "--b", 17))
         told = json.loads(self.done("compact", "--json", "--slots", 60, self.store, self.folder / "sixty.tkf"))
         self.assertEqual((told["slots"], told["entries"], told["free"]), (60, 299, 60 - told["used"]))
