@@ -20,17 +20,30 @@ import sys
 import threading
 import time
 from collections.abc import Callable, ItemsView, Iterable, Iterator, KeysView, Mapping, MutableMapping, ValuesView
-from types import FrameType, TracebackType
+from types import TracebackType
 from typing import Any, NoReturn, TypeVar, Union, cast, overload
 
 from palhavento import calls, disk, drawing, layout, library, opened, reasons
-from palhavento.calls import HIGHEST, LARGEST_VALUE, LOWEST, Entry, Name
+from palhavento.calls import HIGHEST, LOWEST, Entry, Name
 from palhavento.errors import PalhaventoError
 
 Given = TypeVar("Given")
 Other = TypeVar("Other")
 
 _ABSENT = object()
+
+
+Place = tuple[int, int]
+
+
+def _place() -> Place | None:
+    """Where the function that asks for this was called: in which frame, at which instruction."""
+    try:
+        frame = sys._getframe(2)
+    except (AttributeError, ValueError):
+        # A Python that does not tell, or no Python code at all.
+        return None
+    return id(frame), frame.f_lasti
 
 
 class _Reading:
@@ -44,14 +57,18 @@ class _Reading:
     # Some such function might be slow. What it is told must not become old.
     SECONDS = 1.0
 
-    def __init__(self, frame: FrameType, entries: list[Entry], given: list[Given], for_values: bool) -> None:
-        self.place = _place(frame)
-        self.until = time.monotonic() + self.SECONDS
+    def __init__(self, place: Place | None, entries: list[Entry], given: list[Given], for_values: bool) -> None:
+        self._place = place
+        self._until = time.monotonic() + self.SECONDS
         # What the function is given to go through. Before it begins it may ask, once, how much that is.
         self.given = iter(given)
         self._number: int | None = len(entries)
         # The values are asked for in the order of the names, and with the very objects that were given.
         self._values = iter(entries if for_values else ())
+
+    def is_for(self, place: Place | None) -> bool:
+        """Whether it is told to whoever asks from there."""
+        return place is not None and place == self._place and time.monotonic() < self._until
 
     def number(self) -> int | None:
         """The number of entries, or None."""
@@ -64,25 +81,21 @@ class _Reading:
         return value if next_name is name else None
 
 
-def _place(frame: FrameType) -> tuple[int, int]:
-    return id(frame), frame.f_lasti
-
-
 class _Names(KeysView[str]):
     """The names, by one reading; `dict(store)` takes their values from the same."""
 
     _mapping: Store
 
-    def __init__(self, mapping: Store, frame: FrameType) -> None:
+    def __init__(self, mapping: Store, place: Place | None) -> None:
         super().__init__(mapping)
-        self._place = _place(frame)
+        self._place = place
 
     def __iter__(self) -> Iterator[str]:
-        frame = sys._getframe(1)
-        return self._mapping._read(frame, _names, for_values=self._place == _place(frame))
+        place = _place()
+        return self._mapping._read(place, _names, for_values=self._place == place)
 
     def __len__(self) -> int:
-        return self._mapping._count(sys._getframe(1))
+        return self._mapping._count(_place())
 
     def __repr__(self) -> str:
         return f"keys({_shown(self._mapping, _names)})"
@@ -94,10 +107,10 @@ class _Items(ItemsView[str, int]):
     _mapping: Store
 
     def __iter__(self) -> Iterator[Entry]:
-        return self._mapping._read(sys._getframe(1), list)
+        return self._mapping._read(_place(), list)
 
     def __len__(self) -> int:
-        return self._mapping._count(sys._getframe(1))
+        return self._mapping._count(_place())
 
     def __repr__(self) -> str:
         return f"items({_shown(self._mapping, list)})"
@@ -109,10 +122,10 @@ class _Values(ValuesView[int]):
     _mapping: Store
 
     def __iter__(self) -> Iterator[int]:
-        return self._mapping._read(sys._getframe(1), _values)
+        return self._mapping._read(_place(), _values)
 
     def __len__(self) -> int:
-        return self._mapping._count(sys._getframe(1))
+        return self._mapping._count(_place())
 
     def __repr__(self) -> str:
         return f"values({_shown(self._mapping, _values)})"
@@ -175,8 +188,8 @@ class Store(MutableMapping[str, int]):
     def __getitem__(self, name: Name) -> int:
         file = self._opened
         if file.told:
-            told = self._told(sys._getframe(1))
-            value = told and told.value(name)
+            reading = self._told(_place())
+            value = reading and reading.value(name)
             if value is not None:
                 return value
         value = file.look_up(name)
@@ -206,10 +219,10 @@ class Store(MutableMapping[str, int]):
 
     def __iter__(self) -> Iterator[str]:
         """The names in order, as they were when the iteration began."""
-        return self._read(sys._getframe(1), _names)
+        return self._read(_place(), _names)
 
     def __len__(self) -> int:
-        return self._count(sys._getframe(1))
+        return self._count(_place())
 
     def keys(self) -> KeysView[str]:
         """The names in order.
@@ -219,7 +232,7 @@ class Store(MutableMapping[str, int]):
         >>> store.keys(), store.items(), store.values()
         (keys(['of', 'the']), items([('of', 2), ('the', 1)]), values([2, 1]))
         """
-        return _Names(self, sys._getframe(1))
+        return _Names(self, _place())
 
     def items(self) -> ItemsView[str, int]:
         """The entries in the order of names."""
@@ -232,25 +245,26 @@ class Store(MutableMapping[str, int]):
     # Readings.
 
     def _read(
-        self, frame: FrameType, part: Callable[[list[Entry]], list[Given]], for_values: bool = False
+        self, place: Place | None, part: Callable[[list[Entry]], list[Given]], for_values: bool = False
     ) -> Iterator[Given]:
         """A part of all entries; whatever else the calling function asks for at once it is told from the same reading."""
         entries = self.range()
-        reading = _Reading(frame, entries, part(entries), for_values)
+        reading = _Reading(place, entries, part(entries), for_values)
         self._opened.told[threading.get_ident()] = reading
         return reading.given
 
-    def _told(self, frame: FrameType) -> _Reading | None:
+    def _told(self, place: Place | None) -> _Reading | None:
         """The reading of the function that asks now, if it has one."""
         readings, thread = self._opened.told, threading.get_ident()
         reading = readings.get(thread)
-        if reading is None or (reading.place == _place(frame) and time.monotonic() < reading.until):
+        if reading is None or reading.is_for(place):
             return reading
+        # Whoever it was for has gone on.
         readings.pop(thread, None)
         return None
 
-    def _count(self, frame: FrameType) -> int:
-        reading = self._told(frame) if self._opened.told else None
+    def _count(self, place: Place | None) -> int:
+        reading = self._told(place) if self._opened.told else None
         number = reading and reading.number()
         return self._opened.ask(calls.count) if number is None else number
 

@@ -5,11 +5,15 @@ from __future__ import annotations
 import contextlib
 import copy
 import io
+import os
 import pickle
 import random
+import subprocess
+import sys
 import threading
 import unittest
 from collections.abc import Callable
+from pathlib import Path
 from unittest import mock
 
 from support import WORDS, InFolder
@@ -221,6 +225,18 @@ class OneReading(InFolder):
             self.assertEqual(steps[2], 2)
             self.store["b"] = 2
 
+    def test_where_no_python_code_calls(self) -> None:
+        """As at the end of a process, where there is no frame to be known by."""
+        program = """if True:
+            import atexit, palhavento, sys
+            store = palhavento.open(sys.argv[1], readonly=True)
+            for function, *given in ((len, store), (dict, store), (list, store), (store.keys,), (store.items().__len__,)):
+                atexit.register(function, *given)
+        """
+        ended = subprocess.run([sys.executable, "-c", program, str(self.path)], capture_output=True, text=True,
+                               env={**os.environ, "PYTHONPATH": str(Path(palhavento.__file__).parent.parent)})
+        self.assertEqual((ended.returncode, ended.stderr), (0, ""))
+
     def test_what_is_told_does_not_become_old(self) -> None:
         with mock.patch("palhavento.store._Reading.SECONDS", 0):
             self.assertEqual((dict(self.reader), list(self.reader)), ({"a": 1, "b": 2, "c": 3}, ["a", "b", "c"]))
@@ -267,11 +283,11 @@ class Changes(InFolder):
                 return 9
 
         with palhavento.open(self.folder / "other.tkf", sync=False) as other:
-            for given, named in (({"a": 1}, {"b": 2}), ([("a", 3), ("c", 4)], {}), (iter([["a", 5]]), {}), (Other(), {}), ((), {})):
+            for given, named in (({"a": 1}, {"b": 2}), ([("a", 3), ("c", 4)], {}), ([["a", 5]], {}), (Other(), {}), ((), {})):
                 model: dict[str, int] = {}
-                other.clear()
                 model.update(given, **named)  # type: ignore[arg-type]
-                other.update(given if not hasattr(given, "__next__") else [["a", 5]], **named)
+                other.clear()
+                other.update(given if given != [["a", 5]] else iter([["a", 5]]), **named)
                 self.assertEqual(dict(other), model)
             other.update({b"d": 6, "d": 7})
             self.store.update(other)
@@ -308,7 +324,8 @@ class Changes(InFolder):
 
         with mock.patch.object(self.store._opened.disk, "store", fails), self.assertRaises(OSError) as caught:
             self.store.update(a=1, b=2, c=3)
-        self.assertEqual((caught.exception.__notes__, caught.exception.put), (["Of 3 entries 2 were put."], 2))  # type: ignore[attr-defined]
+        notes, put = caught.exception.__notes__, caught.exception.put  # type: ignore[attr-defined]
+        self.assertEqual((notes, put), (["Of 3 entries 2 were put."], 2))
         self.assertEqual(dict(self.store), {"a": 1, "b": 2})
 
     def test_prefix(self) -> None:
@@ -328,7 +345,8 @@ class Changes(InFolder):
                 store.prefix(None)  # type: ignore[arg-type]
 
     def test_increment(self) -> None:
-        self.assertEqual([self.store.increment("n"), self.store.increment(b"n", 5), self.store.increment("n", by=-6)], [1, 6, 0])
+        sums = [self.store.increment("n"), self.store.increment(b"n", 5), self.store.increment("n", by=-6)]
+        self.assertEqual(sums, [1, 6, 0])
         self.store["n"] = 2**64 - 1
         for by in (1, -(2**64)):
             with self.assertRaises(OverflowError):
