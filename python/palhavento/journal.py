@@ -202,6 +202,8 @@ class Journal:
         # The number of the record that is written next, and of the first one in the half in use.
         self.next = self._first = 1
         self._half = 0
+        # The half that would be found after a power loss, which is therefore not written over. At first there is none.
+        self._kept = 1
 
     @classmethod
     def begun(cls, file: int, content: bytes) -> Journal:
@@ -215,9 +217,13 @@ class Journal:
         """Whether the half in use has no place left."""
         return self.next - self._first >= PLACES
 
+    def keep(self) -> None:
+        """All that was written so far is on disk, or as good as that."""
+        self._kept = self._half
+
     def turn(self, content: bytes) -> None:
         """Begin the other half, with a file of which this content is on disk."""
-        half = 1 - self._half
+        half = 1 - self._kept
         write(self.file, _head(self._identity, self.next, content), half * self._layout.half)
         self._half, self._first = half, self.next
 
