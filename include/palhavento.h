@@ -15,7 +15,7 @@
  *     if (pal_lookup(file, sizeof file, trie, sizeof trie, name, sizeof name, out) == PAL_FOUND)
  *         printf("%llu\n", (unsigned long long)out[0]);
  *
- * To open a file that was kept: pal_recover, then pal_rebuild.
+ * To open a file that was kept, call pal_recover, then pal_rebuild.
  *
  * Every call checks for itself what it is lent; no file, trie or name, however damaged, makes it
  * crash, hang or leave its memory. No call keeps a pointer, allocates, or touches anything but what
@@ -23,7 +23,7 @@
  * does not overlap; memory of length 0 may have any other pointer.
  *
  * Names, parameters and answers below never change: what was built against one release links
- * against every later one.
+ * against every later one. docs/RULES.md has the rules: its section 9 for the calls, 10 for refusals.
  */
 #ifndef PALHAVENTO_H
 #define PALHAVENTO_H
@@ -57,13 +57,13 @@ extern "C" {
  * A word of out that is not named for an answer is left as it was.
  */
 enum {
-    PAL_ILLEGAL_NAME     = 1,   /* A name has not 1 to 24 bytes, each 0x21 to 0x7D. */
+    PAL_ILLEGAL_NAME     = 1,   /* A name is not 1 to 24 bytes, each 0x21 to 0x7D. */
     PAL_BAD_FILE         = 2,   /* The file is neither sound nor cut; for look up: the part it reads is wrong. */
     PAL_CUT_FILE         = 3,   /* The file is cut: recover, then rebuild. */
     PAL_STALE_TRIE       = 4,   /* The trie does not agree with the file: rebuild. */
     PAL_NO_FREE_SLOT     = 5,   /* A split is needed and there is no free slot. */
-    PAL_TOO_MANY_STRINGS = 6,   /* The bounds and their beginnings, after the change, exceed 256 strings. */
-    PAL_SHORT_OUTPUT     = 7,   /* The output is shorter than 32 bytes times the entries to be listed. */
+    PAL_TOO_MANY_STRINGS = 6,   /* The file would have more than 256 strings: bounds and their beginnings. */
+    PAL_SHORT_OUTPUT     = 7,   /* The output is too short: it needs 32 bytes for each entry. */
     PAL_OUTSIDE_LIMITS   = 8,   /* The store limit is above 2; or create's version, b, slots or length is wrong. */
 
     PAL_FOUND            = 100, /* The file holds the name. */
@@ -81,7 +81,7 @@ enum {
     PAL_REBUILT          = 151, /* The trie is the one rebuilt from the file's bounds. */
     PAL_LISTED           = 152, /* The output begins with the entries of the range. */
 
-    PAL_MALFORMED        = 255  /* The trie image has not exactly PAL_TRIE_BYTES; nothing is changed. */
+    PAL_MALFORMED        = 255  /* The trie image is not exactly PAL_TRIE_BYTES long; nothing is changed. */
 };
 
 /*
@@ -134,7 +134,7 @@ uint64_t pal_lookup(const uint8_t *file, size_t file_length,
  *
  * limit, 0 to 2, is how many stores the call may make, each of one whole slot; 2 is always enough.
  * A lower one stops the call where a kill could. After a stop or a kill discard the trie, recover
- * and rebuild: a call stopped short of its last store then counts as never made.
+ * and rebuild: a call that was stopped before its last store then counts as never made.
  *
  * PAL_ADDED, PAL_REPLACED (out[0]: the old value, out[1]: its run, now 0), PAL_STOPPED (out[0]:
  * stores made). Refusals: 8, 1, 2, 3, 4, 5, 6.

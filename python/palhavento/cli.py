@@ -22,7 +22,8 @@ from palhavento import disk, library
 from palhavento.drawing import buckets_svg, trie_svg
 from palhavento.errors import BadFile, CutFile, IllegalName, PalhaventoError
 
-# Beside document 01's numbers: the library's own answer for an absent name, and what sysexits.h has for the rest.
+# Beside the refusal numbers (docs/RULES.md, section 10): the library's own answer for an absent name, and what sysexits.h has
+# for the rest.
 ABSENT = library.ABSENT
 USAGE = 64
 NO_ACCESS = 74
@@ -36,7 +37,7 @@ exit status:
   3    cut file (only check says so: what writes recovers it, what reads reads it as recovered)
   4    stale trie, even after it was rebuilt
   5    a split is needed and there is no free slot
-  6    the bounds and their beginnings would exceed 256 strings
+  6    the store would have more than 256 strings
   8    no file has that b or that many slots
   64   bad arguments
   74   the file cannot be read or written

@@ -297,6 +297,12 @@ class Disk:
             self._find()
         return self._content
 
+    def request(self) -> tuple[object, ...]:
+        """What a reader asks of the system for one reading while nothing is unusual, as `_system.c` takes it."""
+        locks = _CONTENT[fcntl.F_RDLCK], _AT_WORK[fcntl.F_WRLCK], _CONTENT[fcntl.F_UNLCK]
+        name, journal = os.fsencode(self._name), os.fsencode(self._beside)
+        return self._file, LARGEST_FILE + 1, *locks, self._folder, name, *self._identity, journal
+
     def _bytes(self) -> bytes:
         return os.pread(self._file, LARGEST_FILE + 1, 0)
 
@@ -454,8 +460,11 @@ class Disk:
             self._turn(journal, content)
         return journal
 
-    def store(self, offset: int, slot: bytes) -> None:
-        """Replace one slot whole, and wait until that cannot be lost where this was asked for."""
+    def store(self, offset: int, slot: bytes, before: bytes | None = None, after: bytes | None = None) -> None:
+        """Replace one slot whole, and wait until that cannot be lost where this was asked for.
+
+        Whoever has the bytes from `read` and knows what they become can tell both, which saves to find it here.
+        """
         self._usable()
         self._look()
         if self._content is None:
@@ -481,8 +490,10 @@ class Disk:
         finally:
             self._unlock()
         journal.next += 1
-        before = memoryview(content)
-        self._content = b"".join((before[:offset], slot, before[offset + len(slot) :]))
+        if after is None or content is not before:
+            old = memoryview(content)
+            after = b"".join((old[:offset], slot, old[offset + len(slot) :]))
+        self._content = after
         self._doubt = self._renew = self._unsafe = False
         self._seen()
 

@@ -141,7 +141,7 @@ def _bucket(x: float, y: float, bucket: Bucket, b: int) -> str:
     return _group("bucket", f"slot {bucket.slot}: {bucket.entries} of {b} entries, {above}, {within}", parts)
 
 
-# The trie: inner nodes over their leaves, as Fig 1 of document 000 has them.
+# The trie: inner nodes over their leaves, as Figure 1 of the first source in docs/RULES.md has them.
 
 LEVEL = 46
 NODE_WIDTH, NODE_HEIGHT = 40, 22

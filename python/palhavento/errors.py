@@ -1,4 +1,4 @@
-"""The refusals of document 01 as exceptions, one class a number.
+"""The refusals as exceptions, one class a number: rules R10.1 to R10.8 of docs/RULES.md.
 
     >>> from palhavento import errors
     >>> errors.refusal(5)
@@ -60,13 +60,13 @@ class FileFull(PalhaventoError):
 
 
 class TrieFull(PalhaventoError):
-    """The bounds and their beginnings, after the change, exceed 256 strings."""
+    """The file would have more than 256 strings: bounds and their beginnings."""
 
     number = 6
 
 
 class ShortOutput(PalhaventoError):
-    """The output is shorter than 32 bytes times the entries to be listed."""
+    """The output is too short: it needs 32 bytes for each entry."""
 
     number = 7
 
@@ -79,7 +79,7 @@ class WrongSize(PalhaventoError, ValueError):
 
 
 class Malformed(PalhaventoError):
-    """The trie image has not exactly 1,540 bytes."""
+    """The trie image is not exactly 1,540 bytes long."""
 
     number = 255
 
@@ -87,7 +87,7 @@ class Malformed(PalhaventoError):
 class Locked(PalhaventoError):
     """The file has one writer at a time, and it is open for writing already, here or elsewhere."""
 
-    # Of this package, not of document 01: between the answers of the library and its 255.
+    # Of this package, not of the rules: between the answers of the library and its 255.
     number = 254
 
 

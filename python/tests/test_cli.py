@@ -132,17 +132,17 @@ class CommandLine(InFolder):
     def test_a_bar_where_somebody_looks(self):
         self.done("create", self.store)
         lines = self.folder / "lines.txt"
-        lines.write_text("".join(f"name{number % 500} {number}\n" for number in range(8000)))
+        lines.write_text("".join(f"name{number % 500} {number}\n" for number in range(40_000)))
         ours, theirs = pty.openpty()
         self.addCleanup(os.close, ours)
         command = [sys.executable, "-m", "palhavento", "import", "--no-sync", str(self.store), str(lines)]
         ended = subprocess.run(command, stdout=subprocess.PIPE, stderr=theirs, text=True, timeout=120,
                                env={**os.environ, "PYTHONPATH": str(PACKAGE)})
         os.close(theirs)
-        self.assertEqual((ended.returncode, ended.stdout), (0, "imported 8000\n"))
-        self.assertIn(b" of 8000", os.read(ours, 1 << 16))
+        self.assertEqual((ended.returncode, ended.stdout), (0, "imported 40000\n"))
+        self.assertIn(b" of 40000", os.read(ours, 1 << 16))
         # Nobody looks at a pipe.
-        self.assertEqual(self.done("import", "--no-sync", self.store, lines), "imported 8000\n")
+        self.assertEqual(self.done("import", "--no-sync", self.store, lines), "imported 40000\n")
 
     def test_draw(self):
         self.nine_words()

@@ -1,4 +1,7 @@
-"""What the documents show is what the library gives: bytes, pictures, README's Python and its five minutes."""
+"""What the documents show is what the library gives: bytes, pictures, README's Python and its five minutes.
+
+And the rules that are cited anywhere are there.
+"""
 
 import ast
 import contextlib
@@ -51,6 +54,33 @@ def explained(file: bytes) -> Iterator[str]:
     free = 16 + 192 * (last_used + 1)
     yield ""
     yield f"{free:04x} to {len(file) - 1:04x} are zero: slots {last_used + 1} to {file[6] - 1} are free"
+
+
+def texts() -> Iterator[tuple[str, str]]:
+    """The texts of the project that cite rules: code, definitions, tests and documents."""
+    for folder in ("bench", "crates", "docs", "edits", "examples", "include", "python", "tests"):
+        for kind in ("antt", "c", "edit", "h", "md", "py", "rs", "rt"):
+            for path in (PROJECT / folder).rglob(f"*.{kind}"):
+                yield str(path.relative_to(PROJECT)), path.read_text(encoding="utf-8")
+    yield "README.md", (PROJECT / "README.md").read_text(encoding="utf-8")
+
+
+class Rules(unittest.TestCase):
+    def test_each_rule_that_is_cited_is_there_once(self):
+        rules = (PROJECT / "docs/RULES.md").read_text(encoding="utf-8")
+        numbers = re.findall(r"\*\*(R\d+\.\d+)\*\*", rules)
+        self.assertGreater(len(numbers), 100)
+        self.assertEqual(len(numbers), len(set(numbers)))
+        for place, text in texts():
+            self.assertLessEqual(set(re.findall(r"\bR\d+\.\d+\b", text)), set(numbers), place)
+
+    def test_each_reading_that_is_cited_is_there(self):
+        rules = (PROJECT / "docs/RULES.md").read_text(encoding="utf-8")
+        decisions = (PROJECT / "docs/DECISIONS.md").read_text(encoding="utf-8")
+        readings = decisions[decisions.index("## How the rules are read"):decisions.index("## How it is built")]
+        there = set(re.findall(r"^(\d+)\. ", readings, re.MULTILINE))
+        cited = set(re.findall(r"readings? (\d+)", rules)) | set(re.findall(r"readings \d+, (\d+)", rules))
+        self.assertTrue(cited and cited <= there, cited - there)
 
 
 class Documents(InFolder):

@@ -16,10 +16,10 @@ NINE_TRIE = Trie(3, 0, [Cell("i", 0, ("cell", 1), ("cell", 2)), Cell(" ", 1, ("s
                         Cell("o", 0, ("slot", 2), ("slot", 1))])
 
 
-# Fig 1 of document 000: the insertions, and the leaves from left to right.
-FIG_1 = ("the of and to a in that is i it for as with was his he be not by but have you which are on or her had at from "
-         "this").split()
-FIG_1_LEAVES = [0, 9, 4, 10, 7, 8, 6, 3, 2, 1, 5]
+# R14.12: the names in the order in which they are put, and the leaves from left to right.
+MORE_WORDS = ("the of and to a in that is i it for as with was his he be not by but have you which are on or her had at "
+              "from this").split()
+MORE_LEAVES = [0, 9, 4, 10, 7, 8, 6, 3, 2, 1, 5]
 
 
 def things(picture: str, kind: str) -> list[ElementTree.Element]:
@@ -36,7 +36,7 @@ def bound_order(bound: str) -> bytes:
 
 
 def rebuilt(strings: list[str], leaf: list[int]) -> Trie:
-    """The trie of these strings, by document 01's rule, its leaves numbered from leaf[0]."""
+    """The trie of these strings, by section 6 of the rules, its leaves numbered from leaf[0]."""
     cells: list[Cell | None] = []
 
     def side(run: list[str]) -> tuple[str, int]:
@@ -130,13 +130,13 @@ class InANotebook(InFolder):
                 self.assertIsInstance(picture, str)
                 self.assertEqual(picture._repr_html_(), str(picture))
 
-    def test_fig_1_of_document_000(self):
+    def test_the_31_words(self):
         with palhavento.open(self.path, b=4, slots=16, sync=False) as store:
-            store.update({name: 0 for name in FIG_1})
+            store.update({name: 0 for name in MORE_WORDS})
             trie, buckets = store.trie_svg(), store._repr_html_()
-        self.assertEqual([int(texts(leaf)[0]) for leaf in things(trie, "leaf")], FIG_1_LEAVES)
+        self.assertEqual([int(texts(leaf)[0]) for leaf in things(trie, "leaf")], MORE_LEAVES)
         self.assertEqual([texts(bucket)[0] for bucket in things(buckets, "bucket")],
-                         [f"slot {slot}" for slot in FIG_1_LEAVES])
+                         [f"slot {slot}" for slot in MORE_LEAVES])
 
 
 if __name__ == "__main__":

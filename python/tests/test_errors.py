@@ -1,4 +1,4 @@
-"""Every refusal is raised by its own class, with document 01's number, and changes nothing."""
+"""Every refusal is raised by its own class, with its number, and changes nothing."""
 
 from __future__ import annotations
 
@@ -111,8 +111,8 @@ class Raised(InFolder):
         self.path.write_bytes(sound_file(["rate1", "rate2", "rate3"], b=2, slots=3))
         store = self.open()
         # A trie that stays stale when it is rebuilt, as no file gives one.
-        store._trie = bytes(library.TRIE_BYTES)
-        with mock.patch.object(library, "rebuild", return_value=store._trie) as rebuild:
+        store._opened.trie = bytes(library.TRIE_BYTES)
+        with mock.patch.object(library, "rebuild", return_value=store._opened.trie) as rebuild:
             self.refused(errors.StaleTrie, store.__getitem__, "rate3")
             self.refused(errors.StaleTrie, store.__setitem__, "rate4", 4)
         self.assertEqual(rebuild.call_count, 2)

@@ -1,6 +1,6 @@
 """Stores that reach the disk in part, torn at the edge of a sector or a page: what docs/OPERATIONS.md says of them.
 
-No promise covers half a store. These tests hold the document to what such a file is: nearly always bad, and where not, when.
+No promise covers half a store. These tests hold that page to what such a file is: nearly always bad, and where not, when.
 """
 
 from __future__ import annotations

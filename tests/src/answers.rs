@@ -11,7 +11,7 @@ use crate::door::CALLS;
 pub const POSSIBLE: [(&str, &[u64]); 8] = [
     // No name, no file to be bad or cut, no trie or output handed in, no split: 8 alone.
     ("create", &[8, 150, 255]),
-    // "Check gives sound, cut or bad as a result": it refuses nothing, and is lent no image.
+    // R9.2: check refuses nothing, and is lent no image.
     ("check", &[140, 141, 142]),
     // No name, trie, split or output. Cut is what it is for (3 names list, put, remove, rebuild). It is lent no image.
     ("recover", &[2, 8, 112, 130, 131]),

@@ -6,7 +6,7 @@ use crate::model::trie::{Cell, Side, Trie, CELLS};
 /// A trie image has exactly this many bytes.
 pub const IMAGE: usize = 1540;
 
-/// "255 stands apart: the call itself is malformed, because a trie image has not exactly 1,540 bytes."
+/// 255 stands apart: the call is malformed, since a trie image is not exactly 1,540 bytes long.
 pub const MALFORMED: u64 = 255;
 
 /// One call of the C interface, with everything it is lent.
@@ -56,12 +56,11 @@ pub struct Outcome {
     pub output: Vec<u8>,
 }
 
-/// "The trie image": any 1,540 bytes are some trie.
+/// The trie image: any 1,540 bytes are some trie.
 pub fn read_image(image: &[u8]) -> Trie {
     assert_eq!(image.len(), IMAGE);
     let word = |place: usize| u16::from_le_bytes([image[place], image[place + 1]]);
-    // "A side is a signed 16-bit little-endian number: 0 and above is that slot, below 0 is the cell of that number's
-    // negative."
+    // A side is a signed number of 16 bits: from 0 on it is that slot, below 0 the cell with that number's negative.
     let side = |place: usize| match word(place) as i16 {
         slot @ 0.. => Side::Slot(slot as usize),
         cell => Side::Cell(-(cell as i32) as usize),
@@ -96,7 +95,7 @@ pub fn write_image(trie: &Trie) -> Vec<u8> {
 pub fn number_and_words(answer: Answer) -> (u64, Vec<u64>) {
     match answer {
         Answer::Refused(number) => (number, vec![]),
-        // "word 0: value, word 1: run"; "`run` is ignored, and word 1 is 0"
+        // Word 0 is the value; word 1, for the run of a later version, is 0.
         Answer::Found(value) => (100, vec![value, 0]),
         Answer::Absent => (101, vec![]),
         Answer::Added => (110, vec![]),

@@ -23,11 +23,10 @@ fn world(chance: &mut Chance) -> Vec<Vec<u8>> {
 
 /// Tells one history. `call` makes a call and gives what it left behind.
 ///
-/// "Start from a new file; put and remove in any order; stop any call after any of its whole-bucket stores, then discard
-/// the trie, recover (again, if that was stopped too) and rebuild before the next change. A call stopped short of its
-/// last store counts as never made; a call that reached it counts as made. Every legal name then looks up as that history
-/// says, refused calls having changed nothing, and recovery with a legal store limit and rebuilding after it never
-/// refuse, where that recovery wasn't itself stopped."
+/// R13.3: from a new file, puts and removes in any order, any of them stopped after any of its stores. After a stop the
+/// trie is thrown away, the file recovered (again, if that was stopped too) and the trie rebuilt. What was stopped
+/// before its last store counts as never made. Every legal name looks up as this history says, and nothing refuses a
+/// recovery or the rebuilding after it.
 pub fn tell(seed: u64, mut call: impl FnMut(Call) -> Outcome) {
     let mut chance = Chance::new(seed);
     let b = chance.between(2, 5);

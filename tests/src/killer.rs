@@ -6,7 +6,7 @@
 //!
 //! A SIGKILL leaves every finished `pwrite` whole, synced or not: only a machine that fails loses what is not yet on disk.
 //! Linux looks for the signal also between two pages of one `pwrite`, so a slot across the edge of a page may be left in
-//! part. Document 01 promises nothing of half a store. Where the process has no journal, such a slot is put back as it was,
+//! part. The rules promise nothing of half a store (R7.1). Where the process has no journal, such a slot is put back as it was,
 //! and counted. The Python package has one: there, file and journal together must say what some whole stores leave, and some
 //! kills are aimed inside a `pwrite`, so that slots and records are left in part.
 

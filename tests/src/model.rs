@@ -1,7 +1,7 @@
-//! An independent model of document 01, as literal as it can be written.
+//! An independent model of the rules in docs/RULES.md, as literal as it can be written.
 //!
-//! Each definition carries the sentence of the document that it takes over. Where a sentence can be written down
-//! directly it is, even if a faster way exists: people read this beside the document.
+//! Each definition names the rule that it takes over. Where a rule can be written down directly it is, even if a faster
+//! way exists: people read this beside the rules.
 
 pub mod calls;
 pub mod file;

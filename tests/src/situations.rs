@@ -1,4 +1,4 @@
-//! The worked situations of document 01 and the figure of document 000, to be shown of the model and of the library.
+//! The situations of section 14 of the rules, to be shown of the model and of the library.
 
 use crate::door::{read_image, Call, Outcome, IMAGE, OUT_AT_ENTRY};
 use crate::make::file_bytes;
@@ -146,14 +146,14 @@ fn strs(texts: &[&str]) -> Vec<String> {
     texts.iter().map(|text| text.to_string()).collect()
 }
 
-/// "24 bytes legal"
+/// R14.1: 24 bytes are legal.
 pub fn a_name_of_24_bytes_is_legal(door: Door) {
     let mut desk = Desk::new(4, 8, door);
     assert_eq!(desk.put("abcdefghijklmnopqrstuvwx", 5, 2), 110);
     assert_eq!(desk.look_up(b"abcdefghijklmnopqrstuvwx"), (100, words(&[5, 0])));
 }
 
-/// "0 and 25 refused"
+/// R14.1: 0 and 25 bytes are illegal.
 pub fn names_of_0_and_25_bytes_are_refused(door: Door) {
     let mut desk = Desk::new(4, 8, door);
     for name in [&b""[..], b"abcdefghijklmnopqrstuvwxy"] {
@@ -162,7 +162,7 @@ pub fn names_of_0_and_25_bytes_are_refused(door: Door) {
     }
 }
 
-/// "0x7D legal, 0x7E and 0x20 refused, so "a b" is refused."
+/// R14.2: 0x7D is legal, 0x7E and 0x20 are not, so "a b" is illegal.
 pub fn digit_7d_is_legal_7e_and_20_are_refused(door: Door) {
     let mut desk = Desk::new(4, 8, door);
     assert_eq!(desk.put("}", 5, 2), 110);
@@ -173,7 +173,7 @@ pub fn digit_7d_is_legal_7e_and_20_are_refused(door: Door) {
     }
 }
 
-/// ""i" is within "i "; "in" is not, and is within "i"."
+/// R14.3: "i" is within "i "; "in" is not, but is within "i".
 pub fn i_is_within_i_blank_and_in_is_within_i(door: Door) {
     let bucket = |lower: &str, upper: &str| {
         let bound = |digits: &str| Bound(digits.as_bytes().to_vec());
@@ -189,7 +189,7 @@ pub fn i_is_within_i_blank_and_in_is_within_i(door: Door) {
     assert_eq!(desk.buckets(), expected);
 }
 
-/// "b = 4 split strings: a and of the to gives "o"; a and in is of gives "i"; a and i in is gives "i "."
+/// R14.4 to R14.6: a and of the to splits at "o", a and in is of at "i", a and i in is at "i ".
 pub fn split_strings(door: Door) {
     let cases: [([&str; 5], &str); 3] = [
         (["a", "and", "of", "the", "to"], "o"),
@@ -209,8 +209,7 @@ pub fn split_strings(door: Door) {
     }
 }
 
-/// "b = 2: rate1 rate2 rate3 gives "rate2", five cells: (r, 0), (a, 1), (t, 2), (e, 3), (2, 4). The absent name rb then
-/// leads to slot 1."
+/// R14.7: rate1 rate2 rate3 splits at "rate2" and gives five cells; the absent name rb walks to slot 1.
 pub fn rate_gives_five_cells(door: Door) {
     let mut desk = Desk::new(2, 4, door);
     desk.add(&["rate1", "rate2", "rate3"]);
@@ -228,7 +227,7 @@ pub fn rate_gives_five_cells(door: Door) {
     assert_eq!(desk.cells(), cells);
 }
 
-/// "Add razz and rz: "ra", already a string, no cell added; slot 1 keeps rate3, razz; slot 2 has rz."
+/// R14.8: razz and rz split slot 1 at "ra", which is a string already: no cell is added.
 pub fn razz_and_rz_add_no_cell(door: Door) {
     let mut desk = Desk::new(2, 4, door);
     desk.add(&["rate1", "rate2", "rate3", "razz", "rz"]);
@@ -249,8 +248,7 @@ pub fn razz_and_rz_add_no_cell(door: Door) {
     }
 }
 
-/// "That last put stopped after one store: slot 1 still unlimited above, slot 2 holds rz; recover frees slot 2, rz is
-/// absent."
+/// R14.9: the last put stopped after one store, and recovered: rz is absent.
 pub fn the_last_put_stopped_after_one_store(door: Door) {
     let mut desk = Desk::new(2, 4, door);
     desk.add(&["rate1", "rate2", "rate3", "razz"]);
@@ -286,7 +284,7 @@ pub fn the_last_put_stopped_after_one_store(door: Door) {
 /// The nine words of the program, as it puts them.
 pub const NINE: [&str; 9] = ["the", "of", "and", "to", "a", "in", "that", "is", "i"];
 
-/// What the program prints for the nine words.
+/// R14.11: what the program prints for the nine words.
 pub fn the_nine_words_and_the_table(door: Door) {
     let mut desk = Desk::new(4, 8, door);
     desk.add(&NINE);
@@ -304,7 +302,7 @@ pub fn the_nine_words_and_the_table(door: Door) {
     assert_eq!(listed.output[288..], [0x55; 5], "nothing behind them");
 }
 
-/// "The nine words below, rebuilt: cell 0 (i, 0); cell 1 (space, 1) slots 0 and 3; cell 2 (o, 0) slots 2 and 1."
+/// R14.10: the nine words, rebuilt, have three cells.
 pub fn the_nine_words_rebuilt(door: Door) {
     let mut desk = Desk::new(4, 8, door);
     desk.add(&NINE);
@@ -313,15 +311,14 @@ pub fn the_nine_words_rebuilt(door: Door) {
     assert_eq!(read_image(&desk.trie).first_leaf, 0);
 }
 
-/// The insertions of document 000, Fig 1 (a).
+/// R14.12: the 31 words, in the order in which they are put.
 pub const WORDS: [&str; 31] = [
     "the", "of", "and", "to", "a", "in", "that", "is", "i", "it", "for", "as", "with", "was", "his", "he", "be", "not",
     "by", "but", "have", "you", "which", "are", "on", "or", "her", "had", "at", "from", "this",
 ];
 
-/// Document 000: "the successive leaves and buckets are 0, 9, 4, 10, 7, 8, 6, 3, 2, 1, 5". Document 004, 3.4.1: the
-/// strings that begin no other one are ar, b, f, he, "i ", o, t.
-pub fn the_31_words_of_figure_1(door: Door) {
+/// R14.12: the range order of the eleven buckets. The strings that begin no other one are ar, b, f, he, "i ", o, t.
+pub fn the_31_words(door: Door) {
     let mut desk = Desk::new(4, 16, door);
     desk.add(&WORDS);
     let order = vec![0, 9, 4, 10, 7, 8, 6, 3, 2, 1, 5];
@@ -336,7 +333,7 @@ pub fn the_31_words_of_figure_1(door: Door) {
         let row = row(&read_image(&desk.trie)).unwrap();
         assert_eq!(row.leaves.iter().map(|leaf| leaf.slot).collect::<Vec<_>>(), order);
         assert_eq!(row.strings, all.iter().cloned().collect::<Vec<_>>());
-        // "c = 's' for instance, returns n = 1 and C = 't', while c = 'he' or c = 'gun' return n = 7 and C = 'he'."
+        // Where three names arrive, and with which path.
         for (name, slot, path) in [("s", 1, "t"), ("he", 7, "he"), ("gun", 7, "he")] {
             let leaf = walk(&read_image(&desk.trie), &filled(name.as_bytes()), 16).unwrap();
             assert_eq!((leaf.slot, leaf.path), (slot, Bound(path.as_bytes().to_vec())));
@@ -363,10 +360,10 @@ pub fn replace_remove_and_stops(door: Door) {
     assert_eq!(desk.remove("of", 0), (112, words(&[0])));
     assert_eq!(desk.remove("of", 1), (120, words(&[])));
     assert_eq!(desk.look_up(b"of"), (101, words(&[])));
-    // "an emptied bucket keeps its range"
+    // R7.10: an emptied bucket keeps its range.
     assert_eq!(desk.buckets()[2], (2, "i".to_string(), "o".to_string(), vec![]));
     assert!(desk.trie == trie);
-    // "Removing an absent name needs no store and says absent."
+    // R7.11: an absent name needs no store.
     assert_eq!(desk.remove("of", 0), (101, words(&[])));
     assert_eq!(desk.check(), 140);
 }
@@ -379,7 +376,7 @@ pub fn each_refusal_number(door: Door) {
     assert_eq!(desk.put("a b", 1, 2), 1);
     assert_eq!(desk.put("x", 1, 3), 8);
     assert_eq!(desk.put("", 1, 3), 8, "8 stands before 1");
-    // "split needed, no free slot": slot 0 has a and b, slot 1 has c and then d.
+    // R10.5: slot 0 has a and b, slot 1 has c and then d.
     assert_eq!(desk.put("d", 4, 2), 110);
     assert_eq!(desk.put_all(b"e", 5, 2), (5, words(&[])));
     assert_eq!(desk.put_all(b"e", 5, 0), (5, words(&[])), "a refusal comes before a stop");
@@ -424,7 +421,7 @@ pub fn each_refusal_number(door: Door) {
     }
 }
 
-/// "the bounds and their beginnings, after the change, exceed 256 strings": 256 pass, 257 do not.
+/// R10.6: 256 strings pass, 257 do not.
 pub fn strings_fill_the_trie(door: Door) {
     let mut desk = Desk::new(2, 64, door);
     let mut count = 0;
@@ -472,7 +469,7 @@ macro_rules! every_situation {
             the_last_put_stopped_after_one_store
             the_nine_words_and_the_table
             the_nine_words_rebuilt
-            the_31_words_of_figure_1
+            the_31_words
             replace_remove_and_stops
             each_refusal_number
             strings_fill_the_trie

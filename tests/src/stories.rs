@@ -473,8 +473,7 @@ fn mark_lookup(file: &[u8], kind: u64, trie: &[u8], name: &[u8], outcome: &Outco
         CUT if answers => mark("a lookup that answers in a cut file"),
         BAD if answers => mark("a lookup that answers in a bad file"),
         SOUND if trie.len() == IMAGE && is_legal_name(name) => {
-            // "With a sound file and any trie at all, a lookup of a legal name gives the file's true entry, says absent
-            // truly, or refuses as stale."
+            // R13.2: with a sound file, whatever the trie, a lookup tells the truth or refuses as stale.
             let read = File::read(file).unwrap();
             let truth = read.bucket_of(&filled(name)).1.value_of(&filled(name));
             match truth {

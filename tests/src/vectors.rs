@@ -1,4 +1,4 @@
-//! Cases of document 01, made from the model, for the definitions that the proofs rest on.
+//! Cases of the rules, made from the model, for the definitions that the proofs rest on.
 //!
 //! The crate `vectors` computes those definitions on these cases and compares. Neither they nor the library have a part in
 //! making a case.
@@ -472,7 +472,7 @@ fn look_ups(sheet: &mut Sheet) {
         let small = Small::new(chance);
         let (file, trie, name) = (small.some_file(chance), small.some_trie(chance), small.some_name(chance));
         let sort = match calls::look_up(&file, &trie, &name) {
-            // "Look up reads one bucket": nothing else needs to be right.
+            // Look up reads one bucket: nothing else needs to be right.
             Answer::Found(_) if !matches!(kind(&file), Kind::Sound(read) if agrees(&trie, &read)) => "found anyhow",
             answer => sort(answer),
         };
@@ -482,7 +482,7 @@ fn look_ups(sheet: &mut Sheet) {
     });
 }
 
-/// Tries that are wrong in one way each, beside document 01's file of rate1, rate2 and rate3. Look up meets some of it,
+/// Tries that are wrong in one way each, beside the file of rate1, rate2 and rate3 (R14.7). Look up meets some of it,
 /// and overlooks the rest.
 fn wrong_tries(sheet: &mut Sheet) {
     let mut file = vec![0; file_length(2, 4)];
@@ -619,7 +619,7 @@ fn lists(sheet: &mut Sheet) {
     });
 }
 
-/// Document 01's rate1, rate2, rate3, razz and rz with b = 2, and the last put stopped after one store.
+/// R14.7 to R14.9: rate1, rate2, rate3, razz and rz with b = 2, and the last put stopped after one store.
 fn worked_puts(sheet: &mut Sheet) {
     let mut file = vec![0; file_length(2, 4)];
     let (_, mut trie) = calls::create(&mut file, 1, 2, 4);
@@ -634,8 +634,8 @@ fn worked_puts(sheet: &mut Sheet) {
     look_up(sheet, "worked", &recovered, &trie, b"rz");
 }
 
-/// Document 01's nine words, and the 31 words of document 000's figure 1, whose strings document 004 gives in 3.4.1: put
-/// one after the other, each with its place from 1 on as value.
+/// The nine words of R14.11 and the 31 words of R14.12: put one after the other, each with its place from 1 on as
+/// value.
 fn worked_words(sheet: &mut Sheet) {
     for (slots, words) in [(8, &NINE[..]), (16, &WORDS[..])] {
         let mut file = vec![0; file_length(4, slots)];

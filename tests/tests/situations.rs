@@ -1,4 +1,4 @@
-//! Every worked situation of document 01, shown of the model and of the library.
+//! Every situation of the rules' section 14, shown of the model and of the library.
 
 use palhavento_tests::door::{by_model, Call};
 use palhavento_tests::library::{by_library, Grounds};

@@ -15,7 +15,7 @@ use palhavento_tests::model::trie::{rebuilt, Cell, Side, Trie, CELLS};
 use palhavento_tests::run::SMALL_STACK;
 use palhavento_tests::watch;
 
-/// "Each call needs less than 64 KB of stack."
+/// Each call needs less than 64 KB of stack (include/palhavento.h).
 const ALLOWED: usize = 64 * 1024;
 
 /// Room for what the C library calls `pthread_attr_t`.

@@ -1,4 +1,4 @@
-//! The eight calls of document 01, with its order of refusals.
+//! The eight calls (section 9 of the rules), with their refusals in the order of R10.9.
 
 use super::file::{
     bucket_bytes, entry_bytes, file_length, header, header_bytes, kind, read_slot, slot_bytes, slot_length, store,
@@ -10,7 +10,7 @@ use super::trie::{agrees, grow, rebuilt, strings, strings_of, walk, Trie, CELLS}
 /// What a call answers.
 #[derive(Clone, Copy, PartialEq, Eq, Debug)]
 pub enum Answer {
-    /// "A refusal returns its number alone."
+    /// R10.11: a refusal is its number and nothing else.
     Refused(u64),
     Created,
     Sound,
@@ -45,8 +45,7 @@ pub const TOO_MANY_STRINGS: u64 = 6;
 pub const OUTPUT_TOO_SHORT: u64 = 7;
 pub const WRONG_NUMBER: u64 = 8;
 
-/// "Create writes the whole buffer: slot 0 used, no limits, no entries; it gives the trie with count 0 and first leaf
-/// 0." Refused 8 "with b, slots or length not as above"; it then gives the same trie.
+/// R9.1: a new file in the whole buffer, and its trie. Refused by R10.8, create gives the same trie.
 pub fn create(file: &mut [u8], version: u64, b: u64, slots: u64) -> (Answer, Trie) {
     let right = version == 1
         && (2..=16).contains(&b)
@@ -63,7 +62,7 @@ pub fn create(file: &mut [u8], version: u64, b: u64, slots: u64) -> (Answer, Tri
     (Created, Trie::empty(0))
 }
 
-/// "Check gives sound, cut or bad as a result."
+/// R9.2: sound, cut or bad.
 pub fn check(file: &[u8]) -> Answer {
     match kind(file) {
         Kind::Sound(_) => Sound,
@@ -72,7 +71,7 @@ pub fn check(file: &[u8]) -> Answer {
     }
 }
 
-/// "Recover frees slot N of a cut file in one store and names it; on a sound file it says nothing to do."
+/// R9.3: recover frees N and names it; on a sound file there is nothing to do.
 pub fn recover(file: &mut [u8], limit: u64) -> Answer {
     if limit > 2 {
         return Refused(WRONG_NUMBER);
@@ -88,8 +87,7 @@ pub fn recover(file: &mut [u8], limit: u64) -> Answer {
     }
 }
 
-/// Rebuild refuses 2, 3 and 6. "rebuild and create, which give a trie, then give beside the number one with count 0 and
-/// first leaf 0."
+/// R9.4; refused 2, 3 or 6 it gives the empty trie (R10.12).
 pub fn rebuild(file: &[u8]) -> (Answer, Trie) {
     match kind(file) {
         Kind::Bad => (Refused(BAD_FILE), Trie::empty(0)),
@@ -101,31 +99,30 @@ pub fn rebuild(file: &[u8]) -> (Answer, Trie) {
     }
 }
 
-/// "Look up reads one bucket and has its own order."
+/// Look up: section 11 of the rules, from the top.
 pub fn look_up(file: &[u8], trie: &Trie, name: &[u8]) -> Answer {
-    // "1"
+    // R11.1
     if !is_legal_name(name) {
         return Refused(ILLEGAL_NAME);
     }
     let name = filled(name);
-    // "2 if length or header is wrong"
+    // R11.2
     let Some((b, slots)) = header(file) else { return Refused(BAD_FILE) };
-    // "4 if the count is above 256, or the walk meets ..."
+    // R11.3 to R11.7
     let Some(leaf) = walk(trie, &name, slots) else { return Refused(TRIE_STALE) };
     match read_slot(slot_bytes(file, b, leaf.slot), b) {
-        // "4 if the slot is free (all zero)"
+        // R11.8
         Slot::Free => Refused(TRIE_STALE),
-        // "2 if it is not well formed"
+        // R11.9
         Slot::Malformed => Refused(BAD_FILE),
-        // "4 if its range lacks the name"
+        // R11.10
         Slot::Used(bucket) if !bucket.holds(&name) => Refused(TRIE_STALE),
-        // "Only then found with value, or absent."
+        // R11.11: found with the value, or absent.
         Slot::Used(bucket) => bucket.value_of(&name).map_or(Absent, Found),
     }
 }
 
-/// The refusals 8, 1, 2, 3 and 4 of put, remove and list, in this order, for each that can have them. "Put, remove and
-/// list check the whole file and full agreement."
+/// The refusals 8, 1, 2, 3 and 4 of put, remove and list, in this order, for each that can have them: R9.10 and R10.9.
 fn whole_check(limit: u64, names: &[&[u8]], file: &[u8], trie: &Trie) -> Result<File, Answer> {
     if limit > 2 {
         return Err(Refused(WRONG_NUMBER));
@@ -144,8 +141,8 @@ fn whole_check(limit: u64, names: &[&[u8]], file: &[u8], trie: &Trie) -> Result<
     Ok(file)
 }
 
-/// "If nothing is refused and the limit is below the stores needed, they make that many and say stopped, with the number
-/// made." None when all are made.
+/// R7.12: with a limit below the stores needed, as many as the limit says are made, and the call is stopped. None when
+/// all are made.
 fn make_stores(file: &mut [u8], b: usize, limit: u64, stores: &[(usize, Vec<u8>)]) -> Option<Answer> {
     let made = stores.len().min(limit as usize);
     for (slot, bytes) in &stores[..made] {
@@ -156,12 +153,11 @@ fn make_stores(file: &mut [u8], b: usize, limit: u64, stores: &[(usize, Vec<u8>)
 
 /// How b + 1 sorted entries are parted.
 pub struct Split {
-    /// "the split key is at position m = b/2 + 1 (division rounded down, positions from 1)"
+    /// R7.3: the split key.
     pub key: Filled,
-    /// "the split string s is its shortest beginning, filled with 0x20 as needed, that is smaller than as many digits of
-    /// the *last* name"
+    /// R7.4: the split string, against the last name.
     pub string: Bound,
-    /// "Names within s stay, the others move."
+    /// R7.5: names within s stay, the others move.
     pub stay: Vec<Entry>,
     pub moved: Vec<Entry>,
 }
@@ -175,13 +171,12 @@ pub fn split(entries: &[Entry]) -> Split {
     let string = Bound(key[..length].to_vec());
     let (stay, moved): (Vec<Entry>, Vec<Entry>) =
         entries.iter().cloned().partition(|entry| is_within(&entry.name, &string));
-    // "each part has at least one entry and at most b"
+    // R7.5: each of the two gets 1 to b entries.
     assert!((1..=b).contains(&stay.len()) && (1..=b).contains(&moved.len()));
     Split { key, string, stay, moved }
 }
 
-/// "Put of a new name says added. Put on a held name replaces the value, one store, and says replaced with the old
-/// value."
+/// R7.2 and R7.8: added; R7.9: replaced, with the old value.
 pub fn put(file: &mut [u8], trie: &mut Trie, name: &[u8], value: u64, limit: u64) -> Answer {
     let sound = match whole_check(limit, &[name], file, trie) {
         Ok(sound) => sound,
@@ -189,7 +184,7 @@ pub fn put(file: &mut [u8], trie: &mut Trie, name: &[u8], value: u64, limit: u64
     };
     let b = sound.b;
     let name = filled(name);
-    // "The new name goes into its bucket A."
+    // R7.2: the bucket A that the name goes into.
     let (a, bucket) = sound.bucket_of(&name);
     let mut with_it = bucket.clone();
     if let Some(place) = bucket.entries.iter().position(|entry| entry.name == name) {
@@ -199,33 +194,32 @@ pub fn put(file: &mut [u8], trie: &mut Trie, name: &[u8], value: u64, limit: u64
     }
     with_it.entries.push(Entry { name, value });
     with_it.entries.sort_by_key(|entry| entry.name);
-    // "With b or fewer entries then, that is one store."
+    // R7.2: with at most b entries, one store.
     if with_it.entries.len() <= b {
         return make_stores(file, b, limit, &[(a, bucket_bytes(&with_it, b))]).unwrap_or(Added);
     }
     let split = split(&with_it.entries);
-    // "On a split, a new bucket always takes the lowest free slot."
+    // R7.6: the lowest free slot.
     let Some(new) = sound.slots.iter().position(|slot| *slot == Slot::Free) else { return Refused(NO_FREE_SLOT) };
-    // "the bounds and their beginnings, after the change, exceed 256 strings"
+    // R10.6: too many strings after the change.
     let mut after = strings(&sound);
     after.extend(strings_of([&split.string].into_iter()));
     if after.len() > CELLS {
         return Refused(TOO_MANY_STRINGS);
     }
-    // "Two stores, in this order: the new slot, bounds s and A's upper; then A, upper now s."
+    // R7.7 and R7.8: first the new slot, then A.
     let upper = Bucket { lower: split.string.clone(), upper: bucket.upper.clone(), entries: split.moved };
     let lower = Bucket { lower: bucket.lower.clone(), upper: split.string.clone(), entries: split.stay };
     let stores = [(new, bucket_bytes(&upper, b)), (a, bucket_bytes(&lower, b))];
     if let Some(stopped) = make_stores(file, b, limit, &stores) {
-        // "the trie is unchanged"
+        // R7.12: stopped, the trie stays as it is.
         return stopped;
     }
     grow(trie, &split.string, &split.key, a, new);
     Added
 }
 
-/// "Remove is one store and says removed, with no value; an emptied bucket keeps its range." "Removing an absent name
-/// needs no store and says absent."
+/// R7.10: one store, and the bucket keeps its range; R7.11: an absent name needs no store.
 pub fn remove(file: &mut [u8], trie: &Trie, name: &[u8], limit: u64) -> Answer {
     let sound = match whole_check(limit, &[name], file, trie) {
         Ok(sound) => sound,
@@ -241,15 +235,15 @@ pub fn remove(file: &mut [u8], trie: &Trie, name: &[u8], limit: u64) -> Answer {
     make_stores(file, sound.b, limit, &[(slot, bucket_bytes(&without_it, sound.b))]).unwrap_or(Removed)
 }
 
-/// "List writes entries, ascending, whose names lie from the first to the second name, both included, and nothing behind
-/// them, and gives their number. First above second: zero entries, not refused."
+/// R9.8: the entries in the range, ascending, with nothing written behind them; R9.9: none if the first name is above
+/// the second.
 pub fn list(file: &[u8], trie: &Trie, first: &[u8], second: &[u8], output: &mut [u8]) -> Answer {
     let sound = match whole_check(0, &[first, second], file, trie) {
         Ok(sound) => sound,
         Err(refused) => return refused,
     };
     let listed = entries_between(&sound, &filled(first), &filled(second));
-    // "list output shorter than 32 bytes times the entries to be listed"
+    // R10.7
     if output.len() < 32 * listed.len() {
         return Refused(OUTPUT_TOO_SHORT);
     }

@@ -1,21 +1,21 @@
-//! The bytes of a file: header, slots, and the words well formed, sound, cut and bad of document 01.
+//! The bytes of a file (sections 2 and 3 of the rules), and what is well formed, sound, cut and bad.
 
 use super::names::{filled, is_in_range, is_legal_name, unfilled, Bound, Filled, DIGITS};
 
 /// The header's length; the slots follow it.
 pub const HEADER: usize = 16;
 
-/// "64 + 32 × b": what one slot takes.
+/// What one slot takes.
 pub fn slot_length(b: usize) -> usize {
     64 + 32 * b
 }
 
-/// "File length is exactly 16 + slots × (64 + 32 × b)."
+/// R2.7: the length of a file.
 pub fn file_length(b: usize, slots: usize) -> usize {
     HEADER + slots * slot_length(b)
 }
 
-/// "An entry is the filled name (24) and the value (8, little-endian, any value, zero too)."
+/// R3.13: an entry.
 #[derive(Clone, PartialEq, Eq, Debug)]
 pub struct Entry {
     pub name: Filled,
@@ -43,7 +43,7 @@ impl Bucket {
 /// What the bytes of one slot are.
 #[derive(Clone, PartialEq, Eq, Debug)]
 pub enum Slot {
-    /// "A free slot is all zero."
+    /// R3.1: all zero.
     Free,
     /// A used slot that is well formed.
     Used(Bucket),
@@ -66,11 +66,9 @@ pub fn read_slot(bytes: &[u8], b: usize) -> Slot {
     }
 }
 
-/// "A used slot is *well formed* when this holds, lower is below upper where both are non-empty, names are legal and
-/// strictly ascending, and every name is in the range." None when it is not.
+/// R3.18: the bucket of a well-formed slot, None when the slot is not well formed.
 fn read_bucket(bytes: &[u8], b: usize) -> Option<Bucket> {
-    // "byte 0 is 1 when used; 1 the entry count, 0 to b; 2 lower length; 3 upper length; 4 to 7 zero; 8 to 31 lower; 32
-    // to 55 upper; 56 to 63 zero; then b entries."
+    // R3.2 to R3.6 and R3.11: the slot's own numbers, and its zero bytes.
     let count = bytes[1] as usize;
     let lower_length = bytes[2] as usize;
     let upper_length = bytes[3] as usize;
@@ -81,7 +79,7 @@ fn read_bucket(bytes: &[u8], b: usize) -> Option<Bucket> {
     let (lower, lower_rest) = bytes[8..32].split_at(lower_length);
     let (upper, upper_rest) = bytes[32..56].split_at(upper_length);
     let (entries, entries_rest) = bytes[64..].split_at(32 * count);
-    // "Unused bytes of bounds and unused entries are zero."
+    // R3.8, R3.10 and R3.17: zero behind the bounds and the entries.
     if !all_zero(lower_rest) || !all_zero(upper_rest) || !all_zero(entries_rest) {
         return None;
     }
@@ -90,14 +88,14 @@ fn read_bucket(bytes: &[u8], b: usize) -> Option<Bucket> {
     if !lower.is_legal() || !upper.is_legal() {
         return None;
     }
-    // "lower is below upper where both are non-empty"
+    // R3.12: lower below upper, if neither is empty.
     if !lower.is_empty() && !upper.is_empty() && lower >= upper {
         return None;
     }
     let mut bucket = Bucket { lower, upper, entries: Vec::new() };
     for bytes in entries.chunks(32) {
         let name = unfilled(&bytes[..24]);
-        // "names are legal and strictly ascending, and every name is in the range"
+        // R3.13 to R3.16: legal names, ascending, each in the range.
         if !is_legal_name(name) {
             return None;
         }
@@ -134,7 +132,7 @@ pub fn bucket_bytes(bucket: &Bucket, b: usize) -> Vec<u8> {
     bytes
 }
 
-/// "A store replaces one slot whole."
+/// R7.1: a store replaces one whole slot.
 pub fn store(file: &mut [u8], b: usize, slot: usize, bytes: &[u8]) {
     file[HEADER + slot * slot_length(b)..][..slot_length(b)].copy_from_slice(bytes);
 }
@@ -145,9 +143,7 @@ pub struct File {
     pub slots: Vec<Slot>,
 }
 
-/// None if length or header is wrong.
-/// "Header: 0 to 2 `TKF`; 3 and 4 version 1, little-endian; 5 b; 6 slots; 7 to 15 zero." "b, the bucket capacity, is 2
-/// to 16; slots is 1 to 64."
+/// None if length or header is wrong (R2.1 to R2.7).
 pub fn header(file: &[u8]) -> Option<(usize, usize)> {
     if file.len() < HEADER {
         return None;
@@ -215,9 +211,7 @@ impl File {
     }
 }
 
-/// "A file is *sound* when length and header are right, each slot is free or well formed, at least one is used, and the
-/// used slots can be ordered so that the first has no lower limit, the last no upper, each lower equals the upper before
-/// it and is not empty, and bounds strictly ascend."
+/// R4.2 to R4.7: sound.
 ///
 /// Length and header are right here. The answer is that order, None if there is none. In it the uppers strictly ascend,
 /// so it can only be the order of the uppers.
@@ -242,9 +236,7 @@ pub fn range_order(slots: &[&Slot]) -> Option<Vec<usize>> {
     sound.then(|| used.iter().map(|(number, _)| *number).collect())
 }
 
-/// "A file is *cut* when freeing one well-formed slot N leaves a sound file in which a slot A has N's upper, a lower
-/// below N's (or none), and b entries; N's lower is not empty; and N's entries are exactly A's entries in N's range, or
-/// those and one more."
+/// R4.8 to R4.13: cut.
 ///
 /// The answer is N, None if the file is not cut.
 pub fn cut_slot(file: &File) -> Option<usize> {
@@ -279,7 +271,7 @@ pub enum Kind {
     Sound(File),
     /// The slot is N.
     Cut(usize),
-    /// "Each other file is *bad*."
+    /// R4.14: neither.
     Bad,
 }
 

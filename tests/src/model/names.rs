@@ -1,23 +1,23 @@
-//! Names and bounds, as document 01's section of that title defines them.
+//! Names and bounds: section 1 of the rules.
 
 use std::cmp::Ordering;
 use std::fmt;
 
-/// "filled to 24 digits"
+/// R1.4: the length of a filled name.
 pub const DIGITS: usize = 24;
 
-/// "0x20, the smallest digit"
+/// R1.1: the smallest digit.
 pub const BLANK: u8 = 0x20;
 
-/// A name filled to 24 digits. "Names order as the filled strings do", and so do these arrays.
+/// A name filled to 24 digits. R1.4: names have the order of these arrays.
 pub type Filled = [u8; DIGITS];
 
-/// "A name has 1 to 24 bytes, each 0x21 to 0x7D."
+/// R1.2 and R1.3: a legal name.
 pub fn is_legal_name(name: &[u8]) -> bool {
     (1..=DIGITS).contains(&name.len()) && name.iter().all(|byte| (0x21..=0x7D).contains(byte))
 }
 
-/// "For comparison it is filled to 24 digits with 0x20."
+/// R1.4: filled with blanks to 24 digits.
 pub fn filled(name: &[u8]) -> Filled {
     let mut digits = [BLANK; DIGITS];
     digits[..name.len()].copy_from_slice(name);
@@ -48,7 +48,7 @@ impl Bound {
         self.0.len()
     }
 
-    /// "A bound has 0 to 24 digits, each 0x20 to 0x7D."
+    /// R1.5: a bound.
     pub fn is_legal(&self) -> bool {
         self.len() <= DIGITS && self.0.iter().all(|digit| (0x20..=0x7D).contains(digit))
     }
@@ -58,15 +58,14 @@ impl Bound {
         Bound(self.0[..length].to_vec())
     }
 
-    /// "as if each were continued without end by a digit above all others (000's `:`)"
+    /// R1.7: continued by a digit greater than every other.
     fn continued(&self, place: usize) -> u16 {
         const ABOVE_ALL_OTHERS: u16 = 0x100;
         self.0.get(place).map_or(ABOVE_ALL_OTHERS, |digit| *digit as u16)
     }
 }
 
-/// "Bounds order as if each were continued without end by a digit above all others. So "i " is below "i", and "i" below
-/// "o"; the empty upper bound is above all."
+/// R1.7: "i " is below "i", and "i" below "o"; the empty bound is above all.
 impl Ord for Bound {
     fn cmp(&self, other: &Bound) -> Ordering {
         // Past the longer of the two both are continued by the same digit.
@@ -89,14 +88,12 @@ impl fmt::Debug for Bound {
     }
 }
 
-/// "A name is *within* a bound p when its first digits, as many as p has, are not greater than p. Every name is within
-/// the empty bound."
+/// R1.6: a name within a bound p.
 pub fn is_within(name: &Filled, p: &Bound) -> bool {
     name[..p.len()] <= p.0[..]
 }
 
-/// "A bucket's range is the names within its upper bound and not within its lower. An empty lower bound means no lower
-/// limit; an empty upper, no upper limit."
+/// R1.8: the names in a range.
 pub fn is_in_range(name: &Filled, lower: &Bound, upper: &Bound) -> bool {
     is_within(name, upper) && (lower.is_empty() || !is_within(name, lower))
 }

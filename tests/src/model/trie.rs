@@ -1,21 +1,21 @@
-//! The trie of document 01: its cells, the walk, agreement, rebuilding and growth.
+//! The trie: its cells and the walk (section 5 of the rules), agreement, rebuilding (6) and growth (8).
 
 use std::collections::BTreeSet;
 
 use super::file::{Bucket, File, Slot};
 use super::names::{is_within, Bound, Filled};
 
-/// "Up to 256 cells"
+/// R5.1: the number of cells.
 pub const CELLS: usize = 256;
 
-/// "each side leads either to a slot or to a further cell"
+/// R5.1: where a side leads.
 #[derive(Clone, Copy, PartialEq, Eq, Debug)]
 pub enum Side {
     Slot(usize),
     Cell(usize),
 }
 
-/// "A cell has a digit, a digit number, and two sides."
+/// R5.1: a cell.
 #[derive(Clone, Copy, PartialEq, Eq, Debug)]
 pub struct Cell {
     pub digit: u8,
@@ -24,11 +24,10 @@ pub struct Cell {
     pub right: Side,
 }
 
-/// "Cells past the count are zero with both sides leading to slot 0."
+/// R5.3: a cell past the count.
 pub const PAST_THE_COUNT: Cell = Cell { digit: 0, number: 0, left: Side::Slot(0), right: Side::Slot(0) };
 
-/// "Up to 256 cells, held together with their count and a first leaf that is used only when the count is 0 (otherwise
-/// 0)." There are always 256 cells here.
+/// R5.1 and R5.2: the cells with their count and first leaf. There are always 256 cells here.
 #[derive(Clone, PartialEq, Eq, Debug)]
 pub struct Trie {
     pub count: usize,
@@ -37,12 +36,12 @@ pub struct Trie {
 }
 
 impl Trie {
-    /// "the trie with count 0 and first leaf 0", or another first leaf.
+    /// R9.1: a new file's trie, or one with another first leaf.
     pub fn empty(first_leaf: usize) -> Trie {
         Trie { count: 0, first_leaf, cells: vec![PAST_THE_COUNT; CELLS] }
     }
 
-    /// Where a walk begins. "Cell 0 is the root." "With count 0 the walk ends at the first leaf at once."
+    /// Where a walk begins. R5.1: cell 0 is the root; R5.6: with count 0 the walk ends at the first leaf.
     pub fn root(&self) -> Side {
         if self.count == 0 {
             Side::Slot(self.first_leaf)
@@ -74,7 +73,7 @@ pub enum Place {
     Right(usize),
 }
 
-/// "the cell's string is the first i digits of the path, then d"
+/// R5.4: a cell's string.
 pub fn string_of(cell: &Cell, path: &Bound) -> Bound {
     let mut string = path.beginning(cell.number);
     string.0.push(cell.digit);
@@ -89,12 +88,9 @@ pub struct Leaf {
     pub path: Bound,
 }
 
-/// The walk (000, A1): "the path begins empty. At a cell with digit d and number i, the cell's string is the first i
-/// digits of the path, then d. A name within that string goes left and the path becomes that string; otherwise it goes
-/// right with the path unchanged. With count 0 the walk ends at the first leaf at once."
+/// The walk, by R5.4 to R5.6.
 ///
-/// None is stale, by look up's words: "if the count is above 256, or the walk meets a cell number not below the count,
-/// more cells than the count, a digit number above the path's length or 23, or a slot number not below slots".
+/// None is stale, by R11.3 to R11.7.
 pub fn walk(trie: &Trie, name: &Filled, slots: usize) -> Option<Leaf> {
     if trie.count > CELLS {
         return None;
@@ -139,8 +135,8 @@ pub struct Row {
     pub leaves: Vec<Leaf>,
 }
 
-/// The row of a trie, None unless "every cell below the count is reached once from the root; no number exceeds the
-/// path's length". A side that leads to a cell at or past the count has no place in such a trie.
+/// The row of a trie, None unless R5.9 and R5.10 hold. A side that leads to a cell at or past the count has no place in
+/// such a trie.
 pub fn row(trie: &Trie) -> Option<Row> {
     let mut row = Row { strings: Vec::new(), cells: Vec::new(), leaves: Vec::new() };
     let mut reached = vec![false; trie.count];
@@ -170,7 +166,7 @@ fn lay_out(trie: &Trie, side: Side, place: Place, path: &Bound, reached: &mut [b
     Some(())
 }
 
-/// "exactly the non-empty bounds of the file and all their non-empty beginnings", in ascending bound order.
+/// R5.7: the strings of a file, in ascending order.
 pub fn strings(file: &File) -> BTreeSet<Bound> {
     strings_of(file.used().flat_map(|(_, bucket)| [&bucket.lower, &bucket.upper]))
 }
@@ -181,17 +177,16 @@ pub fn strings_of<'a>(bounds: impl Iterator<Item = &'a Bound>) -> BTreeSet<Bound
     bounds.iter().flat_map(|bound| (1..=bound.len()).map(|length| bound.beginning(length))).collect()
 }
 
-/// Whether a leaf between two strings may lead to a bucket: the one "whose lower bound is not above the string just left
-/// of the leaf and whose upper is not below the string just right of it (no string on a side means no limit there)".
+/// R5.12: whether a leaf between two strings may lead to a bucket. No string on a side means no limit there.
 pub fn fits(bucket: &Bucket, left: Option<&Bound>, right: Option<&Bound>) -> bool {
     let lower_is_not_above = bucket.lower.is_empty() || left.is_some_and(|left| bucket.lower <= *left);
     let upper_is_not_below = bucket.upper.is_empty() || right.is_some_and(|right| bucket.upper >= *right);
     lower_is_not_above && upper_is_not_below
 }
 
-/// "A trie *agrees* with a sound file when ...", sentence by sentence.
+/// Whether a trie agrees with a sound file, rule by rule.
 pub fn agrees(trie: &Trie, file: &File) -> bool {
-    // "its count is at most 256 and what lies past the count, and the first leaf, are as said above"
+    // R5.8, R5.3 and R5.2: the count, what lies past it, and the first leaf.
     if trie.count > CELLS {
         return false;
     }
@@ -201,15 +196,13 @@ pub fn agrees(trie: &Trie, file: &File) -> bool {
     if trie.count > 0 && trie.first_leaf != 0 {
         return false;
     }
-    // "every cell below the count is reached once from the root; no number exceeds the path's length"
+    // R5.9 and R5.10, in `row`.
     let Some(row) = row(trie) else { return false };
-    // "the cells' strings, left to right, are in ascending bound order exactly the non-empty bounds of the file and all
-    // their non-empty beginnings"
+    // R5.11: the cells' strings are the strings of the file, in ascending order.
     if !row.strings.iter().eq(strings(file).iter()) {
         return false;
     }
-    // "and every leaf leads to the one bucket whose lower bound is not above the string just left of the leaf and whose
-    // upper is not below the string just right of it"
+    // R5.12: where each leaf leads.
     row.leaves.iter().enumerate().all(|(place, leaf)| {
         let left = place.checked_sub(1).map(|before| &row.strings[before]);
         let right = row.strings.get(place);
@@ -220,7 +213,7 @@ pub fn agrees(trie: &Trie, file: &File) -> bool {
     })
 }
 
-/// "**Rebuild** takes that set of strings, in order." None if there are more strings than cells.
+/// R6.1: rebuild, from the strings in order. None if there are more strings than cells.
 pub fn rebuilt(file: &File) -> Option<Trie> {
     let strings: Vec<Bound> = strings(file).into_iter().collect();
     if strings.len() > CELLS {
@@ -232,8 +225,7 @@ pub fn rebuilt(file: &File) -> Option<Trie> {
     Some(trie)
 }
 
-/// "Of a run, the root is the middle one of the strings with fewest digits (of an even number, the lower middle). The
-/// strings before it form the left run, those after it the right. Cells are numbered root, left part, right part."
+/// R6.2: the root of a run; R6.3: the runs left and right of it; R6.5: the cells' numbers.
 ///
 /// `left` and `right` are the strings just beside the run. The answer leads to the run's root, or is its only leaf.
 fn rebuild_run(run: &[Bound], left: Option<&Bound>, right: Option<&Bound>, file: &File, trie: &mut Trie) -> Side {
@@ -253,18 +245,19 @@ fn rebuild_run(run: &[Bound], left: Option<&Bound>, right: Option<&Bound>, file:
     Side::Cell(cell)
 }
 
-/// "The trie grows with the last store." Bucket A was split by the string s, the new bucket is in slot `new`.
+/// R8.1: what the last store of a split makes of the trie. Bucket A was split by the string s, the new bucket is in
+/// slot `new`.
 pub fn grow(trie: &mut Trie, s: &Bound, split_key: &Filled, a: usize, new: usize) {
     let before = row(trie).expect("a trie that agrees has a row");
     let mut new_cells = Vec::new();
-    // "If s is already a cell's string, no cell is added."
+    // R8.2: where s is a cell's string already, no cell is added.
     if !before.strings.contains(s) {
-        // "Otherwise walk with the split key to a leaf whose path is C"
+        // R8.3: walk with the split key to a leaf, whose path is C.
         let leaf = walk(trie, split_key, usize::MAX).expect("a trie that agrees leads every name to a leaf");
-        // "take the longest beginning shared by s and C"
+        // R8.3: how many first digits s and C share.
         let shared = s.0.iter().zip(&leaf.path.0).take_while(|(of_s, of_c)| of_s == of_c).count();
-        // "append one cell for each later digit of s, first digit first, each the left side of the one before, the first
-        // at the old leaf, the last one's left leading to A"
+        // R8.4: a cell for each later digit, the first in the place of the leaf, each further one left of the one
+        // before.
         let mut place = leaf.place;
         for number in shared..s.len() {
             let cell = trie.count;
@@ -275,8 +268,7 @@ pub fn grow(trie: &mut Trie, s: &Bound, split_key: &Filled, a: usize, new: usize
             place = Place::Left(cell);
         }
     }
-    // "Then each leaf that led to A and whose path is above s leads to the new slot, and so do all the new cells' right
-    // sides."
+    // R8.5: A's leaves above s, and the new cells' right sides, lead to the new slot.
     for leaf in row(trie).expect("a grown trie has a row").leaves {
         if leaf.slot == a && leaf.path > *s {
             trie.set(leaf.place, Side::Slot(new));
