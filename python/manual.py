@@ -76,7 +76,8 @@ def page() -> str:
         ".SH EXIT STATUS", *verbatim(cli.STATUSES.removeprefix("exit status:\n")),
         ".SH EXAMPLES", *verbatim(cli.EXAMPLES.removeprefix("examples:\n").partition("\n\n")[0]),
         ".SH FILES", ".TP", plain("STORE.journal"),
-        plain("is there while a store is open for writing, and after a kill until it is opened next. It belongs to the store."),
+        plain("the journal of a store that is being written, or whose writer was stopped: the next to open the store finishes what it "
+              "says. It belongs to the store: move or copy both, or neither."),
         ".TP", plain(".palhavento-*"), plain("what a killed create may have left. The next create in the folder removes it."),
     ]
     return "\n".join([*lines, ""])
