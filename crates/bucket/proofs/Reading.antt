@@ -1,29 +1,20 @@
 -- The code's tests of a used slot hold exactly of the slots that were written and are well formed.
-use mathlib.Core.Path.{_∙_, _≡_, ap, ap₂, refl, sym}
-use mathlib.Core.Bool.{Bool, _&&_, cond, false, true}
-use mathlib.Core.Option.{none as nothing, some}
-use mathlib.Core.List.{List, [], _++_, _∷_, append-assoc}
-use Prim.Native.Nat.{_*_, _+_, _-_, _<_, _≤_, suc, zero, ℕ}
-use native.Mathlib.Omega.{arith}
-use lib.Dec.{eqb, leb, ltb}
-use lib.ListN.{drop, getD, length, length-append, length-drop, replicate, take, take-append-drop}
-use lib.Seq.{drop-at, drop-drop, length-take-le, take-add, take-all, take-at, take-take}
-use borrow.Author.Tests.{eqb-true, le-leb, le-ltb, leb-true, lt-ltb, ltb-false, ltb-true, not-true}
-use Rattle.model.specs.Order.{Low, Str, at, none}
-use Rattle.model.specs.Names.{Digits, areDigits, atMost, legalBound, legalFilled}
+use Rattle.model.proofs.Prelude.{Bool, List, [], _&&_, _*_, _++_, _+_, _-_, _<_, _∙_, _∷_, _≡_, _≤_, ap, append-assoc, ap₂, arith, clash, cond, drop, drop-at, drop-drop, eqb, eqb-true, false, getD, le-leb, le-ltb, leb, leb-true, length, length-append, length-drop, length-take-le, ltb, ltb-false, ltb-true, not-true, nothing, refl, replicate, some, suc, sym, take, take-add, take-append-drop, take-at, take-take, true, zero, ℕ}
+use Rattle.model.specs.Checks.{isAbove, isRow, isWell, legalLow, sameStr}
 use Rattle.model.specs.Entries.{Entry}
 use Rattle.model.specs.Files.{Slot, used}
-use Rattle.model.specs.Checks.{isAbove, isRow, isWell, legalLow, sameStr}
 use Rattle.model.specs.Format.{Bytes, entriesBytes, entriesOf, entryBytes, lowDigits, lowOf, padded, readUsed, slotBytes, usedOf, valueBytes, valueOf}
-use Rattle.model.proofs.Lists.{drop-take}
-use Rattle.model.proofs.Names.{both-true, bound-legalBound, legal-bound, legal-length, legalBound-bound, legalFilled-legal}
+use Rattle.model.specs.Names.{atMost, legalBound, legalFilled}
+use Rattle.model.specs.Order.{Low, Str, at}
 use Rattle.model.proofs.Checks.{Wells, isAbove-above, isRow-row, sameStr-equal, sameStr-self, wells}
 use Rattle.model.proofs.Format.{bytes-drop, bytes-each, bytes-take, length-entriesBytes, length-padded, length-valueBytes, lowOf-lowDigits, padded-front, padded-short, valueBytes-valueOf}
-use Rattle.digits.specs.Keys.{continued, isZero, keyValue, value}
-use Rattle.digits.proofs.Keys.{Under, bound-below, continued-whole, digits-under, name-atMost, value-some}
+use Rattle.model.proofs.Lists.{drop-take}
+use Rattle.model.proofs.Names.{both-true, legal-length, legalBound-bound, legalFilled-legal}
+use Rattle.digits.proofs.Bounds.{low-above, low-legal, name-high, name-legal, name-low, name-value}
+use Rattle.digits.specs.Keys.{continued, isZero, keyValue, lowValue, value}
+use Rattle.bucket.proofs.Parts.{entries-slot}
+use Rattle.bucket.specs.Forms.{WellRead, areEntries, isClear}
 use Rattle.bucket.specs.declared.Bucket.{Bucket}
-use Rattle.bucket.specs.Forms.{WellRead, areEntries, isClear, lowValue}
-use Rattle.bucket.proofs.Laws.{entries-slot}
 
 unfoldable pub isBound : ℕ → List ℕ → Bool
 isBound len s = leb len 24 && legalBound (take len s) && isZero (drop len s)
@@ -120,35 +111,6 @@ first-four (a ∷ []) h = absurd (omega arith)
 first-four (a ∷ b ∷ []) h = absurd (omega arith)
 first-four (a ∷ b ∷ c ∷ []) h = absurd (omega arith)
 first-four (a ∷ b ∷ c ∷ d ∷ xs) h = refl
-
--- Limits and names as numbers.
-pub under-bound : (x : Str) → legalBound x ≡ true → Under x
-under-bound x e = digits-under 0x20 x (legalBound-bound x e .digits)
-
-pub low-above : (l : Low) (u : Str) → legalLow l ≡ true → legalBound u ≡ true → ltb (lowValue l) (value (continued u)) ≡ isAbove l u
-unfolding lowValue isAbove legalLow continued
-low-above none u g h = lt-ltb 0 (value (continued u)) (value-some (continued u) (some-first u (legalBound-bound u h .digits)))
-  where
-    some-first : (u : Str) → Digits 0x20 u → 0 < getD (continued u) 0 0
-    some-first [] d = omega arith
-    some-first (x ∷ u) d = omega (arith, d .0)
-low-above (at x) u g h =
-    bound-below x u (under-bound x g) (under-bound u h) (legalBound-bound x g .fits) (legalBound-bound u h .fits)
-
-pub name-legal : (n : Str) → legalFilled n ≡ true → legalBound n ≡ true
-name-legal n e =
-    let g = legalFilled-legal n e in
-    let t : take 24 n ≡ n = take-all 24 n (omega (arith, legal-length g)) in
-    sym (ap legalBound t) ∙ bound-legalBound (legal-bound g 24)
-
-pub name-value : (n : Str) → legalFilled n ≡ true → value (continued n) ≡ value n
-name-value n e = ap value (continued-whole n (legal-length (legalFilled-legal n e)))
-
-pub name-low : (l : Low) (n : Str) → legalLow l ≡ true → legalFilled n ≡ true → ltb (lowValue l) (value n) ≡ isAbove l n
-name-low l n g e = ap (ltb (lowValue l)) (sym (name-value n e)) ∙ low-above l n g (name-legal n e)
-
-pub name-high : (n u : Str) → legalFilled n ≡ true → legalBound u ≡ true → leb (value n) (value (continued u)) ≡ atMost n u
-name-high n u e h = name-atMost n u (under-bound n (name-legal n e)) (under-bound u h) (legal-length (legalFilled-legal n e)) (legalBound-bound u h .fits)
 
 -- Entries that pass the code's test are a row, and the other way round.
 entries-row : (n : ℕ) (z : List ℕ) (l : Low) (u : Str) → legalLow l ≡ true → legalBound u ≡ true
@@ -272,10 +234,9 @@ module _ (b : ℕ) (xs : List ℕ) (size : length xs ≡ 64 + 32 * b) (bytes : (
       let r = entries-row n (drop 64 xs) (lowOf low) (highIn xs) g h (t .rowed) .0 in
       rw (g, h, a, r, length-entriesOf n (drop 64 xs)) (le-leb n b (t .fits))
 
-  pub well-read : (k : Bucket) → k .count ≡ getD xs 1 0 → k .lower ≡ getD xs 2 0 → k .upper ≡ getD xs 3 0
-      → keyValue (k .low) ≡ lowValue (lowIn xs) → keyValue (k .high) ≡ value (continued (highIn xs)) → WellRead b xs k
+  pub well-read : (k : Bucket) → keyValue (k .low) ≡ lowValue (lowIn xs) → keyValue (k .high) ≡ value (continued (highIn xs)) → WellRead b xs k
   unfolding readUsed usedOf
-  well-read k c d e f g =
+  well-read k f g =
       let same : sameStr xs (slotBytes b (usedOf xs)) ≡ true = ap (sameStr xs) (sym is-written) ∙ sameStr-self xs in
       record {
         lower = lowOf low;
@@ -283,18 +244,9 @@ module _ (b : ℕ) (xs : List ℕ) (size : length xs ≡ 64 + 32 * b) (bytes : (
         entries = es;
         is = rw same;
         well = is-well;
-        count-is = c ∙ sym (length-entriesOf n (drop 64 xs));
-        lower-is = d ∙ sym (ap length (low-digits low) ∙ length-low);
-        upper-is = e ∙ sym length-high;
         low-is = f;
         high-is = g;
       }
-
--- A slot that was written, and is well formed, passes.
-pub low-legal : (l : Low) → legalLow l ≡ true → legalBound (lowDigits l) ≡ true
-unfolding legalLow lowDigits legalBound areDigits
-low-legal none e = refl
-low-legal (at x) e = e
 
 padded-bound : (x : Str) → legalBound x ≡ true → isBound (length x) (padded 24 x) ≡ true
 unfolding isBound
@@ -400,7 +352,7 @@ not-read b xs f s = go (sameStr xs (slotBytes b (usedOf xs))) (isWell b s) refl 
   where
     go : (t r : Bool) → sameStr xs (slotBytes b (usedOf xs)) ≡ t → isWell b s ≡ r → cond t (some (usedOf xs)) nothing ≡ some s → r ≡ false
     go t false e w h = refl
-    go false true e w h = let z : _≡_ {A = ℕ} 0 1 = cc in absurd (omega arith)
+    go false true e w h = clash cc
     go true true e w h =
         let i : usedOf xs ≡ s = cc in
         absurd (f (passes b xs (sameStr-equal xs (slotBytes b (usedOf xs)) e) (ap (isWell b) i ∙ w)))

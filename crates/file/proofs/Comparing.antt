@@ -1,14 +1,5 @@
 -- Ranges compared as numbers are ranges in order.
-use mathlib.Core.Path.{_∙_, _≡_, ap, refl, sym}
-use mathlib.Core.Logic.{_⊎_, inl, inr}
-use mathlib.Core.Bool.{Bool, _&&_, _||_, false, not, true}
-use mathlib.Core.List.{List}
-use mathlib.Core.Option.{some}
-use Prim.Native.Nat.{_*_, _+_, _-_, _<_, _≤_, ℕ}
-use native.Mathlib.Omega.{arith}
-use lib.Dec.{eqb, ltb}
-use lib.ListN.{drop, getD, take}
-use borrow.Author.Tests.{eqb-false, eqb-true, le-leb, lt-ltb, ltb-false, ltb-true, not-true}
+use Rattle.model.proofs.Prelude.{Bool, List, _&&_, _*_, _+_, _-_, _<_, _||_, _∙_, _≡_, _≤_, _⊎_, ap, arith, clash, drop, eqb, eqb-false, eqb-true, false, getD, inl, inr, le-leb, lt-ltb, ltb, ltb-false, ltb-true, not, not-true, refl, some, sym, take, true, ℕ}
 use Rattle.model.specs.Order.{Low, Str, _≺_, _⊑_, _⊴_, at, below, least, none}
 use Rattle.model.specs.Names.{Bound, BoundLow, atMost, limit, unlimited}
 use Rattle.model.specs.Checks.{isAbove, legalLow}
@@ -17,11 +8,10 @@ use Rattle.model.specs.Files.{IsUsed, Slot, Well, entries-of, head, lower-of, s
 use Rattle.model.specs.Format.{lowOf, readSlot, slotAt, slotSize}
 use Rattle.model.proofs.Names.{atMost-le, atMost-lt, bound-legalBound}
 use Rattle.model.proofs.Files.{well-parts}
-use Rattle.digits.specs.Keys.{continued, isZero, value}
+use Rattle.digits.specs.Keys.{continued, isZero, lowValue, value}
 use Rattle.digits.proofs.Keys.{bound-atMost, bound-below, bound-same, digits-under}
-use Rattle.bucket.specs.Forms.{lowValue}
-use Rattle.bucket.proofs.Reading.{low-above}
-use Rattle.bucket.proofs.Rows.{Reads, read-high, read-low, used-reads}
+use Rattle.digits.proofs.Bounds.{low-above}
+use Rattle.bucket.proofs.Slots.{Reads, read-high, read-low, used-reads}
 use Rattle.file.specs.Orders.{Known, Listed, Sorts, ahead, placed, stands}
 use Rattle.file.proofs.Readings.{used-read}
 
@@ -64,16 +54,16 @@ ahead-true h l p q e = go (ltb h p) (eqb h p) (ltb l q) refl refl refl e
     go : (a b c : Bool) → ltb h p ≡ a → eqb h p ≡ b → ltb l q ≡ c → (a || (b && c)) ≡ true → (h < p) ⊎ ((h ≡ p) × (l < q))
     go true b c x y z e = inl (ltb-true h p x)
     go false true true x y z e = inr (eqb-true h p y, ltb-true l q z)
-    go false true false x y z e = let n : _≡_ {A = ℕ} 0 1 = cc in absurd (omega arith)
-    go false false c x y z e = let n : _≡_ {A = ℕ} 0 1 = cc in absurd (omega arith)
+    go false true false x y z e = clash cc
+    go false false c x y z e = clash cc
 
 ahead-false : (h l p q : ℕ) → ahead h l p q ≡ false → (p < h) ⊎ ((p ≡ h) × (q ≤ l))
 unfolding ahead
 ahead-false h l p q e = go (ltb h p) (eqb h p) (ltb l q) refl refl refl e
   where
     go : (a b c : Bool) → ltb h p ≡ a → eqb h p ≡ b → ltb l q ≡ c → (a || (b && c)) ≡ false → (p < h) ⊎ ((p ≡ h) × (q ≤ l))
-    go true b c x y z e = let n : _≡_ {A = ℕ} 0 1 = cc in absurd (omega arith)
-    go false true true x y z e = let n : _≡_ {A = ℕ} 0 1 = cc in absurd (omega arith)
+    go true b c x y z e = clash cc
+    go false true true x y z e = clash cc
     go false true false x y z e = inr (sym (eqb-true h p y), ltb-false l q z)
     go false false c x y z e = let g : h ≡ p → ⊥ = eqb-false h p y in let k : p ≤ h = ltb-false h p x in inl (omega arith)
 

@@ -1,25 +1,15 @@
 -- The header as it is tested, byte by byte, is the header that a writer writes; and what create writes is a new file.
-use mathlib.Core.Path.{_∙_, _≡_, ap, refl, sym}
-use mathlib.Core.Bool.{Bool, _&&_, false, true}
-use mathlib.Core.Option.{Option, none as nothing, some}
-use mathlib.Core.List.{List, [], _++_, _∷_}
-use Prim.Native.Nat.{_*_, _+_, _-_, _<_, _≤_, suc, zero, ℕ}
-use native.Mathlib.Nat.{suc-mul, zero-mul}
-use native.Mathlib.Omega.{arith}
-use borrow.Author.Tests.{eq-eqb, eqb-true}
-use lib.Dec.{eqb}
-use lib.ListN.{drop, getD, length, length-replicate, replicate, replicate-append-replicate, set, take}
-use lib.Seq.{length-take-le, take-all, take-suc-set}
+use Rattle.model.proofs.Prelude.{Bool, List, Option, [], _&&_, _*_, _++_, _+_, _-_, _<_, _∙_, _∷_, _≡_, _≤_, ap, arith, drop, eq-eqb, eqb, eqb-true, false, getD, length, length-replicate, length-take-le, nothing, refl, replicate, replicate-append-replicate, set, some, suc, suc-mul, sym, take, take-all, take-suc-set, true, zero, zero-mul, ℕ}
 use Rattle.model.specs.Order.{none}
 use Rattle.model.specs.Files.{created, free, used}
 use Rattle.model.specs.Checks.{sameStr}
 use Rattle.model.specs.Format.{entriesBytes, fileBytes, fileSize, headerBytes, headerOf, legalSizes, lowDigits, padded, slotBytes, slotSize, slotsBytes}
 use Rattle.model.proofs.Lists.{at-taken, take-replicate}
-use Rattle.model.proofs.Names.{clash}
+use Rattle.model.proofs.Names.{never-both}
 use Rattle.model.proofs.Checks.{both-join, sameStr-equal, sameStr-other, sameStr-self}
 use Rattle.model.proofs.Format.{Headed, headed-b, headed-headerOf, headed-slots, headerOf-headed, legalSizes-sizes, sizes-legalSizes}
 use Rattle.digits.specs.Keys.{isZero}
-use Rattle.bucket.proofs.Rows.{zero-same}
+use Rattle.bucket.proofs.Slots.{zero-same}
 use Rattle.file.specs.declared.Size.{Size}
 use Rattle.file.specs.declared.Header.{Header}
 use Rattle.file.specs.declared.Header.the-variants.{Right, Wrong}
@@ -63,13 +53,13 @@ too-short xs h = no-header xs (λ g. omega (arith, g .whole))
 pub ill-marked : (xs : List ℕ) → sameStr (take 16 xs) (headerBytes (getD xs 5 0) (getD xs 6 0)) ≡ false → headerOf xs ≡ nothing
 ill-marked xs e = no-header xs (λ g.
     let h : List ℕ = headerBytes (getD xs 5 0) (getD xs 6 0) in
-    clash (sameStr (take 16 xs) h) (ap (λ (l : List ℕ). sameStr l h) (g .header) ∙ sameStr-self h) e)
+    never-both (sameStr (take 16 xs) h) (ap (λ (l : List ℕ). sameStr l h) (g .header) ∙ sameStr-self h) e)
 
 pub ill-sized : (xs : List ℕ) → (legalSizes (getD xs 5 0) (getD xs 6 0) && eqb (length xs) (fileSize (getD xs 5 0) (getD xs 6 0))) ≡ false → headerOf xs ≡ nothing
 ill-sized xs e = no-header xs (λ g.
     let t = legalSizes (getD xs 5 0) (getD xs 6 0) in
     let u = eqb (length xs) (fileSize (getD xs 5 0) (getD xs 6 0)) in
-    clash (t && u) (both-join t u (sizes-legalSizes (g .sizes)) (eq-eqb (length xs) (fileSize (getD xs 5 0) (getD xs 6 0)) (g .whole))) e)
+    never-both (t && u) (both-join t u (sizes-legalSizes (g .sizes)) (eq-eqb (length xs) (fileSize (getD xs 5 0) (getD xs 6 0)) (g .whole))) e)
 
 -- Legal sizes, and a length that fits them.
 pub said : (xs : List ℕ) (s : Size) → sameStr (take 16 xs) (headerBytes (getD xs 5 0) (getD xs 6 0)) ≡ true

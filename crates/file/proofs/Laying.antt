@@ -1,15 +1,5 @@
 -- Slots laid out in order, one more at each step, from the last to the first.
-use mathlib.Core.Path.{_∙_, _≡_, ap, refl, subst, sym}
-use mathlib.Core.Bool.{cond, false, true}
-use mathlib.Core.Option.{Option, none as nothing, some}
-use mathlib.Core.List.{List, List·Memᴰ, List·Memᴰ·append-cases, List·Memᴰ·cases-cons, List·Memᴰ·not-nil, Memᴰ·append-left, Memᴰ·append-right, _++_, _∷_}
-use mathlib.Core.Logic.{inl, inr}
-use Prim.Native.Nat.{_*_, _+_, _<_, _^_, _≤_, suc, zero, ℕ}
-use native.Mathlib.Decide.{decLt, ℕ-discrete}
-use native.Mathlib.Nat.{zero-add}
-use native.Mathlib.Omega.{arith}
-use lib.ListN.{drop, drop-of-length-le, getD, length, length-drop, length-replicate, length-set, replicate, set, take, take-append-drop}
-use lib.Seq.{drop-cons, drop-set-lt, getD-set-other, getD-set-same, take-take}
+use Rattle.model.proofs.Prelude.{List, List·Memᴰ, List·Memᴰ·append-cases, List·Memᴰ·cases-cons, List·Memᴰ·not-nil, Memᴰ·append-left, Memᴰ·append-right, Option, _*_, _++_, _+_, _<_, _^_, _∙_, _∷_, _≡_, _≤_, ap, arith, cond, decLt, drop, drop-cons, drop-of-length-le, drop-set-lt, false, getD, getD-set-other, getD-set-same, inl, inr, length, length-drop, length-replicate, length-set, nothing, refl, replicate, set, some, subst, suc, sym, take, take-append-drop, take-take, true, zero, zero-add, ℕ, ℕ-discrete}
 use Rattle.model.specs.Order.{Low, Str}
 use Rattle.model.specs.Entries.{Entry}
 use Rattle.model.specs.Files.{IsUsed, Slot, Well, free, head, slot-at, used, well-free}
@@ -17,15 +7,13 @@ use Rattle.model.specs.Tries.{occ, one-if}
 use Rattle.model.specs.Checks.{is-bad, isWell}
 use Rattle.model.specs.Format.{readSlot, readSlots, readUsed, slotAt, slotSize}
 use Rattle.model.proofs.Lists.{at-replicate}
-use Rattle.model.proofs.Names.{clash}
-use Rattle.model.proofs.Cells.{occ-append, occ-mem, one-if-equal}
+use Rattle.model.proofs.Names.{never-both}
+use Rattle.model.proofs.Cells.{occ-append, occ-mem, one-if-equal, one-if-not}
 use Rattle.model.proofs.Checks.{isWell-well, well-isWell}
 use Rattle.model.proofs.Files.{cut-well}
-use Rattle.model.proofs.Passing.{one-if-not}
 use Rattle.model.proofs.Format.{readSlots-each}
-use Rattle.digits.specs.Keys.{continued, isZero, value}
-use Rattle.bucket.specs.Forms.{lowValue}
-use Rattle.bucket.proofs.Rows.{read-by-zero}
+use Rattle.digits.specs.Keys.{continued, isZero, lowValue, value}
+use Rattle.bucket.proofs.Slots.{read-by-zero}
 use Rattle.file.specs.declared.Size.{Size}
 use Rattle.file.specs.Maps.{bit-of, map-of}
 use Rattle.file.specs.Orders.{Known, Laid, Listed, Placed, Sorts, placed, stands}
@@ -99,7 +87,7 @@ module _ {xs : List ℕ} {size : Size} {k : ℕ} {order : List ℕ} {count map :
     ill-slot fs e w =
         let r : readSlot (size .b) (slotAt (size .b) k xs) ≡ some (slot-at fs k) = rw zero-add at (readSlots-each (size .b) (size .slots) 0 k xs inside e) in
         let u : readUsed (size .b) ys ≡ some (slot-at fs k) = sym (k-read ∙ rw z) ∙ r in
-        clash (isWell (size .b) (slot-at fs k)) (well-isWell (size .b) w) (ill (slot-at fs k) u)
+        never-both (isWell (size .b) (slot-at fs k)) (well-isWell (size .b) w) (ill (slot-at fs k) u)
 
     pub ill-said : is-bad ≡ checkSlots (size .b) (size .slots) xs
     ill-said = sym (go (readSlots (size .b) (size .slots) 0 xs) refl)

@@ -1,12 +1,5 @@
 -- Slots read one by one are the file's slots.
-use mathlib.Core.Path.{_≡_, refl}
-use mathlib.Core.Bool.{Bool, cond, false, true}
-use mathlib.Core.Option.{some}
-use mathlib.Core.List.{List, [], _∷_}
-use Prim.Native.Nat.{_+_, _<_, suc, zero, ℕ}
-use native.Mathlib.Nat.{add-zero}
-use native.Mathlib.Omega.{arith}
-use lib.ListN.{length}
+use Rattle.model.proofs.Prelude.{Bool, List, [], _+_, _<_, _∷_, _≡_, add-zero, arith, clash, cond, false, length, refl, some, suc, true, zero, ℕ}
 use Rattle.model.specs.Files.{IsUsed, Slot, free, head, slot-at, used}
 use Rattle.model.specs.Checks.{sameStr}
 use Rattle.model.specs.Format.{joined, readSlot, readSlots, readUsed, slotAt, slotBytes}
@@ -30,5 +23,5 @@ used-read b ys free u e = absurd u
 used-read b ys (used l v es) u e = go (sameStr ys (slotBytes b free)) e
   where
     go : (t : Bool) → cond t (some free) (readUsed b ys) ≡ some (used l v es) → readUsed b ys ≡ some (used l v es)
-    go true e = let z : _≡_ {A = ℕ} 0 1 = cc in absurd (omega arith)
+    go true e = clash cc
     go false e = e

@@ -1,14 +1,5 @@
 -- What the survey says of slots that are laid out in order is what check says, and of a sound file its order and its map.
-use mathlib.Core.Path.{_∙_, _≡_, ap, refl, subst, sym}
-use mathlib.Core.Bool.{Bool, false, true}
-use mathlib.Core.Option.{none as nothing, some}
-use mathlib.Core.List.{List, List·Memᴰ, [], _++_, _∷_}
-use Prim.Native.Nat.{_-_, _<_, _≤_, suc, ℕ}
-use native.Mathlib.Decide.{decLe}
-use native.Mathlib.Nat.{zero-add}
-use native.Mathlib.Omega.{arith}
-use lib.ListN.{drop, getD, length, take}
-use lib.Seq.{append-snoc, drop-cons, getD-take, length-take-le, split-at, take-suc, take-take}
+use Rattle.model.proofs.Prelude.{Bool, List, List·Memᴰ, [], _++_, _-_, _<_, _∙_, _∷_, _≡_, _≤_, ap, append-snoc, arith, decLe, drop, drop-cons, false, getD, getD-take, length, length-take-le, nothing, refl, some, split-at, subst, suc, sym, take, take-suc, take-take, true, zero-add, ℕ}
 use Rattle.model.specs.Order.{at, none}
 use Rattle.model.specs.Files.{Bad, Chain, Cut, IsUsed, Slot, Sound, free, head, order-of, ranges, slot-at, upper-of, used}
 use Rattle.model.specs.Checks.{Kind, check, is-bad, is-cut, is-sound}

@@ -11,8 +11,7 @@ use Rattle.model.specs.Order.{_≺_, _⊴_, none}
 use Rattle.model.specs.Files.{Chain, IsUsed, Ranges, Slot, Well, free, head, lower-of, slot-at, upper-of}
 use Rattle.model.specs.Tries.{occ}
 use Rattle.model.specs.Format.{readSlot, slotAt}
-use Rattle.digits.specs.Keys.{continued, value}
-use Rattle.bucket.specs.Forms.{lowValue}
+use Rattle.digits.specs.Keys.{continued, lowValue, value}
 use Rattle.file.specs.declared.Size.{Size}
 use Rattle.file.specs.Maps.{map-of}
 

@@ -1,11 +1,11 @@
 -- The sizes of a file that its header says, and what they say of its length.
-use Prim.Native.Nat.{ℕ, _+_, _*_, _≤_, _<_}
+use Prim.Native.Nat.{_*_, _+_, _<_, _≤_, ℕ}
 use mathlib.Core.Path.{_≡_}
 use mathlib.Core.Bool.{_&&_, false}
 use mathlib.Core.Option.{none as nothing, some}
 use mathlib.Core.List.{List}
 use lib.Dec.{eqb}
-use lib.ListN.{length, getD}
+use lib.ListN.{getD, length}
 use Rattle.model.specs.Format.{fileSize, headerOf, legalSizes}
 use Rattle.file.specs.declared.Size.{Size}
 use Rattle.file.specs.declared.Header.{Header}

@@ -1,11 +1,5 @@
 -- Each request has one list of stores or one refusal, and the function gives it.
-use mathlib.Core.Path.{_∙_, _≡_, ap, refl, subst, sym}
-use mathlib.Core.Option.{Option, none as nothing, some}
-use mathlib.Core.List.{List, [], _∷_}
-use Prim.Native.Nat.{_<_, _≤_, ℕ}
-use native.Mathlib.Decide.{decLe, decLt}
-use native.Mathlib.Omega.{arith}
-use lib.ListN.{length}
+use Rattle.model.proofs.Prelude.{List, Option, [], _<_, _∙_, _∷_, _≡_, _≤_, ap, arith, decLe, decLt, length, nothing, refl, some, subst, sym, ℕ}
 use Rattle.model.specs.Order.{Low, Str, _⊑_, _◁_, at}
 use Rattle.model.specs.Names.{Legal}
 use Rattle.model.specs.Entries.{Entry, chosen, find, insert, without}
@@ -36,26 +30,6 @@ module _ (b : ℕ) where
 
     unlike : {X : Type 0} (n : Str) (v : ℕ) {l m : Low} {u w : Str} {es gs : List Entry} → used l u es ≡ used m w gs → length (insert n v es) ≤ b → b < length (insert n v gs) → X
     unlike n v e h k = absurd (omega (arith, rw (same-entries e) at h, k))
-
-    pub change-unique : {q : Request} {ss rs : List Store} → Change b fs q ss → Change b fs q rs → ss ≡ rs
-    change-unique (fits {A = A} {l = l} {u = u} {es = es} is g lo up h) (fits {A = C} {l = m} {u = w} {es = gs} is′ g′ lo′ up′ h′) =
-        let e : (A ≡ C) × (used l u es ≡ used m w gs) = one-bucket is lo up is′ lo′ up′ in
-        let p : A ≡ C = e .0 in let q : used l u es ≡ used m w gs = e .1 in cc
-    change-unique (fits {n = n} {v = v} is g lo up h) (splits is′ g′ lo′ up′ h′ L′ f′) = unlike n v (one-bucket is lo up is′ lo′ up′ .1) h h′
-    change-unique (splits {n = n} {v = v} is g lo up h L f) (fits is′ g′ lo′ up′ h′) = unlike n v (one-bucket is′ lo′ up′ is lo up .1) h′ h
-    change-unique (splits {A = A} {N = N} {l = l} {u = u} {es = es} is g lo up h L f) (splits {A = C} {N = M} {l = m} {u = w} {es = gs} is′ g′ lo′ up′ h′ L′ f′) =
-        let e : (A ≡ C) × (used l u es ≡ used m w gs) = one-bucket is lo up is′ lo′ up′ in
-        let p : A ≡ C = e .0 in let q : used l u es ≡ used m w gs = e .1 in let r : N ≡ M = lowest-unique L L′ in cc
-    change-unique (removes {A = A} {l = l} {u = u} {es = es} is lo up h) (removes {A = C} {l = m} {u = w} {es = gs} is′ lo′ up′ h′) =
-        let e : (A ≡ C) × (used l u es ≡ used m w gs) = one-bucket is lo up is′ lo′ up′ in
-        let p : A ≡ C = e .0 in let q : used l u es ≡ used m w gs = e .1 in cc
-    change-unique (removes {es = es} {n = n} {w = w} is lo up h) (absent C is′ lo′ up′ h′) =
-        let z : _≡_ {A = Option ℕ} nothing (some w) = sym h′ ∙ ap (find n) (sym (same-entries (one-bucket is lo up is′ lo′ up′ .1))) ∙ h in
-        let y : _≡_ {A = ℕ} 0 1 = cc in absurd (omega arith)
-    change-unique (absent A is lo up h) (removes {es = gs} {n = n} {w = w} is′ lo′ up′ h′) =
-        let z : _≡_ {A = Option ℕ} nothing (some w) = sym h ∙ ap (find n) (same-entries (one-bucket is lo up is′ lo′ up′ .1)) ∙ h′ in
-        let y : _≡_ {A = ℕ} 0 1 = cc in absurd (omega arith)
-    change-unique (absent A is lo up h) (absent C is′ lo′ up′ h′) = refl
 
     -- And no list of stores where it is refused.
     pub denied-not-made : {q : Request} {r : ℕ} {ss : List Store} → Denied b fs q r → Change b fs q ss → ⊥

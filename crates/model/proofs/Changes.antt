@@ -1,13 +1,6 @@
 -- All stores of a change made, the file is sound and says what was asked; a part of them, it is as before or cut, and
 -- recovers to what it was.
-use mathlib.Core.Path.{_∙_, _≡_, ap, fun-ext, refl, subst, sym}
-use mathlib.Core.Logic.{_≢_, _⊎_, inl, inr}
-use mathlib.Core.List.{List, List·Memᴰ, List·Memᴰ·head, List·Memᴰ·tail, Memᴰ·append-right, _++_, _∷_}
-use Prim.Native.Nat.{_/_, _<_, _≤_, suc, zero, ℕ}
-use native.Mathlib.Decide.{ℕ-discrete}
-use native.Mathlib.Omega.{arith}
-use lib.ListN.{length, length-set, set, take}
-use lib.Seq.{getD-set-other, getD-set-same, set-getD, set-set}
+use Rattle.model.proofs.Prelude.{List, List·Memᴰ, List·Memᴰ·head, List·Memᴰ·tail, Memᴰ·append-right, _++_, _/_, _<_, _∙_, _∷_, _≡_, _≢_, _≤_, _⊎_, ap, arith, fun-ext, getD-set-other, getD-set-same, inl, inr, length, length-set, refl, set, set-getD, set-set, subst, suc, sym, take, zero, ℕ, ℕ-discrete}
 use Rattle.model.specs.Order.{Low, Str, _≺_, _⊑_, _◁_, above, at, le?, none, over, str?}
 use Rattle.model.specs.Names.{Bound, BoundLow, Legal, limit}
 use Rattle.model.specs.Entries.{Entry, Row, find, insert, move, name-at, not?, stay, without}

@@ -1,9 +1,5 @@
 -- Of the bytes of a file, check says sound, cut or bad exactly where document 01 does, and it says one of them only.
-use mathlib.Core.Path.{_≡_, ap, refl}
-use mathlib.Core.Option.{Option, none as nothing, some}
-use mathlib.Core.List.{List}
-use Prim.Native.Nat.{ℕ}
-use native.Mathlib.Omega.{arith}
+use Rattle.model.proofs.Prelude.{List, Option, _≡_, ap, clash, nothing, refl, some, ℕ}
 use Rattle.model.specs.Files.{Cut, Slot, Sound}
 use Rattle.model.specs.Checks.{Kind, check, is-bad, is-cut, is-sound}
 use Rattle.model.specs.Format.{BadFile, CutFile, SoundFile, checkFile, checkRead, readFile}
@@ -20,7 +16,7 @@ one-reading : (xs : List ℕ) {b c : ℕ} {fs gs : List Slot} → readFile xs �
 one-reading xs p q = cc
 
 no-reading : (xs : List ℕ) {b : ℕ} {fs : List Slot} → readFile xs ≡ nothing → readFile xs ≡ some (b, fs) → ⊥
-no-reading xs p q = let z : _≡_ {A = ℕ} 0 1 = cc in absurd (omega arith)
+no-reading xs p q = clash cc
 
 same-sound : {b c : ℕ} {fs gs : List Slot} → _≡_ {A = ℕ × List Slot} (b, fs) (c, gs) → Sound c gs → Sound b fs
 same-sound {b} {c} {fs} {gs} e S =

@@ -1,17 +1,5 @@
 -- The bytes of a file: their lengths, reading and writing undo each other, and a store changes exactly one slot.
-use mathlib.Core.Path.{_∙_, _≡_, ap, ap₂, refl, sym}
-use mathlib.Core.Logic.{_≢_}
-use mathlib.Core.Bool.{Bool, _&&_, cond, false, true}
-use mathlib.Core.Option.{Option, none as nothing, some}
-use mathlib.Core.List.{List, [], _++_, _∷_, append-assoc}
-use Prim.Native.Nat.{_%_, _*_, _+_, _-_, _/_, _<_, _^_, _≤_, suc, zero, ℕ}
-use native.Mathlib.Nat.{add-zero, mul-le-mul-right, pow-suc, pow-zero, suc-mul, zero-add, zero-mul}
-use native.Mathlib.Decide.{decLt}
-use native.Mathlib.Omega.{arith}
-use lib.Dec.{eqb, leb}
-use lib.ListN.{List·getD-eq-default, drop, drop-of-length-le, getD, length, length-append, length-replicate, length-set, replicate, set, take, take-append-drop}
-use lib.Seq.{drop-at, drop-cons, drop-drop, drop-nil, drop-paste, length-take-le, paste, take-all, take-append-le, take-append-seam, take-at, take-take}
-use borrow.Author.Tests.{eq-eqb, eqb-true, le-leb, leb-true}
+use Rattle.model.proofs.Prelude.{Bool, List, List·getD-eq-default, Option, [], _%_, _&&_, _*_, _++_, _+_, _-_, _/_, _<_, _^_, _∙_, _∷_, _≡_, _≢_, _≤_, add-zero, ap, append-assoc, ap₂, arith, clash, cond, decLt, drop, drop-at, drop-cons, drop-drop, drop-nil, drop-of-length-le, drop-paste, eq-eqb, eqb, eqb-true, false, getD, le-leb, leb, leb-true, length, length-append, length-replicate, length-set, length-take-le, mul-le-mul-right, nothing, paste, pow-suc, pow-zero, refl, replicate, set, some, suc, suc-mul, sym, take, take-all, take-append-drop, take-append-le, take-append-seam, take-at, take-take, true, zero, zero-add, zero-mul, ℕ}
 use Rattle.model.specs.Order.{Low, Str, _◁_, above, at, least, top}
 use Rattle.model.specs.Names.{BoundLow, Digits, Legal, filled, limit, unlimited}
 use Rattle.model.specs.Entries.{Entry, Row, entry, no-entries}
@@ -171,7 +159,7 @@ slotBytes-readSlot b xs {s} = as-free (sameStr xs (slotBytes b free)) (sameStr x
         → cond t (some free) (cond r (some (usedOf xs)) nothing) ≡ some s → xs ≡ slotBytes b s
     as-free true r e f h = let i : free ≡ s = cc in rw (← i) (sameStr-equal xs (slotBytes b free) e)
     as-free false true e f h = let i : usedOf xs ≡ s = cc in rw (← i) (sameStr-equal xs (slotBytes b (usedOf xs)) f)
-    as-free false false e f h = let z : _≡_ {A = ℕ} 0 1 = cc in absurd (omega arith)
+    as-free false false e f h = clash cc
 
 -- Slots of a file, and its header, where the writer put them.
 drop-slotsBytes : (b k : ℕ) (fs : List Slot) → drop (k * slotSize b) (slotsBytes b fs) ≡ slotsBytes b (drop k fs)
@@ -256,8 +244,8 @@ slotsBytes-readSlots b (suc n) k xs {fs} e h =
     go : (a : Option Slot) (r : Option (List Slot)) → readSlot b (slotAt b k xs) ≡ a → readSlots b n (suc k) xs ≡ r
         → ((gs : List Slot) → readSlots b n (suc k) xs ≡ some gs → (length gs ≡ n) × (drop (16 + suc k * slotSize b) xs ≡ slotsBytes b gs))
         → joined a r ≡ some fs → (length fs ≡ suc n) × (drop (16 + k * slotSize b) xs ≡ slotsBytes b fs)
-    go nothing r p q f h = let z : _≡_ {A = ℕ} 0 1 = cc in absurd (omega arith)
-    go (some s) nothing p q f h = let z : _≡_ {A = ℕ} 0 1 = cc in absurd (omega arith)
+    go nothing r p q f h = clash cc
+    go (some s) nothing p q f h = clash cc
     go (some s) (some gs) p q f h =
         let z = slotSize b in
         let m = 16 + k * slotSize b in
@@ -284,7 +272,7 @@ headerOf-headed xs {b} {slots} = go (rightHeader (getD xs 5 0) (getD xs 6 0) xs)
         let i : getD xs 5 0 ≡ b = ap (λ (q : ℕ × ℕ). q .0) p in
         let j : getD xs 6 0 ≡ slots = ap (λ (q : ℕ × ℕ). q .1) p in
         rw (i, j) at (rightHeader-headed (getD xs 5 0) (getD xs 6 0) xs e)
-    go false e h = let z : _≡_ {A = ℕ} 0 1 = cc in absurd (omega arith)
+    go false e h = clash cc
 
 listed-slots : {b slots : ℕ} {xs : List ℕ} {fs : List Slot} → Headed b slots xs → readSlots b slots 0 xs ≡ some fs → (length fs ≡ slots) × (drop 16 xs ≡ slotsBytes b fs)
 unfolding fileSize
@@ -302,11 +290,11 @@ unfolding readFile readBy sized
 readFile-read xs {b} {fs} = header (headerOf xs) refl
   where
     header : (h : Option (ℕ × ℕ)) → headerOf xs ≡ h → readBy h xs ≡ some (b, fs) → Read b fs xs
-    header nothing e f = let z : _≡_ {A = ℕ} 0 1 = cc in absurd (omega arith)
+    header nothing e f = clash cc
     header (some (c, slots)) e f = slots-of (readSlots c slots 0 xs) refl f
       where
         slots-of : (r : Option (List Slot)) → readSlots c slots 0 xs ≡ r → sized c r ≡ some (b, fs) → Read b fs xs
-        slots-of nothing p f = let z : _≡_ {A = ℕ} 0 1 = cc in absurd (omega arith)
+        slots-of nothing p f = clash cc
         slots-of (some gs) p f =
             let o : _≡_ {A = ℕ × List Slot} (c, gs) (b, fs) = cc in
             let i : c ≡ b = ap (λ (x : ℕ × List Slot). x .0) o in
@@ -331,8 +319,8 @@ readSlots-each b (suc n) k j xs {fs} h e =
     go : (j : ℕ) → j < suc n → (a : Option Slot) (r : Option (List Slot)) → readSlot b (slotAt b k xs) ≡ a → readSlots b n (suc k) xs ≡ r
         → ((i : ℕ) (gs : List Slot) → i < n → readSlots b n (suc k) xs ≡ some gs → readSlot b (slotAt b (suc k + i) xs) ≡ some (slot-at gs i))
         → joined a r ≡ some fs → readSlot b (slotAt b (k + j) xs) ≡ some (slot-at fs j)
-    go j h nothing r p q f e = let z : _≡_ {A = ℕ} 0 1 = cc in absurd (omega arith)
-    go j h (some s) nothing p q f e = let z : _≡_ {A = ℕ} 0 1 = cc in absurd (omega arith)
+    go j h nothing r p q f e = clash cc
+    go j h (some s) nothing p q f e = clash cc
     go zero h (some s) (some gs) p q f e = let i : s ∷ gs ≡ fs = cc in rw (add-zero, ← i) p
     go (suc j) h (some s) (some gs) p q f e =
         let i : s ∷ gs ≡ fs = cc in
@@ -365,7 +353,7 @@ values-readSlot b xs {s} k = go (sameStr xs (slotBytes b free)) (sameStr xs (slo
     go : (t r : Bool) → cond t (some free) (cond r (some (usedOf xs)) nothing) ≡ some s → Values (entries-of s)
     go true r h = let i : free ≡ s = cc in rw (← i) tt
     go false true h = let i : usedOf xs ≡ s = cc in rw (← i) (values-entriesOf (getD xs 1 0) (drop 64 xs) (bytes-drop 64 xs k))
-    go false false h = let z : _≡_ {A = ℕ} 0 1 = cc in absurd (omega arith)
+    go false false h = clash cc
 
 pub values-readFile : (xs : List ℕ) {b : ℕ} {fs : List Slot} → Bytes xs → readFile xs ≡ some (b, fs) → (B : ℕ) → Values (entries-of (slot-at fs B))
 unfolding slotAt

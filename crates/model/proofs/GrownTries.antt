@@ -1,9 +1,5 @@
 -- A made change keeps the trie's agreement: as it is where the ranges stay, grown where a bucket was split.
-use mathlib.Core.Path.{_≡_, ap, fun-ext, refl, subst, sym}
-use mathlib.Core.List.{List, [], _++_, _∷_}
-use Prim.Native.Nat.{_/_, _<_, _≤_, suc, zero, ℕ}
-use native.Mathlib.Omega.{arith}
-use lib.ListN.{length, length-take, set, take}
+use Rattle.model.proofs.Prelude.{List, [], _++_, _/_, _<_, _∷_, _≡_, _≤_, ap, arith, fun-ext, length, length-take, refl, set, subst, suc, sym, take, zero, ℕ}
 use Rattle.model.specs.declared.Cell.{Cell}
 use Rattle.model.specs.declared.Side.{Side}
 use Rattle.model.specs.declared.Side.the-variants.{Cell as further, Slot as slot}

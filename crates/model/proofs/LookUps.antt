@@ -1,13 +1,5 @@
 -- A trie that agrees with a sound file is never stale: its walk arrives, and a lookup answers what the bucket holds.
-use mathlib.Core.Path.{_≡_, refl}
-use mathlib.Core.Bool.{cond, true}
-use mathlib.Core.Option.{some}
-use mathlib.Core.List.{List, List·Memᴰ, List·Memᴰ·head, List·Memᴰ·tail, Memᴰ·append-left, Memᴰ·append-right, [], _∷_}
-use Prim.Native.Nat.{_<_, _≤_, suc, zero, ℕ}
-use native.Mathlib.Decide.{decLt, ℕ-discrete}
-use native.Mathlib.Omega.{arith}
-use lib.ListN.{length, length-append, length-take}
-use borrow.Author.Tests.{le-leb, lt-ltb}
+use Rattle.model.proofs.Prelude.{List, List·Memᴰ, List·Memᴰ·head, List·Memᴰ·tail, Memᴰ·append-left, Memᴰ·append-right, [], _<_, _∷_, _≡_, _≤_, arith, cond, decLt, le-leb, length, length-append, length-take, lt-ltb, refl, some, suc, true, zero, ℕ, ℕ-discrete}
 use Rattle.model.specs.declared.Cell.{Cell}
 use Rattle.model.specs.declared.Side.{Side}
 use Rattle.model.specs.declared.Trie.{Trie}

@@ -1,11 +1,5 @@
 -- The stores of a change on the bytes of a file are its stores on the file's slots, and what they leave reads back.
-use mathlib.Core.Path.{_∙_, _≡_, refl}
-use mathlib.Core.List.{List, [], _∷_}
-use Prim.Native.Nat.{_<_, _^_, suc, zero, ℕ}
-use native.Mathlib.Decide.{ℕ-discrete}
-use lib.ListN.{getD, length, length-set, set, take}
-use lib.Seq.{getD-set-other, getD-set-same}
-use mathlib.Core.Option.{some}
+use Rattle.model.proofs.Prelude.{List, [], _<_, _^_, _∙_, _∷_, _≡_, getD, getD-set-other, getD-set-same, length, length-set, refl, set, some, suc, take, zero, ℕ, ℕ-discrete}
 use Rattle.model.specs.declared.Trie.{Trie}
 use Rattle.model.specs.Order.{Str, le?, str?}
 use Rattle.model.specs.Entries.{Entry, insert, keep}

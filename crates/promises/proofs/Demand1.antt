@@ -1,14 +1,5 @@
 -- Demand 1: each call refuses exactly when a cause of its table holds, with the first, and a refusal changes nothing.
-use mathlib.Core.Path.{_∙_, _≡_, ap, refl, sym}
-use mathlib.Core.Logic.{inl, inr}
-use mathlib.Core.Bool.{Bool, _&&_, cond, false, true}
-use mathlib.Core.Option.{Option, none as nothing, some}
-use mathlib.Core.List.{List, [], _++_, _∷_}
-use Prim.Native.Nat.{_*_, _<_, _≤_, ℕ}
-use native.Mathlib.Omega.{arith}
-use borrow.Author.Tests.{eq-eqb, eqb-true, le-leb, leb-false, leb-true, lt-ltb, ltb-true}
-use lib.Dec.{eqb, leb, ltb}
-use lib.ListN.{drop, length, take}
+use Rattle.model.proofs.Prelude.{Bool, List, Option, [], _&&_, _*_, _++_, _<_, _∙_, _∷_, _≡_, _≤_, ap, arith, clash, cond, drop, eq-eqb, eqb, eqb-true, false, inl, inr, le-leb, leb, leb-false, leb-true, length, lt-ltb, ltb, ltb-true, nothing, refl, some, sym, take, true, ℕ}
 use Rattle.model.specs.declared.Cause.{Cause}
 use Rattle.model.specs.declared.Cause.the-variants.{BadFile as bad-file, CutFile as cut-file, IllegalName as illegal-name, ManyStrings as many-strings, NoFreeSlot as no-free-slot, ShortOutput as short-output, StaleTrie as stale-trie, WrongSize as wrong-size}
 use Rattle.model.specs.declared.ListAnswer.the-variants.{Listed, Refused as ListRefused}
@@ -30,7 +21,7 @@ use Rattle.model.specs.Checks.{Kind, is-bad, is-cut, is-sound, isAbove, isWell,
 use Rattle.model.specs.Agreeing.{isAgreeing}
 use Rattle.model.specs.Format.{BadFile, SoundFile, checkFile, entriesBytes, entrySize, fileBytes, fileSize, headerBytes, headerOf, legalSizes, readFile, readSlot, rightHeader, slotAt, slotBytes, storeBytes, version}
 use Rattle.model.specs.Calls.{Created, ListDone, Looked, PutDone, Rebuilt, Recovered, RemoveDone, arrivedAnswer, between, createOf, entriesIn, fine, headedAnswer, heldAnswer, listEntries, listLooked, listOf, lookUpOf, lookedBy, lookedOf, new-trie, no-rebuilt, putAnswer, putLooked, putMade, putOf, rebuildBy, rebuildOf, recoverBy, recoverOf, refusalOf, refusing, removeAnswer, removeLooked, removeMade, removeOf, slotAnswer, storesBytes, trieAfter}
-use Rattle.model.proofs.Names.{areDigits-digits, atMost-le, both-true, clash, digits-areDigits, le-atMost, legalName-legal}
+use Rattle.model.proofs.Names.{areDigits-digits, atMost-le, both-true, digits-areDigits, le-atMost, legalName-legal, never-both}
 use Rattle.model.proofs.Checks.{above-isAbove, both-join, isAbove-above, isWell-well, sameStr-equal, sameStr-self, well-isWell}
 use Rattle.model.proofs.Agreeing.{agrees-isAgreeing}
 use Rattle.model.proofs.Calls.{Answered, denied-not-made, denied-one, is-denied, is-made, put-right, remove-right}
@@ -55,7 +46,7 @@ unfolding legalName
 name-legal {name} L = rw (le-leb 1 (length name) (L .least), le-leb (length name) 24 (L .most)) (digits-areDigits 0x21 name (L .digits))
 
 illegal : (name : List ℕ) → legalName name ≡ false → ¬ LegalName name
-illegal name e L = clash (legalName name) (name-legal L) e
+illegal name e L = never-both (legalName name) (name-legal L) e
 
 right-header : (xs : List ℕ) → rightHeader (b-of xs) (slots-of xs) xs ≡ true → RightHeader xs
 unfolding rightHeader
@@ -75,7 +66,7 @@ header-right {xs} R =
 
 -- A limit above 2.
 above-2 : {limit : ℕ} → ltb 2 limit ≡ false → ¬ (2 < limit)
-above-2 {limit} e h = clash (ltb 2 limit) (lt-ltb 2 limit h) e
+above-2 {limit} e h = never-both (ltb 2 limit) (lt-ltb 2 limit h) e
 
 -- Two readings of one file are the same.
 module _ {xs : List ℕ} {b : ℕ} {fs : List Slot} (e : readFile xs ≡ some (b, fs)) (S : SoundFile xs) where
@@ -109,9 +100,9 @@ module _ (xs : List ℕ) (v b slots : ℕ) where
             sizes = legalSizes-sizes b slots (q .1);
             whole = eqb-true (length xs) (fileSize b slots) (p .1);
           } in
-          skip (λ n. n C) (pass (λ c q. let z : _≡_ {A = ℕ} 0 1 = cc in absurd (omega arith)))
+          skip (λ n. n C) (pass (λ c q. clash cc))
       go false e =
-          stop refl (refl, refl) (λ C. clash right-sizes
+          stop refl (refl, refl) (λ C. never-both right-sizes
           (rw (eq-eqb v version (C .is-version), sizes-legalSizes (C .sizes)) (eq-eqb (length xs) (fileSize b slots) (C .whole))) e)
 
 -- Recover.
@@ -125,12 +116,12 @@ module _ (xs : List ℕ) (limit : ℕ) where
     where
       freed : (N : ℕ) (c : Bool)
           → RecoverVerdict [] (cond c (record { answer = RecoverStopped 0; file = xs }) (record { answer = Freed N; file = storeBytes (b-of xs) N free xs }))
-      freed N true = pass (λ c q. let z : _≡_ {A = ℕ} 0 1 = cc in absurd (omega arith))
-      freed N false = pass (λ c q. let z : _≡_ {A = ℕ} 0 1 = cc in absurd (omega arith))
+      freed N true = pass (λ c q. clash cc)
+      freed N false = pass (λ c q. clash cc)
 
       by : (k : Kind) → CheckedFile xs k → RecoverVerdict ((bad-file, BadFile xs) ∷ []) (recoverBy xs limit k)
       by is-bad B = stop refl refl B
-      by is-sound S = skip (λ B. B .0 S) (pass (λ c q. let z : _≡_ {A = ℕ} 0 1 = cc in absurd (omega arith)))
+      by is-sound S = skip (λ B. B .0 S) (pass (λ c q. clash cc))
       by (is-cut N) C = skip (λ B. B .1 N C) (freed N (ltb limit 1))
 
       go : (c : Bool) → ltb 2 limit ≡ c
@@ -152,14 +143,14 @@ module _ (xs : List ℕ) where
       go (is-cut N) C r e = skip (λ B. B .1 N C) (stop refl refl (N, C))
       go is-sound S nothing e =
           let o : _≡_ {A = Option (ℕ × List Slot)} nothing (some (S .b, S .slots)) = sym e ∙ S .is in
-          let z : _≡_ {A = ℕ} 0 1 = cc in absurd (omega arith)
+          clash cc
       go is-sound S (some f) e = skip (λ B. B .0 S) (skip (λ c. sound-not-cut S (c .1)) (few (leb (string-count (f .1)) 256) refl))
         where
           few : (c : Bool) → leb (string-count (f .1)) 256 ≡ c
               → RebuildVerdict ((many-strings, Many xs) ∷ []) (cond c (record { answer = Given; trie = rebuilt-trie (f .1) }) (no-rebuilt many-strings))
           few true q =
               skip (λ M. let h : 256 < string-count (f .1) = rw (same-slots e (M .file)) at (M .many) in absurd (omega (arith, h, leb-true (string-count (f .1)) 256 q)))
-              (pass (λ c q. let z : _≡_ {A = ℕ} 0 1 = cc in absurd (omega arith)))
+              (pass (λ c q. clash cc))
           few false q = stop refl refl (record { file = S; many = rw (same-slots e S) (leb-false (string-count (f .1)) 256 q) })
 
 module _ {A D : Type 0} {Refused : Cause → A} {answer : D → A} {Kept : D → Type 0} where
@@ -176,7 +167,7 @@ module _ {A D : Type 0} {Refused : Cause → A} {answer : D → A} {Kept : D →
       go (is-cut N) d C r e = skip (λ B. B .1 N C) (stop (says cut-file) (keeps cut-file) (N, C))
       go is-sound d S nothing e =
           let o : _≡_ {A = Option (ℕ × List Slot)} nothing (some (S .b, S .slots)) = sym e ∙ S .is in
-          let z : _≡_ {A = ℕ} 0 1 = cc in absurd (omega arith)
+          clash cc
       go is-sound d S (some f) e = skip (λ B. B .0 S) (skip (λ c. sound-not-cut S (c .1)) (agreed (isAgreeing (f .1) t) refl))
         where
           agreed : (a : Bool) → isAgreeing (f .1) t ≡ a
@@ -185,7 +176,7 @@ module _ {A D : Type 0} {Refused : Cause → A} {answer : D → A} {Kept : D →
               let p : Passed xs t (f .0) (f .1) = looked-passed xs t (f .0) (f .1) (rw (d, e, q)) in
               skip (λ T. T .differs (rw (same-slots e (T .file)) (p .agrees))) (follows (f .0) (f .1) p)
           agreed false q =
-              let differs : ¬ Agrees (S .slots) t = λ A. clash (isAgreeing (S .slots) t) (agrees-isAgreeing (S .b) (S .sound) A) (rw (same-slots e S) q) in
+              let differs : ¬ Agrees (S .slots) t = λ A. never-both (isAgreeing (S .slots) t) (agrees-isAgreeing (S .b) (S .sound) A) (rw (same-slots e S) q) in
               stop (says stale-trie) (keeps stale-trie) (record { file = S; differs = differs })
 
   -- The rows 8 and 1 before them, of put and remove.
@@ -213,9 +204,9 @@ module _ (xs : List ℕ) (t : Trie) (name : List ℕ) (v limit : ℕ) where
 
   put-passed : (b : ℕ) (ss : List Store) (t′ : Trie) (s : Bool) (o : Option ℕ)
       → PutVerdict [] (cond s (record { answer = PutStopped limit; file = storesBytes b (take limit ss) xs; trie = t }) (record { answer = putAnswer o; file = storesBytes b ss xs; trie = t′ }))
-  put-passed b ss t′ true o = pass (λ c q. let z : _≡_ {A = ℕ} 0 1 = cc in absurd (omega arith))
-  put-passed b ss t′ false nothing = pass (λ c q. let z : _≡_ {A = ℕ} 0 1 = cc in absurd (omega arith))
-  put-passed b ss t′ false (some old) = pass (λ c q. let z : _≡_ {A = ℕ} 0 1 = cc in absurd (omega arith))
+  put-passed b ss t′ true o = pass (λ c q. clash cc)
+  put-passed b ss t′ false nothing = pass (λ c q. clash cc)
+  put-passed b ss t′ false (some old) = pass (λ c q. clash cc)
 
   module _ (b : ℕ) (fs : List Slot) (p : Passed xs t b fs) where
     denied-here : {why : ℕ} → PutDenied xs name v why → Denied b fs (put n v) why
@@ -262,9 +253,9 @@ module _ (xs : List ℕ) (t : Trie) (name : List ℕ) (limit : ℕ) where
 
   remove-passed : (b : ℕ) (ss : List Store) (s : Bool) (rs : List Store)
       → RemoveVerdict [] (cond s (record { answer = RemoveStopped limit; file = storesBytes b (take limit ss) xs }) (record { answer = removeAnswer rs; file = storesBytes b ss xs }))
-  remove-passed b ss true rs = pass (λ c q. let z : _≡_ {A = ℕ} 0 1 = cc in absurd (omega arith))
-  remove-passed b ss false [] = pass (λ c q. let z : _≡_ {A = ℕ} 0 1 = cc in absurd (omega arith))
-  remove-passed b ss false (r ∷ rs) = pass (λ c q. let z : _≡_ {A = ℕ} 0 1 = cc in absurd (omega arith))
+  remove-passed b ss true rs = pass (λ c q. clash cc)
+  remove-passed b ss false [] = pass (λ c q. clash cc)
+  remove-passed b ss false (r ∷ rs) = pass (λ c q. clash cc)
 
   remove-made : {b : ℕ} {fs : List Slot} {r : Result} → Answered b fs (remove k) r → RemoveVerdict [] (removeMade xs b limit r)
   unfolding removeMade
@@ -308,8 +299,8 @@ module _ (xs : List ℕ) (t : Trie) (low high out : List ℕ) where
           skip (λ S.
           let same : S .listed ≡ listed fs = listings-same (rw (same-slots (p .is) (S .file)) at (S .listing)) right in
           let h : length out < entrySize * length (listed fs) = rw same at (S .short) in
-          clash (ltb (length out) (entrySize * length (listed fs))) (lt-ltb (length out) (entrySize * length (listed fs)) h) e)
-          (pass (λ c q. let z : _≡_ {A = ℕ} 0 1 = cc in absurd (omega arith)))
+          never-both (ltb (length out) (entrySize * length (listed fs))) (lt-ltb (length out) (entrySize * length (listed fs)) h) e)
+          (pass (λ c q. clash cc))
 
   list-verdict : ListVerdict (list-table xs t low high out) (listOf xs t low high out)
   unfolding listOf listLooked
@@ -323,7 +314,7 @@ module _ (xs : List ℕ) (t : Trie) (low high out : List ℕ) where
           (looked-verdict xs t ((short-output, Short xs low high out) ∷ []) (listLooked (filled low) (filled high) out) (λ c. refl) (λ c. refl) list-made)
       go false e =
           stop refl refl
-          (λ L. clash (legalName low && legalName high) (both-join (legalName low) (legalName high) (name-legal (L .0)) (name-legal (L .1))) e)
+          (λ L. never-both (legalName low && legalName high) (both-join (legalName low) (legalName high) (name-legal (L .0)) (name-legal (L .1))) e)
 
 -- Look up, which is lent all to read only.
 abbrev LookUpVerdict : Table → LookUpAnswer → Type 0
@@ -363,17 +354,17 @@ module _ (xs : List ℕ) (t : Trie) (name : List ℕ) where
     ends h = record { k = k; arrives = rw arrived at (walked-right (slots-of xs) t m (t .count) [] (root-side (t .count) (t .first))); so = h }
 
     held-passed : (o : Option ℕ) → LookUpVerdict [] (heldAnswer o)
-    held-passed nothing = pass (λ c q. let z : _≡_ {A = ℕ} 0 1 = cc in absurd (omega arith))
-    held-passed (some v) = pass (λ c q. let z : _≡_ {A = ℕ} 0 1 = cc in absurd (omega arith))
+    held-passed nothing = pass (λ c q. clash cc)
+    held-passed (some v) = pass (λ c q. clash cc)
 
     slot-verdict : (o : Option Slot) → readSlot (b-of xs) ys ≡ o → LookUpVerdict slot-rows (slotAnswer (b-of xs) m o)
     unfolding slotAnswer
     slot-verdict nothing e =
-        skip (λ E. let f : readSlot (b-of xs) ys ≡ some free = zero-free (b-of xs) ys (at-end arrived E) in let z : _≡_ {A = ℕ} 0 1 = cc in absurd (omega arith))
-        (stop refl tt (ends (λ s f W. let z : _≡_ {A = ℕ} 0 1 = cc in absurd (omega arith))))
+        skip (λ E. let f : readSlot (b-of xs) ys ≡ some free = zero-free (b-of xs) ys (at-end arrived E) in clash cc)
+        (stop refl tt (ends (λ s f W. clash cc)))
     slot-verdict (some free) e = stop refl tt (ends (free-zero (b-of xs) ys e))
     slot-verdict (some (used l u es)) e =
-        skip (λ E. let f : readSlot (b-of xs) ys ≡ some free = zero-free (b-of xs) ys (at-end arrived E) in let z : _≡_ {A = ℕ} 0 1 = cc in absurd (omega arith))
+        skip (λ E. let f : readSlot (b-of xs) ys ≡ some free = zero-free (b-of xs) ys (at-end arrived E) in clash cc)
         (well (isWell (b-of xs) (used l u es)) (isAbove l m && atMost m u) refl refl)
       where
         one : (s : Slot) → readSlot (b-of xs) ys ≡ some s → s ≡ used l u es
@@ -389,7 +380,7 @@ module _ (xs : List ℕ) (t : Trie) (name : List ℕ) where
             → LookUpVerdict ((bad-file, Ends xs t m (IsMalformed (b-of xs))) ∷ (stale-trie, Ends xs t m (IsElsewhere (b-of xs) m)) ∷ [])
             (cond w (cond r (heldAnswer (find m es)) (LookUpRefused stale-trie)) (LookUpRefused bad-file))
         well false r c d =
-            stop refl tt (ends (λ s f W. clash (isWell (b-of xs) (used l u es)) (well-isWell (b-of xs) (rw (one s f) at W)) c))
+            stop refl tt (ends (λ s f W. never-both (isWell (b-of xs) (used l u es)) (well-isWell (b-of xs) (rw (one s f) at W)) c))
         well true true c d =
             skip (λ E. formed c (at-end arrived E))
             (skip (λ E. elsewhere (at-end arrived E)) (held-passed (find m es)))
@@ -398,7 +389,7 @@ module _ (xs : List ℕ) (t : Trie) (name : List ℕ) where
             elsewhere (s, f, out) = out (rw (one s f) (inside d))
         well true false c d =
             skip (λ E. formed c (at-end arrived E))
-            (stop refl tt (ends (used l u es, e, λ i. clash (isAbove l m && atMost m u) (both-join (isAbove l m) (atMost m u) (above-isAbove (i .1)) (le-atMost m u (i .2))) d)))
+            (stop refl tt (ends (used l u es, e, λ i. never-both (isAbove l m && atMost m u) (both-join (isAbove l m) (atMost m u) (above-isAbove (i .1)) (le-atMost m u (i .2))) d)))
 
   arrived-verdict : (o : Option ℕ) → ended ≡ o → t .count ≤ 256 → LookUpVerdict ((stale-trie, Lost xs t m) ∷ slot-rows) (arrivedAnswer xs (b-of xs) m o)
   unfolding arrivedAnswer
@@ -411,7 +402,7 @@ module _ (xs : List ℕ) (t : Trie) (name : List ℕ) where
       lost (inl g) = absurd (omega (arith, g, h))
       lost (inr w) =
           let o : _≡_ {A = Option ℕ} nothing (some k) = sym (strays-walked (slots-of xs) t m w) ∙ e in
-          let z : _≡_ {A = ℕ} 0 1 = cc in absurd (omega arith)
+          clash cc
 
   headed-verdict : (c : Bool) → leb (t .count) 256 ≡ c
       → LookUpVerdict ((stale-trie, Lost xs t m) ∷ slot-rows) (cond c (arrivedAnswer xs (b-of xs) m ended) (LookUpRefused stale-trie))
@@ -426,7 +417,7 @@ module _ (xs : List ℕ) (t : Trie) (name : List ℕ) where
           → LookUpVerdict (look-up-table xs t name) (cond g (headedAnswer xs t m (cond h (some (b-of xs, slots-of xs)) nothing)) (LookUpRefused illegal-name))
       go false h d e = stop refl tt (illegal name d)
       go true false d e =
-          skip (λ n. n (legal-name name d)) (stop refl tt (λ R. clash (rightHeader (b-of xs) (slots-of xs) xs) (header-right R) e))
+          skip (λ n. n (legal-name name d)) (stop refl tt (λ R. never-both (rightHeader (b-of xs) (slots-of xs) xs) (header-right R) e))
       go true true d e =
           skip (λ n. n (legal-name name d)) (skip (λ n. n (right-header xs e)) (headed-verdict (leb (t .count) 256) refl))
 

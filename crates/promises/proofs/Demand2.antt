@@ -1,13 +1,5 @@
 -- Demand 2: with a sound file and any trie at all, a lookup of a legal name tells the truth or refuses as stale.
-use mathlib.Core.Path.{_≡_, refl}
-use mathlib.Core.Bool.{Bool, _&&_, cond, false, true}
-use mathlib.Core.Option.{Option, none as nothing, some}
-use mathlib.Core.List.{List, []}
-use Prim.Native.Nat.{_<_, suc, zero, ℕ}
-use native.Mathlib.Omega.{arith}
-use borrow.Author.Tests.{ltb-true}
-use lib.Dec.{leb, ltb}
-use lib.ListN.{length}
+use Rattle.model.proofs.Prelude.{Bool, List, Option, [], _&&_, _<_, _≡_, arith, clash, cond, false, leb, length, ltb, ltb-true, nothing, refl, some, suc, true, zero, ℕ}
 use Rattle.model.specs.declared.Cell.{Cell}
 use Rattle.model.specs.declared.Cause.the-variants.{StaleTrie}
 use Rattle.model.specs.declared.LookUpAnswer.the-variants.{Refused}
@@ -32,13 +24,13 @@ by-slot s slots k e = go (ltb s slots) refl e
   where
     go : (t : Bool) → ltb s slots ≡ t → cond t (some s) nothing ≡ some k → k < slots
     go true h q = let r : s ≡ k = cc in omega (arith, ltb-true s slots h)
-    go false h q = let z : _≡_ {A = ℕ} 0 1 = cc in absurd (omega arith)
+    go false h q = clash cc
 
 -- A walk that arrives does so at one of the file's slots.
 arrive-inside : (f slots count : ℕ) (cs : List Cell) (n p : Str) (a : Side) (k : ℕ) → arrive f slots count cs n p a ≡ some k → k < slots
 unfolding arrive
 arrive-inside zero slots count cs n p (slot s) k e = by-slot s slots k e
-arrive-inside zero slots count cs n p (further m) k e = let z : _≡_ {A = ℕ} 0 1 = cc in absurd (omega arith)
+arrive-inside zero slots count cs n p (further m) k e = clash cc
 arrive-inside (suc f) slots count cs n p (slot s) k e = by-slot s slots k e
 arrive-inside (suc f) slots count cs n p (further m) k e =
     let c = at-cell cs m in
@@ -50,7 +42,7 @@ arrive-inside (suc f) slots count cs n p (further m) k e =
     go : (t w : Bool) (l r : Option ℕ) → (l ≡ some k → k < slots) → (r ≡ some k → k < slots) → cond t (cond w l r) nothing ≡ some k → k < slots
     go true true l r g h e = g e
     go true false l r g h e = h e
-    go false w l r g h e = let z : _≡_ {A = ℕ} 0 1 = cc in absurd (omega arith)
+    go false w l r g h e = clash cc
 
 -- A slot of a sound file tells the truth of a name, or that it is not its own.
 slot-tells : (b : ℕ) (fs : List Slot) → Sound b fs → (n : Str) (k : ℕ) (x : Slot) → slot-at fs k ≡ x → Tells fs n (slotAnswer b n (some x))

@@ -1,16 +1,5 @@
 -- Demand 3: after any events the file says what the history says, and recovery and rebuilding do not refuse.
-use mathlib.Core.Path.{_∙_, _≡_, ap, refl, subst, sym}
-use mathlib.Core.Logic.{_⊎_, inl, inr}
-use mathlib.Core.Bool.{Bool, _&&_, cond, false, true}
-use mathlib.Core.Option.{Option, none as nothing, some}
-use mathlib.Core.List.{List, [], _∷_}
-use Prim.Native.Nat.{_<_, _^_, _≤_, ℕ}
-use native.Mathlib.Decide.{decLe}
-use native.Mathlib.Omega.{arith}
-use borrow.Author.Tests.{le-leb, le-ltb, lt-ltb, ltb-true}
-use lib.Dec.{eqb, ltb}
-use lib.ListN.{getD, length, set, take}
-use Rattle.model.specs.declared.Cause.{Cause}
+use Rattle.model.proofs.Prelude.{Bool, List, Option, [], _&&_, _<_, _^_, _∙_, _∷_, _≡_, _≤_, _⊎_, ap, arith, clash, cond, decLe, eqb, false, getD, inl, inr, le-leb, le-ltb, length, lt-ltb, ltb, ltb-true, nothing, refl, set, some, subst, sym, take, true, ℕ}
 use Rattle.model.specs.declared.Cause.the-variants.{IllegalName, WrongSize}
 use Rattle.model.specs.declared.PutAnswer.the-variants.{Refused as PutRefused, Stopped as PutStopped}
 use Rattle.model.specs.declared.RecoverAnswer.{RecoverAnswer}
@@ -23,9 +12,9 @@ use Rattle.model.specs.Names.{Legal, filled, legalName}
 use Rattle.model.specs.Entries.{find}
 use Rattle.model.specs.Files.{Cut, Slot, Well, created, entries-of, first, free, slot-at, string-count}
 use Rattle.model.specs.Tries.{Agrees, walk-trie}
-use Rattle.model.specs.Changes.{Change, Map, Request, Result, Store, absent, call, holds?, meant, put as to-put, refuse, remove as to-remove, removes, stored, stores, trie-after}
+use Rattle.model.specs.Changes.{Change, Map, Request, Result, Store, absent, holds?, meant, put as to-put, remove as to-remove, removes, stored, trie-after}
 use Rattle.model.specs.Format.{CutFile, SoundFile, checkFile, fileBytes, fileSize, legalSizes, readFile, storeBytes}
-use Rattle.model.specs.Calls.{Created, Looked, PutDone, Recovered, RemoveDone, createOf, fine, heldAnswer, lookedOf, new-trie, putAnswer, putLooked, putMade, putOf, rebuildBy, rebuildOf, recoverBy, recoverOf, refusing, removeAnswer, removeLooked, removeMade, removeOf, storesBytes, trieAfter}
+use Rattle.model.specs.Calls.{Created, Looked, PutDone, Recovered, RemoveDone, createOf, fine, heldAnswer, lookedOf, new-trie, putAnswer, putLooked, putMade, putOf, rebuildBy, rebuildOf, recoverBy, recoverOf, refusing, removeLooked, removeMade, removeOf, storesBytes, trieAfter}
 use Rattle.model.proofs.Names.{both-true, legalName-legal}
 use Rattle.model.proofs.Files.{cut-well}
 use Rattle.model.proofs.Agreement.{agrees-walk, rebuilt-trie-agrees}
@@ -36,7 +25,7 @@ use Rattle.model.proofs.Format.{fileBytes-readFile, legalSizes-sizes, values-re
 use Rattle.model.proofs.CheckedFiles.{checkFile-cut, checkFile-sound}
 use Rattle.model.proofs.Stores.{Asked, Left, change-legal, left-freed, left-stored, legal-take, trieAfter-is}
 use Rattle.model.proofs.GrownTries.{change-agrees}
-use Rattle.model.proofs.Histories.{created-agrees, created-fine, created-left}
+use Rattle.model.proofs.Created.{created-agrees, created-fine, created-left}
 use Rattle.promises.specs.Demand3.{Demand3, Event, Kept, Recovers, State, Whole, after, after-put, after-rebuild, after-recover, after-remove, down, kill, put, recover, remove, running, start, step, stopped, whole}
 use Rattle.promises.proofs.Leading.{Passed, leads, looked-passed}
 
@@ -89,7 +78,7 @@ created-up xs version b slots = go (eqb version 1 && legalSizes b slots && eqb (
         let p = both-true (eqb version 1 && legalSizes b slots) (eqb (length xs) (fileSize b slots)) e in
         let q = both-true (eqb version 1) (legalSizes b slots) (p .0) in
         record { b = b; slots = created slots; left = created-left b slots (legalSizes-sizes b slots (q .1)); good = created-fine b slots; agrees = created-agrees b slots }
-    go false e h = let z : _≡_ {A = ℕ} 0 1 = cc in absurd (omega arith)
+    go false e h = clash cc
 
 -- Rebuild.
 rebuilt-up : (xs : List ℕ) (m : Map) (b : ℕ) (fs : List Slot) → Left b fs xs → Fine b fs m → (rebuildOf xs .answer ≡ Given) × Up xs (rebuildOf xs .trie) m
@@ -289,80 +278,3 @@ pub demand-3 : (xs : List ℕ) (version b slots : ℕ) → createOf xs version b
 demand-3 xs version b slots e es =
     let s = start (createOf xs version b slots) in
     good-demand (after es s) (after-good es s (created-up xs version b slots e))
-
--- "Every legal name then looks up as that history says": what the walk's bucket holds of a name is what was said of it.
-pub kept-finds : {xs : List ℕ} {t : Trie} {m : Map} (K : Kept xs t m) (n : Str) → find n (entries-of (slot-at (K .leads .file .slots) (walk-trie t n))) ≡ m n
-kept-finds {t = t} K n = K .means n (walk-trie t n) (K .leads .arrives n)
-
-rebuilt-runs : {m : Map} (ys : List ℕ) → rebuildOf ys .answer ≡ Given → after-rebuild m ys (rebuildOf ys .answer) (rebuildOf ys .trie) ≡ running ys (rebuildOf ys .trie) m
-unfolding after-rebuild
-rebuilt-runs ys g = rw g
-
--- A recovery with limit 1 or 2 leads to a running state with the same map.
-pub recovery-runs : (xs : List ℕ) (m : Map) (limit : ℕ) → Demand3 (down xs m) → 1 ≤ limit → limit ≤ 2
-    → (ys : List ℕ) × (t : Trie) × (step (recover limit) (down xs m) ≡ running ys t m) × Kept ys t m
-unfolding step after-recover
-recovery-runs xs m limit D h k = go (D limit k)
-  where
-    runs : (ys : List ℕ) → rebuildOf ys .answer ≡ Given → (a : RecoverAnswer) → Whole a → after-recover m a ys ≡ running ys (rebuildOf ys .trie) m
-    runs ys g (Freed N) w = rebuilt-runs ys g
-    runs ys g Nothing w = rebuilt-runs ys g
-    runs ys g (RecoverStopped made) w = absurd w
-    runs ys g (RecoverRefused c) w = absurd w
-
-    go : {d : Recovered} → Recovers xs m limit d → (ys : List ℕ) × (t : Trie) × (after-recover m (d .answer) (d .file) ≡ running ys t m) × Kept ys t m
-    go (whole {d = d} w g K) = (d .file, rebuildOf (d .file) .trie, runs (d .file) g (d .answer) w, K)
-    go (stopped z a f) = absurd (omega arith)
-
--- "refused calls having changed nothing"
-module _ (xs : List ℕ) (t : Trie) (m : Map) (name : List ℕ) where
-  abbrev PutStays : Str → ℕ → PutDone → Type 0
-  PutStays n v d = (c : Cause) → d .answer ≡ PutRefused c → after-put n v m (d .answer) (d .file) (d .trie) ≡ running xs t m
-
-  put-stays : (n : Str) (v limit b : ℕ) (fs : List Slot) (r : Result) → PutStays n v (putMade xs t b fs n v limit r)
-  unfolding putMade after-put
-  put-stays n v limit b fs (refuse r) = λ c e. refl
-  put-stays n v limit b fs (stores ss) = go (ltb limit (length ss)) (find n (entries-of (slot-at fs (first (holds? n) fs))))
-    where
-      go : (s : Bool) (o : Option ℕ)
-          → PutStays n v (cond s (record { answer = PutStopped limit; file = storesBytes b (take limit ss) xs; trie = t }) (record { answer = putAnswer o; file = storesBytes b ss xs; trie = trieAfter b fs n v ss t }))
-      go true o c e = let z : _≡_ {A = ℕ} 0 1 = cc in absurd (omega arith)
-      go false nothing c e = let z : _≡_ {A = ℕ} 0 1 = cc in absurd (omega arith)
-      go false (some w) c e = let z : _≡_ {A = ℕ} 0 1 = cc in absurd (omega arith)
-
-  pub put-refused : (v : ℕ) (small : v < 2 ^ 64) (limit : ℕ) (c : Cause) → putOf xs t name v limit .answer ≡ PutRefused c
-      → step (put name v small limit) (running xs t m) ≡ running xs t m
-  unfolding step putOf putLooked after-put
-  put-refused v small limit = go (ltb 2 limit) (legalName name) (lookedOf xs t)
-    where
-      go : (l g : Bool) (k : Looked)
-          → PutStays (filled name) v (cond l (record { answer = PutRefused WrongSize; file = xs; trie = t }) (cond g (putLooked xs t (filled name) v limit k) (record { answer = PutRefused IllegalName; file = xs; trie = t })))
-      go true g k c e = refl
-      go false false k c e = refl
-      go false true (refusing a) c e = refl
-      go false true (fine b fs) c e = put-stays (filled name) v limit b fs (call b fs (to-put (filled name) v)) c e
-
-  abbrev RemoveStays : Str → RemoveDone → Type 0
-  RemoveStays n d = (c : Cause) → d .answer ≡ RemoveRefused c → after-remove n m (d .answer) (d .file) t ≡ running xs t m
-
-  remove-stays : (n : Str) (limit b : ℕ) (r : Result) → RemoveStays n (removeMade xs b limit r)
-  unfolding removeMade after-remove
-  remove-stays n limit b (refuse r) = λ c e. refl
-  remove-stays n limit b (stores ss) = go (ltb limit (length ss)) ss
-    where
-      go : (s : Bool) (rs : List Store)
-          → RemoveStays n (cond s (record { answer = RemoveStopped limit; file = storesBytes b (take limit ss) xs }) (record { answer = removeAnswer rs; file = storesBytes b ss xs }))
-      go true rs c e = let z : _≡_ {A = ℕ} 0 1 = cc in absurd (omega arith)
-      go false [] c e = let z : _≡_ {A = ℕ} 0 1 = cc in absurd (omega arith)
-      go false (r ∷ rs) c e = let z : _≡_ {A = ℕ} 0 1 = cc in absurd (omega arith)
-
-  pub remove-refused : (limit : ℕ) (c : Cause) → removeOf xs t name limit .answer ≡ RemoveRefused c → step (remove name limit) (running xs t m) ≡ running xs t m
-  unfolding step removeOf removeLooked after-remove
-  remove-refused limit = go (ltb 2 limit) (legalName name) (lookedOf xs t)
-    where
-      go : (l g : Bool) (k : Looked)
-          → RemoveStays (filled name) (cond l (record { answer = RemoveRefused WrongSize; file = xs }) (cond g (removeLooked xs (filled name) limit k) (record { answer = RemoveRefused IllegalName; file = xs })))
-      go true g k c e = refl
-      go false false k c e = refl
-      go false true (refusing a) c e = refl
-      go false true (fine b fs) c e = remove-stays (filled name) limit b (call b fs (to-remove (filled name))) c e

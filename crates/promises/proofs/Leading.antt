@@ -1,13 +1,5 @@
 -- Demand 2: grown and rebuilt tries lead every possible name to the one bucket whose range holds it.
-use mathlib.Core.Path.{_∙_, _≡_, ap, refl, sym}
-use mathlib.Core.Bool.{Bool, cond, false, true}
-use mathlib.Core.Option.{Option, none as nothing, some}
-use mathlib.Core.List.{List}
-use Prim.Native.Nat.{_/_, _<_, _^_, _≤_, ℕ}
-use native.Mathlib.Omega.{arith}
-use borrow.Author.Tests.{leb-true}
-use lib.Dec.{leb, ltb}
-use lib.ListN.{length, take}
+use Rattle.model.proofs.Prelude.{Bool, List, Option, _/_, _<_, _^_, _∙_, _≡_, _≤_, ap, clash, cond, false, leb, leb-true, length, ltb, nothing, refl, some, sym, take, true, ℕ}
 use Rattle.model.specs.declared.Cause.the-variants.{IllegalName, ManyStrings, StaleTrie, WrongSize}
 use Rattle.model.specs.declared.PutAnswer.the-variants.{Refused as PutRefused, Stopped as PutStopped}
 use Rattle.model.specs.declared.TrieAnswer.the-variants.{Given}
@@ -51,9 +43,9 @@ unfolding rebuildOf rebuildBy
 rebuilt-leads xs = go (checkFile xs) (checkFile-right xs) (readFile xs) refl
   where
     go : (k : Kind) → CheckedFile xs k → (r : Option (ℕ × List Slot)) → readFile xs ≡ r → rebuildBy k r .answer ≡ Given → LeadsRight xs (rebuildBy k r .trie)
-    go is-bad c r e h = let z : _≡_ {A = ℕ} 0 1 = cc in absurd (omega arith)
-    go (is-cut N) c r e h = let z : _≡_ {A = ℕ} 0 1 = cc in absurd (omega arith)
-    go is-sound c nothing e h = let z : _≡_ {A = ℕ} 0 1 = cc in absurd (omega arith)
+    go is-bad c r e h = clash cc
+    go (is-cut N) c r e h = clash cc
+    go is-sound c nothing e h = clash cc
     go is-sound S (some f) e h = by (leb (string-count (f .1)) 256) refl h
       where
         same : f ≡ (S .b, S .slots)
@@ -65,7 +57,7 @@ rebuilt-leads xs = go (checkFile xs) (checkFile-right xs) (readFile xs) refl
         by true q h =
             let few : string-count (S .slots) ≤ 256 = rw same at (leb-true (string-count (f .1)) 256 q) in
             rw same (leads xs (rebuilt-trie (S .slots)) S (rebuilt-trie-agrees (S .b) (S .sound) few))
-        by false q h = let z : _≡_ {A = ℕ} 0 1 = cc in absurd (omega arith)
+        by false q h = clash cc
 
 -- What passed the checks of put, remove and list: a sound file that reads so, and a trie that agrees with it.
 pub record Passed (xs : List ℕ) (t : Trie) (b : ℕ) (fs : List Slot) : Type 0 where
@@ -78,9 +70,9 @@ unfolding lookedOf lookedBy
 looked-passed xs t b fs = go (checkFile xs) (checkFile-right xs) (readFile xs) refl
   where
     go : (k : Kind) → CheckedFile xs k → (r : Option (ℕ × List Slot)) → readFile xs ≡ r → lookedBy t k r ≡ fine b fs → Passed xs t b fs
-    go is-bad c r e h = let z : _≡_ {A = ℕ} 0 1 = cc in absurd (omega arith)
-    go (is-cut N) c r e h = let z : _≡_ {A = ℕ} 0 1 = cc in absurd (omega arith)
-    go is-sound c nothing e h = let z : _≡_ {A = ℕ} 0 1 = cc in absurd (omega arith)
+    go is-bad c r e h = clash cc
+    go (is-cut N) c r e h = clash cc
+    go is-sound c nothing e h = clash cc
     go is-sound S (some f) e h = by (isAgreeing (f .1) t) refl h
       where
         by : (a : Bool) → isAgreeing (f .1) t ≡ a → cond a (fine (f .0) (f .1)) (refusing StaleTrie) ≡ fine b fs → Passed xs t b fs
@@ -94,7 +86,7 @@ looked-passed xs t b fs = go (checkFile xs) (checkFile-right xs) (readFile xs) r
             let sf : S .slots ≡ fs = ap (λ (f : ℕ × List Slot). f .1) pair in
             let sound : Sound b fs = rw (sb, sf) at (S .sound) in
             record { is = read; sound = sound; agrees = isAgreeing-agrees b sound t (rw ef at q) }
-        by false q h = let z : _≡_ {A = ℕ} 0 1 = cc in absurd (omega arith)
+        by false q h = clash cc
 
 -- A put that is made leaves a sound file.
 put-sound : (b : ℕ) → 2 ≤ b → {fs : List Slot} {n : Str} {v : ℕ} {ss : List Store} → Sound b fs → Change b fs (put n v) ss → Sound b (stored ss fs)

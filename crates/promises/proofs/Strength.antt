@@ -1,14 +1,5 @@
 -- The public statements rule the wrong versions out: files with two slots are computed, and the rest follows.
-use mathlib.Core.Path.{_∙_, _≡_, ap, refl, subst, sym}
-use mathlib.Core.Bool.{Bool, cond, false, true}
-use mathlib.Core.Option.{Option, none as nothing, some}
-use mathlib.Core.List.{List, [], _∷_}
-use Prim.Native.Nat.{_+_, _/_, ℕ}
-use native.Mathlib.Decide.{decLe, decLt, ℕ-discrete}
-use native.Mathlib.Omega.{arith}
-use borrow.Author.Tests.{le-ltb, ltb-true}
-use lib.Dec.{ltb}
-use lib.ListN.{getD, length, take}
+use Rattle.model.proofs.Prelude.{Bool, List, Option, [], _+_, _/_, _∙_, _∷_, _≡_, ap, arith, clash, cond, decLe, decLt, false, getD, le-ltb, length, ltb, ltb-true, nothing, refl, some, subst, sym, take, true, ℕ, ℕ-discrete}
 use Rattle.model.specs.declared.Cause.the-variants.{IllegalName, WrongSize}
 use Rattle.model.specs.declared.LookUpAnswer.the-variants.{Absent as NotFound, Refused as LookUpRefused}
 use Rattle.model.specs.declared.PutAnswer.the-variants.{Added, Refused as PutRefused, Stopped as PutStopped}
@@ -25,7 +16,7 @@ use Rattle.model.specs.Checks.{Kind, allWell, check, cutBelow, hasTwin, is-bad,
 use Rattle.model.specs.Agreeing.{areNumbers, areZeroCells, eachOnce, isAgreeing, isTrieOf, joinTrees, readTree, sameSide, sameStrs, slotsBetween, times}
 use Rattle.model.specs.Format.{checkFile, checkRead, entriesBytes, entriesOf, entryBytes, fileBytes, fileSize, headerBytes, headerOf, joined, legalSizes, littleEndian, lowDigits, lowOf, padded, readBy, readFile, readSlot, readSlots, readUsed, rightHeader, sized, slotAt, slotBytes, slotSize, slotsBytes, storeBytes, usedOf, valueBytes, valueOf}
 use Rattle.model.specs.Calls.{Looked, PutDone, Recovered, RemoveDone, arrive, arrivedAnswer, between, createOf, entriesIn, fine, headedAnswer, listEntries, listLooked, listOf, lookUpOf, lookedBy, lookedOf, new-trie, putAnswer, putLooked, putMade, putOf, rebuildBy, rebuildOf, recoverBy, recoverOf, refusalOf, refusing, removeLooked, removeMade, removeOf, slotAnswer, storesBytes, trieAfter}
-use Rattle.model.proofs.Names.{clash, legalName-legal}
+use Rattle.model.proofs.Names.{legalName-legal, never-both}
 use Rattle.model.proofs.Checks.{sameStr-self}
 use Rattle.model.proofs.Calls.{Answered, is-denied, is-made, put-right, remove-right}
 use Rattle.promises.specs.Texts.{bytes}
@@ -100,7 +91,7 @@ computed = record {
 
 -- Bytes that the test tells apart are not the same.
 apart : {xs ys : List ℕ} → sameStr xs ys ≡ false → xs ≡ ys → ⊥
-apart {xs} {ys} n e = clash (sameStr ys ys) (sameStr-self ys) (rw e at n)
+apart {xs} {ys} n e = never-both (sameStr ys ys) (sameStr-self ys) (rw e at n)
 
 not-all : (f : Put) → PutMeets f → ¬ RefusesAll f
 not-all f m r = go (r new-file new-trie (bytes "a") 1 2)
@@ -109,13 +100,13 @@ not-all f m r = go (r new-file new-trie (bytes "a") 1 2)
     is = ap (λ (d : PutDone). d .answer) (m new-file new-trie (bytes "a") 1 2) ∙ computed .answers .put-added
 
     go : (c : _) × (f new-file new-trie (bytes "a") 1 2 .answer ≡ PutRefused c) → ⊥
-    go (c, e) = let q : Added ≡ PutRefused c = sym is ∙ e in let z : _≡_ {A = ℕ} 0 1 = cc in absurd (omega arith)
+    go (c, e) = let q : Added ≡ PutRefused c = sym is ∙ e in clash cc
 
 not-one : (f : LookUp) → LookUpMeets f → ¬ OneResult f
 not-one f m r =
     let q : NotFound ≡ LookUpRefused IllegalName =
     sym (computed .answers .look-up-absent) ∙ sym (m new-file new-trie (bytes "a")) ∙ r new-file new-file new-trie new-trie (bytes "a") [] ∙ m new-file new-trie [] ∙ computed .illegal in
-    let z : _≡_ {A = ℕ} 0 1 = cc in absurd (omega arith)
+    clash cc
 
 not-nothing : (f : Put) → PutMeets f → ¬ StoresNothing f
 not-nothing f m r =
@@ -150,7 +141,7 @@ module _ (xs : List ℕ) (t : Trie) (name : List ℕ) (v limit made : ℕ) where
 
   after-made : (b : ℕ) (fs : List Slot) → Passed xs t b fs → {r : Result} → Answered b fs (put n v) r → After (putMade xs t b fs n v limit r)
   unfolding putMade
-  after-made b fs p (is-denied d) e = let z : _≡_ {A = ℕ} 0 1 = cc in absurd (omega arith)
+  after-made b fs p (is-denied d) e = clash cc
   after-made b fs p (is-made {ss = ss} c) e = go (ltb limit (length ss)) refl (find n (entries-of (slot-at fs (first (holds? n) fs)))) e
     where
       go : (s : Bool) → ltb limit (length ss) ≡ s → (o : Option ℕ)
@@ -158,12 +149,12 @@ module _ (xs : List ℕ) (t : Trie) (name : List ℕ) (v limit made : ℕ) where
       go true h o e =
           let q : limit ≡ made = cc in
           record { b = b; slots = fs; is = p .is; needed = ss; change = c; short = rw q at (ltb-true limit (length ss) h); left = rw q }
-      go false h nothing e = let z : _≡_ {A = ℕ} 0 1 = cc in absurd (omega arith)
-      go false h (some old) e = let z : _≡_ {A = ℕ} 0 1 = cc in absurd (omega arith)
+      go false h nothing e = clash cc
+      go false h (some old) e = clash cc
 
   after-looked : (l : Looked) → lookedOf xs t ≡ l → legalName name ≡ true → After (putLooked xs t n v limit l)
   unfolding putLooked
-  after-looked (refusing c) e g q = let z : _≡_ {A = ℕ} 0 1 = cc in absurd (omega arith)
+  after-looked (refusing c) e g q = clash cc
   after-looked (fine b fs) e g q = let p = looked-passed xs t b fs e in after-made b fs p (put-right b fs (p .sound) n v (legalName-legal name g)) q
 
   after-put : After (putOf xs t name v limit)
@@ -172,8 +163,8 @@ module _ (xs : List ℕ) (t : Trie) (name : List ℕ) (v limit made : ℕ) where
     where
       go : (l g : Bool) → legalName name ≡ g
           → After (cond l (record { answer = PutRefused WrongSize; file = xs; trie = t }) (cond g (putLooked xs t n v limit (lookedOf xs t)) (record { answer = PutRefused IllegalName; file = xs; trie = t })))
-      go true g e q = let z : _≡_ {A = ℕ} 0 1 = cc in absurd (omega arith)
-      go false false e q = let z : _≡_ {A = ℕ} 0 1 = cc in absurd (omega arith)
+      go true g e q = clash cc
+      go false false e q = clash cc
       go false true e q = after-looked (lookedOf xs t) refl e q
 
 -- Remove and recover, stopped, made no store.
@@ -183,8 +174,8 @@ module _ (xs : List ℕ) (t : Trie) (name : List ℕ) (limit made : ℕ) where
 
   remove-none : (b : ℕ) (fs : List Slot) {r : Result} → Answered b fs (remove (filled name)) r → RemoveNone (removeMade xs b limit r)
   unfolding removeMade storesBytes
-  remove-none b fs (is-denied d) = λ e. let z : _≡_ {A = ℕ} 0 1 = cc in absurd (omega arith)
-  remove-none b fs (is-made (absent A is lo up q)) = rw (le-ltb limit 0 (omega arith)) (λ e. let z : _≡_ {A = ℕ} 0 1 = cc in absurd (omega arith))
+  remove-none b fs (is-denied d) = λ e. clash cc
+  remove-none b fs (is-made (absent A is lo up q)) = rw (le-ltb limit 0 (omega arith)) (λ e. clash cc)
   remove-none b fs (is-made {ss = ss} (removes is lo up q)) = go (ltb limit 1) refl
     where
       go : (s : Bool) → ltb limit 1 ≡ s
@@ -193,11 +184,11 @@ module _ (xs : List ℕ) (t : Trie) (name : List ℕ) (limit made : ℕ) where
           let z : limit ≡ 0 = omega (arith, ltb-true limit 1 h) in
           let q : limit ≡ made = cc in
           (sym q ∙ z, rw z)
-      go false h e = let z : _≡_ {A = ℕ} 0 1 = cc in absurd (omega arith)
+      go false h e = clash cc
 
   remove-looked : (l : Looked) → lookedOf xs t ≡ l → RemoveNone (removeLooked xs (filled name) limit l)
   unfolding removeLooked
-  remove-looked (refusing c) e q = let z : _≡_ {A = ℕ} 0 1 = cc in absurd (omega arith)
+  remove-looked (refusing c) e q = clash cc
   remove-looked (fine b fs) e q = remove-none b fs (remove-right b fs (looked-passed xs t b fs e .sound) (filled name)) q
 
   none-removed : RemoveNone (removeOf xs t name limit)
@@ -206,8 +197,8 @@ module _ (xs : List ℕ) (t : Trie) (name : List ℕ) (limit made : ℕ) where
     where
       go : (l g : Bool)
           → RemoveNone (cond l (record { answer = RemoveRefused WrongSize; file = xs }) (cond g (removeLooked xs (filled name) limit (lookedOf xs t)) (record { answer = RemoveRefused IllegalName; file = xs })))
-      go true g e = let z : _≡_ {A = ℕ} 0 1 = cc in absurd (omega arith)
-      go false false e = let z : _≡_ {A = ℕ} 0 1 = cc in absurd (omega arith)
+      go true g e = clash cc
+      go false false e = clash cc
       go false true e = remove-looked (lookedOf xs t) refl e
 
 module _ (xs : List ℕ) (limit made : ℕ) where
@@ -220,12 +211,12 @@ module _ (xs : List ℕ) (limit made : ℕ) where
     where
       freed : (N : ℕ) (c : Bool) → RecoverNone (cond c (record { answer = RecoverStopped 0; file = xs }) (record { answer = Freed N; file = storeBytes (getD xs 5 0) N free xs }))
       freed N true e = let q : 0 ≡ made = cc in (sym q, refl)
-      freed N false e = let z : _≡_ {A = ℕ} 0 1 = cc in absurd (omega arith)
+      freed N false e = clash cc
 
       go : (l : Bool) (k : Kind) → RecoverNone (cond l (record { answer = RecoverRefused WrongSize; file = xs }) (recoverBy xs limit k))
-      go true k e = let z : _≡_ {A = ℕ} 0 1 = cc in absurd (omega arith)
-      go false is-bad e = let z : _≡_ {A = ℕ} 0 1 = cc in absurd (omega arith)
-      go false is-sound e = let z : _≡_ {A = ℕ} 0 1 = cc in absurd (omega arith)
+      go true k e = clash cc
+      go false is-bad e = clash cc
+      go false is-sound e = clash cc
       go false (is-cut N) e = freed N (ltb limit 1) e
 
 pub strength : Strength

@@ -1,15 +1,5 @@
 -- The strings of a sound file, bound after bound in range order, and the slots of the leaves left of them.
-use mathlib.Core.Path.{_∙_, _≡_, ap, refl, sym}
-use mathlib.Core.Bool.{false, true}
-use mathlib.Core.Option.{some}
-use mathlib.Core.List.{List, [], _++_, _∷_, append-assoc, append-nil}
-use Prim.Native.Nat.{_*_, _+_, _-_, _<_, _≤_, suc, ℕ}
-use native.Mathlib.Nat.{zero-add}
-use native.Mathlib.Numerals.{add-one}
-use native.Mathlib.Omega.{arith}
-use lib.ListN.{drop, drop-of-length-le, getD, length, length-append, set, take}
-use lib.Seq.{drop-cons, take-suc-set}
-use borrow.Author.Tests.{le-leb, lt-leb}
+use Rattle.model.proofs.Prelude.{List, [], _*_, _++_, _+_, _-_, _<_, _∙_, _∷_, _≡_, _≤_, add-one, ap, append-assoc, append-nil, arith, drop, drop-cons, drop-of-length-le, false, getD, le-leb, length, length-append, lt-leb, refl, set, some, suc, sym, take, take-suc-set, true, zero-add, ℕ}
 use Rattle.model.specs.Order.{Low, Str, _≺_, at, diff, none}
 use Rattle.model.specs.Files.{Chain, IsUsed, Ranges, Slot, Sound, Well, all, bounds, free, fresh, head, last, next, order-of, ranges, slot-at, strings-of, upper-of, used, well-used}
 use Rattle.model.specs.Rebuilding.{label}
@@ -24,7 +14,7 @@ use Rattle.model.proofs.Format.{readSlots-each, slotBytes-readSlot}
 use Rattle.model.proofs.Agreement.{coming, expect-cursor, expect-slots, follow, labels, to-slots, to-slots-append}
 use Rattle.model.proofs.Surveys.{chain-rises}
 use Rattle.bucket.specs.Slots.{upperAt}
-use Rattle.bucket.proofs.Laws.{upperAt-slot}
+use Rattle.bucket.proofs.Parts.{upperAt-slot}
 use Rattle.file.specs.declared.Size.{Size}
 use Rattle.file.specs.Sizes.{Below}
 use Rattle.trie.specs.declared.Strings.{Strings}

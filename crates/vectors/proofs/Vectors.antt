@@ -1,6 +1,5 @@
 -- Every case holds: both sides compute to the same.
-use mathlib.Core.Path.{refl}
-use native.Mathlib.Decide.{decLe, decLt, ℕ-discrete}
+use Rattle.model.proofs.Prelude.{decLe, decLt, refl, ℕ-discrete}
 use Rattle.model.specs.Order.{le?, low?, str?}
 use Rattle.model.specs.Names.{areDigits, atMost, blankEnded, blanks, filled, legalBound, legalFilled, legalName, notGreater, smaller, splitFrom, splitString, within}
 use Rattle.model.specs.Entries.{chosen, find, insert, keep, not?}
