@@ -429,6 +429,11 @@ class Disk:
             os.fdatasync(self._file)
         self._unsafe = False
 
+    def _sync_journal(self, journal: Journal) -> None:
+        if self._sync:
+            os.fdatasync(journal.file)
+        journal.keep()
+
     def _turn(self, journal: Journal, content: bytes) -> None:
         """Begin the other half of the journal; the records of this one may then be forgotten."""
         self._make_safe(content)
@@ -436,8 +441,8 @@ class Disk:
             # The number of a record that failed is never used again.
             journal.next += 1
         journal.turn(content)
-        if self._renew and self._sync:
-            os.fdatasync(journal.file)
+        if self._renew:
+            self._sync_journal(journal)
         self._doubt = self._renew = False
 
     def _ready(self, content: bytes) -> Journal:
@@ -472,8 +477,7 @@ class Disk:
         self._content, self._doubt, self._renew, self._unsafe = None, True, True, True
         try:
             journal.append((offset - HEADER_BYTES) // len(slot), slot)
-            if self._sync:
-                os.fdatasync(journal.file)
+            self._sync_journal(journal)
             self._lock(fcntl.F_WRLCK)
             write(self._file, slot, offset)
         except OSError as error:

@@ -72,36 +72,22 @@ def _up(count: int, unit: int) -> int:
     return -(-count // unit) * unit
 
 
-class Layout(NamedTuple):
+class Layout:
     """Where things are in the journal of a file with this b and this length.
 
-    >>> Layout(16, 36_880)
-    Layout(b=16, length=36880)
-    >>> Layout(16, 36_880).whole, Layout(16, 36_880).records(1), Layout(13, 6_816).stride
-    (212992, 147456, 512)
+    >>> layout = Layout(16, 36_880)
+    >>> layout.stride, layout.half, layout.records, layout.whole
+    (1024, 106496, (40960, 147456), 212992)
     """
 
-    b: int
-    length: int
-
-    @property
-    def stride(self) -> int:
-        """From one record to the next: whole sectors, so that no sector has bytes of two."""
-        return _up(_SLOT_AT + slot_bytes(self.b), SECTOR)
-
-    @property
-    def half(self) -> int:
-        """The bytes of a half: a head, a copy of the file, and the records."""
-        return _up(_up(SECTOR + self.length, PAGE) + PLACES * self.stride, PAGE)
-
-    def records(self, half: int) -> int:
-        """Where the records of a half begin."""
-        return half * self.half + _up(SECTOR + self.length, PAGE)
-
-    @property
-    def whole(self) -> int:
-        """The bytes of the journal."""
-        return 2 * self.half
+    def __init__(self, b: int, length: int) -> None:
+        # From one record to the next: whole sectors, so that no sector has bytes of two.
+        self.stride = _up(_SLOT_AT + slot_bytes(b), SECTOR)
+        # A half has a head, a copy of the file, and the records.
+        behind = _up(SECTOR + length, PAGE)
+        self.half = _up(behind + PLACES * self.stride, PAGE)
+        self.records = behind, self.half + behind
+        self.whole = 2 * self.half
 
 
 LARGEST = Layout(16, LARGEST_FILE).whole
@@ -146,7 +132,7 @@ class _Record(NamedTuple):
 
 def _record_at(journal: bytes, place: int) -> _Record | None:
     """The record that begins at a place, if a whole one does."""
-    if journal[place : place + 4] != _RECORD_MARK or place + _SLOT_AT > len(journal):
+    if not journal.startswith(_RECORD_MARK, place) or place + _SLOT_AT > len(journal):
         return None
     identity, sequence, number, size = _SAID.unpack_from(journal, place + _SAID_AT)
     end = place + _SLOT_AT + size
@@ -163,12 +149,8 @@ def found(journal: bytes, file: bytes) -> Found | None:
         raise Unfit(_OTHER_FILE)
     layout = Layout(file[5] if len(file) > 5 else 0, len(file))
     heads = [head for head in (begins, _head_at(journal, layout.half)) if head]
-    records = [
-        record
-        for half in (0, 1)
-        for place in range(PLACES)
-        if (record := _record_at(journal, layout.records(half) + place * layout.stride))
-    ]
+    places = [begin + place * layout.stride for begin in layout.records for place in range(PLACES)]
+    records = [record for place in places if (record := _record_at(journal, place))]
     if not heads:
         # A head and its copy are on disk when the first record is. Before that, there is at most this record, under way.
         head = journal[:SECTOR]
@@ -217,11 +199,11 @@ class Journal:
         self.file = file
         self._identity = identity
         self._layout = Layout(content[5], len(content))
-        self._stride = self._layout.stride
         # The number of the record that is written next, and of the first one in the half in use.
         self.next = self._first = 1
         self._half = 0
-        self._records = self._layout.records(0)
+        # The half that would be found after a power loss, which is therefore not written over. At first there is none.
+        self._kept = 1
 
     @classmethod
     def begun(cls, file: int, content: bytes) -> Journal:
@@ -235,14 +217,18 @@ class Journal:
         """Whether the half in use has no place left."""
         return self.next - self._first >= PLACES
 
+    def keep(self) -> None:
+        """All that was written so far is on disk, or as good as that."""
+        self._kept = self._half
+
     def turn(self, content: bytes) -> None:
         """Begin the other half, with a file of which this content is on disk."""
-        half = 1 - self._half
+        half = 1 - self._kept
         write(self.file, _head(self._identity, self.next, content), half * self._layout.half)
-        self._half, self._first, self._records = half, self.next, self._layout.records(half)
+        self._half, self._first = half, self.next
 
     def _place(self) -> int:
-        return self._records + (self.next - self._first) * self._stride
+        return self._layout.records[self._half] + (self.next - self._first) * self._layout.stride
 
     def append(self, number: int, slot: bytes) -> None:
         """Write the next record; it counts from when `next` is past it."""

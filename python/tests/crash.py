@@ -42,6 +42,11 @@ STORE = "store.tkf"
 PATH = f"/nowhere/{STORE}"
 Files = dict[str, bytes]
 
+# `fcntl` for a file that nobody else has open.
+LOCKS = SimpleNamespace(**vars(fcntl))
+LOCKS.fcntl = lambda file, call, request, free=struct.pack("hhqqi4x", fcntl.F_UNLCK, 0, 0, 0, 0): free
+LOCKS.flock = lambda file, kind: None
+
 
 class Faults:
     """When calls of the system fail: one in so many, and from a failure on perhaps all."""
@@ -145,10 +150,10 @@ class Machine:
         )
 
     def stat(self, path: str, *, dir_fd: int, follow_symlinks: bool) -> object:
-        for node in [self.names.get(path)]:
-            if node is None:
-                raise FileNotFoundError(errno.ENOENT, os.strerror(errno.ENOENT), path)
-            return SimpleNamespace(st_dev=1, st_ino=node, st_size=len(self.nodes[node]), st_mtime_ns=0)
+        if path not in self.names:
+            raise FileNotFoundError(errno.ENOENT, os.strerror(errno.ENOENT), path)
+        node = self.names[path]
+        return SimpleNamespace(st_dev=1, st_ino=node, st_size=len(self.nodes[node]), st_mtime_ns=0)
 
     def fchmod(self, file: int, mode: int) -> None:
         pass
@@ -158,14 +163,12 @@ class Machine:
 
     @contextlib.contextmanager
     def runs(self) -> Iterator[None]:
-        """While this machine is the system of the package. Nobody else has a lock on it."""
-        free = struct.pack("hhqqi4x", fcntl.F_UNLCK, 0, 0, 0, 0)
-        locks = SimpleNamespace(**{name: getattr(fcntl, name) for name in dir(fcntl)})
-        locks.fcntl = lambda file, call, request: free
-        locks.flock = lambda file, kind: None
-        with mock.patch.object(disk, "os", self), mock.patch.object(disk, "fcntl", locks):
-            with mock.patch.object(journal, "os", self):
-                yield
+        """While this machine is the system of the package."""
+        disk.os, disk.fcntl, journal.os = self, LOCKS, self
+        try:
+            yield
+        finally:
+            disk.os, disk.fcntl, journal.os = os, fcntl, os
 
 
 def overwrite(content: bytearray, part: bytes, offset: int) -> None:
@@ -454,7 +457,7 @@ def main(states: int) -> int:
     logging.disable(logging.WARNING)
     trial, started, told, seed = Trial(), time.monotonic(), 0.0, 0
     while trial.counts["states"] < states:
-        trial.world(seed, states=120)
+        trial.world(seed, states=300)
         seed += 1
         passed = time.monotonic() - started
         if passed - told > 30 or trial.counts["states"] >= states:
