@@ -4,30 +4,37 @@
 //! made counts. The one in flight at a kill counts when its last store has reached the file, and not before; which stores
 //! have is seen by the bytes: the model says what the file holds after each of them.
 //!
-//! A SIGKILL leaves every finished `pwrite` whole, synced or not: only a machine that fails loses what is not yet on
-//! disk. Linux looks for the signal also between two pages of one `pwrite`, so a slot across the edge of a page may be
-//! left in part. The rules promise nothing of half a store (R7.1); such a slot is put back as it was, and counted.
+//! A SIGKILL leaves every finished `pwrite` whole, synced or not: only a machine that fails loses what is not yet on disk.
+//! Linux looks for the signal also between two pages of one `pwrite`, so a slot across the edge of a page may be left in
+//! part. The rules promise nothing of half a store (R7.1). Where the process has no journal, such a slot is put back as it was,
+//! and counted. The Python package has one: there, file and journal together must say what some whole stores leave, and some
+//! kills are aimed inside a `pwrite`, so that slots and records are left in part.
 
 use std::collections::BTreeMap;
-use std::io::BufReader;
+use std::fs::File;
+use std::io::{BufRead, BufReader, Read, Write};
 use std::os::unix::process::ExitStatusExt;
 use std::path::PathBuf;
-use std::process::{Command, Stdio};
+use std::process::{Child, ChildStdout, Command, Stdio};
 use std::sync::atomic::{AtomicU64, Ordering};
 use std::time::{Duration, Instant};
 
 use crate::chance::Chance;
 use crate::door::{by_model, Call, Outcome, CALLS, IMAGE};
 use crate::library::{by_library, Grounds};
-use crate::lives::{call_for, Said, World, ABOUT_TO, MOMENTS, SIGKILL, STOPPED};
+use crate::journal;
+use crate::lives::{self, call_for, Said, World, ABOUT_TO, SIGKILL, SIZES, STOPPED};
 use crate::model::file::file_length;
 
 /// A program that opens the file, makes requests and says so, as `lives.rs` does.
 pub struct Victim {
     /// The program and its first arguments.
     pub program: Vec<PathBuf>,
-    /// It takes long, above all to start. Then it is killed less often and later, and never before its first word.
-    pub slow: bool,
+    /// It is the package: slow, so it is killed less often and later, and never before its first word; started once, to fork
+    /// for each life; and it keeps a journal beside the file, and can be told to die inside a `pwrite`.
+    pub package: bool,
+    /// How many moments each of its stores has to be killed at. At the first nothing is made; at the others the store is.
+    pub moments: u64,
 }
 
 /// How often each thing happened.
@@ -45,14 +52,18 @@ pub struct Tally {
     pub requests: u64,
     pub names: u64,
     pub files: u64,
-    /// Slots left in part at the edge of a page.
+    /// Slots left in part.
     pub torn: u64,
+    /// Kills inside a `pwrite`, of a slot or of its record in the journal.
+    pub inside: u64,
 }
 
 /// When a process is killed.
 enum Kill {
     /// By itself, at this moment of its stores.
     Moment(u64),
+    /// By itself, inside the `pwrite` of a record, or with an odd number of a slot, after half as many stores.
+    Inside(u64),
     /// From outside, so long after its start; of a slow one, after its first word.
     Started(Duration),
     /// From outside, so long after it has opened the file.
@@ -68,6 +79,50 @@ enum Flight {
     Nothing,
 }
 
+/// A process that was started, and where it is heard.
+struct Process {
+    number: i32,
+    said: Box<dyn Read + Send>,
+    /// None where another process is its parent.
+    child: Option<Child>,
+}
+
+/// The package, started once: it forks a process for each life, and tells its number and how it ended.
+struct Nursery {
+    process: Child,
+    told: BufReader<ChildStdout>,
+}
+
+impl Nursery {
+    fn new(victim: &Victim) -> Nursery {
+        let mut command = Command::new(&victim.program[0]);
+        let command = command.args(&victim.program[1..]).stdin(Stdio::piped()).stdout(Stdio::piped());
+        let mut process = command.spawn().expect("the package can start");
+        let told = BufReader::new(process.stdout.take().expect("there is a pipe"));
+        Nursery { process, told }
+    }
+
+    fn answer(&mut self) -> i32 {
+        let mut line = String::new();
+        self.told.read_line(&mut line).expect("the package answers");
+        line.trim().parse().expect("the package answers with a number")
+    }
+
+    fn bear(&mut self, words: &[String]) -> i32 {
+        let pipe = self.process.stdin.as_mut().expect("there is a pipe");
+        writeln!(pipe, "{}", words.join(" ")).expect("the package listens");
+        self.answer()
+    }
+}
+
+impl Drop for Nursery {
+    fn drop(&mut self) {
+        // It ends when nobody asks any more.
+        drop(self.process.stdin.take());
+        self.process.wait().expect("the package ends");
+    }
+}
+
 /// More requests than any file is asked for.
 const REQUESTS: u64 = 10_000;
 
@@ -78,10 +133,13 @@ static FILES: AtomicU64 = AtomicU64::new(0);
 struct Trial<'a> {
     victim: &'a Victim,
     path: PathBuf,
+    /// The journal of the process, where it has one.
+    beside: PathBuf,
     /// The world in words, beside the file.
     told: PathBuf,
     seed: u64,
     world: World,
+    nursery: Option<Nursery>,
     /// What the file holds, by the model.
     file: Vec<u8>,
     journal: BTreeMap<Vec<u8>, u64>,
@@ -102,11 +160,13 @@ impl<'a> Trial<'a> {
         let number = FILES.fetch_add(1, Ordering::Relaxed);
         let path = std::env::temp_dir().join(format!("palhavento-killed-{}-{number}", std::process::id()));
         let told = path.with_extension("world");
+        let beside = PathBuf::from(format!("{}{}", path.display(), journal::SUFFIX));
         std::fs::write(&path, &created.file).expect("the folder for temporary files can be written");
         std::fs::write(&told, world.text(REQUESTS)).expect("the folder for temporary files can be written");
         tally.files += 1;
         let (file, journal) = (created.file, BTreeMap::new());
-        Trial { victim, path, told, seed, world, file, journal, next: 0, refused: 0, tally }
+        let nursery = victim.package.then(|| Nursery::new(victim));
+        Trial { victim, path, beside, told, seed, world, nursery, file, journal, next: 0, refused: 0, tally }
     }
 
     fn is_cut(&self) -> bool {
@@ -115,21 +175,18 @@ impl<'a> Trial<'a> {
 
     /// One process from start to end. True if the request in flight counts, or none was.
     fn life(&mut self, kill: Kill) -> bool {
-        let (end, moment) = match kill {
+        const NEVER: u64 = u64::MAX;
+        let (end, moment, inside) = match kill {
             // Long before the hundredth request there was a store to die at.
-            Kill::Moment(moment) => (self.next + 100, moment),
-            Kill::Never => (self.next, u64::MAX),
-            _ => (u64::MAX, u64::MAX),
+            Kill::Moment(moment) => (self.next + 100, moment, NEVER),
+            Kill::Inside(write) => (self.next + 100, NEVER, write),
+            Kill::Never => (self.next, NEVER, NEVER),
+            _ => (NEVER, NEVER, NEVER),
         };
-        let mut process = Command::new(&self.victim.program[0])
-            .args(&self.victim.program[1..])
-            .arg(&self.path)
-            .args([self.seed, self.next, end, moment].map(|number| number.to_string()))
-            .stdin(Stdio::null())
-            .stdout(Stdio::piped())
-            .spawn()
-            .expect("the process can start");
-        let mut pipe = BufReader::new(process.stdout.take().expect("there is a pipe"));
+        let mut words = vec![self.path.display().to_string()];
+        words.extend([self.seed, self.next, end, moment, inside].map(|number| number.to_string()));
+        let process = self.start(&words);
+        let mut pipe = BufReader::new(process.said);
         let mut said: Vec<Said> = Vec::new();
         let mut listen = |until: &str| {
             while let Some(next) = Said::read(&mut pipe) {
@@ -140,29 +197,51 @@ impl<'a> Trial<'a> {
             }
         };
         match kill {
-            Kill::Moment(_) | Kill::Never => listen(""),
+            Kill::Moment(_) | Kill::Inside(_) | Kill::Never => listen(""),
             Kill::Started(after) | Kill::Opened(after) => {
                 // To check is the first step of opening, to list the last.
                 if matches!(kill, Kill::Opened(_)) {
                     listen("list");
-                } else if self.victim.slow {
+                } else if self.victim.package {
                     listen("check");
                 }
                 std::thread::scope(|scope| {
                     scope.spawn(|| listen(""));
                     std::thread::sleep(after);
-                    process.kill().expect("the process can be killed");
+                    assert_eq!(unsafe { lives::kill(process.number, SIGKILL) }, 0, "the process can be killed");
                 });
             }
         }
-        let status = process.wait().expect("the process ends");
-        match kill {
-            Kill::Never => assert!(status.success(), "the process ended by {status}"),
-            _ => assert_eq!(status.signal(), Some(SIGKILL), "the process ended by {status}"),
-        }
+        // 0, or the number of the signal that ended it, below 0.
+        let ended = match process.child {
+            None => self.nursery.as_mut().expect("there is a package").answer(),
+            Some(mut child) => {
+                let status = child.wait().expect("the process ends");
+                status.signal().map_or(status.code().unwrap_or(1), |signal| -signal)
+            }
+        };
+        assert_eq!(ended, if matches!(kill, Kill::Never) { 0 } else { -SIGKILL }, "how the process ended");
         self.tally.kills += !matches!(kill, Kill::Never) as u64;
+        self.tally.inside += matches!(kill, Kill::Inside(_)) as u64;
+        if matches!(kill, Kill::Never) {
+            assert!(!self.beside.exists(), "a journal is left behind by a store that was closed");
+        }
         let flight = self.hear(&said);
         self.settle(flight)
+    }
+
+    /// A process with these arguments.
+    fn start(&mut self, words: &[String]) -> Process {
+        if let Some(nursery) = &mut self.nursery {
+            let number = nursery.bear(words);
+            let said = File::open(self.path.with_extension("said")).expect("there is a pipe of that name");
+            return Process { number, said: Box::new(said), child: None };
+        }
+        let mut command = Command::new(&self.victim.program[0]);
+        let command = command.args(&self.victim.program[1..]).args(words).stdin(Stdio::null()).stdout(Stdio::piped());
+        let mut child = command.spawn().expect("the process can start");
+        let said = Box::new(child.stdout.take().expect("there is a pipe"));
+        Process { number: child.id() as i32, said, child: Some(child) }
     }
 
     /// Holds what a process said against model and journal. What it was doing at its end.
@@ -252,8 +331,16 @@ impl<'a> Trial<'a> {
             }
         }
         let left = std::fs::read(&self.path).expect("the file is there");
-        let reached = states.iter().position(|state| state.file == left);
-        let reached = reached.unwrap_or_else(|| self.put_back(&states, &left));
+        let reached = if self.victim.package {
+            self.tally.torn += states.iter().all(|state| state.file != left) as u64;
+            let said = std::fs::read(&self.beside).unwrap_or_default();
+            let finished = journal::finished(&left, &said);
+            let reached = states.iter().position(|state| state.file == finished);
+            reached.expect("file and journal are what some of the stores leave behind")
+        } else {
+            let reached = states.iter().position(|state| state.file == left);
+            reached.unwrap_or_else(|| self.put_back(&states, &left))
+        };
         let whole = reached == states.len() - 1;
         self.file.clone_from(&states[reached].file);
         match flight {
@@ -284,28 +371,37 @@ impl<'a> Trial<'a> {
     /// Kills before the first store of each call of the history, between any two, and after the last, up to this request.
     /// A request that does not count is made again, and comes further.
     fn at_every_moment(&mut self, requests: u64) {
+        let moments = self.victim.moments;
         let mut moment = 0;
         while self.next < requests {
             // A cut file is recovered first, and that is a store too.
-            let recovery = MOMENTS * self.is_cut() as u64;
+            let recovery = moments * self.is_cut() as u64;
             let counts = self.life(Kill::Moment(recovery + moment));
             // The recovery is killed as well, at each of its moments in turn.
             if self.is_cut() {
-                self.life(Kill::Moment(self.tally.recovering % MOMENTS));
+                self.life(Kill::Moment(self.tally.recovering % moments));
             }
-            moment = match moment % MOMENTS {
+            moment = match moment % moments {
                 _ if counts => 0,
-                // A last store is made only once, so the moments before and after `fdatasync` take turns.
-                0 => moment + 1 + self.next % 2,
-                step => moment + MOMENTS - step,
+                // A last store is made only once, so the moments at which it is made take turns.
+                0 => moment + 1 + self.next % (moments - 1),
+                step => moment + moments - step,
             };
+        }
+    }
+
+    /// Kills inside the `pwrite` of a record or of a slot, until the file is full or the time is over.
+    fn inside(&mut self, chance: &mut Chance, end: Instant) {
+        while self.refused < 5 && Instant::now() < end {
+            // Mostly of a slot: an odd number.
+            self.life(Kill::Inside(2 * chance.between(0, 12) as u64 + chance.percent(85) as u64));
         }
     }
 
     /// Kills at random moments, from microseconds to milliseconds, until the file is full or the time is over.
     fn at_random(&mut self, chance: &mut Chance, end: Instant) {
         while self.refused < 5 && Instant::now() < end {
-            let (shortest, longest) = if self.victim.slow { (8, 17) } else { (0, 14) };
+            let (shortest, longest) = if self.victim.package { (6, 16) } else { (0, 14) };
             let most = 1 << chance.between(shortest, longest);
             let after = Duration::from_micros(chance.between(0, most) as u64);
             self.life(if chance.percent(25) { Kill::Started(after) } else { Kill::Opened(after) });
@@ -321,6 +417,9 @@ impl Drop for Trial<'_> {
         } else {
             std::fs::remove_file(&self.path).expect("the file can be removed");
             std::fs::remove_file(&self.told).expect("the file can be removed");
+            if self.victim.package {
+                std::fs::remove_file(self.path.with_extension("said")).expect("the pipe can be removed");
+            }
         }
     }
 }
@@ -330,27 +429,41 @@ impl Drop for Trial<'_> {
 pub enum Moments {
     Every,
     Random,
+    Inside,
 }
 
-/// Tries one file after another until the time is over, and at least three: so each size of bucket is tried.
-pub fn try_files(victim: &Victim, moments: Moments, time: Duration) -> Tally {
+impl std::fmt::Display for Moments {
+    fn fmt(&self, to: &mut std::fmt::Formatter) -> std::fmt::Result {
+        to.write_str(match self {
+            Moments::Every => "at every moment",
+            Moments::Random => "at random",
+            Moments::Inside => "inside a write",
+        })
+    }
+}
+
+/// Tries one file after another until the time is over, and at least one of each size; of the default size alone if asked.
+pub fn try_files(victim: &Victim, moments: Moments, default: bool, time: Duration) -> Tally {
     let end = Instant::now() + time;
+    let sizes = SIZES.len() as u64;
     let first = if moments == Moments::Every { 0 } else { 900_000 };
+    let (first, step, least) = if default { (first + sizes - 1, sizes, 1) } else { (first, 1, sizes) };
     let mut tally = Tally::default();
-    for seed in first.. {
-        if seed - first >= 3 && Instant::now() >= end {
+    for seed in (first..).step_by(step as usize) {
+        if tally.files >= least && Instant::now() >= end {
             break;
         }
         let mut trial = Trial::new(victim, seed, &mut tally);
         let b = trial.world.b as u64;
         match moments {
-            Moments::Every if victim.slow => {
+            Moments::Every if victim.package => {
                 // One process fills the first bucket, so that a split is near.
-                trial.life(Kill::Moment(MOMENTS * b));
+                trial.life(Kill::Moment(victim.moments * b));
                 trial.at_every_moment(trial.next + 4);
             }
             Moments::Every => trial.at_every_moment(8 * b),
-            Moments::Random => trial.at_random(&mut Chance::new(seed), end.min(Instant::now() + time / 3)),
+            Moments::Random => trial.at_random(&mut Chance::new(seed), end.min(Instant::now() + time / 4)),
+            Moments::Inside => trial.inside(&mut Chance::new(seed), end.min(Instant::now() + time / 4)),
         }
         // The last kill, too, is followed by a process that finds every name.
         trial.life(Kill::Never);
@@ -363,7 +476,7 @@ impl std::fmt::Display for Tally {
         write!(
             to,
             "{} kills, {} between the two stores of a split, {} after a last store, {} in a recovery; {} recoveries \
-             freed a slot; {} names compared, {} requests, {} files; {} torn slots put back",
+             freed a slot; {} names compared, {} requests, {} files; {} inside a write, {} slots torn",
             self.kills,
             self.between,
             self.unsaid,
@@ -372,6 +485,7 @@ impl std::fmt::Display for Tally {
             self.names,
             self.requests,
             self.files,
+            self.inside,
             self.torn
         )
     }

@@ -5,6 +5,7 @@ pub mod chance;
 pub mod damage;
 pub mod door;
 pub mod histories;
+pub mod journal;
 pub mod killer;
 pub mod library;
 pub mod lives;

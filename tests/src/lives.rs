@@ -4,7 +4,8 @@
 //! library works on copies in memory; what it would store, and in which order, is seen by making the call with the limits
 //! 0, 1 and 2. So every call, recovery too, is first stopped and then made again.
 //!
-//! `python/tests/life.py` is another such process: it says the same of the same requests, over the Python package.
+//! `python/tests/life.py` is another such process: it says the same of the same requests, over the Python package, whose
+//! stores are in a journal first.
 
 use std::fs::{File, OpenOptions};
 use std::io::{Read, Write};
@@ -29,6 +30,9 @@ pub struct World {
     seed: u64,
 }
 
+/// b, slots and how many names: small buckets, which split often, and the size that a file has unless it is said.
+pub const SIZES: [(usize, usize, usize); 4] = [(2, 64, 250), (3, 64, 350), (16, 24, 500), (16, 64, 1000)];
+
 /// A put of the value, or a remove.
 pub struct Request<'a> {
     pub name: &'a [u8],
@@ -37,10 +41,10 @@ pub struct Request<'a> {
 
 impl World {
     pub fn new(seed: u64) -> World {
-        // Small buckets split often; with more names than the file can hold, most puts are of new ones.
-        let (b, slots, names) = [(2, 64, 250), (3, 64, 350), (16, 24, 500)][(seed % 3) as usize];
+        // With more names than the file can hold, most puts are of new ones.
+        let (b, slots, names) = SIZES[(seed % SIZES.len() as u64) as usize];
         let mut chance = Chance::new(seed);
-        let style = make::STYLES[(seed / 3) as usize % make::STYLES.len()];
+        let style = make::STYLES[(seed / SIZES.len() as u64) as usize % make::STYLES.len()];
         World { b, slots, names: make::names(&mut chance, style, names), seed }
     }
 
@@ -103,7 +107,7 @@ impl Said {
 }
 
 extern "C" {
-    fn kill(process: i32, signal: i32) -> i32;
+    pub fn kill(process: i32, signal: i32) -> i32;
     fn alarm(seconds: u32) -> u32;
 }
 
