@@ -19,7 +19,6 @@ from typing import Any, BinaryIO, NamedTuple, NoReturn
 
 import palhavento
 from palhavento import disk, library
-from palhavento.drawing import buckets_svg, trie_svg
 from palhavento.errors import BadFile, CutFile, IllegalName, PalhaventoError
 
 # Beside the refusal numbers (docs/RULES.md, section 10): the library's own answer for an absent name, and what sysexits.h has
@@ -271,7 +270,7 @@ def draw(arguments: argparse.Namespace) -> Report:
     if target.exists() and os.path.samefile(target, arguments.store):
         raise Trouble(USAGE, f"{target}: is the store itself; nothing was changed")
     with reading(arguments) as store:
-        picture = trie_svg(store.trie()) if arguments.trie else buckets_svg(store.buckets(), store.b)
+        picture = store.trie_svg() if arguments.trie else store.svg()
     target.write_text(picture, encoding="utf-8")
     return Report({"drawn": str(target)}, [f"drew {target}"])
 
