@@ -7,6 +7,7 @@ counted.
 
 from __future__ import annotations
 
+from base64 import b64encode
 from collections import Counter
 from collections.abc import Iterable, Iterator, Sequence
 from html import escape
@@ -78,6 +79,8 @@ class Picture(str):
     >>> picture = Picture("<svg/>", "nine names")
     >>> picture, picture[:4], picture._repr_svg_()
     (<Picture: nine names>, '<svg', '<svg/>')
+    >>> picture._repr_html_()
+    '<img alt="nine names" src="data:image/svg+xml;base64,PHN2Zy8+">'
     """
 
     title: str
@@ -96,12 +99,17 @@ class Picture(str):
     def _repr_svg_(self) -> str:
         return str(self)
 
+    def _repr_html_(self) -> str:
+        """As an image, for the exports to HTML that take an SVG apart."""
+        return f'<img alt="{escape(self.title)}" src="data:image/svg+xml;base64,{b64encode(self.encode()).decode()}">'
+
 
 def _picture(width: float, height: float, title: str, parts: Iterable[str]) -> Picture:
     card = _box(0.5, 0.5, width - 1, height - 1, CARD, EDGE, 8)
     body = "\n".join([card, *parts])
     text = (f'<svg xmlns="http://www.w3.org/2000/svg" width="{width:g}" height="{height:g}" '
-            f'viewBox="0 0 {width:g} {height:g}" font-family="{MONO}" fill="{TEXT}" role="img">\n<title>{escape(title)}</title>\n{body}\n</svg>\n')
+            f'viewBox="0 0 {width:g} {height:g}" font-family="{MONO}" fill="{TEXT}" role="img">\n'
+            f"<title>{escape(title)}</title>\n{body}\n</svg>\n")
     return Picture(text, title)
 
 
@@ -113,16 +121,16 @@ def _notes(y: float, notes: Sequence[str]) -> tuple[list[str], float]:
 
 # The store: what it holds, bucket by bucket, with the bounds between the buckets, and what it has room for.
 
-NARROWEST, WIDEST = 540, 900
+NARROWEST, WIDEST = 540, 960
 # Names and values are a little smaller where there are many.
-NAME, SMALL_NAME = 12.5, 11.5
+NAME, SMALL_NAME = 12, 11.5
 # The longest entry, a blank, and how many more there are: a name of 24 digits, a value of 20, and "+15".
 LONGEST = 24 + 1 + 20 + 2 + 3
 LINE = 20
 BETWEEN = 16
 LOAD_WIDTH, COUNT_WIDTH = 112, 56
 # The names of a bucket get as many lines as they need, while the picture has no more lines than this.
-MOST_LINES = 32
+MOST_LINES = 40
 # A store of more buckets than this is drawn in two columns, a line a bucket.
 ONE_COLUMN = 24
 COLUMN_GAP = 36
@@ -161,7 +169,7 @@ def store_svg(contents: Sequence[tuple[Bucket, Sequence[Entry]]], b: int, slots:
     if full and room:
         notes.append("Full: a new name that belongs there is refused.")
     if trie.count > 3 * MOST_STRINGS // 4:
-        notes.append(f"{trie.count} of {MOST_STRINGS} strings are in use; a split that needs more than are left is refused.")
+        notes.append(f"{trie.count} of {MOST_STRINGS} strings are in use; a split that needs more is refused.")
     if columns == 1 and any(" " in bucket.upper for bucket, _ in contents):
         notes.append(f"{BLANK} is a blank.")
     lines, bottom = _notes(bottom + 26, notes) if notes else ([], bottom + MARGIN)
@@ -202,43 +210,57 @@ def _gauge(x: float, y: float, width: float, names: int, inside: int, outside: i
         yield _box(x, y, max(10, scale * names), 10, LOAD, round_=5)
 
 
-def _lines_of(entries: Sequence[Entry], width: float, size: float) -> Iterator[list[tuple[float, Entry]]]:
-    """The entries line by line, each with its place on the line."""
-    line: list[tuple[float, Entry]] = []
-    x = 0.0
-    for entry in entries:
-        long = _long(entry, size)
-        if line and x + long > width:
-            yield line
-            line, x = [], 0.0
-        line.append((x, entry))
-        x += long + BETWEEN
-    if line:
-        yield line
+# An entry with the places of its name and of its value, from the left.
+Placed = tuple[float, float, Entry]
 
 
 def _long(entry: Entry, size: float) -> float:
     return _wide(len(entry[0]) + 1 + len(str(entry[1])), size)
 
 
-def _entries(x: float, y: float, entries: Sequence[Entry], width: float, most: int, size: float) -> Iterator[str]:
-    """As many entries as fit the lines, and the number of the others."""
-    rest = len(entries)
-    for place, line in enumerate(list(_lines_of(entries, width, size))[:most]):
-        if place == most - 1 and rest > len(line):
-            # The last line must have room for the number of those that are left out.
-            room = width - _wide(3, size) - BETWEEN
-            line = [(at, entry) for at, entry in line if at == 0 or at + _long(entry, size) <= room]
-        for at, (name, value) in line:
-            yield _text(x + at, y, name, size=size)
-            yield _text(x + at + _wide(len(name) + 1, size), y, str(value), size=size, fill=VALUE)
-        rest -= len(line)
-        if place == most - 1 and rest:
-            at, entry = line[-1]
-            yield _text(x + at + _long(entry, size) + BETWEEN, y, f"+{rest}", size=size, fill=QUIET)
+def _in_a_line(entries: Sequence[Entry], width: float, size: float) -> list[Placed]:
+    """As many entries as fit one line."""
+    line: list[Placed] = []
+    x = 0.0
+    for entry in entries:
+        if line and x + _long(entry, size) > width:
+            break
+        line.append((x, x + _wide(len(entry[0]) + 1, size), entry))
+        x += _long(entry, size) + BETWEEN
+    return line
+
+
+def _in_lines(entries: Sequence[Entry], width: float, size: float) -> list[list[Placed]]:
+    """The entries line by line; where they need more than one line, names and values stand under each other."""
+    line = _in_a_line(entries, width, size)
+    if len(line) == len(entries):
+        return [line]
+    values_at = _wide(max(len(name) for name, _ in entries) + 1, size)
+    step = values_at + _wide(max(len(str(value)) for _, value in entries), size) + BETWEEN
+    across = max(1, int((width + BETWEEN) // step))
+    placed = [(place % across * step, place % across * step + values_at, entry) for place, entry in enumerate(entries)]
+    return [placed[first : first + across] for first in range(0, len(placed), across)]
+
+
+def _entries(x: float, y: float, lines: Sequence[list[Placed]], width: float, total: int, size: float) -> Iterator[str]:
+    """The entries of these lines, and the number of those that have no place."""
+    rest = total - sum(map(len, lines))
+    for place, line in enumerate(lines):
+        if rest and place == len(lines) - 1:
+            # The number takes the place of the last one on the line where there is no other.
+            while len(line) > 1 and _end_of(line[-1], size) + BETWEEN + _wide(3, size) > width:
+                line, rest = line[:-1], rest + 1
+            yield _text(x + _end_of(line[-1], size) + BETWEEN, y, f"+{rest}", size=size, fill=QUIET)
+        for name_at, value_at, (name, value) in line:
+            yield _text(x + name_at, y, name, size=size)
+            yield _text(x + value_at, y, str(value), size=size, fill=VALUE)
         y += LINE
-    if not entries:
-        yield _text(x, y, "no names", size=11, font=SANS, fill=QUIET)
+    if not total:
+        yield _text(x, y - LINE, "no names", size=11, font=SANS, fill=QUIET)
+
+
+def _end_of(placed: Placed, size: float) -> float:
+    return placed[1] + _wide(len(str(placed[2][1])), size)
 
 
 def _load(x: float, y: float, width: float, bucket: Bucket, b: int, full: bool) -> Iterator[str]:
@@ -275,19 +297,20 @@ def _one_column(contents: Sequence[tuple[Bucket, Sequence[Entry]]], b: int, full
     wanted = max(sum(_long(entry, NAME) + BETWEEN for entry in entries) for _, entries in contents)
     names_width = min(max(wanted, NARROWEST - fixed), max(WIDEST - fixed, _wide(LONGEST, NAME)))
     width = fixed + names_width
-    lines = [max(1, sum(1 for _ in _lines_of(entries, names_width, NAME))) for _, entries in contents]
-    most = max(count for count in range(1, 17) if count == 1 or sum(min(count, line) for line in lines) <= MOST_LINES)
+    lines = [_in_lines(entries, names_width, NAME) for _, entries in contents]
+    most = next(count for count in range(16, 0, -1)
+                if count == 1 or sum(min(count, len(own)) for own in lines) <= MOST_LINES)
     x, y, right = MARGIN + bound_width, float(TOP), width - MARGIN
     parts = []
-    for (bucket, entries), needed in zip(contents, lines):
+    for (bucket, entries), own in zip(contents, lines):
         parts.append(_rung(y, x, right, bucket.lower))
         is_full = bucket.slot in full
         parts.append(_group("bucket", _told(bucket, entries, b, is_full), [
             _text(x, y + 22, f"slot {bucket.slot}", size=11, font=SANS, fill=QUIET),
-            *_entries(x + 54, y + 22, entries, names_width, most, NAME),
+            *_entries(x + 54, y + 22, own[:most], names_width, len(entries), NAME),
             *_load(right - LOAD_WIDTH - COUNT_WIDTH, y + 12.5, LOAD_WIDTH, bucket, b, is_full),
         ]))
-        y += 14 + LINE * min(most, needed)
+        y += 14 + LINE * min(most, len(own))
     parts.append(_rung(y, x, right, contents[-1][0].upper))
     return width, y, parts
 
@@ -308,11 +331,11 @@ def _two_columns(contents: Sequence[tuple[Bucket, Sequence[Entry]]], b: int, ful
     for place, (bucket, entries) in enumerate(contents):
         x = MARGIN + place // rows * (column + COLUMN_GAP)
         y = TOP - 8 + place % rows * 26
-        is_full = bucket.slot in full
+        is_full, line = bucket.slot in full, _in_a_line(entries, names_width, SMALL_NAME)
         parts.append(_line(x, y, x + column, y, HAIR))
         parts.append(_group("bucket", _told(bucket, entries, b, is_full), [
             _text(x, y + 18, f"slot {bucket.slot}", size=11, font=SANS, fill=QUIET),
-            *_entries(x + 50, y + 18, entries, names_width, 1, SMALL_NAME),
+            *_entries(x + 50, y + 18, [line], names_width, len(entries), SMALL_NAME),
             *_load(x + column - load_width - COUNT_WIDTH, y + 8.5, load_width, bucket, b, is_full),
         ]))
     return 2 * MARGIN + 2 * column + COLUMN_GAP, TOP - 8 + rows * 26, parts

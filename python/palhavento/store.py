@@ -345,7 +345,10 @@ class Store(MutableMapping[str, int]):
 
     def _repr_svg_(self) -> str | None:
         """The store as a notebook shows it; a closed one has no picture, only its repr."""
-        return None if self._disk.closed else str(self.svg())
+        return None if self._disk.closed else self.svg()._repr_svg_()
+
+    def _repr_html_(self) -> str | None:
+        return None if self._disk.closed else self.svg()._repr_html_()
 
     def trie_svg(self) -> drawing.Picture:
         """The trie with its logical paths: SVG text, which a notebook draws.

@@ -1,8 +1,10 @@
-"""The pictures: well formed, within their card and a page, with what is there, each in its place, and the rest counted."""
+"""The pictures: well formed, within their card and a page, with what is there in its place, and the rest counted."""
 
+import base64
 import copy
 import pickle
 import random
+import re
 import unittest
 from xml.etree import ElementTree
 
@@ -10,7 +12,7 @@ from support import InFolder
 
 import palhavento
 from palhavento import Bucket, Cell, Trie
-from palhavento.drawing import ADVANCE, MONO, Picture, store_svg, trie_svg
+from palhavento.drawing import ADVANCE, MONO, QUIET, Picture, store_svg, trie_svg
 
 SVG = "{http://www.w3.org/2000/svg}"
 NINE = [(Bucket(0, "", "i ", 3), [("a", 5), ("and", 3), ("i", 9)]), (Bucket(3, "i ", "i", 2), [("in", 6), ("is", 8)]),
@@ -122,8 +124,8 @@ class Store(Pictures):
     def test_the_nine_words(self):
         picture = store_svg(NINE, 4, 8, NINE_TRIE)
         drawn = [texts(bucket) for bucket in things(picture, "bucket")]
-        self.assertEqual(drawn, [["slot 0", "a", "5", "and", "3", "i", "9", "3 of 4"], ["slot 3", "in", "6", "is", "8", "2 of 4"],
-                                 ["slot 2", "of", "2", "1 of 4"], ["slot 1", "that", "7", "the", "1", "to", "4", "3 of 4"]])
+        self.assertEqual([" ".join(said) for said in drawn], ["slot 0 a 5 and 3 i 9 3 of 4", "slot 3 in 6 is 8 2 of 4",
+                                                              "slot 2 of 2 1 of 4", "slot 1 that 7 the 1 to 4 3 of 4"])
         said = texts(ElementTree.fromstring(picture))
         self.assertIn("i␣", said)
         self.assertIn("9 names in 4 buckets of up to 4", said)
@@ -132,8 +134,8 @@ class Store(Pictures):
     def test_a_bucket_is_full_where_a_further_name_is_refused(self):
         full = [(Bucket(1, "", "m", 2), [("a", 1), ("b", 2)]), (Bucket(0, "m", "", 1), [("n", 3)])]
         trie = Trie(1, 0, [Cell("m", 0, ("slot", 1), ("slot", 0))])
-        self.assertEqual([texts(bucket)[-1] for bucket in things(store_svg(full, 2, 2, trie), "bucket")], ["full", "1 of 2"])
-        splits = store_svg(full, 2, 3, trie)
+        refuses, splits = store_svg(full, 2, 2, trie), store_svg(full, 2, 3, trie)
+        self.assertEqual([texts(bucket)[-1] for bucket in things(refuses, "bucket")], ["full", "1 of 2"])
         self.assertEqual([texts(bucket)[-1] for bucket in things(splits, "bucket")], ["2 of 2", "1 of 2"])
         self.assertIn("Orange: the next new name splits the bucket.", texts(ElementTree.fromstring(splits)))
 
@@ -145,8 +147,8 @@ class Store(Pictures):
     def test_every_number_of_buckets(self):
         for number in range(1, 65):
             bounds = ["", *(f"{place:02}<&'\"> " for place in range(number - 1)), ""]
-            contents = [(Bucket(place, bounds[place], bounds[place + 1], place % 17),
-                         [(f"{place:02}<&{entry:02}", 10 ** entry) for entry in range(place % 17)]) for place in range(number)]
+            names = [[(f"{place:02}<&{entry:02}", 10 ** entry) for entry in range(place % 17)] for place in range(number)]
+            contents = [(Bucket(place, bounds[place], bounds[place + 1], len(own)), own) for place, own in enumerate(names)]
             picture = store_svg(contents, 16, 64, Trie(0, 0, []))
             buckets = things(picture, "bucket")
             self.assertEqual(len(buckets), number)
@@ -169,11 +171,16 @@ class Store(Pictures):
 
     def assert_counted(self, bucket: ElementTree.Element, entries: list[tuple[str, int]]) -> None:
         """A bucket shows its first entries, at least one, and the number of the others."""
-        _, *said, load = texts(bucket)
+        _, *said, _ = texts(bucket)
         if not entries:
             self.assertEqual(said, ["no names"])
             return
-        rest = int(said.pop()) if len(said) % 2 else 0
+        rest = 0
+        if len(said) % 2:
+            # The one text that is grey.
+            counted = next(text.text for text in bucket.iter(SVG + "text") if text.get("fill") == QUIET and text.text[0] == "+")
+            said.remove(counted)
+            rest = int(counted)
         shown = len(entries) - rest
         self.assertGreater(shown, 0)
         self.assertEqual(said, [word for name, value in entries[:shown] for word in (name, str(value))])
@@ -232,15 +239,17 @@ class InANotebook(InFolder):
                 self.assertTrue(picture.startswith("<svg "))
                 self.assertEqual(picture._repr_svg_(), str(picture))
                 self.assertRegex(repr(picture), r"^<Picture: [a-z0-9 :;]{10,60}>$")
-                self.assertFalse(hasattr(picture, "_repr_html_"))
+                image = re.fullmatch(r'<img alt="[^"<&]*" src="data:image/svg\+xml;base64,(.*)">', picture._repr_html_())
+                self.assertEqual(base64.b64decode(image[1], validate=True).decode(), picture)
                 for same in (copy.copy(picture), pickle.loads(pickle.dumps(picture))):
                     self.assertEqual((type(same), same, repr(same)), (Picture, picture, repr(picture)))
 
     def test_a_store_is_an_svg_and_its_repr(self):
         with palhavento.open(self.path) as store:
             self.assertEqual(store._repr_svg_(), store.svg())
-            self.assertFalse(hasattr(store, "_repr_html_"))
+            self.assertEqual(store._repr_html_(), store.svg()._repr_html_())
         self.assertIsNone(store._repr_svg_())
+        self.assertIsNone(store._repr_html_())
         with self.assertRaisesRegex(ValueError, "closed"):
             store.svg()
 

@@ -60,7 +60,8 @@ class Header(InFolder):
         self.assertEqual(self.compiled("g++", "-std=c++11", "-x", "c++"), [version, *sentences])
         header = (PROJECT / "include/palhavento.h").read_text(encoding="ascii")
         numbers = {int(number) for number in re.findall(r"ANSWER\(PAL_[A-Z_]+, +(\d+),", header)}
-        self.assertEqual(numbers, {*range(1, 9), 100, 101, 110, 111, 112, 120, 130, 131, 140, 141, 142, 150, 151, 152, 255})
+        done = 100, 101, 110, 111, 112, 120, 130, 131, 140, 141, 142, 150, 151, 152
+        self.assertEqual(numbers, {*range(1, 9), *done, 255})
         for number, sentence in enumerate(sentences):
             self.assertRegex(sentence, r"^[A-Z].*[^.]\.$")
             self.assertEqual(sentence == "No call gives this answer.", number not in numbers, number)
@@ -77,8 +78,8 @@ class Keep(InFolder):
 
     def build(self, *more: str) -> str:
         program = str(self.folder / "keep")
-        subprocess.run(["gcc", "-std=c99", *STRICT, *more, str(PROJECT / "examples/keep.c"), str(PACKAGE / "libpalhavento.so"),
-                        f"-Wl,-rpath,{PACKAGE}", "-o", program], check=True)
+        sources = *more, str(PROJECT / "examples/keep.c"), str(PACKAGE / "libpalhavento.so")
+        subprocess.run(["gcc", "-std=c99", *STRICT, *sources, f"-Wl,-rpath,{PACKAGE}", "-o", program], check=True)
         return program
 
     def listed(self) -> dict[str, int]:

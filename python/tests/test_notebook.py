@@ -1,4 +1,4 @@
-"""The example notebook: its cells run without Jupyter, from the first to the last, and show what a notebook would draw."""
+"""The example notebook: its cells run without Jupyter, one after the other, and show what a notebook would draw."""
 
 from __future__ import annotations
 
