@@ -2,10 +2,10 @@
 .PHONY: run test kill library python install notebook bench clean
 
 # The main job: prove, build, and run the program on the names of NAMES, one a line.
-NAMES ?= crates/buckets/stdin
+NAMES ?= crates/overview/stdin
 run:
-	@rt check buckets
-	@target/bin/buckets < $(NAMES)
+	@rt check overview
+	@target/bin/overview < $(NAMES)
 
 # All proofs, the layout of every file, all tests.
 test:
@@ -19,7 +19,7 @@ kill: python
 # The static library for C, Rust and whoever links it, in target/staticlib. The crates below it are checked first, because
 # `rt check` proves side by side what `rt staticlib` would prove one after the other.
 library:
-	@rt check keeper
+	@rt check changing reading whole image
 	@rt staticlib capi
 
 # The same as a shared library, in the Python package.
