@@ -22,9 +22,10 @@ library:
 	@rt check changing reading whole image
 	@rt staticlib capi
 
-# The same as a shared library, in the Python package.
+# The same as a shared library, in the Python package, and the package's extensions, where Python's headers are.
 python: library
 	@gcc -shared -Wl,--whole-archive target/staticlib/libcapi.a -Wl,--no-whole-archive -o python/palhavento/libpalhavento.so
+	@python3 python/packing.py
 
 # The header, both libraries under the project's own name, and what pkg-config tells of them. DESTDIR is put before every place,
 # for who packs a package.
@@ -50,4 +51,4 @@ bench: library
 	@bench/run.sh
 
 clean:
-	rm -rf target build python/palhavento/libpalhavento.so
+	rm -rf target build python/palhavento/libpalhavento.so python/palhavento/*.abi3.so

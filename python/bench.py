@@ -1,12 +1,14 @@
-"""Times get and put of the package beside `sqlite3` and `dbm` of the standard library, in one run.
+"""Times get and put of the package beside `sqlite3`, `dbm` and LMDB, in one run.
 
-    python3 python/bench.py
+    python3 python/bench.py            # Debian has LMDB for its own python3 in python3-lmdb, and gdbm in python3-gdbm
 
 Each store holds the same names, on disk in the system's folder for temporary files; each put is a change of its own, and,
 in the first table, is waited for until it is on disk. `sqlite3` stands with the journal that it takes by itself and with
-its write-ahead log. `dbm` never waits for the disk, so it stands in the second table only; which `dbm` it is depends on how
-Python was built, and the least is `dbm.dumb`. The stores take turns in each of several rounds. Figures are the median over
-all rounds, in microseconds a call.
+its write-ahead log; and in memory, where nothing is kept. `dbm` never waits for the disk; which `dbm` it is depends on how
+Python was built, and is told. A get is made by the writer, and then by a reader beside it, where the store lets one read: in
+the same process, with a second connection. LMDB has no such reader, and needs none: whoever reads does it by a transaction.
+
+The stores take turns in each of several rounds. Figures are the median over all rounds, in microseconds a call.
 """
 
 from __future__ import annotations
@@ -23,43 +25,74 @@ from functools import partial
 from pathlib import Path
 
 import palhavento
+from palhavento import calls
+
+try:
+    import lmdb
+except ImportError:
+    lmdb = None
 
 NAMES = random.Random(0).sample([f"series.{number:04}" for number in range(5000)], 500)
 ROUNDS = 5
 Get = Callable[[str], int]
 Put = Callable[[str, int], object]
-Calls = contextlib.AbstractContextManager[tuple[Get, Put]]
+Calls = contextlib.AbstractContextManager[tuple[Put, Get, Get | None]]
 
 
 @contextlib.contextmanager
-def of_palhavento(folder: Path, sync: bool) -> Iterator[tuple[Get, Put]]:
+def of_palhavento(folder: Path, sync: bool) -> Iterator[tuple[Put, Get, Get | None]]:
     with palhavento.open(folder / "store.tkf", sync=sync) as store:
-        yield store.__getitem__, store.__setitem__
+        with palhavento.open(folder / "store.tkf", readonly=True) as reader:
+            yield store.__setitem__, store.__getitem__, reader.__getitem__
 
 
 @contextlib.contextmanager
-def of_sqlite3(journal: str, folder: Path, sync: bool) -> Iterator[tuple[Get, Put]]:
+def of_sqlite3(journal: str, folder: Path, sync: bool) -> Iterator[tuple[Put, Get, Get | None]]:
+    def value(base: sqlite3.Connection, name: str) -> int:
+        return base.execute("SELECT value FROM store WHERE name = ?", (name,)).fetchone()[0]
+
+    path = ":memory:" if journal == "MEMORY" else str(folder / "store.db")
     # Without a level of isolation each statement is a transaction of its own.
-    with contextlib.closing(sqlite3.connect(folder / "store.db", isolation_level=None)) as base:
+    with contextlib.closing(sqlite3.connect(path, isolation_level=None)) as base:
         base.execute(f"PRAGMA journal_mode = {journal}")
         base.execute(f"PRAGMA synchronous = {'FULL' if sync else 'OFF'}")
         base.execute("CREATE TABLE store (name TEXT PRIMARY KEY, value INTEGER) WITHOUT ROWID")
-        yield (
-            lambda name: base.execute("SELECT value FROM store WHERE name = ?", (name,)).fetchone()[0],
-            lambda name, value: base.execute("REPLACE INTO store VALUES (?, ?)", (name, value)),
-        )
+
+        def put(name: str, value: int) -> object:
+            return base.execute("REPLACE INTO store VALUES (?, ?)", (name, value))
+
+        with contextlib.closing(sqlite3.connect(path, isolation_level=None)) as reader:
+            yield put, partial(value, base), None if journal == "MEMORY" else partial(value, reader)
 
 
 @contextlib.contextmanager
-def of_dbm(folder: Path, sync: bool) -> Iterator[tuple[Get, Put]]:
+def of_dbm(folder: Path, sync: bool) -> Iterator[tuple[Put, Get, Get | None]]:
     with dbm.open(str(folder / "store"), "c") as base:
-        yield lambda name: int(base[name]), lambda name, value: base.__setitem__(name, str(value))
+        yield lambda name, value: base.__setitem__(name, str(value)), lambda name: int(base[name]), None
+
+
+@contextlib.contextmanager
+def of_lmdb(folder: Path, sync: bool) -> Iterator[tuple[Put, Get, Get | None]]:
+    with lmdb.open(str(folder / "store"), sync=sync, metasync=sync) as base:
+
+        def put(name: str, value: int) -> None:
+            with base.begin(write=True) as change:
+                change.put(name.encode(), value.to_bytes(8, "little"))
+
+        def get(name: str) -> int:
+            with base.begin() as reading:
+                return int.from_bytes(reading.get(name.encode()), "little")
+
+        yield put, get, get
 
 
 STORES: dict[str, Callable[[Path, bool], Calls]] = {
     "palhavento": of_palhavento,
     "sqlite3": partial(of_sqlite3, "DELETE"),
     "sqlite3, write-ahead log": partial(of_sqlite3, "WAL"),
+    **({"lmdb": of_lmdb} if lmdb else {}),
+    # These never wait for the disk.
+    "sqlite3, in memory": partial(of_sqlite3, "MEMORY"),
     "dbm": of_dbm,
 }
 
@@ -75,28 +108,33 @@ def times(calls: Iterable[Callable[[], object]]) -> list[float]:
 
 
 def one_round(store: Callable[[Path, bool], Calls], sync: bool) -> list[list[float]]:
-    """The times of a put of each name, of a put again, and of a get."""
-    with tempfile.TemporaryDirectory() as name, store(Path(name), sync) as (get, put):
+    """The times of a put of each name, of a put again, of a get, and of a get by a reader."""
+    with tempfile.TemporaryDirectory() as name, store(Path(name), sync) as (put, get, get_beside):
         return [
             times(partial(put, at, 1) for at in NAMES),
             times(partial(put, at, 2) for at in NAMES),
             times(partial(get, at) for at in NAMES),
+            times(partial(get_beside, at) for at in NAMES) if get_beside else [],
         ]
 
 
 def main() -> None:
     """Print both tables."""
-    for sync, names in ((True, list(STORES)[:-1]), (False, list(STORES))):
-        taken: dict[str, list[list[float]]] = {name: [[], [], []] for name in names}
+    with tempfile.TemporaryDirectory() as folder:
+        dbm.open(f"{folder}/store", "c").close()
+        kind = dbm.whichdb(f"{folder}/store")
+    print(f"palhavento by {'ctypes' if calls.used is calls.ByCtypes else 'its extension'}, dbm by {kind}")
+    for sync, names in ((True, list(STORES)[:-2]), (False, list(STORES))):
+        taken: dict[str, list[list[float]]] = {name: [[], [], [], []] for name in names}
         for _ in range(ROUNDS):
             for name in names:
                 for all_rounds, this_round in zip(taken[name], one_round(STORES[name], sync)):
                     all_rounds += this_round
         title = "each put waits for the disk" if sync else "no put waits for the disk"
-        print(f"{title:30}{'put':>10}{'put again':>12}{'get':>8}")
+        print(f"{title:30}{'put':>10}{'put again':>12}{'get':>8}{'get beside':>12}")
         for name in names:
-            figures = [statistics.median(call) for call in taken[name]]
-            print(f"{name:30}{figures[0]:10.1f}{figures[1]:12.1f}{figures[2]:8.1f}")
+            figures = [f"{statistics.median(call):.1f}" if call else "-" for call in taken[name]]
+            print(f"{name:30}{figures[0]:>10}{figures[1]:>12}{figures[2]:>8}{figures[3]:>12}")
 
 
 if __name__ == "__main__":

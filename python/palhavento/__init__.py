@@ -11,10 +11,13 @@
 
 from __future__ import annotations
 
+from palhavento import starting  # noqa: F401, I001  (first: it tells what keeps the rest from being imported)
+
 import contextlib
 import os
 
 from palhavento import disk, library
+from palhavento.compacting import compact
 from palhavento.errors import (
     BadFile,
     CutFile,
@@ -26,10 +29,13 @@ from palhavento.errors import (
     ShortOutput,
     StaleTrie,
     TrieFull,
+    WrongJournal,
     WrongSize,
 )
 from palhavento.layout import Bucket, Cell, Stats, Trie
 from palhavento.store import Store
+
+__version__ = "1.0.0"
 
 __all__ = [
     "BadFile",
@@ -47,25 +53,39 @@ __all__ = [
     "Store",
     "Trie",
     "TrieFull",
+    "WrongJournal",
     "WrongSize",
+    "compact",
     "open",
 ]
 
 
+
 def open(
-    path: disk.Path, b: int = 16, slots: int = 64, create: bool = True, sync: bool = True, readonly: bool = False
+    path: disk.Path,
+    b: int = 16,
+    slots: int = 64,
+    create: bool = True,
+    sync: bool = True,
+    readonly: bool = False,
+    timeout: float = 0.0,
 ) -> Store:
     """Open a file, or create it where there is none; a file that is there keeps its own b and slots.
 
-    A store has one writer at a time, and any number of readers beside it (`readonly=True`), which create nothing. With
-    `sync=False` a change is not waited for until it is on disk: that makes no difference to a kill, but a machine that
-    fails may lose it.
+    One process at a time has a file open for writing, and any number read it beside (`readonly=True`), which create
+    nothing. While another process writes it, `open` waits for so many seconds as `timeout` says. To open it a second time
+    in one process gives a store that shares the first one's file, which is closed with the last of them.
 
-    >>> with open("prices.tkf", b=4, slots=8) as store:
-    ...     store["oil"] = 71
-    ...     open("prices.tkf")
+    With `sync=False` a change is not waited for until it is on disk: that makes no difference to a kill, but a machine that
+    fails may lose it, unless `flush` was called.
+
+    >>> store = open("prices.tkf", b=4, slots=8)
+    >>> store["oil"] = 71
+    >>> open("prices.tkf")["oil"]
+    71
+    >>> open("prices.tkf", sync=False)
     Traceback (most recent call last):
-    palhavento.errors.Locked: prices.tkf: The file has one writer at a time, and it is open for writing already, ...
+    palhavento.errors.Locked: prices.tkf: It is open in this process with sync=True: open it so, or close it first.
     >>> open("prices.tkf", readonly=True)["oil"]
     71
     >>> open("missing.tkf", create=False)
@@ -76,4 +96,4 @@ def open(
         # Another process may be first to create it; then its file is opened.
         with contextlib.suppress(FileExistsError):
             disk.create(path, library.create(b, slots)[0])
-    return Store(path, readonly, sync)
+    return Store(path, readonly, sync, timeout)

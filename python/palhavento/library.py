@@ -20,7 +20,7 @@ from ctypes import c_char_p, c_size_t, c_uint64
 from pathlib import Path
 from typing import NamedTuple
 
-from palhavento.errors import refusal
+from palhavento.errors import illegal, refusal, shown
 
 TRIE_BYTES = 1540
 ENTRY_BYTES = 32
@@ -102,7 +102,8 @@ def _load(path: Path) -> ctypes.CDLL:
     return loaded
 
 
-_LIBRARY = _load(Path(__file__).with_name("libpalhavento.so"))
+PATH = Path(__file__).with_name("libpalhavento.so")
+_LIBRARY = _load(PATH)
 
 
 def _lend(buffer: bytearray) -> ctypes.Array[ctypes.c_char]:
@@ -110,15 +111,12 @@ def _lend(buffer: bytearray) -> ctypes.Array[ctypes.c_char]:
     return (ctypes.c_char * len(buffer)).from_buffer(buffer)
 
 
-def _shown(name: bytes) -> str:
-    """A name as a refusal shows it."""
-    return repr(name)[1:]
-
-
-def _answer(answer: int, about: str = "") -> int:
-    """An answer that is no refusal; else the refusal is raised."""
+def _answer(answer: int, *names: bytes, about: str = "") -> int:
+    """An answer that is no refusal; else the refusal is raised, with the names or whatever it is about."""
+    if answer == 1:
+        raise illegal(*names)
     if answer < 100 or answer == 255:
-        raise refusal(answer, about)
+        raise refusal(answer, about or " to ".join(map(shown, names)))
     return answer
 
 
@@ -140,7 +138,7 @@ def create(b: int, slots: int) -> tuple[bytes, bytes]:
     if not (0 <= b < 256 and 0 <= slots < 256):
         raise refusal(8, about)
     file, trie = bytearray(file_bytes(b, slots)), bytearray(TRIE_BYTES)
-    _answer(_LIBRARY.pal_create(_lend(file), len(file), 1, b, slots, _lend(trie), len(trie)), about)
+    _answer(_LIBRARY.pal_create(_lend(file), len(file), 1, b, slots, _lend(trie), len(trie)), about=about)
     return bytes(file), bytes(trie)
 
 
@@ -185,7 +183,7 @@ def look_up(file: bytes, trie: bytes, name: bytes) -> int | None:
     """The value of a name, or None where it is absent."""
     words = _Words()
     answer = _LIBRARY.pal_lookup(file, len(file), trie, len(trie), name, len(name), words)
-    return words[0] if _answer(answer, _shown(name)) == FOUND else None
+    return words[0] if _answer(answer, name) == FOUND else None
 
 
 def put(file: bytes, trie: bytes, name: bytes, value: int, limit: int) -> Outcome:
@@ -200,7 +198,7 @@ def put(file: bytes, trie: bytes, name: bytes, value: int, limit: int) -> Outcom
     answer = _LIBRARY.pal_put(
         _lend(changed), len(changed), _lend(grown), len(grown), name, len(name), value, 0, limit, words
     )
-    return Outcome(_answer(answer, _shown(name)), bytes(changed), bytes(grown), words[0])
+    return Outcome(_answer(answer, name), bytes(changed), bytes(grown), words[0])
 
 
 def remove(file: bytes, trie: bytes, name: bytes, limit: int) -> Outcome:
@@ -213,7 +211,7 @@ def remove(file: bytes, trie: bytes, name: bytes, limit: int) -> Outcome:
     answer = _LIBRARY.pal_remove(
         _lend(changed), len(changed), _lend(same), len(same), name, len(name), limit, words
     )
-    return Outcome(_answer(answer, _shown(name)), bytes(changed), bytes(same), words[0])
+    return Outcome(_answer(answer, name), bytes(changed), bytes(same), words[0])
 
 
 def entries(file: bytes, trie: bytes, first: bytes, second: bytes, room: int) -> bytes:
@@ -231,5 +229,5 @@ def entries(file: bytes, trie: bytes, first: bytes, second: bytes, room: int) ->
     answer = _LIBRARY.pal_list(
         file, len(file), trie, len(trie), first, len(first), second, len(second), _lend(output), len(output), words
     )
-    _answer(answer, f"{_shown(first)} to {_shown(second)}")
+    _answer(answer, first, second)
     return bytes(output[: ENTRY_BYTES * words[0]])

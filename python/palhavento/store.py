@@ -9,97 +9,136 @@
     >>> palhavento.open("rates.tkf")["that"]
     7
 
-Every call reads the file anew, so another process's change is seen at once: the trie in hand is then refused as stale,
-is rebuilt once, and the call is made again. A writer that meets a cut file recovers it and says so through `logging`; a
-reader does the same in its own copy.
+Every call looks at the file once and sees it as it then is; `opened.py` has the steps, and says what threads may share.
 """
 
 from __future__ import annotations
 
-import io
-import logging
 import operator
+import os
+import sys
 import threading
 import time
-from collections.abc import Callable, ItemsView, Iterator, MutableMapping, ValuesView
-from itertools import pairwise
-from types import TracebackType
-from typing import Literal, TypeVar, Union
+from collections.abc import Callable, ItemsView, Iterable, Iterator, KeysView, Mapping, MutableMapping, ValuesView
+from types import FrameType, TracebackType
+from typing import Any, NoReturn, TypeVar, Union, cast, overload
 
-from palhavento import disk, drawing, layout, library
-from palhavento.errors import BadFile, CutFile, PalhaventoError, StaleTrie, refusal
+from palhavento import calls, disk, drawing, layout, library, opened, reasons
+from palhavento.calls import HIGHEST, LARGEST_VALUE, LOWEST, Entry, Name
+from palhavento.errors import PalhaventoError
 
-Name = Union[str, bytes]
-Entry = tuple[str, int]
 Given = TypeVar("Given")
+Other = TypeVar("Other")
 
-LOWEST = b"!"
-HIGHEST = b"}" * 24
-LARGEST_VALUE = 2**64 - 1
-
-_log = logging.getLogger("palhavento")
-
-# How long a reader waits, time after time, for a bad file to become another: a writer that keeps none of our locks may
-# be in the middle of a store.
-_PAUSES = (0.001, 0.003, 0.01, 0.03)
-
-_STATES: dict[int, Literal["sound", "cut", "bad"]] = {library.SOUND: "sound", library.CUT: "cut", library.BAD: "bad"}
+_ABSENT = object()
 
 
-def _bytes_of(name: Name) -> bytes:
-    """A name's bytes; whether they are legal is for the library to say.
+class _Reading:
+    """One reading, for all that one function written in C asks of a store.
 
-    >>> _bytes_of("gdp"), _bytes_of(b"gdp")
-    (b'gdp', b'gdp')
-    >>> _bytes_of("preço")
-    Traceback (most recent call last):
-    palhavento.errors.IllegalName: 'preço': A name has 1 to 24 bytes, each 0x21 to 0x7D.
+    `dict(store)` asks for the names and then for each value by itself; `list(store)` for the names and their number. Were
+    each a reading of its own, another process could remove a name between the two. No Python code runs between them, so
+    they are known by coming from one place: the same frame of the caller, at the same instruction.
     """
-    if isinstance(name, bytes):
-        return name
-    if not isinstance(name, str):
-        raise TypeError(f"a name is str or bytes, not {type(name).__name__}")
-    try:
-        return name.encode("ascii")
-    except UnicodeEncodeError:
-        raise refusal(1, f"{name!r}") from None
+
+    # Some such function might be slow. What it is told must not become old.
+    SECONDS = 1.0
+
+    def __init__(self, frame: FrameType, entries: list[Entry], given: list[Given], for_values: bool) -> None:
+        self.place = _place(frame)
+        self.until = time.monotonic() + self.SECONDS
+        # What the function is given to go through. Before it begins it may ask, once, how much that is.
+        self.given = iter(given)
+        self._number: int | None = len(entries)
+        # The values are asked for in the order of the names, and with the very objects that were given.
+        self._values = iter(entries if for_values else ())
+
+    def number(self) -> int | None:
+        """The number of entries, or None."""
+        number, self._number = self._number, None
+        return number if self.given.__length_hint__() == number else None
+
+    def value(self, name: object) -> int | None:
+        """The value of the name that is next, or None."""
+        next_name, value = next(self._values, (None, None))
+        return value if next_name is name else None
 
 
-def _value_of(value: int) -> int:
-    """A value that fits eight bytes, from whatever counts as an int.
+def _place(frame: FrameType) -> tuple[int, int]:
+    return id(frame), frame.f_lasti
 
-    >>> _value_of(-1)
-    Traceback (most recent call last):
-    OverflowError: a value is 0 to 2**64 - 1, not -1
-    >>> _value_of(1.5)
-    Traceback (most recent call last):
-    TypeError: a value is an int, not float
-    """
-    try:
-        number = operator.index(value)
-    except TypeError:
-        raise TypeError(f"a value is an int, not {type(value).__name__}") from None
-    if not 0 <= number <= LARGEST_VALUE:
-        raise OverflowError(f"a value is 0 to 2**64 - 1, not {number}")
-    return number
+
+class _Names(KeysView[str]):
+    """The names, by one reading; `dict(store)` takes their values from the same."""
+
+    _mapping: Store
+
+    def __init__(self, mapping: Store, frame: FrameType) -> None:
+        super().__init__(mapping)
+        self._place = _place(frame)
+
+    def __iter__(self) -> Iterator[str]:
+        frame = sys._getframe(1)
+        return self._mapping._read(frame, _names, for_values=self._place == _place(frame))
+
+    def __len__(self) -> int:
+        return self._mapping._count(sys._getframe(1))
+
+    def __repr__(self) -> str:
+        return f"keys({_shown(self._mapping, _names)})"
 
 
 class _Items(ItemsView[str, int]):
-    """The entries, listed by one call where a plain view would look up each name by itself."""
+    """The entries, by one reading."""
 
     _mapping: Store
 
     def __iter__(self) -> Iterator[Entry]:
-        return iter(self._mapping.range())
+        return self._mapping._read(sys._getframe(1), list)
+
+    def __len__(self) -> int:
+        return self._mapping._count(sys._getframe(1))
+
+    def __repr__(self) -> str:
+        return f"items({_shown(self._mapping, list)})"
 
 
 class _Values(ValuesView[int]):
-    """The values in the order of their names, listed by one call."""
+    """The values in the order of their names, by one reading."""
 
     _mapping: Store
 
     def __iter__(self) -> Iterator[int]:
-        return (value for _, value in self._mapping.range())
+        return self._mapping._read(sys._getframe(1), _values)
+
+    def __len__(self) -> int:
+        return self._mapping._count(sys._getframe(1))
+
+    def __repr__(self) -> str:
+        return f"values({_shown(self._mapping, _values)})"
+
+
+def _names(entries: list[Entry]) -> list[str]:
+    return [name for name, _ in entries]
+
+
+def _values(entries: list[Entry]) -> list[int]:
+    return [value for _, value in entries]
+
+
+def _shown(store: Store, part: Callable[[list[Entry]], list[Given]]) -> object:
+    """What a view shows: its list, or the store if that is closed."""
+    return store if store.closed else part(store.range())
+
+
+class _Closed:
+    """In the place of a store's file when it is closed."""
+
+    def __init__(self, path: str) -> None:
+        self._path = path
+
+    def __getattr__(self, name: str) -> NoReturn:
+        raise ValueError(f"{self._path}: the store is closed")
 
 
 class Store(MutableMapping[str, int]):
@@ -114,7 +153,7 @@ class Store(MutableMapping[str, int]):
     KeyError: 'run.2'
     >>> store["two words"] = 1
     Traceback (most recent call last):
-    palhavento.errors.IllegalName: 'two words': A name has 1 to 24 bytes, each 0x21 to 0x7D.
+    palhavento.errors.IllegalName: 'two words': A name has 1 to 24 bytes, each 0x21 to 0x7D...
     >>> del store["run.1"]
     >>> store.close()
     >>> store["run.1"]
@@ -122,121 +161,65 @@ class Store(MutableMapping[str, int]):
     ValueError: results.tkf: the store is closed
     """
 
-    def __init__(self, path: disk.Path, readonly: bool = False, sync: bool = True) -> None:
-        self._alone = threading.RLock()
-        self._disk = disk.Disk(path, readonly, sync)
-        self.path = self._disk.path
-        try:
-            file = self._settled()
-            self._trie = self._rebuilt(file)
-        except BaseException:
-            self.close()
-            raise
-        self.b, self.slots = layout.sizes(file)
-
-    # Reading and changing, in the steps that all calls share.
-
-    def _settled(self) -> bytes:
-        """The file's bytes now, a cut file's recovered."""
-        file = self._disk.read()
-        for pause in _PAUSES if self._disk.readonly else ():
-            if library.check(file) != library.BAD:
-                break
-            time.sleep(pause)
-            file = self._disk.read()
-        return self._recovered(file)[0] if library.check(file) == library.CUT else file
-
-    def _recovered(self, file: bytes) -> tuple[bytes, int | None]:
-        """A file that is not bad made sound, on disk too by the writer; and the slot that was freed for it."""
-        try:
-            outcome = library.recover(file, limit=1)
-        except BadFile:
-            raise refusal(2, self.path) from None
-        if outcome.answer == library.NOTHING_TO_DO:
-            return file, None
-        if self._disk.readonly:
-            _log.info("%s: cut in a split; read as if slot %d were free", self.path, outcome.word)
-        else:
-            self._store(file, outcome.file)
-            _log.warning("%s: cut in a split; recovered by freeing slot %d", self.path, outcome.word)
-        return outcome.file, outcome.word
-
-    def _rebuilt(self, file: bytes) -> bytes:
-        """The trie of a file that is sound; else the refusal says which file it is about."""
-        try:
-            return library.rebuild(file)
-        except PalhaventoError as refused:
-            raise refusal(refused.number, self.path) from None
-
-    def _ask(self, call: Callable[[bytes, bytes], Given]) -> Given:
-        """What a call gives for the file as it is now and its trie."""
-        with self._alone:
-            try:
-                return call(self._disk.read(), self._trie)
-            except BadFile:
-                # A writer is alone with its file, so what is bad stays bad.
-                if not self._disk.readonly:
-                    raise refusal(2, self.path) from None
-            except (CutFile, StaleTrie):
-                pass
-            file = self._settled()
-            self._trie = self._rebuilt(file)
-            _log.info("%s: the trie was stale and is rebuilt", self.path)
-            return call(file, self._trie)
-
-    def _change(self, call: Callable[[bytes, bytes, int], library.Outcome]) -> library.Outcome:
-        """Make a call on copies, with limits 1 and 2, to find its stores; then make them on disk, in order."""
-        if self._disk.readonly:
-            raise io.UnsupportedOperation(f"{self.path}: the store is open for reading only")
-
-        def states(file: bytes, trie: bytes) -> tuple[list[bytes], library.Outcome]:
-            outcome = call(file, trie, 1)
-            if outcome.answer != library.STOPPED:
-                return [file, outcome.file], outcome
-            last = call(file, trie, 2)
-            return [file, outcome.file, last.file], last
-
-        with self._alone:
-            files, outcome = self._ask(states)
-            for before, after in pairwise(files):
-                self._store(before, after)
-            self._trie = outcome.trie
-            return outcome
-
-    def _store(self, before: bytes, after: bytes) -> None:
-        """Make on disk the one store between two states. A slot that stays as it was has nothing to be written."""
-        size = library.slot_bytes(before[5])
-        for offset in range(library.HEADER_BYTES, len(before), size):
-            slot = after[offset : offset + size]
-            if slot != before[offset : offset + size]:
-                self._disk.store(offset, slot)
-                return
+    def __init__(self, path: disk.Path, readonly: bool = False, sync: bool = True, timeout: float = 0.0) -> None:
+        self._opened = opened.of(path, readonly, sync, timeout)
+        # Another thread may close its store of the file at this moment, and so the file.
+        while not self._opened.share(self):
+            self._opened = opened.of(path, readonly, sync, timeout)
+        self.path = os.fsdecode(path)
+        self.readonly = readonly
+        self.b, self.slots = self._opened.b, self._opened.slots
 
     # The mapping.
 
     def __getitem__(self, name: Name) -> int:
-        wanted = _bytes_of(name)
-        value = self._ask(lambda file, trie: library.look_up(file, trie, wanted))
+        file = self._opened
+        if file.told:
+            told = self._told(sys._getframe(1))
+            value = told and told.value(name)
+            if value is not None:
+                return value
+        value = file.look_up(name)
         if value is None:
             raise KeyError(name)
         return value
 
+    @overload
+    def get(self, name: Name) -> int | None: ...
+    @overload
+    def get(self, name: Name, default: Other) -> Union[int, Other]: ...
+
+    def get(self, name: Name, default: object = None) -> object:
+        """The value of a name, or the default where it is absent."""
+        value = self._opened.look_up(name)
+        return default if value is None else value
+
+    def __contains__(self, name: object) -> bool:
+        return self._opened.look_up(cast(Name, name)) is not None
+
     def __setitem__(self, name: Name, value: int) -> None:
-        new, number = _bytes_of(name), _value_of(value)
-        self._change(lambda file, trie, limit: library.put(file, trie, new, number, limit))
+        self._opened.change(calls.put, name, value)
 
     def __delitem__(self, name: Name) -> None:
-        old = _bytes_of(name)
-        outcome = self._change(lambda file, trie, limit: library.remove(file, trie, old, limit))
-        if outcome.answer == library.ABSENT:
+        if self._opened.change(calls.remove, name) == library.ABSENT:
             raise KeyError(name)
 
     def __iter__(self) -> Iterator[str]:
         """The names in order, as they were when the iteration began."""
-        return (name for name, _ in self.range())
+        return self._read(sys._getframe(1), _names)
 
     def __len__(self) -> int:
-        return len(self._listed(LOWEST, HIGHEST)) // library.ENTRY_BYTES
+        return self._count(sys._getframe(1))
+
+    def keys(self) -> KeysView[str]:
+        """The names in order.
+
+        >>> store = palhavento.open("words.tkf")
+        >>> store.update(the=1, of=2)
+        >>> store.keys(), store.items(), store.values()
+        (keys(['of', 'the']), items([('of', 2), ('the', 1)]), values([2, 1]))
+        """
+        return _Names(self, sys._getframe(1))
 
     def items(self) -> ItemsView[str, int]:
         """The entries in the order of names."""
@@ -246,9 +229,30 @@ class Store(MutableMapping[str, int]):
         """The values in the order of their names."""
         return _Values(self)
 
-    def _listed(self, first: Name, second: Name) -> bytes:
-        ends = _bytes_of(first), _bytes_of(second)
-        return self._ask(lambda file, trie: library.entries(file, trie, *ends, room=library.MOST_ENTRIES))
+    # Readings.
+
+    def _read(
+        self, frame: FrameType, part: Callable[[list[Entry]], list[Given]], for_values: bool = False
+    ) -> Iterator[Given]:
+        """A part of all entries; whatever else the calling function asks for at once it is told from the same reading."""
+        entries = self.range()
+        reading = _Reading(frame, entries, part(entries), for_values)
+        self._opened.told[threading.get_ident()] = reading
+        return reading.given
+
+    def _told(self, frame: FrameType) -> _Reading | None:
+        """The reading of the function that asks now, if it has one."""
+        readings, thread = self._opened.told, threading.get_ident()
+        reading = readings.get(thread)
+        if reading is None or (reading.place == _place(frame) and time.monotonic() < reading.until):
+            return reading
+        readings.pop(thread, None)
+        return None
+
+    def _count(self, frame: FrameType) -> int:
+        reading = self._told(frame) if self._opened.told else None
+        number = reading and reading.number()
+        return self._opened.ask(calls.count) if number is None else number
 
     def range(self, first: Name = LOWEST, second: Name = HIGHEST) -> list[Entry]:
         """The entries whose names lie from the first to the second, both included.
@@ -258,22 +262,138 @@ class Store(MutableMapping[str, int]):
         ...     store.range("b", "the")
         [('of', 2), ('the', 1)]
         """
-        listed = self._listed(first, second)
-        return [
-            (listed[at : at + 24].rstrip(b" ").decode("ascii"), int.from_bytes(listed[at + 24 : at + 32], "little"))
-            for at in range(0, len(listed), library.ENTRY_BYTES)
-        ]
+        return self._opened.ask(calls.entries, first, second)
+
+    def prefix(self, beginning: Name) -> list[Entry]:
+        """The entries whose names begin so, in order; every name begins with nothing.
+
+        >>> with palhavento.open("rates.tkf") as store:
+        ...     store.update({"gdp": 1, "gdp.at": 2, "gdp.de": 3, "cpi.at": 4})
+        ...     store.prefix("gdp.")
+        [('gdp.at', 2), ('gdp.de', 3)]
+        """
+        digits = calls.bytes_of(beginning)
+        # A name that begins so is neither below what it begins with nor above that continued by the highest digits.
+        return self.range(digits, digits.ljust(len(HIGHEST), HIGHEST[:1])) if digits else self.range()
+
+    def snapshot(self) -> dict[str, int]:
+        """All entries as a `dict`, in the order of names.
+
+        >>> with palhavento.open("words.tkf") as store:
+        ...     store.update(the=1, of=2)
+        ...     store.snapshot()
+        {'of': 2, 'the': 1}
+        """
+        return dict(self.range())
+
+    # Changes that look first, each as one: no other thread's change comes between, and no other process writes.
+
+    def increment(self, name: Name, by: int = 1) -> int:
+        """Add to the value of a name, which is 0 where it is absent, and give the sum.
+
+        >>> with palhavento.open("counts.tkf") as store:
+        ...     store.increment("runs"), store.increment("runs", by=10), store.increment("runs", by=-3)
+        (1, 11, 8)
+        """
+        file = self._opened
+        file.must_write()
+        with file.alone:
+            total = (file.look_up(name) or 0) + operator.index(by)
+            file.change(calls.put, name, total)
+            return total
+
+    @overload
+    def pop(self, name: Name) -> int: ...
+    @overload
+    def pop(self, name: Name, default: Other) -> Union[int, Other]: ...
+
+    def pop(self, name: Name, default: object = _ABSENT) -> object:
+        """Remove a name and give its value; where it is absent, the default or a KeyError.
+
+        >>> with palhavento.open("words.tkf") as store:
+        ...     store["the"] = 1
+        ...     store.pop("the"), store.pop("the", None)
+        (1, None)
+        """
+        file = self._opened
+        file.must_write()
+        with file.alone:
+            value = file.look_up(name)
+            if value is not None:
+                file.change(calls.remove, name)
+                return value
+        if default is _ABSENT:
+            raise KeyError(name)
+        return default
+
+    def popitem(self) -> Entry:
+        """Remove the first name, and give it with its value."""
+        file = self._opened
+        file.must_write()
+        with file.alone:
+            for name, value in self.range():
+                file.change(calls.remove, name)
+                return name, value
+        raise KeyError("popitem(): the store is empty")
+
+    def setdefault(self, name: Name, default: int) -> int:  # type: ignore[override]
+        """The value of a name, which is put with the default where it is absent."""
+        file = self._opened
+        file.must_write()
+        with file.alone:
+            value = file.look_up(name)
+            if value is None:
+                file.change(calls.put, name, default)
+                value = calls.value_of(default)
+            return value
+
+    def update(self, other: Any = (), /, **named: int) -> None:
+        """Put every entry of a mapping, or of pairs, and those that are named.
+
+        All names and values are looked at first, so that a fault in one changes nothing. A put may still be refused, for
+        want of room; the error then says how many were made before it, and has that as `put`.
+
+        >>> store = palhavento.open("small.tkf", b=2, slots=1)
+        >>> store.update([("a", 1), ("b", -2)])
+        Traceback (most recent call last):
+        OverflowError: a value is 0 to 2**64 - 1, not -2
+        >>> store.update(a=1, b=2, c=3)
+        Traceback (most recent call last):
+        palhavento.errors.FileFull: 'c': A split is needed and there is no free slot. Of 3 entries 2 were put.
+        >>> store.snapshot()
+        {'a': 1, 'b': 2}
+        """
+        entries = [(calls.legal(name), calls.value_of(value)) for name, value in _pairs(other, named)]
+        file = self._opened
+        file.must_write()
+        with file.alone:
+            for done, entry in enumerate(entries):
+                try:
+                    file.change(calls.put, *entry)
+                except BaseException as error:
+                    _tell(error, done, len(entries))
+                    raise
+
+    def clear(self) -> None:
+        """Remove every name. Each is a change of its own, so a kill may leave some."""
+        file = self._opened
+        file.must_write()
+        with file.alone:
+            for name, _ in self.range():
+                file.change(calls.remove, name)
 
     # The maintainer's calls.
 
-    def check(self) -> Literal["sound", "cut", "bad"]:
-        """What the file on disk is now. A reader may see a file cut while its writer is between two stores.
+    def check(self) -> reasons.State:
+        """What the file on disk is now: 'sound', 'cut' or 'bad', a string whose `reason` says why it is not sound.
+
+        A reader may see a file cut while its writer is between two stores.
 
         >>> palhavento.open("checked.tkf").check()
         'sound'
         """
-        with self._alone:
-            return _STATES[library.check(self._disk.read())]
+        with self._opened.alone:
+            return reasons.state(self._opened.read(anew=True))
 
     def recover(self) -> int | None:
         """Make a cut file sound and give the slot that was freed; None where there was nothing to do.
@@ -281,10 +401,7 @@ class Store(MutableMapping[str, int]):
         >>> palhavento.open("sound.tkf").recover() is None
         True
         """
-        if self._disk.readonly:
-            raise io.UnsupportedOperation(f"{self.path}: the store is open for reading only")
-        with self._alone:
-            return self._recovered(self._disk.read())[1]
+        return self._opened.recover()
 
     def rebuild(self) -> None:
         """Make the trie anew from the file's bounds.
@@ -296,8 +413,18 @@ class Store(MutableMapping[str, int]):
         ...     grown.digit, store.trie().cells[0].digit
         ('o', 'i')
         """
-        with self._alone:
-            self._trie = self._rebuilt(self._disk.read())
+        self._opened.rebuild()
+
+    def flush(self) -> None:
+        """Wait until every change is on disk, for a store that does not wait for each (`sync=False`).
+
+        >>> with palhavento.open("results.tkf", sync=False) as store:
+        ...     store["run.1"] = 1
+        ...     store.flush()
+        """
+        with self._opened.alone:
+            self._opened.read()
+            self._opened.disk.flush()
 
     def stats(self) -> layout.Stats:
         """How full the file is.
@@ -313,10 +440,10 @@ class Store(MutableMapping[str, int]):
         """The file and the trie that agrees with it, as to list asks for."""
 
         def both(file: bytes, trie: bytes) -> tuple[bytes, bytes]:
-            library.entries(file, trie, HIGHEST, LOWEST, room=0)
+            calls.entries(file, trie, HIGHEST, LOWEST)
             return file, trie
 
-        return self._ask(both)
+        return self._opened.ask(both)
 
     def buckets(self) -> list[layout.Bucket]:
         """The buckets in range order.
@@ -345,10 +472,10 @@ class Store(MutableMapping[str, int]):
 
     def _repr_svg_(self) -> str | None:
         """The store as a notebook shows it; a closed one has no picture, only its repr."""
-        return None if self._disk.closed else self.svg()._repr_svg_()
+        return None if self.closed else self.svg()._repr_svg_()
 
     def _repr_html_(self) -> str | None:
-        return None if self._disk.closed else self.svg()._repr_html_()
+        return None if self.closed else self.svg()._repr_html_()
 
     def trie_svg(self) -> drawing.Picture:
         """The trie with its logical paths: SVG text, which a notebook draws.
@@ -360,16 +487,23 @@ class Store(MutableMapping[str, int]):
 
     # Its life.
 
+    @property
+    def closed(self) -> bool:
+        """Whether the store was closed."""
+        return isinstance(self._opened, _Closed)
+
     def close(self) -> None:
-        """Close the file, and let another process write it. A second time does nothing.
+        """Close the store; with the last store of its file here, the file, and another process may write it.
 
         >>> store = palhavento.open("closed.tkf", b=4, slots=8)
         >>> store.close()
         >>> store
         <palhavento.Store 'closed.tkf', b=4, slots=8, closed>
+        >>> store.close()
         """
-        with self._alone:
-            self._disk.close()
+        if not self.closed:
+            file, self._opened = self._opened, cast(opened.Opened, _Closed(self.path))
+            file.leave(self)
 
     def __enter__(self) -> Store:
         return self
@@ -379,10 +513,44 @@ class Store(MutableMapping[str, int]):
     ) -> None:
         self.close()
 
+    def __reduce_ex__(self, protocol: object) -> NoReturn:
+        """Neither copied nor pickled: it is an open file.
+
+        >>> import copy
+        >>> copy.copy(palhavento.open("one.tkf"))
+        Traceback (most recent call last):
+        TypeError: a store is an open file: snapshot() copies what it holds, and palhavento.open opens its path again
+        """
+        raise TypeError("a store is an open file: snapshot() copies what it holds, and palhavento.open opens its path again")
+
     def __repr__(self) -> str:
         """
         >>> palhavento.open("shown.tkf", b=4, slots=8)
         <palhavento.Store 'shown.tkf', b=4, slots=8>
+        >>> palhavento.open("shown.tkf", readonly=True)
+        <palhavento.Store 'shown.tkf', b=4, slots=8, readonly>
         """
-        closed = ", closed" if self._disk.closed else ""
-        return f"<palhavento.Store {self.path!r}, b={self.b}, slots={self.slots}{closed}>"
+        more = ", readonly" * self.readonly + ", closed" * self.closed
+        return f"<palhavento.Store {self.path!r}, b={self.b}, slots={self.slots}{more}>"
+
+
+def _pairs(other: Any, named: dict[str, int]) -> Iterable[tuple[Name, int]]:
+    """What `update` is given, as `dict.update` takes it."""
+    if isinstance(other, Mapping):
+        yield from other.items()
+    elif hasattr(other, "keys"):
+        yield from ((name, other[name]) for name in other.keys())
+    else:
+        yield from other
+    yield from named.items()
+
+
+def _tell(error: BaseException, done: int, total: int) -> None:
+    """Have an error say how many of the entries were put before it."""
+    told = f"Of {total} entries {done} were put."
+    if isinstance(error, PalhaventoError):
+        error.sentence = f"{error.sentence} {told}"
+        error.args = error.number, error.sentence
+    else:
+        error.add_note(told)
+    error.put = done  # type: ignore[attr-defined]

@@ -1,15 +1,17 @@
-"""Stores reach the disk in order, each by one write of one slot; files appear whole; damage is refused."""
+"""Stores reach the disk in order, each first in the journal; files appear whole; damage is refused."""
 
 from __future__ import annotations
 
+import contextlib
 import os
+import time
 import unittest
 from unittest import mock
 
 from support import WORDS, InFolder, cut_file, sound_file
 
 import palhavento
-from palhavento import errors, library
+from palhavento import disk, errors, journal, library
 
 
 class Stores(InFolder):
@@ -17,16 +19,19 @@ class Stores(InFolder):
         super().setUp()
         self.path.write_bytes(sound_file(["rate1", "rate2"], b=2, slots=3))
 
-    def stores_of(self, store: palhavento.Store, name: str, value: int | None) -> list[object]:
-        """What a put, or a remove where there is no value, asks of the system to be written, in order."""
+    def asked_by(self, store: palhavento.Store, name: str, value: int | None) -> list[object]:
+        """What a put, or a remove where there is no value, asks of the system to be written and synced, in order."""
         asked: list[object] = []
 
+        def which(file: int) -> str:
+            return os.path.basename(os.readlink(f"/proc/self/fd/{file}")).removeprefix("store.")
+
         def pwrite(file: int, content: bytes, offset: int) -> int:
-            asked.append((offset, len(content)))
+            asked.append((which(file), offset, len(content)))
             return os_pwrite(file, content, offset)
 
         os_pwrite = os.pwrite
-        synced = mock.patch("os.fdatasync", lambda file: asked.append("synced"))
+        synced = mock.patch("os.fdatasync", lambda file: asked.append(f"{which(file)} synced"))
         with mock.patch("os.pwrite", pwrite), synced:
             if value is None:
                 del store[name]
@@ -34,47 +39,86 @@ class Stores(InFolder):
                 store[name] = value
         return asked
 
-    def test_a_call_is_one_slot_and_a_split_two_the_new_slot_first(self) -> None:
+    def test_a_store_is_in_the_journal_before_it_is_in_the_file(self) -> None:
         with palhavento.open(self.path) as store:
-            self.assertEqual(self.stores_of(store, "rate2", 5), [(16, 128), "synced"])
-            self.assertEqual(self.stores_of(store, "rate3", 3), [(144, 128), "synced", (16, 128), "synced"])
-            self.assertEqual(self.stores_of(store, "rate3", None), [(144, 128), "synced"])
+            self.assertEqual(
+                self.asked_by(store, "rate2", 5),
+                [("tkf.journal", 0, 73_728), ("tkf.journal", 4096, 160), "tkf.journal synced", ("tkf", 16, 128)],
+            )
+            # A split is two stores, the new slot's first.
+            self.assertEqual(
+                self.asked_by(store, "rate3", 3),
+                [("tkf.journal", 4608, 160), "tkf.journal synced", ("tkf", 144, 128),
+                 ("tkf.journal", 5120, 160), "tkf.journal synced", ("tkf", 16, 128)],
+            )
+            self.assertEqual(
+                self.asked_by(store, "rate3", None),
+                [("tkf.journal", 5632, 160), "tkf.journal synced", ("tkf", 144, 128)],
+            )
             self.assertEqual(dict(store), {"rate1": 1, "rate2": 5})
+
+    def test_the_file_is_synced_when_a_half_of_the_journal_is_full(self) -> None:
+        with palhavento.open(self.path) as store:
+            asked = [self.asked_by(store, "rate2", value) for value in range(5, 200)]
+            turns = [place for place, calls in enumerate(asked) if "tkf synced" in calls]
+            self.assertEqual(turns, [64, 128, 192])
+            half = 4096 + 64 * 512
+            self.assertEqual(
+                asked[64],
+                ["tkf synced", ("tkf.journal", half, 512 + 400), ("tkf.journal", half + 4096, 160), "tkf.journal synced",
+                 ("tkf", 16, 128)],
+            )
+            # All others wait for the disk once.
+            self.assertEqual({tuple(map(str, calls)).count("tkf.journal synced") for calls in asked}, {1})
 
     def test_a_slot_that_stays_as_it_was_is_not_written(self) -> None:
         with palhavento.open(self.path) as store:
-            self.assertEqual(self.stores_of(store, "rate2", 2), [])
+            self.assertEqual(self.asked_by(store, "rate2", 2), [])
 
     def test_the_sync_can_be_turned_off(self) -> None:
         with palhavento.open(self.path, sync=False) as store:
-            self.assertEqual(self.stores_of(store, "rate3", 3), [(144, 128), (16, 128)])
+            store["rate1"] = 7
+            self.assertEqual(
+                self.asked_by(store, "rate3", 3),
+                [("tkf.journal", 4608, 160), ("tkf", 144, 128), ("tkf.journal", 5120, 160), ("tkf", 16, 128)],
+            )
+            with mock.patch("os.fdatasync") as sync:
+                store.close()
+            sync.assert_not_called()
+
+    def test_flush_syncs_all_that_was_stored_and_begins_anew(self) -> None:
+        with contextlib.closing(disk.Disk(self.path, readonly=False, sync=False)) as file:
+            file.flush()
+            content = file.read()
+            file.store(16, content[144:272])
+            with mock.patch("os.fdatasync", side_effect=os.fdatasync) as sync:
+                file.flush()
+            self.assertEqual(sync.call_count, 2)
+            left = (self.folder / "store.tkf.journal").read_bytes()
+            self.assertEqual(journal.found(left, self.path.read_bytes())[1:], (0, 3))
+        self.assertEqual(os.listdir(self.folder), [self.path.name])
 
     def test_the_file_after_each_store_is_the_one_a_stop_leaves(self) -> None:
         before = self.path.read_bytes()
-        states = [library.put(before, library.rebuild(before), b"rate3", 3, limit).file for limit in (1, 2)]
+        states = [library.put(before, library.rebuild(before), b"rate3", 3, limit).file for limit in (0, 1)]
         seen = []
         with palhavento.open(self.path) as store:
             with mock.patch("os.fdatasync", lambda file: seen.append(self.path.read_bytes())):
                 store["rate3"] = 3
-        self.assertEqual(seen, states)
+                self.assertEqual(seen, states)
 
-    def test_a_call_that_fails_between_its_stores_counts_as_never_made(self) -> None:
-        for fault in (OSError("the disk fails"), KeyboardInterrupt()):
-            with self.subTest(fault=fault), palhavento.open(self.path) as store:
-                with mock.patch("os.fdatasync", side_effect=fault), self.assertRaises(type(fault)):
-                    store["rate3"] = 3
-                self.assertEqual(store.check(), "cut")
-                self.assertEqual((store["rate2"], store.get("rate3")), (2, None))
-                with self.assertLogs("palhavento", "WARNING") as logged:
-                    self.assertEqual(dict(store), {"rate1": 1, "rate2": 2})
-                self.assertIn("recovered by freeing slot 1", logged.output[0])
-                self.assertEqual(store.check(), "sound")
-
-    def test_a_store_written_in_part_is_told(self) -> None:
+    def test_a_closed_store_is_complete_and_alone(self) -> None:
         with palhavento.open(self.path) as store:
-            with mock.patch("os.pwrite", return_value=100), self.assertRaisesRegex(OSError, "in part"):
-                store["rate2"] = 5
-            self.assertEqual(store["rate2"], 2)
+            store["rate1"] = 5
+            self.assertEqual(sorted(os.listdir(self.folder)), ["store.tkf", "store.tkf.journal"])
+        self.assertEqual(os.listdir(self.folder), ["store.tkf"])
+        (self.folder / "copy").write_bytes(self.path.read_bytes())
+        self.assertEqual(dict(palhavento.open(self.folder / "copy")), {"rate1": 5, "rate2": 2})
+
+    def test_to_open_and_to_read_leave_no_journal(self) -> None:
+        with palhavento.open(self.path) as store:
+            self.assertEqual(store["rate1"], 1)
+            self.assertEqual(os.listdir(self.folder), ["store.tkf"])
 
 
 class Opening(InFolder):
@@ -121,8 +165,10 @@ class Opening(InFolder):
             (self.folder / "other").write_bytes(sound_file(["b"], b=2, slots=2))
             with palhavento.open(self.path) as writer, palhavento.open(self.path, readonly=True) as reader:
                 away(self.path)
+                # A writer that only reads looks for its file every so often.
+                time.sleep(disk.LOOK_AGAIN)
                 for call in (lambda: writer.__setitem__("a", 2), lambda: writer.get("a"), lambda: reader.get("a")):
-                    with self.assertRaisesRegex(FileNotFoundError, "removed or replaced"):
+                    with self.assertRaisesRegex(FileNotFoundError, "removed, renamed or replaced"):
                         call()
 
     def test_a_store_let_go_ends_its_lock(self) -> None:

@@ -6,13 +6,14 @@ import contextlib
 import io
 import os
 import pickle
+import time
 import unittest
 from unittest import mock
 
 from support import InFolder, cut_file, sound_file
 
 import palhavento
-from palhavento import errors, library
+from palhavento import disk, errors, library
 
 NUMBERS = {
     errors.IllegalName: 1,
@@ -75,6 +76,33 @@ class Raised(InFolder):
         with self.assertRaises(ValueError):
             store.get("a b")
 
+    def test_an_illegal_name_is_told_what_is_wrong_with_it(self) -> None:
+        store = self.open()
+        rule = "A name has 1 to 24 bytes, each 0x21 to 0x7D"
+        for name, shown, wrong in (
+            ("a b", "'a b'", "byte 2 of this one is 0x20 (a blank)"),
+            ("", "''", "this one is empty"),
+            ("x" * 25, f"'{'x' * 25}'", "this one has 25"),
+            ("x" * 1000, f"'{'x' * 32}'...", "this one has 1000"),
+            ("y z" + "x" * 22, f"'y z{'x' * 22}'", "this one has 25, and byte 2 is 0x20 (a blank)"),
+            ("gdp~", "'gdp~'", "byte 4 of this one is 0x7E ('~')"),
+            ("gdp\n", "'gdp\\n'", "byte 4 of this one is 0x0A (a line feed)"),
+            ("preço", "'preço'", "byte 4 of this one is 0xC3 (of 'ç')"),
+            ("\ud800", "'\\ud800'", "byte 1 of this one is 0xED"),
+            (b"a\xff", "'a\\xff'", "byte 2 of this one is 0xFF"),
+        ):
+            for call in (store.__getitem__, store.__contains__, store.__delitem__, lambda name: store.range("a", name),
+                         lambda name: store.update([(name, 1)])):
+                with self.assertRaises(errors.IllegalName) as caught:
+                    call(name)
+                self.assertEqual(str(caught.exception), f"{shown}: {rule}; {wrong}.")
+
+    def test_a_bad_file_is_told_what_is_wrong_with_it(self) -> None:
+        self.path.write_bytes(sound_file(["a"], b=2, slots=2)[:-1])
+        for readonly in (False, True):
+            with self.assertRaisesRegex(errors.BadFile, r"store\.tkf: length: it has 271 bytes, .* \(R2\.7\): The file is neither"):
+                palhavento.open(self.path, readonly=readonly)
+
     def test_bad_file(self) -> None:
         self.path.write_bytes(b"not a file of names")
         self.refused(errors.BadFile, palhavento.open, self.path)
@@ -86,6 +114,8 @@ class Raised(InFolder):
             self.path.write_bytes(sound_file(["a"], b=2, slots=2))
             with self.open(readonly=readonly) as store:
                 self.path.write_bytes(b"TKF")
+                # A writer takes its file for its own, and looks every so often whether it is.
+                time.sleep(disk.LOOK_AGAIN)
                 self.refused(errors.BadFile, store.__getitem__, "a")
                 self.refused(errors.BadFile, store.__len__)
                 self.refused(errors.BadFile, store.rebuild)
@@ -108,8 +138,8 @@ class Raised(InFolder):
         self.path.write_bytes(sound_file(["rate1", "rate2", "rate3"], b=2, slots=3))
         store = self.open()
         # A trie that stays stale when it is rebuilt, as no file gives one.
-        store._trie = bytes(library.TRIE_BYTES)
-        with mock.patch.object(library, "rebuild", return_value=store._trie) as rebuild:
+        store._opened.trie = bytes(library.TRIE_BYTES)
+        with mock.patch.object(library, "rebuild", return_value=store._opened.trie) as rebuild:
             self.refused(errors.StaleTrie, store.__getitem__, "rate3")
             self.refused(errors.StaleTrie, store.__setitem__, "rate4", 4)
         self.assertEqual(rebuild.call_count, 2)

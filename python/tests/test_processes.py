@@ -8,6 +8,7 @@ from __future__ import annotations
 import os
 import random
 import signal
+import threading
 import time
 import unittest
 from collections.abc import Callable
@@ -139,30 +140,104 @@ class Together(InFolder):
 
         child, listen = forked(finish)
         # More patience than a user has, for a machine that is busy.
-        with mock.patch("palhavento.store._PAUSES", [0.01] * 500):
+        with mock.patch("palhavento.opened._PAUSES", [0.01] * 500):
             with palhavento.open(self.path, readonly=True) as store:
                 self.assertEqual(dict(store), {})
         self.ends(child)
         os.close(listen)
 
     def test_a_forked_child_must_open_the_file_itself(self) -> None:
-        with palhavento.open(self.path) as store:
+        with palhavento.open(self.path) as store, palhavento.open(self.path, readonly=True) as reader:
+            store["a"] = 1
 
             def use(tell: int) -> None:
-                for call in (lambda: store.__setitem__("a", 1), lambda: store.get("a")):
+                for call in (lambda: store.__setitem__("a", 2), lambda: store.get("a"), lambda: reader.get("a")):
                     try:
                         call()
                     except errors.Locked:
                         os.write(tell, b"l")
+                # What the refusals advise.
+                with palhavento.open(self.path, readonly=True) as own:
+                    os.write(tell, str(own["a"]).encode())
                 store.close()
+                reader.close()
+                # That close has not ended the parent's lock.
+                try:
+                    palhavento.open(self.path)
+                except errors.Locked as refused:
+                    os.write(tell, b"p" if f"process {os.getppid()} " in str(refused) else b"?")
 
             child, listen = forked(use)
             self.ends(child)
-            self.assertEqual(heard(listen), b"ll")
-            # The child's close has not ended the parent's lock.
-            with self.assertRaises(errors.Locked):
-                palhavento.open(self.path)
+            self.assertEqual(heard(listen), b"lll1p")
+            store["a"] = 3
+            self.assertEqual((store["a"], reader["a"]), (3, 3))
+
+    def test_a_forked_child_writes_once_its_parent_has_closed_the_file(self) -> None:
+        wait, go = os.pipe()
+        store = palhavento.open(self.path, sync=False)
+
+        def write(tell: int) -> None:
+            os.read(wait, 1)
+            with palhavento.open(self.path, sync=False) as own:
+                os.write(tell, str(own.increment("a")).encode())
+
+        store["a"] = 1
+        child, listen = forked(write)
+        store.close()
+        os.write(go, b"!")
+        self.ends(child)
+        self.assertEqual(heard(listen), b"2")
+        os.close(wait)
+        os.close(go)
+
+    def test_a_lock_does_not_last_as_long_as_a_forked_child(self) -> None:
+        def middle(tell: int) -> None:
+            store = palhavento.open(self.path)
             store["a"] = 1
+            if os.fork() == 0:
+                os.write(tell, f"{os.getpid()} ".encode())
+                signal.pause()
+                os._exit(0)
+            os.kill(os.getpid(), signal.SIGKILL)
+
+        child, listen = forked(middle)
+        os.waitpid(child, 0)
+        grandchild = int(os.read(listen, 100))
+        try:
+            with palhavento.open(self.path, timeout=5) as store:
+                self.assertEqual(store["a"], 1)
+        finally:
+            os.kill(grandchild, signal.SIGKILL)
+            os.close(listen)
+
+    def test_a_fork_in_the_middle_of_another_threads_call(self) -> None:
+        """The child must not wait for a thread that it has not got."""
+        with palhavento.open(self.path) as store:
+            inside, done = threading.Event(), threading.Event()
+
+            def hold() -> None:
+                with store._opened.alone:
+                    inside.set()
+                    done.wait()
+
+            thread = threading.Thread(target=hold)
+            thread.start()
+            inside.wait()
+
+            def use(tell: int) -> None:
+                signal.alarm(10)
+                try:
+                    store["a"] = 1
+                except errors.Locked:
+                    os.write(tell, b"l")
+                store.close()
+
+            child, listen = forked(use)
+            done.set()
+            thread.join()
+            self.ends(child)
+            self.assertEqual(heard(listen), b"l")
 
     def test_many_create_at_once_and_one_writes(self) -> None:
         def try_it(tell: int) -> None:

@@ -1,0 +1,208 @@
+"""The calls by the extension and by ctypes give the same, whatever they are lent; and the extension takes nothing else."""
+
+from __future__ import annotations
+
+import os
+import random
+import subprocess
+import sys
+import unittest
+from collections.abc import Callable
+from pathlib import Path
+
+from support import WORDS, cut_file, sound_file
+
+import palhavento
+from palhavento import calls, errors, library
+
+TESTS = Path(__file__).resolve().parent
+
+# A file that was stored in, its trie, and one that is stale.
+FILE = sound_file(WORDS, b=4, slots=8)
+TRIE = library.rebuild(FILE)
+STALE = library.create(4, 8)[1]
+
+
+def outcome(call: Callable[..., object], *given: object) -> object:
+    """What a call gives, or what it raises."""
+    try:
+        return call(*given)
+    except Exception as error:
+        return type(error), error.args
+
+
+class Index:
+    """What counts as an int."""
+
+    def __index__(self) -> int:
+        return 7
+
+
+class BothWays(unittest.TestCase):
+    def setUp(self) -> None:
+        # The gate compiles the extension: without it these tests would compare ctypes with itself.
+        self.assertEqual(getattr(calls.used, "__name__", ""), "palhavento._calls", "run `make python`")
+
+    def same(self, name: str, *given: object) -> object:
+        """What both ways give."""
+        by_extension = outcome(getattr(calls.used, name), *given)
+        self.assertTrue(by_extension == outcome(getattr(calls.ByCtypes, name), *given), name)
+        return by_extension
+
+    def test_each_answer(self) -> None:
+        self.assertEqual(self.same("look_up", FILE, TRIE, "that"), 7)
+        self.assertEqual(self.same("look_up", FILE, TRIE, b"that"), 7)
+        self.assertIsNone(self.same("look_up", FILE, TRIE, "absent"))
+        self.assertEqual(self.same("put", FILE, TRIE, "that", 7, 0)[0], library.STOPPED)
+        self.assertEqual(self.same("put", FILE, TRIE, "that", 8, 1)[0], library.REPLACED)
+        self.assertEqual(self.same("put", FILE, TRIE, "new", 2**64 - 1, 2)[0], library.ADDED)
+        self.assertEqual(self.same("remove", FILE, TRIE, "that", 1)[0], library.REMOVED)
+        self.assertEqual(self.same("remove", FILE, TRIE, "absent", 1), (library.ABSENT, FILE, TRIE))
+        self.assertEqual(self.same("entries", FILE, TRIE, "i", "of"), [("i", 9), ("in", 6), ("is", 8), ("of", 2)])
+        self.assertEqual(self.same("entries", FILE, TRIE, "z", "a"), [])
+        self.assertEqual(self.same("count", FILE, TRIE), 9)
+        self.assertIsNone(self.same("changed", FILE, FILE))
+
+    def test_each_refusal(self) -> None:
+        for name in ("", "a b", "x" * 25, "preço", "\ud800", b"\xff", "a\0"):
+            self.assertIs(self.same("look_up", FILE, TRIE, name)[0], errors.IllegalName)
+            self.assertIs(self.same("put", FILE, TRIE, name, 1, 2)[0], errors.IllegalName)
+            self.assertIs(self.same("remove", FILE, TRIE, name, 2)[0], errors.IllegalName)
+            self.assertIs(self.same("entries", FILE, TRIE, name, "a")[0], errors.IllegalName)
+            self.assertIs(self.same("entries", FILE, TRIE, "a", name)[0], errors.IllegalName)
+        cut, full = cut_file(), sound_file(["a", "b"], b=2, slots=1)
+        for file, trie, kind in (
+            (b"", TRIE, errors.BadFile), (FILE[:-1], TRIE, errors.BadFile), (FILE, STALE, errors.StaleTrie),
+            (cut, library.rebuild(sound_file(["rate1", "rate2"], b=2, slots=3)), errors.CutFile),
+            (FILE, TRIE[:-1], errors.Malformed), (FILE, TRIE + b"\0", errors.Malformed), (FILE, b"", errors.Malformed),
+        ):
+            self.assertIs(self.same("put", file, trie, "c", 1, 2)[0], kind)
+            self.assertIs(self.same("remove", file, trie, "c", 2)[0], kind)
+            self.assertIs(self.same("entries", file, trie, "a", "z")[0], kind)
+            self.assertIs(self.same("count", file, trie)[0], kind)
+        self.assertIs(self.same("look_up", FILE, STALE, "that")[0], errors.StaleTrie)
+        self.assertIs(self.same("put", full, library.rebuild(full), "c", 1, 2)[0], errors.FileFull)
+        self.assertIs(self.same("put", FILE, TRIE, "c", 1, 3)[0], errors.WrongSize)
+
+    def test_what_counts_as_an_int(self) -> None:
+        for value in (Index(), True, 0, 2**63, 2**64 - 1):
+            _, file, trie = self.same("put", FILE, TRIE, "new", value, 2)
+            self.assertEqual(self.same("look_up", file, trie, "new"), value if isinstance(value, int) else 7)
+        for value in (-1, 2**64, 2**200):
+            self.assertIs(self.same("put", FILE, TRIE, "new", value, 2)[0], OverflowError)
+        for value in (1.0, "1", None):
+            self.assertIs(self.same("put", FILE, TRIE, "new", value, 2)[0], TypeError)
+
+    def test_other_types_are_no_names(self) -> None:
+        for name in (1, None, bytearray(b"that"), memoryview(b"that"), ["that"]):
+            for given in ((FILE, TRIE, name), (FILE, TRIE, name, 1, 2), (FILE, TRIE, name, 2)):
+                call = {3: "look_up", 5: "put", 4: "remove"}[len(given)]
+                self.assertIs(self.same(call, *given)[0], TypeError)
+
+    def test_a_name_may_be_of_a_subclass(self) -> None:
+        self.assertEqual(self.same("look_up", FILE, TRIE, type("S", (str,), {})("that")), 7)
+        self.assertEqual(self.same("look_up", FILE, TRIE, type("B", (bytes,), {})(b"that")), 7)
+
+    def test_histories_and_damage(self) -> None:
+        chance = random.Random(5)
+        for turn in range(40):
+            b, slots = chance.choice((2, 3, 4, 16)), chance.choice((1, 2, 8, 64))
+            file, trie = library.create(b, slots)
+            for _ in range(chance.choice((4, 40))):
+                name = "".join(chance.choice("abc}!") for _ in range(chance.choice((1, 2, 5, 24))))
+                call, given = ("put", (name, chance.getrandbits(64))) if chance.random() < 0.8 else ("remove", (name,))
+                stopped = self.same(call, file, trie, *given, 1)
+                made = self.same(call, file, trie, *given, 2)
+                if isinstance(made[0], int):
+                    for before, after in ((file, stopped[1]), (stopped[1], made[1])):
+                        change = self.same("changed", before, after)
+                        if change:
+                            at, slot = change
+                            self.assertEqual(before[:at] + slot + before[at + len(slot) :], after)
+                    file, trie = made[1:]
+                self.same("look_up", file, trie, name)
+            self.same("entries", file, trie, "!", "}" * 24)
+            for _ in range(30):
+                damaged, worn = bytearray(file), bytearray(trie)
+                damaged[chance.randrange(len(file))] ^= 1 << chance.randrange(8)
+                worn[chance.randrange(40)] ^= 1 << chance.randrange(8)
+                for lent in ((bytes(damaged), trie), (file, bytes(worn)), (bytes(damaged), bytes(worn))):
+                    self.same("look_up", *lent, name)
+                    self.same("put", *lent, name, 1, 2)
+                    self.same("remove", *lent, name, 2)
+                    self.same("entries", *lent, "a", "}")
+                    self.same("count", *lent)
+
+    def test_what_is_lent_is_never_changed(self) -> None:
+        file, trie = bytes(bytearray(FILE)), bytes(bytearray(TRIE))
+        calls.used.put(file, trie, "new", 1, 2)
+        calls.used.remove(file, trie, "that", 2)
+        self.assertEqual((file, trie), (FILE, TRIE))
+        # Python has but one object for each single byte.
+        for single in (bytes([number]) for number in range(256)):
+            for call in (calls.used.put, calls.ByCtypes.put):
+                with self.assertRaises((errors.BadFile, errors.Malformed)):
+                    call(single, single, "new", 1, 2)
+        self.assertEqual([bytes([number])[0] for number in range(256)], list(range(256)))
+
+    def test_files_that_cannot_be_compared(self) -> None:
+        for before, after in ((b"", b""), (FILE, FILE[:-1]), (bytes(143), bytes(143))):
+            self.assertIs(self.same("changed", before, after)[0], ValueError)
+        # The slots of a file that has no such b end with the file.
+        for b in (0, 1, 17, 255):
+            before = FILE[:5] + bytes([b]) + FILE[6:]
+            self.same("changed", before, before[:-1] + b"x")
+
+
+class TheExtension(unittest.TestCase):
+    def test_it_takes_bytes_only(self) -> None:
+        for other in (bytearray(FILE), memoryview(FILE), "file", None, 1):
+            for given in ((other, TRIE), (FILE, other)):
+                for name, more in (("look_up", ("a",)), ("put", ("a", 1, 2)), ("remove", ("a", 2)),
+                                   ("entries", ("a", "b")), ("count", ()), ("changed", ())):
+                    with self.subTest(name=name, other=other), self.assertRaises(TypeError):
+                        getattr(calls.used, name)(*given, *more)
+
+    def test_it_takes_so_many_arguments(self) -> None:
+        for name, wanted in (("look_up", 3), ("put", 5), ("remove", 4), ("entries", 4), ("count", 2), ("changed", 2)):
+            for count in {*range(8)} - {wanted}:
+                with self.assertRaisesRegex(TypeError, f"{name} takes {wanted} arguments, not {count}"):
+                    getattr(calls.used, name)(*[FILE] * count)
+
+    def test_a_library_without_the_calls_is_not_loaded(self) -> None:
+        program = """if True:
+            import sys
+            from palhavento import _calls
+            try:
+                _calls.look_up(b"", b"", "a")
+            except RuntimeError as error:
+                print(error)
+            for path in sys.argv[1:]:
+                try:
+                    _calls.load(path, print, print, print)
+                except ImportError as error:
+                    print("ImportError")
+        """
+        # The package loads the library when it is imported, so this leaves the package out.
+        program = program.replace("from palhavento import _calls", "import _calls")
+        folder = str(Path(palhavento.__file__).parent)
+        printed = subprocess.check_output([sys.executable, "-c", program, "/nowhere.so", calls.used.__file__], text=True,
+                                          env={**os.environ, "PYTHONPATH": folder})
+        self.assertEqual(printed, "the library is not loaded\nImportError\nImportError\n")
+
+
+class WithoutTheExtension(unittest.TestCase):
+    def test_the_package_does_the_same(self) -> None:
+        """The tests of the mapping and of its refusals, where Python finds no extension."""
+        program = (
+            "import sys, unittest; sys.modules['palhavento._calls'] = None; sys.path.insert(0, sys.argv[1]);"
+            "import support; from palhavento import calls; assert calls.used is calls.ByCtypes;"
+            "unittest.main(None, argv=['', 'test_mapping', 'test_errors'])"
+        )
+        ran = subprocess.run([sys.executable, "-c", program, str(TESTS)], capture_output=True, text=True)
+        self.assertEqual(ran.returncode, 0, ran.stderr)
+        self.assertRegex(ran.stderr, r"Ran [3-9]\d tests")
+
+
+if __name__ == "__main__":
+    unittest.main()
