@@ -131,7 +131,7 @@ BETWEEN = 16
 LOAD_WIDTH, COUNT_WIDTH = 112, 56
 # The names of a bucket get as many lines as they need, while the picture has no more lines than this.
 MOST_LINES = 40
-# A store of more buckets than this is drawn in two columns, a line a bucket.
+# A store of more buckets than this is drawn in two columns.
 ONE_COLUMN = 24
 COLUMN_GAP = 36
 TOP = 98
@@ -158,7 +158,7 @@ def store_svg(contents: Sequence[tuple[Bucket, Sequence[Entry]]], b: int, slots:
     parts = [
         _text(MARGIN, MARGIN + 13, held.capitalize(), size=15, font=SANS, weight="bold"),
         *_gauge(MARGIN, MARGIN + 26, width - 2 * MARGIN, names, inside, room - inside),
-        _text(MARGIN, MARGIN + 54, _room_told(inside, free, b, slots - len(contents)), size=12, font=SANS, fill=QUIET),
+        _text(MARGIN, MARGIN + 54, _room_told(inside, free, b, trie), size=12, font=SANS, fill=QUIET),
         *body,
     ]
     notes = []
@@ -188,16 +188,18 @@ def _full(contents: Sequence[tuple[Bucket, Sequence[Entry]]], b: int, slots: int
             if bucket.entries == b and (none_free or no_string and leaves[bucket.slot] < 2)}
 
 
-def _room_told(inside: int, free: int, b: int, unused: int) -> str:
+def _room_told(inside: int, free: int, b: int, trie: Trie) -> str:
     """What room there is, in a sentence."""
-    why = "a split would need more than 256 strings" if unused else "no slot is free"
+    no_string = trie.count == MOST_STRINGS
+    why = "all strings are in use" if no_string else "no slot is free"
     if not inside and not free:
         return f"Full: every new name is refused, as {why}."
     if not free:
         return f"Room for up to {inside} more in these buckets; {why}."
     here = f"{inside} in these buckets and " if inside else ""
     there = f"{free * b} in {_counted(free, 'free slot', 'free slots')}"
-    return f"Room for up to {inside + free * b} more: {here}{there}."
+    if_so = ", where a split needs no new string" if no_string else ""
+    return f"Room for up to {inside + free * b} more: {here}{there}{if_so}."
 
 
 def _gauge(x: float, y: float, width: float, names: int, inside: int, outside: int) -> Iterator[str]:
@@ -298,8 +300,7 @@ def _one_column(contents: Sequence[tuple[Bucket, Sequence[Entry]]], b: int, full
     names_width = min(max(wanted, NARROWEST - fixed), max(WIDEST - fixed, _wide(LONGEST, NAME)))
     width = fixed + names_width
     lines = [_in_lines(entries, names_width, NAME) for _, entries in contents]
-    most = next(count for count in range(16, 0, -1)
-                if count == 1 or sum(min(count, len(own)) for own in lines) <= MOST_LINES)
+    most = _most([lines])
     x, y, right = MARGIN + bound_width, float(TOP), width - MARGIN
     parts = []
     for (bucket, entries), own in zip(contents, lines):
@@ -322,23 +323,37 @@ def _rung(y: float, x: float, right: float, bound: str) -> str:
     return name + _line(x, y, right, y, HAIR)
 
 
+def _most(columns: Sequence[Sequence[list[list[Placed]]]]) -> int:
+    """How many lines a bucket may have."""
+    for count in range(16, 1, -1):
+        if all(sum(min(count, len(lines)) for lines in column) <= MOST_LINES for column in columns):
+            return count
+    return 1
+
+
 def _two_columns(contents: Sequence[tuple[Bucket, Sequence[Entry]]], b: int, full: set[int]) -> Body:
-    """A line a bucket, in two columns: for bounds there is no place."""
+    """The buckets in two columns: for bounds there is no place."""
     names_width, load_width = _wide(LONGEST, SMALL_NAME), 64
     column = 50 + names_width + BETWEEN + load_width + COUNT_WIDTH
-    rows = -(-len(contents) // 2)
-    parts = []
-    for place, (bucket, entries) in enumerate(contents):
-        x = MARGIN + place // rows * (column + COLUMN_GAP)
-        y = TOP - 8 + place % rows * 26
-        is_full, line = bucket.slot in full, _in_a_line(entries, names_width, SMALL_NAME)
-        parts.append(_line(x, y, x + column, y, HAIR))
-        parts.append(_group("bucket", _told(bucket, entries, b, is_full), [
-            _text(x, y + 18, f"slot {bucket.slot}", size=11, font=SANS, fill=QUIET),
-            *_entries(x + 50, y + 18, [line], names_width, len(entries), SMALL_NAME),
-            *_load(x + column - load_width - COUNT_WIDTH, y + 8.5, load_width, bucket, b, is_full),
-        ]))
-    return 2 * MARGIN + 2 * column + COLUMN_GAP, TOP - 8 + rows * 26, parts
+    half = -(-len(contents) // 2)
+    lines = [_in_lines(entries, names_width, SMALL_NAME) for _, entries in contents]
+    most = _most([lines[:half], lines[half:]])
+    if most == 1:
+        lines = [[_in_a_line(entries, names_width, SMALL_NAME)] for _, entries in contents]
+    parts, ends = [], []
+    for first in (0, half):
+        x, y = MARGIN + bool(first) * (column + COLUMN_GAP), TOP - 8
+        for (bucket, entries), own in zip(contents[first : first + half], lines[first : first + half]):
+            is_full = bucket.slot in full
+            parts.append(_line(x, y, x + column, y, HAIR))
+            parts.append(_group("bucket", _told(bucket, entries, b, is_full), [
+                _text(x, y + 18, f"slot {bucket.slot}", size=11, font=SANS, fill=QUIET),
+                *_entries(x + 50, y + 18, own[:most], names_width, len(entries), SMALL_NAME),
+                *_load(x + column - load_width - COUNT_WIDTH, y + 8.5, load_width, bucket, b, is_full),
+            ]))
+            y += 6 + LINE * min(most, len(own))
+        ends.append(y)
+    return 2 * MARGIN + 2 * column + COLUMN_GAP, max(ends), parts
 
 
 # The trie: inner nodes over their leaves, as Figure 1 of the first source in docs/RULES.md has them.
@@ -435,8 +450,7 @@ def trie_svg(trie: Trie, most_leaves: int = MOST_LEAVES, most_levels: int = MOST
     title = f"the trie: {_counted(trie.count, 'cell', 'cells')} and {_counted(root.leaves, 'leaf', 'leaves')}"
     deep = (f"The deepest leaf is under {_counted(root.deepest, 'cell', 'cells')}" if trie.count
             else f"Every name goes to slot {trie.first}")
-    left_over = MOST_STRINGS - trie.count
-    room = f"there is room for {_counted(left_over, 'more cell', 'more cells')}" if left_over else "it is full"
+    room = f"there is room for {_counted(MOST_STRINGS - trie.count, 'more cell', 'more cells')}"
     top = MARGIN + 72
     # Nodes and leaves alternate from left to right, so half a step parts one from the next. Then nothing is ever drawn
     # below a leaf: the nodes on both sides of it are above it.

@@ -224,7 +224,7 @@ class Tries(Pictures):
         picture = trie_svg(trie)
         self.assert_inside(picture)
         self.assertEqual([texts(part)[0] for part in things(picture, "part")], ["241"])
-        self.assertIn("The deepest leaf is under 256 cells; it is full.", texts(ElementTree.fromstring(picture)))
+        self.assertIn("The deepest leaf is under 256 cells; there is room for no more cells.", texts(ElementTree.fromstring(picture)))
 
     def test_what_is_no_tree(self):
         for side in (("cell", 0), ("cell", 1), ("cell", -1)):
@@ -275,6 +275,7 @@ class InANotebook(InFolder):
             self.assertEqual(store.stats().strings, 256)
             self.assertGreater(store.stats().free, 0)
             self.assertIn("full", self.probed(store, palhavento.TrieFull))
+            self.assertIn("free slots, where a split needs no new string.", store.svg())
 
     def probed(self, store: palhavento.Store, refusal: type[Exception]) -> set[str]:
         """Try a new name in each bucket that is called full or has room; what the picture said of them all."""
