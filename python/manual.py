@@ -68,7 +68,7 @@ def page() -> str:
         ".SH SYNOPSIS", r"\fBpalhavento\fR \fICOMMAND\fR [\fB\-\-json\fR] \fISTORE\fR ...",
         ".SH DESCRIPTION", plain(cli.PURPOSE), ".PP", plain(DESCRIPTION),
         ".SH COMMANDS", *(line for name, parser in top.commands.items() for line in command(name, says[name], parser)),
-        ".SH OPTIONS", ".TP", r"\fB\-\-json\fR", "print one JSON object, for scripts",
+        ".SH OPTIONS", ".TP", r"\fB\-\-json\fR", "print one JSON object, for scripts; see JSON below",
         ".TP", r"\fB\-h\fR, \fB\-\-help\fR", "print help; behind a command, help about that command",
         ".TP", r"\fB\-\-version\fR", "print the version",
         ".TP", r"\fB\-\-\fR", plain("what follows are no options: palhavento put rates.tkf -- -x 3"),

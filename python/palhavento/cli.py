@@ -415,7 +415,7 @@ def parser() -> Parser:
         added = commands.add_parser(name, help=says, description=f"{says[0].upper()}{says[1:]}.",
                                     epilog=f"example:\n  palhavento {name} {example}\n\n{STATUSES}",
                                     formatter_class=argparse.RawDescriptionHelpFormatter)
-        added.add_argument("--json", action="store_true", help="print one JSON object, for scripts")
+        added.add_argument("--json", action="store_true", help="print one JSON object, for scripts; values are in it as text too")
         if run is check:
             added.add_argument("stores", metavar="STORE", nargs="+", help="a file that is a store")
         else:

@@ -320,8 +320,8 @@ class CommandLine(InFolder):
         self.store.write_bytes(sound_file(names[::-1], b=16, slots=64))
         new = self.folder / "new.tkf"
         said = self.done("compact", self.store, new)
-        self.assertRegex(said, r"^compacted \S+/new.tkf: names 299, slots 30 in place of 5\d\n"
-                               r"room left: 34 of 64 slots, \d+ of 256 strings\n$")
+        self.assertRegex(said, r"^compacted \S+/new.tkf: names 299, slots 19 in place of 5\d\n"
+                               r"room left: 45 of 64 slots, \d+ of 256 strings\n$")
         self.assertEqual(self.done("ls", new), self.done("ls", self.store))
         self.assertIn(f"{new}: File exists", self.refused(74, "compact", self.store, new))
         self.assertIn("of 299 names", self.refused(5, "compact", self.store, self.folder / "small.tkf", "--b", 4))

@@ -43,31 +43,43 @@ class Compacting(InFolder):
         return stats
 
     def test_names_that_came_in_descending_order(self) -> None:
-        stats = self.compacted(sound_file(NUMBERED[::-1], b=16, slots=64))
-        self.assertLess(stats.used, 32)
+        self.assertEqual(self.compacted(sound_file(NUMBERED[::-1], b=16, slots=64)).used, 19)
 
     def test_one_set_in_any_order_that_it_came(self) -> None:
         names = words(600, seed=1)
-        used = {self.compacted(sound_file(shuffled(names, seed), b=16, slots=64)).used for seed in range(4)}
-        self.assertEqual(len(used), 1)
-        self.assertLess(used.pop(), 45)
+        used = {self.compacted(sound_file(shuffled(names, seed), b=16, slots=64)).used for seed in range(3)}
+        self.assertEqual(used, {38})
 
-    def test_more_names_than_fit_in_any_simple_order(self) -> None:
-        names = [name.encode() for name in words(880, seed=2)]
-        values = dict.fromkeys(names, 0)
-        for order in (names, names[::-1], *(random.Random(seed).sample(names, 880) for seed in range(8))):
-            with self.assertRaises(compacting._Full):
-                compacting._filled(order, values, 16, 64)
-        file, trie = compacting._filled(compacting._planned(names, 16, 0.0), values, 16, 64)
-        self.assertEqual(layout.stats(file, trie).entries, 880)
+    def test_a_store_can_be_packed_to_the_brim(self) -> None:
+        for b, slots, names in (
+            (16, 64, words(1024, seed=2)),
+            (16, 64, [f"name{number:04}" for number in range(1024)]),
+            (5, 64, [f"run.{number}" for number in range(320)]),
+            (2, 64, words(128, seed=3, length=24)),
+            (3, 8, ["a" * length for length in range(1, 25)]),
+            (16, 4, ["z" * 23 + chr(digit) for digit in range(0x21, 0x61)]),
+        ):
+            plain = sorted(name.encode() for name in names)
+            file, trie = compacting._filled(compacting._packed(plain, b, 0.0), dict.fromkeys(plain, 7), b, slots)
+            stats = layout.stats(file, trie)
+            self.assertEqual((stats.entries, stats.used, library.check(file)), (b * slots, slots, library.SOUND))
+            # No other order comes near.
+            for order in (plain, plain[::-1], random.Random(0).sample(plain, len(plain))):
+                if b > 3:
+                    with self.assertRaises(compacting._Full):
+                        compacting._filled([(name, True) for name in order], {}, b, slots)
 
-    def test_every_order_has_every_name_once(self) -> None:
+    def test_every_way_ends_with_every_name_and_no_other(self) -> None:
         for b in (2, 3, 5, 16):
-            for names in ([], ["a"], words(40, b), words(150, b, "ab", 12), ["a" * length for length in range(1, 25)],
-                          [f"run.{number}" for number in range(9 * b)]):
+            for names in ([], ["a"], words(40, b), words(90, b, "ab", 12), ["a" * length for length in range(1, 25)],
+                          ["}" * 23 + chr(digit) for digit in range(0x60, 0x7E)], [f"run.{number}" for number in range(9 * b)]):
                 plain = sorted(name.encode() for name in names)
-                for order in compacting._orders(plain, b):
-                    self.assertEqual(sorted(order), plain)
+                for steps in compacting._ways(plain, b):
+                    held: set[bytes] = set()
+                    for name, is_put in steps:
+                        self.assertEqual(name in held, not is_put)
+                        held ^= {name}
+                    self.assertEqual(held, set(plain))
 
     def test_it_is_never_fuller_than_before(self) -> None:
         for seed in range(8):
@@ -95,7 +107,7 @@ class Compacting(InFolder):
 
     def test_what_does_not_fit_writes_nothing(self) -> None:
         self.path.write_bytes(sound_file(NUMBERED[:100], b=16, slots=64))
-        with self.assertRaisesRegex(palhavento.FileFull, r"new\.tkf: no order tried takes more than \d+ of 100 names: "):
+        with self.assertRaisesRegex(palhavento.FileFull, r"new\.tkf: of 100 names 80 fit at best: "):
             palhavento.compact(self.path, self.new, b=2, slots=40)
         with self.assertRaises(palhavento.WrongSize):
             palhavento.compact(self.path, self.new, b=17)

@@ -60,8 +60,7 @@ class InShell(InFolder):
 
 class Streams(InShell):
     def test_output_that_cannot_be_had_is_one_line_and_74(self) -> None:
-        commands = ("ls store.tkf", "ls --json store.tkf", "get store.tkf the", "check store.tkf", "stats store.tkf", "--help",
-                    "ls --help", "--version")
+        commands = ("ls store.tkf", "get --json store.tkf the", "check store.tkf", "--help", "--version")
         lines = [f"{MODULE} {command} {output}" for command in commands for output in (">&-", ">/dev/full")]
         for line, ended in zip(lines, self.shells(*lines)):
             why = "is closed" if ">&-" in line else "No space left on device"
@@ -121,10 +120,10 @@ class Interrupts(InShell):
         self.assertNotEqual(library.check(self.path.read_bytes()), library.BAD)
 
     def test_the_module_at_any_moment(self) -> None:
-        self.interrupted(f"{MODULE} put store.tkf oil 71", 12)
+        self.interrupted(f"{MODULE} put store.tkf oil 71", 10)
 
     def test_the_script_at_any_moment(self) -> None:
-        self.interrupted("palhavento import store.tkf lines.txt", 12)
+        self.interrupted("palhavento import store.tkf lines.txt", 10)
 
     def test_an_interrupted_import_says_which_line_may_be_in(self) -> None:
         lines = self.folder / "many.txt"
