@@ -1,5 +1,5 @@
-# The two commands of README, the libraries, the longer trial of kills, and the benchmark.
-.PHONY: run test kill library python bench clean
+# The two commands of README, the libraries and their installation, the longer trial of kills, the notebook, the benchmark.
+.PHONY: run test kill library python install notebook bench clean
 
 # The main job: prove, build, and run the program on the names of NAMES, one a line.
 NAMES ?= crates/overview/stdin
@@ -26,6 +26,27 @@ library:
 python: library
 	@gcc -shared -Wl,--whole-archive target/staticlib/libcapi.a -Wl,--no-whole-archive -o python/palhavento/libpalhavento.so
 	@python3 python/packing.py
+
+# The header, both libraries under the project's own name, and what pkg-config tells of them. Who packs a package gives DESTDIR,
+# which stands before every place.
+PREFIX ?= /usr/local
+ARCHIVE = target/staticlib/libcapi.a
+VERSION = $(shell sed -n 's/^\#define PALHAVENTO_VERSION_[A-Z]* //p' include/palhavento.h | paste -sd.)
+SONAME = libpalhavento.so.$(firstword $(subst ., ,$(VERSION)))
+install: library
+	@install -d "$(DESTDIR)$(PREFIX)/include" "$(DESTDIR)$(PREFIX)/lib/pkgconfig"
+	@install -m 644 include/palhavento.h "$(DESTDIR)$(PREFIX)/include"
+	@install -m 644 $(ARCHIVE) "$(DESTDIR)$(PREFIX)/lib/libpalhavento.a"
+	@gcc -shared -Wl,-soname,$(SONAME) -Wl,--whole-archive $(ARCHIVE) -Wl,--no-whole-archive \
+		-o "$(DESTDIR)$(PREFIX)/lib/libpalhavento.so.$(VERSION)"
+	@ln -sf libpalhavento.so.$(VERSION) "$(DESTDIR)$(PREFIX)/lib/$(SONAME)"
+	@ln -sf $(SONAME) "$(DESTDIR)$(PREFIX)/lib/libpalhavento.so"
+	@sed 's|@PREFIX@|$(PREFIX)|; s|@VERSION@|$(VERSION)|' include/palhavento.pc.in \
+		> "$(DESTDIR)$(PREFIX)/lib/pkgconfig/palhavento.pc"
+
+# The example's notebook, run by the real Jupyter, whose Debian packages this installs, and rendered to build/vintages.html.
+notebook:
+	@examples/render.sh
 
 bench: library
 	@bench/run.sh

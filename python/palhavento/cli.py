@@ -20,7 +20,6 @@ from typing import Any, NamedTuple, NoReturn
 
 import palhavento
 from palhavento import compacting, disk, library, reasons
-from palhavento.drawing import buckets_svg, trie_svg
 from palhavento.errors import BadFile, CutFile, FileFull, IllegalName, PalhaventoError, TrieFull
 from palhavento.starting import INTERRUPTED, NO_ACCESS, begin, complain, hush
 
@@ -404,7 +403,7 @@ def draw(arguments: argparse.Namespace) -> Report:
         if there and not (stat.S_ISREG(os.stat(target).st_mode) and is_picture(target)):
             raise Trouble(USAGE, f"{target}: is there and is no SVG; nothing was changed")
     with reading(arguments) as store:
-        picture = trie_svg(store.trie()) if arguments.trie else buckets_svg(store.buckets(), store.b)
+        picture = store.trie_svg() if arguments.trie else store.svg()
     with named(target), open(target, "w", encoding="utf-8") as file:
         file.write(picture)
     return Report({"drawn": target}, [f"drew {target}"])

@@ -475,9 +475,21 @@ class Store(MutableMapping[str, int]):
         """
         return layout.trie(self._agreed()[1])
 
-    def _repr_html_(self) -> drawing.Picture | None:
-        """The buckets as a notebook shows them; a closed store has no picture, only its repr."""
-        return None if self.closed else drawing.buckets_svg(self.buckets(), self.b)
+    def svg(self) -> drawing.Picture:
+        """What the store holds and has room for: SVG text, which a notebook draws.
+
+        >>> palhavento.open("drawn.tkf", b=4, slots=8).svg()
+        <Picture: no names in 1 bucket of up to 4; 32 more fit at most>
+        """
+        file, trie = self._agreed()
+        return drawing.store_svg(layout.contents(file), *layout.sizes(file), layout.trie(trie))
+
+    def _repr_svg_(self) -> str | None:
+        """The store as a notebook shows it; a closed one has no picture, only its repr."""
+        return None if self.closed else self.svg()._repr_svg_()
+
+    def _repr_html_(self) -> str | None:
+        return None if self.closed else self.svg()._repr_html_()
 
     def trie_svg(self) -> drawing.Picture:
         """The trie with its logical paths: SVG text, which a notebook draws.

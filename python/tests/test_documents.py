@@ -16,7 +16,6 @@ from pathlib import Path
 from support import WORDS, InFolder, sound_file
 
 import palhavento
-from palhavento.drawing import buckets_svg
 
 PROJECT = Path(__file__).resolve().parent.parent.parent
 
@@ -92,22 +91,19 @@ class Documents(InFolder):
         shown = (PROJECT / "docs/FORMAT.md").read_text(encoding="utf-8")
         self.assertIn("\n".join(explained(self.path.read_bytes())), shown)
 
-    def test_the_pictures(self):
-        with palhavento.open(self.path, readonly=True) as store:
-            drawn = {"store.svg": buckets_svg(store.buckets(), store.b), "trie.svg": store.trie_svg()}
-        for name, picture in drawn.items():
-            self.assertEqual((PROJECT / "docs" / name).read_text(encoding="utf-8"), picture)
-
-    def test_readmes_five_lines(self):
+    def test_readmes_lines_and_their_pictures(self):
         readme = (PROJECT / "README.md").read_text(encoding="utf-8")
         lines = re.search(r"```python\n(.*?)```", readme, re.DOTALL)[1].splitlines()
-        self.assertEqual(len(lines), 5)
+        self.assertEqual(len(lines), 6)
         asked, answer = lines[3].split("#")
         named: dict[str, object] = {}
         with contextlib.chdir(self.folder):
             exec("\n".join(lines[:3]), named)
         self.assertEqual(eval(asked, named), ast.literal_eval(answer.strip()))
-        self.assertEqual(eval(lines[4], named)._repr_html_(), (PROJECT / "docs/store.svg").read_text(encoding="utf-8"))
+        shown = re.findall(r"^!\[.*\]\((.*\.svg)\)$", readme, re.MULTILINE)
+        self.assertEqual(shown, ["docs/store.svg", "docs/trie.svg"])
+        for line, picture in zip(lines[4:], shown):
+            self.assertEqual(eval(line, named)._repr_svg_(), (PROJECT / picture).read_text(encoding="utf-8"))
 
     def five_minutes(self, old: str = "", new: str = "") -> subprocess.CompletedProcess[str]:
         """README's story, told in bash, with one of its lines changed."""
