@@ -1,4 +1,4 @@
--- Check, recover, list and the tests mean what document 01 says.
+-- Check, recover, list and the tests mean what the rules say.
 use Rattle.model.proofs.Prelude.{Bool, List, List·Memᴰ, List·Memᴰ·cases-cons, List·Memᴰ·head, List·Memᴰ·not-nil, List·Memᴰ·tail, [], _&&_, _*_, _++_, _<_, _∙_, _∷_, _≡_, _≤_, _⊎_, ap, arith, clash, cond, drop, false, inl, inr, length, length-replicate, ltb, ltb-false, ltb-true, refl, replicate, set, some, suc, sym, take, take-all, true, ℕ}
 use Rattle.model.specs.declared.Cause.the-variants.{BadFile as is-a-bad-file, IllegalName, ShortOutput, WrongSize}
 use Rattle.model.specs.declared.Layout.{Layout}
