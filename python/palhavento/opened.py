@@ -167,7 +167,9 @@ class Opened:
     def ask(self, call: Callable[..., Given], *given: object) -> Given:
         """What a call gives for the file as it is now and its trie."""
         with self.alone:
-            file = self.read()
+            now = self._now
+            known = now is not None and time.monotonic() < now[2]
+            file = now[0] if known else self.read()
             try:
                 answer = call(file, self.trie, *given)
             except BadFile:
@@ -177,7 +179,7 @@ class Opened:
             except (CutFile, StaleTrie):
                 pass
             else:
-                if not self.readonly:
+                if not (known or self.readonly):
                     self._know(file)
                 return answer
             self._now = None
