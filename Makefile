@@ -1,5 +1,5 @@
-# The two commands of README, the libraries, the longer trial of kills, and the benchmark.
-.PHONY: run test kill library python bench clean
+# The two commands of README, the libraries, the longer trials of kills and of crashes, and the benchmark.
+.PHONY: run test kill crash library python bench clean
 
 # The main job: prove, build, and run the program on the names of NAMES, one a line.
 NAMES ?= crates/buckets/stdin
@@ -15,6 +15,11 @@ test:
 SECONDS ?= 60
 kill: python
 	@cd tests && PALHAVENTO_SECONDS=$(SECONDS) cargo test --release --offline --test killed -- --nocapture
+
+# So many crash states of a disk in memory, over which the Python package runs.
+STATES ?= 100000
+crash: python
+	@python3 python/tests/crash.py $(STATES)
 
 # The static library for C, Rust and whoever links it, in target/staticlib. The crates below it are checked first, because
 # `rt check` proves side by side what `rt staticlib` would prove one after the other.
