@@ -34,7 +34,7 @@ Path = Union[str, bytes, "os.PathLike[str]", "os.PathLike[bytes]"]
 # its holder is stopped.
 PATIENCE = 5.0
 
-# How often a writer that only reads looks whether its file is still in its place. Each store looks by itself.
+# How often who only reads looks whether the file is still in its place. Each store looks by itself.
 LOOK_AGAIN = 0.1
 
 # What is said of a store that failed.
@@ -301,7 +301,7 @@ class Disk:
         """What a reader asks of the system for one reading while nothing is unusual, as `_system.c` takes it."""
         locks = _CONTENT[fcntl.F_RDLCK], _AT_WORK[fcntl.F_WRLCK], _CONTENT[fcntl.F_UNLCK]
         name, journal = os.fsencode(self._name), os.fsencode(self._beside)
-        return self._file, LARGEST_FILE + 1, *locks, self._folder, name, *self.identity, journal
+        return self._file, LARGEST_FILE + 1, *locks, self._folder, name, *self.identity, journal, LOOK_AGAIN
 
     def _bytes(self) -> bytes:
         return os.pread(self._file, LARGEST_FILE + 1, 0)
