@@ -193,7 +193,7 @@ class Disk:
                 raise IsADirectoryError(errno.EISDIR, os.strerror(errno.EISDIR), self.path)
             if not stat.S_ISREG(own.st_mode):
                 raise OSError(errno.EINVAL, "is no regular file", self.path)
-            self._identity = own.st_dev, own.st_ino
+            self.identity = own.st_dev, own.st_ino
             # The file's own place, past all links, and as it stays if a folder above is renamed.
             folder, self._name = os.path.split(os.path.realpath(self.path))
             self._beside = journal_name(self._name)
@@ -270,12 +270,12 @@ class Disk:
             own = os.stat(self._name, dir_fd=self._folder, follow_symlinks=False)
         except FileNotFoundError:
             own = None
-        if own is None or (own.st_dev, own.st_ino) != self._identity:
+        if own is None or (own.st_dev, own.st_ino) != self.identity:
             raise FileNotFoundError(errno.ENOENT, "removed, renamed or replaced since it was opened", self.path)
         # Nobody else writes. If somebody does all the same, without our locks, the bytes are read again.
         if (own.st_size, own.st_mtime_ns) != self._stamp and self._content is not None:
             self._content, self._renew = None, True
-        self._looked = time.monotonic()
+        self.looked = time.monotonic()
 
     def _seen(self) -> None:
         """The file is now as we know it."""
@@ -291,7 +291,7 @@ class Disk:
         if self.readonly:
             self._look()
             return self._read_beside()
-        if anew or time.monotonic() - self._looked > LOOK_AGAIN:
+        if anew or time.monotonic() - self.looked > LOOK_AGAIN:
             self._look()
         if anew or self._content is None:
             self._find()
@@ -301,7 +301,7 @@ class Disk:
         """What a reader asks of the system for one reading while nothing is unusual, as `_system.c` takes it."""
         locks = _CONTENT[fcntl.F_RDLCK], _AT_WORK[fcntl.F_WRLCK], _CONTENT[fcntl.F_UNLCK]
         name, journal = os.fsencode(self._name), os.fsencode(self._beside)
-        return self._file, LARGEST_FILE + 1, *locks, self._folder, name, *self._identity, journal
+        return self._file, LARGEST_FILE + 1, *locks, self._folder, name, *self.identity, journal
 
     def _bytes(self) -> bytes:
         return os.pread(self._file, LARGEST_FILE + 1, 0)
