@@ -400,6 +400,8 @@ class Disk:
             os.fchmod(file, stat.S_IMODE(own.st_mode) & 0o666)
             journal = Journal.begun(file, content)
             if self._sync:
+                # Others may have written the file without waiting for the disk, and removed their journal.
+                os.fdatasync(self._file)
                 self._sync_folder()
         except BaseException:
             os.close(file)
@@ -534,6 +536,7 @@ class Disk:
             self._sync = self._renew = True
             try:
                 self._turn(self._journal, content)
+                self._sync_folder()
             finally:
                 self._sync = False
 
@@ -565,6 +568,9 @@ class Disk:
             there = os.stat(self._beside, dir_fd=self._folder, follow_symlinks=False)
             if os.path.samestat(there, os.fstat(self._journal.file)):
                 os.unlink(self._beside, dir_fd=self._folder)
+        # If it came back after a power loss, it would not fit what others have made of the file meanwhile.
+        if self._sync:
+            self._sync_folder()
 
     def _let_go(self) -> None:
         """End the locks and close what is open."""

@@ -161,6 +161,10 @@ class Machine:
     def urandom(self, count: int) -> bytes:
         return random.randbytes(count)
 
+    def allow(self, contents: list[bytes]) -> None:
+        """From now on one of these must be found; if there is none, nothing is promised."""
+        self.log.append(("allowed", contents))
+
     @contextlib.contextmanager
     def runs(self) -> Iterator[None]:
         """While this machine is the system of the package."""
@@ -385,11 +389,27 @@ class Trial:
             return self.judge(left, [content], chance, depth + 1)
         return content
 
+    def hasty(self, machine: Machine, letters: str, chance: random.Random) -> bool:
+        """A process that does not wait for the disk; unless it does at its end, and says so."""
+        machine.allow([])
+        with contextlib.closing(disk.Disk(PATH, False, False)) as writer:
+            for _ in range(chance.randint(1, 5)):
+                for after in a_call(writer.read(), letters, chance)[0]:
+                    if after != writer.read():
+                        writer.store(*changed(writer.read(), after))
+            flushes = chance.random() < 0.5
+            if flushes:
+                writer.flush()
+                machine.allow([writer.read()])
+        return flushes
+
     def life(self, files: Files, chance: random.Random, states: int, faults: Faults | None) -> Files | None:
         """One process with its stores, and crash states of its disk; one of these is for the next life."""
         machine = Machine(files)
         letters = chance.choice(("abcdefg}", "xy", "!abcdefghijklmnopqrstuvwxyz0123456789}"))
         with machine.runs():
+            # Perhaps somebody was here who did not wait for the disk. Then nothing is promised before a store is that does.
+            promised = self.kind is not disk.Disk or chance.random() < 0.8 or self.hasty(machine, letters, chance)
             writer = self.kind(PATH, False, True)
             machine.faults = faults
             allowed = [writer.read()]
@@ -399,19 +419,19 @@ class Trial:
                 for after in a_call(content, letters, chance)[0]:
                     if after == content:
                         continue
-                    machine.log.append(("allowed", [*allowed, after]))
+                    machine.allow([*allowed, after] if promised else [])
                     try:
                         writer.store(*changed(content, after))
-                        allowed, content = [after], after
+                        allowed, content, promised = [after], after, True
                     except OSError as error:
                         self.counts["stores that failed"] += 1
                         # If it is not known whether it was made, that is so until a further store is made.
                         if disk.UNKNOWN in str(error):
                             allowed = [*allowed, after]
-                        machine.log.append(("allowed", allowed))
+                        machine.allow(allowed if promised else [])
                         break
                     self.counts["stores"] += 1
-                    machine.log.append(("allowed", allowed))
+                    machine.allow(allowed)
                     assert writer.read() == after
             try:
                 if chance.random() < 0.3:
