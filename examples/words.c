@@ -6,16 +6,28 @@
 
 static uint8_t file[PAL_FILE_BYTES(4, 8)], trie[PAL_TRIE_BYTES], entries[9 * PAL_ENTRY_BYTES];
 
+static uint64_t value_of(const uint8_t *entry)
+{
+    uint64_t value = 0;
+    for (int i = 7; i >= 0; i--)
+        value = value << 8 | entry[24 + i];
+    return value;
+}
+
 int main(void)
 {
     const char *words[] = {"the", "of", "and", "to", "a", "in", "that", "is", "i"};
-    uint64_t out[4];
+    uint64_t out[4], answer;
     if (pal_create(file, sizeof file, 1, 4, 8, trie, sizeof trie) != PAL_CREATED)
         return 1;
     for (uint64_t i = 0; i < 9; i++) {
         const uint8_t *name = (const uint8_t *)words[i];
-        if (pal_put(file, sizeof file, trie, sizeof trie, name, strlen(words[i]), i + 1, 0, 2, out) != PAL_ADDED)
+        uint64_t value = UINT64_C(10000000001) + i;
+        answer = pal_put(file, sizeof file, trie, sizeof trie, name, strlen(words[i]), value, 0, 2, out);
+        if (answer != PAL_ADDED) {
+            fprintf(stderr, "%s: %s\n", words[i], pal_answer_text(answer));
             return 2;
+        }
     }
     /* What a program does with a file that was kept: recover it, then rebuild its trie. */
     uint64_t recovered = pal_recover(file, sizeof file, 1, out);
@@ -26,6 +38,6 @@ int main(void)
     if (pal_list(file, sizeof file, trie, sizeof trie, (const uint8_t *)"i", 1, (const uint8_t *)"the", 3,
                  entries, sizeof entries, out) == PAL_LISTED)
         for (uint64_t i = 0; i < out[0]; i++)
-            printf("%.24s %u\n", (const char *)entries + 32 * i, entries[32 * i + 24]);
+            printf("%.24s %" PRIu64 "\n", (const char *)entries + 32 * i, value_of(entries + 32 * i));
     return 0;
 }

@@ -19,7 +19,7 @@ fn main() {
     // Each slice is lent with its own length, and no call keeps a pointer.
     unsafe {
         assert_eq!(pal_create(f, fl, 1, 4, 8, t, tl), 150);
-        for (value, name) in (1..).zip(["the", "of", "and", "to", "a", "in", "that", "is", "i"]) {
+        for (value, name) in (10_000_000_001..).zip(["the", "of", "and", "to", "a", "in", "that", "is", "i"]) {
             assert_eq!(pal_put(f, fl, t, tl, name.as_ptr(), name.len(), value, 0, 2, o), 110);
         }
         // What a program does with a file that was kept: recover it, then rebuild its trie.
@@ -29,6 +29,7 @@ fn main() {
         assert_eq!(pal_list(f, fl, t, tl, b"i".as_ptr(), 1, b"the".as_ptr(), 3, e, el, o), 152);
     }
     for entry in entries.chunks(32).take(out[0] as usize) {
-        println!("{} {}", String::from_utf8_lossy(&entry[..24]), entry[24]);
+        let value = u64::from_le_bytes(entry[24..].try_into().expect("eight bytes"));
+        println!("{} {value}", String::from_utf8_lossy(&entry[..24]));
     }
 }

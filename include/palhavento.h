@@ -15,7 +15,25 @@
  *     if (pal_lookup(file, sizeof file, trie, sizeof trie, name, sizeof name, out) == PAL_FOUND)
  *         printf("%llu\n", (unsigned long long)out[0]);
  *
- * To open a file that was kept, call pal_recover, then pal_rebuild.
+ * To open a file that was kept, call pal_recover, then pal_rebuild. To keep it on disk while the
+ * program may be killed, write it slot by slot; examples/keep.c does all of this:
+ *
+ *   1. Copy the file and the trie, and make the call on the copies with limit 1. If it is refused,
+ *      there is nothing to write.
+ *   2. Compare the copy with the file, slot by slot. At most one slot differs. Write that slot to its
+ *      place on disk and wait for the disk (fdatasync).
+ *   3. If the answer was PAL_STOPPED, the call needs a second store. Copy again what you had before
+ *      step 1, make the call with limit 2, and compare with the copy of step 1: again at most one
+ *      slot differs. Write it and wait.
+ *   4. Go on with the last copies.
+ *
+ * Never write the second slot before the first is on disk: without the first, names would be lost;
+ * without the second, pal_recover undoes the call.
+ *
+ * A kill between these steps loses nothing but the call under way. A kill in the middle of a write
+ * can leave a slot half written if the slot lies across a page edge, and a power loss if it lies
+ * across a sector edge. A file of at most 4096 bytes is one page, which no kill leaves half written.
+ * For larger files, and on a real disk, write each slot to a journal first: docs/FORMAT.md has one.
  *
  * Every call checks for itself what it is lent; no file, trie or name, however damaged, makes it
  * crash, hang or leave its memory. No call keeps a pointer, allocates, or touches anything but what
@@ -34,6 +52,15 @@
 #ifdef __cplusplus
 extern "C" {
 #endif
+
+/* The version, as numbers for #if and as text. A program built with one version runs with every later
+ * one of the same major number. */
+#define PALHAVENTO_VERSION_MAJOR 1
+#define PALHAVENTO_VERSION_MINOR 0
+#define PALHAVENTO_VERSION_PATCH 0
+#define PALHAVENTO_VERSION PAL_DOTTED_(PALHAVENTO_VERSION_MAJOR, PALHAVENTO_VERSION_MINOR, PALHAVENTO_VERSION_PATCH)
+#define PAL_DOTTED_(major, minor, patch) PAL_TEXT_(major) "." PAL_TEXT_(minor) "." PAL_TEXT_(patch)
+#define PAL_TEXT_(number) #number
 
 /* The bytes of a trie image: count (2), first leaf (2), then 256 cells of digit (1), digit number
  * (1), left side (2) and right side (2), little-endian. A side is signed: 0 and above is that slot,
@@ -56,33 +83,46 @@ extern "C" {
  *
  * A word of out that is not named for an answer is left as it was.
  */
-enum {
-    PAL_ILLEGAL_NAME     = 1,   /* A name is not 1 to 24 bytes, each 0x21 to 0x7D. */
-    PAL_BAD_FILE         = 2,   /* The file is neither sound nor cut; for look up: the part it reads is wrong. */
-    PAL_CUT_FILE         = 3,   /* The file is cut: recover, then rebuild. */
-    PAL_STALE_TRIE       = 4,   /* The trie does not agree with the file: rebuild. */
-    PAL_NO_FREE_SLOT     = 5,   /* A split is needed and there is no free slot. */
-    PAL_TOO_MANY_STRINGS = 6,   /* The file would have more than 256 strings: bounds and their beginnings. */
-    PAL_SHORT_OUTPUT     = 7,   /* The output is too short: it needs 32 bytes for each entry. */
-    PAL_OUTSIDE_LIMITS   = 8,   /* The store limit is above 2; or create's version, b, slots or length is wrong. */
+#define PAL_ANSWERS(ANSWER) \
+    ANSWER(PAL_ILLEGAL_NAME,     1,   "A name is not 1 to 24 bytes, each 0x21 to 0x7D.") \
+    ANSWER(PAL_BAD_FILE,         2,   "The file is neither sound nor cut; for look up: the part it reads is wrong.") \
+    ANSWER(PAL_CUT_FILE,         3,   "The file is cut: recover, then rebuild.") \
+    ANSWER(PAL_STALE_TRIE,       4,   "The trie does not agree with the file: rebuild.") \
+    ANSWER(PAL_NO_FREE_SLOT,     5,   "A split is needed and there is no free slot.") \
+    ANSWER(PAL_TOO_MANY_STRINGS, 6,   "The file would have more than 256 strings: bounds and their beginnings.") \
+    ANSWER(PAL_SHORT_OUTPUT,     7,   "The output is too short: it needs 32 bytes for each entry.") \
+    ANSWER(PAL_OUTSIDE_LIMITS,   8,   "The store limit is above 2; or create's version, b, slots or length is wrong.") \
+    \
+    ANSWER(PAL_FOUND,            100, "The file holds the name.") \
+    ANSWER(PAL_ABSENT,           101, "The file does not hold the name.") \
+    ANSWER(PAL_ADDED,            110, "The name is new in the file.") \
+    ANSWER(PAL_REPLACED,         111, "The name was held and has the new value.") \
+    ANSWER(PAL_STOPPED,          112, "The limit was too low for the last store; the trie is unchanged.") \
+    ANSWER(PAL_REMOVED,          120, "The name was held and is gone.") \
+    ANSWER(PAL_FREED,            130, "The file was cut and is sound again: one slot was freed.") \
+    ANSWER(PAL_NOTHING_TO_DO,    131, "The file was sound already.") \
+    ANSWER(PAL_SOUND,            140, "The slots are free or well formed, and their ranges leave no gap.") \
+    ANSWER(PAL_CUT,              141, "A split was stopped between its two stores; freeing one slot mends it.") \
+    ANSWER(PAL_BAD,              142, "The file is neither sound nor cut.") \
+    ANSWER(PAL_CREATED,          150, "The file is new and empty, and the trie is its trie.") \
+    ANSWER(PAL_REBUILT,          151, "The trie is the one rebuilt from the file's bounds.") \
+    ANSWER(PAL_LISTED,           152, "The output begins with the entries of the range.") \
+    \
+    ANSWER(PAL_MALFORMED,        255, "The trie image is not exactly 1540 bytes long; nothing is changed.")
 
-    PAL_FOUND            = 100, /* The file holds the name. */
-    PAL_ABSENT           = 101, /* The file does not hold the name. */
-    PAL_ADDED            = 110, /* The name is new in the file. */
-    PAL_REPLACED         = 111, /* The name was held and has the new value. */
-    PAL_STOPPED          = 112, /* The limit was too low for the last store; the trie is unchanged. */
-    PAL_REMOVED          = 120, /* The name was held and is gone. */
-    PAL_FREED            = 130, /* The file was cut and is sound again: one slot was freed. */
-    PAL_NOTHING_TO_DO    = 131, /* The file was sound already. */
-    PAL_SOUND            = 140, /* The slots are free or well formed, and their ranges leave no gap. */
-    PAL_CUT              = 141, /* A split was stopped between its two stores; freeing one slot mends it. */
-    PAL_BAD              = 142, /* The file is neither sound nor cut. */
-    PAL_CREATED          = 150, /* The file is new and empty, and the trie is its trie. */
-    PAL_REBUILT          = 151, /* The trie is the one rebuilt from the file's bounds. */
-    PAL_LISTED           = 152, /* The output begins with the entries of the range. */
+#define PAL_NUMBER_(name, number, sentence) name = number,
+enum { PAL_ANSWERS(PAL_NUMBER_) };
 
-    PAL_MALFORMED        = 255  /* The trie image is not exactly PAL_TRIE_BYTES long; nothing is changed. */
-};
+/* The sentence above for an answer, for messages. */
+static inline const char *pal_answer_text(uint64_t answer)
+{
+#define PAL_SENTENCE_(name, number, sentence) case number: return sentence;
+    switch (answer) {
+        PAL_ANSWERS(PAL_SENTENCE_)
+    default:
+        return "No call gives this answer.";
+    }
+}
 
 /*
  * Write a new file without names over the whole buffer, and its trie.

@@ -11,10 +11,13 @@
 
 from __future__ import annotations
 
+from palhavento import starting  # noqa: F401, I001  (first: it tells what keeps the rest from being imported)
+
 import contextlib
 import os
 
 from palhavento import disk, library
+from palhavento.compacting import compact
 from palhavento.errors import (
     BadFile,
     CutFile,
@@ -52,8 +55,10 @@ __all__ = [
     "TrieFull",
     "WrongJournal",
     "WrongSize",
+    "compact",
     "open",
 ]
+
 
 
 def open(

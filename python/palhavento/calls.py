@@ -18,7 +18,7 @@ import operator
 from typing import Union
 
 from palhavento import library
-from palhavento.errors import PalhaventoError, refusal
+from palhavento.errors import PalhaventoError, illegal, refusal
 
 Name = Union[str, bytes]
 Entry = tuple[str, int]
@@ -45,7 +45,7 @@ def bytes_of(name: Name) -> bytes:
     try:
         return name.encode("ascii")
     except UnicodeEncodeError:
-        raise refusal(1, f"{name!r}") from None
+        raise illegal(name) from None
 
 
 def value_of(value: int) -> int:

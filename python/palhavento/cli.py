@@ -11,23 +11,22 @@ import dataclasses
 import json
 import logging
 import os
+import shlex
+import stat
 import sys
 import time
-from collections.abc import Callable, Sequence
-from pathlib import Path
-from typing import Any, BinaryIO, NamedTuple, NoReturn
+from collections.abc import Callable, Iterator, Sequence
+from typing import Any, NamedTuple, NoReturn
 
 import palhavento
-from palhavento import disk, library
-from palhavento.drawing import buckets_svg, trie_svg
-from palhavento.errors import BadFile, CutFile, IllegalName, PalhaventoError
+from palhavento import compacting, disk, library, reasons
+from palhavento.errors import BadFile, CutFile, FileFull, IllegalName, PalhaventoError, TrieFull
+from palhavento.starting import INTERRUPTED, NO_ACCESS, begin, complain, hush
 
 # Beside the refusal numbers (docs/RULES.md, section 10): the library's own answer for an absent name, and what sysexits.h has
-# for the rest.
+# for bad arguments.
 ABSENT = library.ABSENT
 USAGE = 64
-NO_ACCESS = 74
-INTERRUPTED = 130
 
 STATUSES = """\
 exit status:
@@ -40,7 +39,8 @@ exit status:
   6    the store would have more than 256 strings
   8    no file has that b or that many slots
   64   bad arguments
-  74   the file cannot be read or written
+  70   a fault of this program itself
+  74   a file, or standard input or output, cannot be read or written
   101  the name is absent
   130  interrupted
   253  the journal beside the file does not fit it
@@ -59,7 +59,9 @@ examples:
   palhavento create copy.tkf
   palhavento ls rates.tkf | palhavento import copy.tkf -
   palhavento draw rates.tkf rates.svg           # the buckets as a picture; --trie for the trie
-  palhavento get --json rates.tkf gdp.de        # {"name": "gdp.de", "value": 42}
+  palhavento compact rates.tkf small.tkf        # the same names, in as few buckets as they fit
+  palhavento check *.tkf                        # whether each is sound, and why not
+  palhavento get --json rates.tkf gdp.de        # {"name": "gdp.de", "value": 42, "value_text": "42"}
 
 palhavento COMMAND --help says more about one command."""
 
@@ -80,27 +82,72 @@ class Trouble(Exception):
         self.status = status
 
 
+class Asked(Exception):
+    """The words ask about the command line itself."""
+
+    def __init__(self, kind: str, text: str) -> None:
+        super().__init__(kind, text)
+        self.report = Report({kind: text}, text.splitlines())
+
+
 class Parser(argparse.ArgumentParser):
-    """A parser that says what is wrong in one sentence, with a status that is no refusal number."""
+    """A parser that prints nothing: what is wrong is one sentence, with a status that is no refusal number."""
 
     def __init__(self, **how: Any) -> None:
         # `--json` is also looked for by hand, so no option has a shorter form.
         super().__init__(allow_abbrev=False, **how)
+        self.commands: dict[str, Parser] = {}
+
+    def options(self) -> set[str]:
+        """Every option, as it is written."""
+        return {option for action in self._actions for option in action.option_strings}
 
     def error(self, message: str) -> NoReturn:
         command = self.prog.removeprefix("palhavento").lstrip()
         raise Trouble(USAGE, f"{command + ': ' if command else ''}{message}; see {self.prog} --help")
 
+    def print_help(self, file: object = None) -> NoReturn:
+        raise Asked("help", self.format_help())
+
+
+class Version(argparse.Action):
+    """The option that asks for the version."""
+
+    def __call__(self, *_: object) -> NoReturn:
+        raise Asked("version", f"palhavento {palhavento.__version__}")
+
+
+def hint(words: Sequence[str]) -> str:
+    """What to say beside wrong arguments where one of them looks like an option, and may be meant as a name.
+
+    >>> hint(["put", "rates.tkf", "-x", "3", "--json"])
+    '; if -x is no option: palhavento put rates.tkf --json -- -x 3'
+    >>> hint(["put", "rates.tkf", "--", "-x"]), hint(["put", "--json"]), hint(["-x"])
+    ('', '', '')
+    """
+    top = parser()
+    known = top.options().union(*(command.options() for command in top.commands.values()))
+    place = next((place for place, word in enumerate(words)
+                  if word == "--" or word[:1] == "-" != word and word.split("=")[0] not in known), 0)
+    if not place or words[place] == "--":
+        return ""
+    behind = words[place:]
+    options = [word for word in behind if word in known]
+    said = [*words[:place], *options, "--", *(word for word in behind if word not in known)]
+    return f"; if {words[place]} is no option: palhavento {shlex.join(said)}"
+
 
 def told(error: BaseException, path: str) -> tuple[int, str]:
     """The exit status for an error, and the sentence that tells it."""
     match error:
+        case FileFull() | TrieFull():
+            return error.number, f"{error} `palhavento compact` may make room."
         case PalhaventoError():
             return error.number, str(error)
         case Trouble():
             return error.status, str(error)
         case OSError():
-            return NO_ACCESS, f"{error.filename or path}: {error.strerror or error}"
+            return NO_ACCESS, f"{os.fsdecode(error.filename or path)}: {error.strerror or error}"
         case _:
             return INTERRUPTED, "interrupted."
 
@@ -119,6 +166,15 @@ def value_of(text: str | bytes) -> int:
     if plain.isascii() and plain.isdigit() and len(plain) <= 20 and int(plain) < 2**64:
         return int(plain)
     raise argparse.ArgumentTypeError(f"{plain!r} is no value: a value is a number from 0 to {2**64 - 1}")
+
+
+def in_json(key: str, value: int | None) -> dict[str, object]:
+    """A value as a number and as text, for most readers of JSON change a number above 2^53.
+
+    >>> in_json("value", 2**64 - 1)
+    {'value': 18446744073709551615, 'value_text': '18446744073709551615'}
+    """
+    return {key: value, f"{key}_text": None if value is None else str(value)}
 
 
 def writing(arguments: argparse.Namespace, sync: bool = True) -> palhavento.Store:
@@ -140,7 +196,7 @@ def put(arguments: argparse.Namespace) -> Report:
     with writing(arguments) as store:
         old = store.get(arguments.name)
         store[arguments.name] = arguments.value
-    data = {"name": arguments.name, "value": arguments.value, "old": old}
+    data = {"name": arguments.name, **in_json("value", arguments.value), **in_json("old", old)}
     return Report(data, ["added" if old is None else f"replaced {old}"])
 
 
@@ -149,7 +205,7 @@ def get(arguments: argparse.Namespace) -> Report:
         value = store.get(arguments.name)
     if value is None:
         raise Trouble(ABSENT, f"{arguments.name}: absent")
-    return Report({"name": arguments.name, "value": value}, [str(value)])
+    return Report({"name": arguments.name, **in_json("value", value)}, [str(value)])
 
 
 def rm(arguments: argparse.Namespace) -> Report:
@@ -165,7 +221,8 @@ def ls(arguments: argparse.Namespace) -> Report:
         raise Trouble(USAGE, "ls wants a first and a second name, or neither")
     with reading(arguments) as store:
         entries = list(store.range(*arguments.range) if arguments.range else store.items())
-    return Report({"entries": entries}, [f"{name} {value}" for name, value in entries])
+    texts = [(name, str(value)) for name, value in entries]
+    return Report({"entries": entries, "entries_text": texts}, [" ".join(entry) for entry in texts])
 
 
 class Progress:
@@ -176,7 +233,7 @@ class Progress:
 
     def __init__(self, total: int) -> None:
         self.total = total
-        self.shows = sys.stderr.isatty()
+        self.shows = sys.stderr is not None and sys.stderr.isatty()
         self.due = time.monotonic() + self.MOMENT
         self.drawn = False
 
@@ -186,18 +243,18 @@ class Progress:
             return
         self.due = now + self.MOMENT / 3
         bar = ("#" * (self.WIDTH * done // self.total)).ljust(self.WIDTH, ".")
-        print(f"\r[{bar}] {done} of {self.total}", end="", file=sys.stderr, flush=True)
+        complain(f"\r[{bar}] {done} of {self.total}", end="")
         self.drawn = True
 
     def end(self) -> None:
         if self.drawn:
-            print("\r\x1b[K", end="", file=sys.stderr, flush=True)
+            complain("\r\x1b[K", end="")
 
 
-def entries_of(source: BinaryIO, origin: str) -> list[tuple[bytes, int]]:
-    """The lines `name value` of a source; the first line that is none is told by its number."""
+def entries_of(text: bytes, origin: str) -> list[tuple[bytes, int]]:
+    """The lines `name value` of a text; the first line that is none is told by its number."""
     entries = []
-    for number, line in enumerate(source.read().splitlines(), 1):
+    for number, line in enumerate(text.splitlines(), 1):
         fields = line.split()
         if len(fields) != 2:
             raise Trouble(USAGE, f"{origin}:{number}: want a name and a value; nothing was changed")
@@ -208,13 +265,30 @@ def entries_of(source: BinaryIO, origin: str) -> list[tuple[bytes, int]]:
     return entries
 
 
+def text_of(lines: str) -> tuple[str, bytes]:
+    """What a file of lines, or standard input, is called, and its text."""
+    if lines != "-":
+        with named(lines), open(lines, "rb") as source:
+            return lines, source.read()
+    origin = "standard input"
+    if sys.stdin is None:
+        raise Trouble(NO_ACCESS, f"{origin}: is closed")
+    with named(origin):
+        return origin, sys.stdin.buffer.read()
+
+
+@contextlib.contextmanager
+def named(path: str) -> Iterator[None]:
+    """Have an error of the system name this file, where Python knows no name for it."""
+    try:
+        yield
+    except OSError as error:
+        raise OSError(error.errno, error.strerror or str(error), path) from None
+
+
 def import_(arguments: argparse.Namespace) -> Report:
-    if arguments.lines == "-":
-        origin, entries = "standard input", entries_of(sys.stdin.buffer, "standard input")
-    else:
-        origin = arguments.lines
-        with open(origin, "rb") as source:
-            entries = entries_of(source, origin)
+    origin, text = text_of(arguments.lines)
+    entries = entries_of(text, origin)
     progress = Progress(len(entries))
     with writing(arguments, sync=arguments.sync) as store:
         # An illegal name is found here, before anything is put.
@@ -230,28 +304,62 @@ def import_(arguments: argparse.Namespace) -> Report:
                 progress.reach(number)
         except (PalhaventoError, OSError, KeyboardInterrupt) as error:
             status, sentence = told(error, arguments.store)
-            before = f"The {number - 1} lines before it are in the store."
-            raise Trouble(status, f"{origin}:{number}: {sentence} {before}") from None
+            # Unless it is known that nothing was changed, the put may be made, though nobody was told.
+            unchanged = isinstance(error, PalhaventoError) or disk.NOT_MADE in sentence
+            itself = "" if unchanged else f", and line {number} may be"
+            lines = f"{earlier(number - 1)} in the store{itself}."
+            raise Trouble(status, f"{origin}:{number}: {sentence.rstrip('.')}. {lines}") from None
         finally:
             progress.end()
+        if not arguments.sync:
+            store.flush()
     return Report({"imported": len(entries)}, [f"imported {len(entries)}"])
 
 
-def bytes_of(arguments: argparse.Namespace) -> bytes:
+def earlier(lines: int) -> str:
+    """What was put before a line.
+
+    >>> earlier(0), earlier(1), earlier(7)
+    ('No line before it is', 'The line before it is', 'The 7 lines before it are')
+    """
+    return ["No line before it is", "The line before it is"][lines] if lines < 2 else f"The {lines} lines before it are"
+
+
+def bytes_of(path: str) -> bytes:
     """The bytes as they are, and no half of a store that is under way: to open the store would recover it."""
-    with contextlib.closing(disk.Disk(arguments.store, readonly=True, sync=False)) as file:
+    with contextlib.closing(disk.Disk(path, readonly=True, sync=False)) as file, named(path):
         return file.read()
 
 
+# From the best to the worst; what cannot be read may be anything.
+CHECKED = {"sound": 0, "cut": CutFile.number, "bad": BadFile.number, "unreadable": NO_ACCESS}
+
+
 def check(arguments: argparse.Namespace) -> Report:
-    word, status = {
-        library.SOUND: ("sound", 0), library.CUT: ("cut", CutFile.number), library.BAD: ("bad", BadFile.number),
-    }[library.check(bytes_of(arguments))]
-    return Report({"check": word}, [word], status)
+    files: list[dict[str, object]] = []
+    lines: list[str] = []
+    worst, unread = "sound", None
+    for path in arguments.stores:
+        file: dict[str, object] = {"store": path, "check": "unreadable"}
+        try:
+            state = reasons.state(bytes_of(path))
+        except (OSError, PalhaventoError) as error:
+            status, sentence = told(error, path)
+            complain(f"palhavento: {sentence}")
+            file |= {"error": sentence, "status": status}
+            unread = unread or {"error": sentence, "status": status}
+        else:
+            faults = [{"rule": fault.rule, "slot": fault.slot, "says": fault.says} for fault in state.faults]
+            file |= {"check": state, "reason": state.reason or None, "faults": faults}
+            about = f"{path}: " if len(arguments.stores) > 1 else ""
+            lines += [f"{about}{state}: {fault}" for fault in state.faults] or [f"{about}{state}"]
+        worst = max(worst, str(file["check"]), key=list(CHECKED).index)
+        files.append(file)
+    return Report({"check": worst, "files": files, **(unread or {})}, lines, unread["status"] if unread else CHECKED[worst])
 
 
 def recover(arguments: argparse.Namespace) -> Report:
-    file = bytes_of(arguments)
+    file = bytes_of(arguments.store)
     freed = library.recover(file, limit=1).word if library.check(file) == library.CUT else None
     # To open a cut file is to recover it.
     with writing(arguments):
@@ -265,31 +373,61 @@ def stats(arguments: argparse.Namespace) -> Report:
     return Report(figures, [f"{name} {figure}" for name, figure in figures.items()])
 
 
-def draw(arguments: argparse.Namespace) -> Report:
-    target = Path(arguments.picture)
-    if target.suffix != ".svg":
-        raise Trouble(USAGE, f"{target}: the name of a picture ends in .svg")
-    if target.exists() and os.path.samefile(target, arguments.store):
-        raise Trouble(USAGE, f"{target}: is the store itself; nothing was changed")
+def compact(arguments: argparse.Namespace) -> Report:
     with reading(arguments) as store:
-        picture = trie_svg(store.trie()) if arguments.trie else buckets_svg(store.buckets(), store.b)
-    target.write_text(picture, encoding="utf-8")
-    return Report({"drawn": str(target)}, [f"drew {target}"])
+        before = store.stats()
+    try:
+        after = compacting.compact(arguments.store, arguments.new, arguments.b, arguments.slots)
+    except (FileFull, TrieFull) as full:
+        raise Trouble(full.number, str(full)) from None
+    strings = compacting.MOST_STRINGS - after.strings
+    lines = [f"compacted {arguments.new}: names {after.entries}, slots {after.used} in place of {before.used}",
+             f"room left: {after.free} of {after.slots} slots, {strings} of {compacting.MOST_STRINGS} strings"]
+    data = {"compacted": arguments.new, "used_before": before.used, **dataclasses.asdict(after), "strings_free": strings}
+    return Report(data, lines)
+
+
+def is_picture(path: str) -> bool:
+    """Whether a file may be written over by a picture: it is one, or has nothing in it."""
+    with open(path, "rb") as file:
+        start = file.read(4096)
+    return not start or start.lstrip().startswith(b"<") and b"<svg" in start
+
+
+def draw(arguments: argparse.Namespace) -> Report:
+    target = arguments.picture
+    if not target.endswith(".svg"):
+        raise Trouble(USAGE, f"{target}: the name of a picture ends in .svg")
+    with named(target):
+        there = os.path.exists(target)
+        if there and not (stat.S_ISREG(os.stat(target).st_mode) and is_picture(target)):
+            raise Trouble(USAGE, f"{target}: is there and is no SVG; nothing was changed")
+    with reading(arguments) as store:
+        picture = store.trie_svg() if arguments.trie else store.svg()
+    with named(target), open(target, "w", encoding="utf-8") as file:
+        file.write(picture)
+    return Report({"drawn": target}, [f"drew {target}"])
 
 
 def parser() -> Parser:
     """The commands, each with an example."""
     top = Parser(prog="palhavento", description=PURPOSE, epilog=f"{EXAMPLES}\n\n{STATUSES}",
                  formatter_class=argparse.RawDescriptionHelpFormatter)
+    top.add_argument("--version", action=Version, nargs=0, help="print the version")
     commands = top.add_subparsers(metavar="COMMAND", required=True, parser_class=Parser)
 
     def command(name: str, run: Callable[[argparse.Namespace], Report], says: str, example: str) -> Parser:
         added = commands.add_parser(name, help=says, description=f"{says[0].upper()}{says[1:]}.",
                                     epilog=f"example:\n  palhavento {name} {example}\n\n{STATUSES}",
                                     formatter_class=argparse.RawDescriptionHelpFormatter)
-        added.add_argument("--json", action="store_true", help="print one JSON object, for scripts")
-        added.add_argument("store", metavar="STORE", help="the file that is the store")
-        added.set_defaults(run=run)
+        added.add_argument("--json", action="store_true",
+                           help="print one JSON object, for scripts; values are in it as text too")
+        if run is check:
+            added.add_argument("stores", metavar="STORE", nargs="+", help="a file that is a store")
+        else:
+            added.add_argument("store", metavar="STORE", help="the file that is the store")
+        added.set_defaults(run=run, store="")
+        top.commands[name] = added
         return added
 
     new = command("create", create, "write a new store, where no file is yet", "rates.tkf --b 16 --slots 64")
@@ -305,10 +443,15 @@ def parser() -> Parser:
     lines = command("import", import_, "put every line `name value` of a file", "rates.tkf rates.txt")
     lines.add_argument("lines", metavar="LINES", help="the file of lines; - is standard input")
     lines.add_argument("--no-sync", dest="sync", action="store_false",
-                       help="faster: do not wait for the disk at each store; a power loss may then leave a bad file")
-    command("check", check, "say whether a file is sound, cut (also while its writer is in a split) or bad", "rates.tkf")
+                       help="faster: wait for the disk once, at the end; a power loss before may leave a bad file")
+    command("check", check, "say whether files are sound, cut (also while the writer is in a split) or bad, and why",
+            "rates.tkf prices.tkf")
     command("recover", recover, "free what a stopped split left behind", "rates.tkf")
     command("stats", stats, "count slots, names and strings", "rates.tkf")
+    anew = command("compact", compact, "write a store anew, in as few buckets as its names fit", "rates.tkf small.tkf")
+    anew.add_argument("new", metavar="NEW", help="the new store, where no file is yet")
+    anew.add_argument("--b", type=int, help="names that a bucket of it holds (default: as the old one)")
+    anew.add_argument("--slots", type=int, help="buckets that it has room for (default: as the old one)")
     picture = command("draw", draw, "draw the store as an SVG", "rates.tkf rates.svg --trie")
     picture.add_argument("picture", metavar="FILE.svg", help="where the picture goes")
     picture.add_argument("--trie", action="store_true", help="draw the trie in place of the buckets")
@@ -319,33 +462,55 @@ def report_of(words: Sequence[str]) -> Report:
     """What the command says; where it cannot be done, one sentence on standard error."""
     store = ""
     try:
-        arguments = parser().parse_args(words)
+        try:
+            arguments = parser().parse_args(words)
+        except Trouble as wrong:
+            raise Trouble(wrong.status, f"{wrong}{hint(words)}") from None
         store = arguments.store
         return arguments.run(arguments)
+    except Asked as asked:
+        return asked.report
     except (PalhaventoError, Trouble, OSError, KeyboardInterrupt) as error:
         status, sentence = told(error, store)
-    print(f"palhavento: {sentence}", file=sys.stderr)
+    complain(f"palhavento: {sentence}")
     return Report({"error": sentence, "status": status}, [], status)
+
+
+def print_out(lines: Sequence[str]) -> str | None:
+    """Print lines on standard output, and give what kept them from it."""
+    if not lines:
+        return None
+    if sys.stdout is None:
+        return "is closed"
+    try:
+        # A path may hold bytes that are no text.
+        sys.stdout.reconfigure(errors="backslashreplace")
+        for line in lines:
+            print(line)
+        sys.stdout.flush()
+    except OSError as error:
+        hush(1)
+        # Who closes a pipe has seen enough.
+        return None if isinstance(error, BrokenPipeError) else error.strerror
+    return None
+
+
+class Log(logging.Handler):
+    """What the package logs, on standard error."""
+
+    def emit(self, record: logging.LogRecord) -> None:
+        complain(f"palhavento: {record.getMessage()}")
 
 
 def main() -> int:
     """Do the command that the words say; its exit status."""
+    begin()
     words = sys.argv[1:]
-    logging.basicConfig(format="palhavento: %(message)s", level=logging.INFO)
-    # A path may hold bytes that are no text.
-    sys.stdout.reconfigure(errors="backslashreplace")
+    logging.basicConfig(handlers=[Log()], level=logging.INFO)
     report = report_of(words)
     # Looked for by hand, so that a script also reads as JSON what is wrong with its arguments.
-    options = words[:words.index("--")] if "--" in words else words
-    try:
-        for line in [json.dumps(report.data)] if "--json" in options else report.lines:
-            print(line)
-        sys.stdout.flush()
-    except OSError as error:
-        # Python would complain again when it flushes at its end.
-        os.dup2(os.open(os.devnull, os.O_WRONLY), sys.stdout.fileno())
-        # Who closes a pipe has seen enough.
-        if not isinstance(error, BrokenPipeError):
-            print(f"palhavento: standard output: {error.strerror}", file=sys.stderr)
-            return report.status or NO_ACCESS
+    options = words[: words.index("--")] if "--" in words else words
+    if unsaid := print_out([json.dumps(report.data)] if "--json" in options else report.lines):
+        complain(f"palhavento: standard output: {unsaid}")
+        return report.status or NO_ACCESS
     return report.status

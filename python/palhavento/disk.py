@@ -19,6 +19,7 @@ import errno
 import fcntl
 import logging
 import os
+import re
 import stat
 import struct
 import time
@@ -34,7 +35,7 @@ Path = Union[str, bytes, "os.PathLike[str]", "os.PathLike[bytes]"]
 # its holder is stopped.
 PATIENCE = 5.0
 
-# How often a writer that only reads looks whether its file is still in its place. Each store looks by itself.
+# How often who only reads looks whether the file is still in its place. Each store looks by itself.
 LOOK_AGAIN = 0.1
 
 # What is said of a store that failed.
@@ -52,6 +53,8 @@ def _request(kind: int, start: int, count: int) -> bytes:
 # All bytes that a file can have; and one that none has, whose lock says that a writer is at work.
 _CONTENT = {kind: _request(kind, 0, 1 << 62) for kind in (fcntl.F_RDLCK, fcntl.F_WRLCK, fcntl.F_UNLCK)}
 _AT_WORK = {kind: _request(kind, 1 << 62, 1) for kind in (fcntl.F_RDLCK, fcntl.F_WRLCK, fcntl.F_UNLCK)}
+# Another such byte, of a file that is in the making under a name of its own.
+_IN_THE_MAKING = {kind: _request(kind, (1 << 62) + 1, 1) for kind in (fcntl.F_RDLCK, fcntl.F_WRLCK)}
 
 # How many forks lie between this process and the one that loaded the module.
 _forks = 0
@@ -129,6 +132,7 @@ def create(path: Path, content: bytes) -> None:
     try:
         listing = _opened(folder or os.curdir, os.O_RDONLY | os.O_DIRECTORY)
         try:
+            _remove_leftovers(listing)
             _create(target, content, listing)
             os.fsync(listing)
         finally:
@@ -146,9 +150,8 @@ def _create(target: str, content: bytes, listing: int) -> None:
     except OSError as error:
         if error.errno not in (errno.EOPNOTSUPP, errno.EISDIR, errno.EINVAL):
             raise
-        # A file system without files that have no name. A kill may leave this one behind; it is nobody's.
-        beside = f".palhavento-{os.urandom(8).hex()}"
-        new = _opened(beside, os.O_WRONLY | os.O_CREAT | os.O_EXCL, folder=listing)
+        # A file system without files that have no name.
+        new, beside = _beside(listing)
     try:
         write(new, content, 0)
         os.fsync(new)
@@ -157,9 +160,39 @@ def _create(target: str, content: bytes, listing: int) -> None:
         # folder given it follows the link by which the system knows a file without a name.
         os.link(beside or f"/proc/self/fd/{new}", target, src_dir_fd=listing)
     finally:
-        os.close(new)
+        # Its lock ends with it, so its name goes first.
         if beside:
-            os.unlink(beside, dir_fd=listing)
+            with contextlib.suppress(FileNotFoundError):
+                os.unlink(beside, dir_fd=listing)
+        os.close(new)
+
+
+_MADE_AS = re.compile(r"\.palhavento-[0-9a-f]{16}")
+
+
+def _beside(listing: int) -> tuple[int, str]:
+    """A new file under a name of its own in a folder, with a lock that says that it is in the making, and that name."""
+    while True:
+        name = f".palhavento-{os.urandom(8).hex()}"
+        new = _opened(name, os.O_WRONLY | os.O_CREAT | os.O_EXCL, folder=listing)
+        fcntl.fcntl(new, fcntl.F_OFD_SETLKW, _IN_THE_MAKING[fcntl.F_WRLCK])
+        # Before it had its lock, another process may have taken it for a leftover.
+        if os.fstat(new).st_nlink:
+            return new, name
+        os.close(new)
+
+
+def _remove_leftovers(listing: int) -> None:
+    """Remove what a `create` that was killed has left in a folder: its file, or the second name of the store it made."""
+    for name in filter(_MADE_AS.fullmatch, os.listdir(listing)):
+        # What is not to be had, or has its lock, is left alone.
+        with contextlib.suppress(OSError):
+            left = _opened(name, os.O_RDONLY | os.O_NONBLOCK | os.O_NOFOLLOW, folder=listing)
+            try:
+                fcntl.fcntl(left, fcntl.F_OFD_SETLK, _IN_THE_MAKING[fcntl.F_RDLCK])
+                os.unlink(name, dir_fd=listing)
+            finally:
+                os.close(left)
 
 
 class Disk:
@@ -301,7 +334,7 @@ class Disk:
         """What a reader asks of the system for one reading while nothing is unusual, as `_system.c` takes it."""
         locks = _CONTENT[fcntl.F_RDLCK], _AT_WORK[fcntl.F_WRLCK], _CONTENT[fcntl.F_UNLCK]
         name, journal = os.fsencode(self._name), os.fsencode(self._beside)
-        return self._file, LARGEST_FILE + 1, *locks, self._folder, name, *self.identity, journal
+        return self._file, LARGEST_FILE + 1, *locks, self._folder, name, *self.identity, journal, LOOK_AGAIN
 
     def _bytes(self) -> bytes:
         return os.pread(self._file, LARGEST_FILE + 1, 0)

@@ -100,11 +100,71 @@ class WrongJournal(PalhaventoError):
 _BY_NUMBER: dict[int, type[PalhaventoError]] = {kind.number: kind for kind in PalhaventoError.__subclasses__()}
 
 
+_LONGEST_SHOWN = 32
+
+
+def shown(name: str | bytes) -> str:
+    """A name as a sentence shows it, with the beginning of a very long one.
+
+    >>> print(shown(b"gdp.de"), shown("preço"), shown("x" * 1000))
+    'gdp.de' 'preço' 'xxxxxxxxxxxxxxxxxxxxxxxxxxxxxxxx'...
+    """
+    return repr(name[:_LONGEST_SHOWN]).lstrip("b") + ("..." if len(name) > _LONGEST_SHOWN else "")
+
+
 def refusal(number: int, about: str = "") -> PalhaventoError:
     """The exception for a refusal number, and what it is about.
 
-    >>> refusal(1, "'a b'")
-    IllegalName(1, "'a b': A name has 1 to 24 bytes, each 0x21 to 0x7D.")
+    >>> refusal(5, "rates.tkf")
+    FileFull(5, 'rates.tkf: A split is needed and there is no free slot.')
     """
     kind = _BY_NUMBER.get(number, PalhaventoError)
     return kind(number, f"{about}: {kind.__doc__}" if about else f"{kind.__doc__}")
+
+
+def illegal(*names: str | bytes) -> PalhaventoError:
+    """The refusal of the first of these names that is illegal: how long it is, and which byte of it is wrong.
+
+    >>> print(illegal("gdp", "a b"))
+    'a b': A name has 1 to 24 bytes, each 0x21 to 0x7D; byte 2 of this one is 0x20 (a blank).
+    >>> print(illegal("preço"))
+    'preço': A name has 1 to 24 bytes, each 0x21 to 0x7D; byte 4 of this one is 0xC3 (of 'ç').
+    >>> print(illegal(b"x" * 25))
+    'xxxxxxxxxxxxxxxxxxxxxxxxx': A name has 1 to 24 bytes, each 0x21 to 0x7D; this one has 25.
+    """
+    for name in names:
+        if wrong := _wrong(name):
+            return IllegalName(IllegalName.number, f"{shown(name)}: {_RULE}; {wrong}.")
+    return refusal(IllegalName.number, " to ".join(map(shown, names)))
+
+
+_RULE = (IllegalName.__doc__ or "").rstrip(".")
+_LONGEST = 24
+_LEGAL = range(0x21, 0x7E)
+_NAMED = {0x00: "zero", 0x09: "a tab", 0x0A: "a line feed", 0x0D: "a carriage return", 0x20: "a blank", 0x7E: "'~'"}
+
+
+def _wrong(name: str | bytes) -> str:
+    """What is wrong with a name, or nothing."""
+    digits = name if isinstance(name, bytes) else _encoded(name)
+    if not digits:
+        return "this one is empty"
+    length = f"this one has {len(digits)}" if len(digits) > _LONGEST else ""
+    place = next((place for place, digit in enumerate(digits) if digit not in _LEGAL), None)
+    if place is None:
+        return length
+    # All bytes before it are ASCII, so its place among the characters is the same.
+    what = f"0x{digits[place]:02X}"
+    if digits[place] in _NAMED:
+        what += f" ({_NAMED[digits[place]]})"
+    elif isinstance(name, str) and name[place].isprintable():
+        what += f" (of {name[place]!r})"
+    return f"{length}, and byte {place + 1} is {what}" if length else f"byte {place + 1} of this one is {what}"
+
+
+def _encoded(name: str) -> bytes:
+    """A name's bytes, which on a command line may be no text."""
+    try:
+        return name.encode("utf-8", "surrogateescape")
+    except UnicodeEncodeError:
+        return name.encode("utf-8", "surrogatepass")

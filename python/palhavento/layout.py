@@ -18,9 +18,10 @@ import struct
 from dataclasses import dataclass
 from typing import Literal
 
-from palhavento.library import HEADER_BYTES, slot_bytes
+from palhavento.library import ENTRY_BYTES, HEADER_BYTES, slot_bytes
 
 Side = tuple[Literal["slot", "cell"], int]
+Entry = tuple[str, int]
 
 
 @dataclass(frozen=True)
@@ -83,6 +84,18 @@ def buckets(file: bytes) -> list[Bucket]:
             found.append(Bucket(slot, bounds[0].decode("ascii"), bounds[1].decode("ascii"), count))
     # Bounds order as if continued by a digit above all others: 0x7E is above every digit, and so is where no limit is.
     return sorted(found, key=lambda bucket: bucket.upper.ljust(24, "~"))
+
+
+def contents(file: bytes) -> list[tuple[Bucket, list[Entry]]]:
+    """The buckets of a sound file, in range order, each with its entries."""
+    size = slot_bytes(sizes(file)[0])
+
+    def entries(bucket: Bucket) -> list[Entry]:
+        start = HEADER_BYTES + bucket.slot * size + 64
+        listed = file[start : start + ENTRY_BYTES * bucket.entries]
+        return [(name.decode("ascii").rstrip(" "), value) for name, value in struct.iter_unpack("<24sQ", listed)]
+
+    return [(bucket, entries(bucket)) for bucket in buckets(file)]
 
 
 def trie(image: bytes) -> Trie:

@@ -20,7 +20,7 @@ from ctypes import c_char_p, c_size_t, c_uint64
 from pathlib import Path
 from typing import NamedTuple
 
-from palhavento.errors import refusal
+from palhavento.errors import illegal, refusal, shown
 
 TRIE_BYTES = 1540
 ENTRY_BYTES = 32
@@ -113,8 +113,10 @@ def _lend(buffer: bytearray) -> ctypes.Array[ctypes.c_char]:
 
 def _answer(answer: int, *names: bytes, about: str = "") -> int:
     """An answer that is no refusal; else the refusal is raised, with the names or whatever it is about."""
+    if answer == 1:
+        raise illegal(*names)
     if answer < 100 or answer == 255:
-        raise refusal(answer, about or " to ".join(repr(name)[1:] for name in names))
+        raise refusal(answer, about or " to ".join(map(shown, names)))
     return answer
 
 

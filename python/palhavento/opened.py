@@ -27,7 +27,7 @@ import weakref
 from collections.abc import Callable
 from typing import Any, TypeVar
 
-from palhavento import calls, disk, layout, library
+from palhavento import calls, disk, layout, library, reasons
 from palhavento.errors import BadFile, CutFile, Locked, PalhaventoError, StaleTrie, refusal
 
 try:
@@ -135,7 +135,7 @@ class Opened:
         try:
             outcome = library.recover(file, limit=1)
         except BadFile:
-            raise refusal(2, self.path) from None
+            raise self._refused(BadFile.number, file) from None
         if outcome.answer == library.NOTHING_TO_DO:
             return file, None
         if self.readonly:
@@ -162,7 +162,11 @@ class Opened:
         try:
             return library.rebuild(file)
         except PalhaventoError as refused:
-            raise refusal(refused.number, self.path) from None
+            raise self._refused(refused.number, file) from None
+
+    def _refused(self, number: int, file: bytes) -> PalhaventoError:
+        """The refusal of this file, and why it is bad if it is."""
+        return refusal(number, f"{self.path}: {reasons.state(file).reason}" if number == BadFile.number else self.path)
 
     def ask(self, call: Callable[..., Given], *given: object) -> Given:
         """What a call gives for the file as it is now and its trie."""
@@ -175,7 +179,7 @@ class Opened:
             except BadFile:
                 # A writer is alone with its file, so what is bad stays bad.
                 if not self.readonly:
-                    raise refusal(2, self.path) from None
+                    raise self._refused(BadFile.number, file) from None
             except (CutFile, StaleTrie):
                 pass
             else:

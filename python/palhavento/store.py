@@ -21,16 +21,15 @@ import threading
 import time
 from collections.abc import Callable, ItemsView, Iterable, Iterator, KeysView, Mapping, MutableMapping, ValuesView
 from types import TracebackType
-from typing import Any, Literal, NoReturn, TypeVar, Union, cast, overload
+from typing import Any, NoReturn, TypeVar, Union, cast, overload
 
-from palhavento import calls, disk, drawing, layout, library, opened
+from palhavento import calls, disk, drawing, layout, library, opened, reasons
 from palhavento.calls import HIGHEST, LOWEST, Entry, Name
 from palhavento.errors import PalhaventoError
 
 Given = TypeVar("Given")
 Other = TypeVar("Other")
 
-_STATES: dict[int, Literal["sound", "cut", "bad"]] = {library.SOUND: "sound", library.CUT: "cut", library.BAD: "bad"}
 _ABSENT = object()
 
 
@@ -399,14 +398,16 @@ class Store(MutableMapping[str, int]):
 
     # The maintainer's calls.
 
-    def check(self) -> Literal["sound", "cut", "bad"]:
-        """What the file on disk is now. A reader may see a file cut while its writer is between two stores.
+    def check(self) -> reasons.State:
+        """What the file on disk is now: 'sound', 'cut' or 'bad', a string whose `reason` says why it is not sound.
+
+        A reader may see a file cut while its writer is between two stores.
 
         >>> palhavento.open("checked.tkf").check()
         'sound'
         """
         with self._opened.alone:
-            return _STATES[library.check(self._opened.read(anew=True))]
+            return reasons.state(self._opened.read(anew=True))
 
     def recover(self) -> int | None:
         """Make a cut file sound and give the slot that was freed; None where there was nothing to do.
@@ -474,9 +475,21 @@ class Store(MutableMapping[str, int]):
         """
         return layout.trie(self._agreed()[1])
 
-    def _repr_html_(self) -> drawing.Picture | None:
-        """The buckets as a notebook shows them; a closed store has no picture, only its repr."""
-        return None if self.closed else drawing.buckets_svg(self.buckets(), self.b)
+    def svg(self) -> drawing.Picture:
+        """What the store holds and has room for: SVG text, which a notebook draws.
+
+        >>> palhavento.open("drawn.tkf", b=4, slots=8).svg()
+        <Picture: no names in 1 bucket of up to 4; 32 more fit at most>
+        """
+        file, trie = self._agreed()
+        return drawing.store_svg(layout.contents(file), *layout.sizes(file), layout.trie(trie))
+
+    def _repr_svg_(self) -> str | None:
+        """The store as a notebook shows it; a closed one has no picture, only its repr."""
+        return None if self.closed else self.svg()._repr_svg_()
+
+    def _repr_html_(self) -> str | None:
+        return None if self.closed else self.svg()._repr_html_()
 
     def trie_svg(self) -> drawing.Picture:
         """The trie with its logical paths: SVG text, which a notebook draws.

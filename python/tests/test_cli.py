@@ -15,7 +15,7 @@ from support import WORDS, InFolder, cut_file, sound_file
 import palhavento
 
 PACKAGE = Path(__file__).resolve().parent.parent
-COMMANDS = ("create", "put", "get", "rm", "ls", "import", "check", "recover", "stats", "draw")
+COMMANDS = ("create", "put", "get", "rm", "ls", "import", "check", "recover", "stats", "compact", "draw")
 
 
 class CommandLine(InFolder):
@@ -89,12 +89,18 @@ class CommandLine(InFolder):
             return ended.returncode, json.loads(ended.stdout)
 
         self.assertEqual(said("create", self.store), (0, {"created": str(self.store), "b": 16, "slots": 64}))
-        self.assertEqual(said("put", self.store, "oil", 71), (0, {"name": "oil", "value": 71, "old": None}))
-        self.assertEqual(said("put", self.store, "oil", 72), (0, {"name": "oil", "value": 72, "old": 71}))
-        self.assertEqual(said("get", self.store, "oil"), (0, {"name": "oil", "value": 72}))
-        self.assertEqual(said("ls", self.store), (0, {"entries": [["oil", 72]]}))
-        self.assertEqual(said("check", self.store), (0, {"check": "sound"}))
+        largest = 2**64 - 1
+        new = {"name": "oil", "value": 71, "value_text": "71", "old": None, "old_text": None}
+        self.assertEqual(said("put", self.store, "oil", 71), (0, new))
+        replaced = {"name": "oil", "value": largest, "value_text": str(largest), "old": 71, "old_text": "71"}
+        self.assertEqual(said("put", self.store, "oil", largest), (0, replaced))
+        self.assertEqual(said("get", self.store, "oil"), (0, {"name": "oil", "value": largest, "value_text": str(largest)}))
+        entries = {"entries": [["oil", largest]], "entries_text": [["oil", str(largest)]]}
+        self.assertEqual(said("ls", self.store), (0, entries))
+        sound = {"store": str(self.store), "check": "sound", "reason": None, "faults": []}
+        self.assertEqual(said("check", self.store), (0, {"check": "sound", "files": [sound]}))
         self.assertEqual(said("recover", self.store), (0, {"freed": None}))
+        self.assertEqual(said("--version"), (0, {"version": f"palhavento {palhavento.__version__}"}))
         status, figures = said("stats", self.store)
         self.assertEqual((status, figures["entries"], figures["used"], figures["bytes"]), (0, 1, 1, 36880))
         self.assertEqual(said("rm", self.store, "oil"), (0, {"removed": "oil"}))
@@ -126,8 +132,28 @@ class CommandLine(InFolder):
         ended = self.run_("import", self.store, "-", input="a 1\nb 2\nc 3\n")
         self.assertEqual(ended.returncode, 5)
         self.assertIn("standard input:3: ", ended.stderr)
-        self.assertIn("The 2 lines before it are in the store.", ended.stderr)
+        self.assertTrue(ended.stderr.endswith(" The 2 lines before it are in the store.\n"), ended.stderr)
         self.assertEqual(self.done("ls", self.store), "a 1\nb 2\n")
+
+    def test_import_onto_a_full_disk(self):
+        self.nine_words()
+        # No file may grow any further: as on a full disk, but for one process alone.
+        full = ["bash", "-c", 'trap "" XFSZ; ulimit -f 0; exec "$0" "$@"']
+        ended = self.run_("import", self.store, "-", input="the 2\nof 3\n", before=full)
+        self.assertEqual((ended.returncode, ended.stdout, ended.stderr.count("\n")), (74, "", 1))
+        self.assertIn(f"standard input:1: {self.store}: File too large; the change was not made. No line before", ended.stderr)
+        self.assertEqual(self.done("get", self.store, "the"), "1\n")
+
+    def test_import_without_sync_ends_with_one(self):
+        self.nine_words()
+        program = ("import sys; from unittest import mock; from palhavento import cli, store; "
+                   "sys.argv[1:] = ['import', '--no-sync', 'store.tkf', 'lines.txt']; "
+                   "flush = mock.patch.object(store.Store, 'flush', autospec=True).start(); status = cli.main(); "
+                   "sys.exit(status or 10 * flush.call_count)")
+        (self.folder / "lines.txt").write_text("oil 71\ngas 72\n")
+        ended = subprocess.run([sys.executable, "-c", program], cwd=self.folder, capture_output=True, text=True,
+                               env={**os.environ, "PYTHONPATH": str(PACKAGE)}, timeout=60)
+        self.assertEqual((ended.returncode, ended.stdout, ended.stderr), (10, "imported 2\n", ""))
 
     def test_a_bar_where_somebody_looks(self):
         self.done("create", self.store)
@@ -157,6 +183,29 @@ class CommandLine(InFolder):
         renamed = self.store.rename(self.folder / "store.svg")
         self.refused(64, "draw", renamed, renamed)
 
+    def test_draw_writes_over_nothing_but_a_picture(self):
+        self.nine_words()
+        other, empty, pipe = self.folder / "notes.svg", self.folder / "empty.svg", self.folder / "pipe.svg"
+        other.write_text("to be kept\n")
+        os.mkfifo(pipe)
+        for target in (other, pipe, self.folder / "full.svg"):
+            if target.name == "full.svg":
+                target.symlink_to("/dev/full")
+            self.assertIn(f"palhavento: {target}: is there and is no SVG", self.refused(64, "draw", self.store, target))
+        empty.write_text("")
+        for target in (empty, empty, self.folder / "new.svg"):
+            self.done("draw", self.store, target)
+            self.assertTrue(target.read_text(encoding="utf-8").startswith("<svg"))
+
+    def test_draw_names_the_file_that_failed(self):
+        self.nine_words()
+        picture = self.folder / "words.svg"
+        picture.write_text("<svg/>")
+        # No file may grow: as on a full disk, but for one process alone.
+        said = self.run_("draw", self.store, picture, before=["bash", "-c", 'trap "" XFSZ; ulimit -f 0; exec "$0" "$@"'])
+        self.assertEqual((said.returncode, said.stdout), (74, ""))
+        self.assertEqual(said.stderr, f"palhavento: {picture}: File too large\n")
+
     # What each status says.
 
     def test_absent(self):
@@ -168,7 +217,10 @@ class CommandLine(InFolder):
         self.nine_words()
         self.all_refused(1, [["get", self.store, name] for name in ("a b", "", "x" * 25, "~", "preço", "a\nb")])
         for words in (["put", self.store, "a b", 1], ["rm", self.store, "a b"], ["ls", self.store, "a b", "z"]):
-            self.refused(1, *words)
+            self.assertIn("byte 2 of this one is 0x20 (a blank)", self.refused(1, *words))
+        self.assertIn("this one has 25.", self.refused(1, "get", self.store, "x" * 25))
+        self.assertIn("byte 4 of this one is 0xC3 (of 'ç')", self.refused(1, "get", self.store, "preço"))
+        self.assertIn("byte 2 of this one is 0xFF.", self.refused(1, "get", self.store, os.fsdecode(b"a\xff")))
 
     def test_bad_files(self):
         self.nine_words()
@@ -181,7 +233,8 @@ class CommandLine(InFolder):
             self.store.write_bytes(damaged)
             self.refused(2, "put", self.store, "a", 1)
             ended = self.run_("check", self.store)
-            self.assertEqual((ended.returncode, ended.stdout, ended.stderr), (2, "bad\n", ""))
+            self.assertEqual((ended.returncode, ended.stderr), (2, ""))
+            self.assertRegex(ended.stdout, r"^bad: [^\n]+ \(R\d+\.\d+\)\n$")
         for words in (["get", self.store, "a"], ["rm", self.store, "a"], ["ls", self.store], ["import", self.store, text],
                       ["recover", self.store], ["stats", self.store], ["draw", self.store, self.folder / "words.svg"]):
             self.refused(2, *words)
@@ -190,7 +243,8 @@ class CommandLine(InFolder):
         before = cut_file()
         self.store.write_bytes(before)
         ended = self.run_("check", self.store)
-        self.assertEqual((ended.returncode, ended.stdout), (3, "cut\n"))
+        self.assertEqual(ended.returncode, 3)
+        self.assertEqual(ended.stdout, "cut: slot 1: is left of a split that was stopped; to recover frees it (R4.8)\n")
         self.assertEqual(self.run_("ls", self.store).stdout, "rate1 1\nrate2 2\n")
         self.assertEqual(self.store.read_bytes(), before)
         ended = self.run_("recover", self.store)
@@ -201,7 +255,8 @@ class CommandLine(InFolder):
         self.done("create", self.store, "--b", 2, "--slots", 1)
         for name in "ab":
             self.done("put", self.store, name, 1)
-        self.refused(5, "put", self.store, "c", 1)
+        said = self.refused(5, "put", self.store, "c", 1)
+        self.assertEqual(said, "palhavento: 'c': A split is needed and there is no free slot. `palhavento compact` may make room.\n")
         self.store.unlink()
         with palhavento.open(self.store, b=2, slots=64, sync=False) as store:
             # Three names that differ in their last digit alone give a bound of 24 digits, so 24 strings.
@@ -231,6 +286,52 @@ class CommandLine(InFolder):
             ["put", self.store, "oil", "9" * 5000], ["get", self.store, "a", "b"], ["check"],
             ["create", self.folder / "new.tkf", "--b", "four"], ["ls", self.store, "--xml"], ["ls", self.store, "--js"],
         ])
+
+    def test_a_name_like_an_option_is_told_how_to_be_one(self):
+        self.nine_words()
+        said = self.refused(64, "put", self.store, "-x", 3)
+        self.assertIn(f"if -x is no option: palhavento put {self.store} -- -x 3\n", said)
+        self.done("put", self.store, "--", "-x", 3)
+        self.assertIn("palhavento get -- -x.tkf a\n", self.refused(64, "get", "-x.tkf", "a"))
+        self.assertNotIn("is no option", self.refused(64, "put", self.store, "oil"))
+
+    def test_check_of_many_files(self):
+        sound, cut, bad, none = (self.folder / f"{name}.tkf" for name in ("a-sound", "b-cut", "c-bad", "d-none"))
+        sound.write_bytes(sound_file(WORDS, b=4, slots=8))
+        cut.write_bytes(cut_file())
+        bad.write_bytes(sound.read_bytes()[:-1])
+        lines = [f"{sound}: sound\n", f"{cut}: cut: slot 1: is left of a split that was stopped; to recover frees it (R4.8)\n",
+                 f"{bad}: bad: length: it has 1551 bytes, and 8 slots with b = 4 take 1552 (R2.7)\n"]
+        for files, status in (([sound, sound], 0), ([cut, sound], 3), ([sound, cut, bad], 2), ([bad, cut], 2)):
+            ended = self.run_("check", *files)
+            self.assertEqual((ended.returncode, ended.stderr), (status, ""))
+            self.assertEqual(sorted(ended.stdout.splitlines(True)),
+                             sorted(line for file in files for line in lines if line.startswith(str(file))))
+        ended = self.run_("check", none, bad, sound)
+        self.assertEqual((ended.returncode, ended.stdout), (74, lines[2] + lines[0]))
+        self.assertEqual(ended.stderr, f"palhavento: {none}: No such file or directory\n")
+        told = json.loads(self.run_("check", "--json", none, cut).stdout)
+        self.assertEqual((told["check"], told["status"], [file["check"] for file in told["files"]]),
+                         ("unreadable", 74, ["unreadable", "cut"]))
+        self.assertEqual(told["files"][1]["faults"][0]["rule"], "R4.8")
+
+    def test_compact(self):
+        names = [f"name{number:03}" for number in range(299)]
+        self.store.write_bytes(sound_file(names[::-1], b=16, slots=64))
+        new = self.folder / "new.tkf"
+        said = self.done("compact", self.store, new)
+        self.assertRegex(said, r"^compacted \S+/new.tkf: names 299, slots 19 in place of 5\d\n"
+                               r"room left: 45 of 64 slots, \d+ of 256 strings\n$")
+        self.assertEqual(self.done("ls", new), self.done("ls", self.store))
+        self.assertIn(f"{new}: File exists", self.refused(74, "compact", self.store, new))
+        said = self.refused(5, "compact", self.store, self.folder / "small.tkf", "--b", 4)
+        self.assertIn("small.tkf: of 299 names 256 fit at best: A split is needed and there is no free slot.\n", said)
+        self.assertIn("b = 17", self.refused(8, "compact", self.store, self.folder / "small.tkf", "--b", 17))
+        told = json.loads(self.done("compact", "--json", "--slots", 60, self.store, self.folder / "sixty.tkf"))
+        self.assertEqual((told["slots"], told["entries"], told["free"]), (60, 299, 60 - told["used"]))
+
+    def test_version(self):
+        self.assertEqual(self.done("--version"), f"palhavento {palhavento.__version__}\n")
 
     def test_missing_files_and_folders(self):
         self.nine_words()
@@ -277,13 +378,13 @@ class CommandLine(InFolder):
         printed = subprocess.check_output([PACKAGE / "bin" / "palhavento", "get", self.store, "that"], text=True)
         self.assertEqual(printed, "7\n")
 
-    def test_the_script_without_the_library(self):
+    def test_without_the_library(self):
         for part in ("bin", "palhavento"):
             shutil.copytree(PACKAGE / part, self.folder / part, ignore=shutil.ignore_patterns("*.so", "__pycache__"))
-        ended = subprocess.run([self.folder / "bin/palhavento", "check", "a.tkf"], capture_output=True, text=True,
-                               timeout=60)
-        self.assertEqual((ended.returncode, ended.stdout, ended.stderr.count("\n")), (74, "", 1), ended.stderr)
-        self.assertIn("run `make python`", ended.stderr)
+        for command in ([self.folder / "bin/palhavento"], [sys.executable, "-m", "palhavento"]):
+            ended = subprocess.run([*command, "check", "a.tkf"], capture_output=True, text=True, timeout=60, cwd=self.folder)
+            self.assertEqual((ended.returncode, ended.stdout, ended.stderr.count("\n")), (74, "", 1), ended.stderr)
+            self.assertRegex(ended.stderr, "^palhavento: .*run `make python`")
 
     def test_help(self):
         # The examples can be pasted, one after the other.
@@ -293,7 +394,7 @@ class CommandLine(InFolder):
                                capture_output=True, timeout=60, env={**os.environ, "PATH": path})
         self.assertEqual((ended.returncode, ended.stderr), (0, ""))
         self.assertIn('\n42\n', ended.stdout)
-        self.assertIn('{"name": "gdp.de", "value": 42}', ended.stdout)
+        self.assertIn('{"name": "gdp.de", "value": 42, "value_text": "42"}', ended.stdout)
         with ThreadPoolExecutor() as side_by_side:
             all_said = list(side_by_side.map(lambda command: self.done(command, "--help"), COMMANDS))
         for command, said in zip(COMMANDS, all_said):

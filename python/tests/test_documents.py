@@ -16,7 +16,6 @@ from pathlib import Path
 from support import WORDS, InFolder, sound_file
 
 import palhavento
-from palhavento.drawing import buckets_svg
 
 PROJECT = Path(__file__).resolve().parent.parent.parent
 
@@ -92,30 +91,43 @@ class Documents(InFolder):
         shown = (PROJECT / "docs/FORMAT.md").read_text(encoding="utf-8")
         self.assertIn("\n".join(explained(self.path.read_bytes())), shown)
 
-    def test_the_pictures(self):
-        with palhavento.open(self.path, readonly=True) as store:
-            drawn = {"store.svg": buckets_svg(store.buckets(), store.b), "trie.svg": store.trie_svg()}
-        for name, picture in drawn.items():
-            self.assertEqual((PROJECT / "docs" / name).read_text(encoding="utf-8"), picture)
-
-    def test_readmes_five_lines(self):
+    def test_readmes_lines_and_their_pictures(self):
         readme = (PROJECT / "README.md").read_text(encoding="utf-8")
         lines = re.search(r"```python\n(.*?)```", readme, re.DOTALL)[1].splitlines()
-        self.assertEqual(len(lines), 5)
+        self.assertEqual(len(lines), 6)
         asked, answer = lines[3].split("#")
         named: dict[str, object] = {}
         with contextlib.chdir(self.folder):
             exec("\n".join(lines[:3]), named)
         self.assertEqual(eval(asked, named), ast.literal_eval(answer.strip()))
-        self.assertEqual(eval(lines[4], named)._repr_html_(), (PROJECT / "docs/store.svg").read_text(encoding="utf-8"))
+        shown = re.findall(r"^!\[.*\]\((.*\.svg)\)$", readme, re.MULTILINE)
+        self.assertEqual(shown, ["docs/store.svg", "docs/trie.svg"])
+        for line, picture in zip(lines[4:], shown):
+            self.assertEqual(eval(line, named)._repr_svg_(), (PROJECT / picture).read_text(encoding="utf-8"))
+
+    def five_minutes(self, old: str = "", new: str = "") -> subprocess.CompletedProcess[str]:
+        """README's story, told in bash, with one of its lines changed."""
+        story = re.search(r"```sh\n(.*?)```", (PROJECT / "README.md").read_text(encoding="utf-8"), re.DOTALL)[1]
+        self.assertIn(old, story)
+        changed = story.replace(old, new, 1).replace("sleep 1;", "sleep 0.2;") if old else story
+        return subprocess.run(["bash", "-c", changed], cwd=PROJECT, capture_output=True, text=True,
+                              env={**os.environ, "TMPDIR": str(self.folder)}, timeout=60)
 
     def test_readmes_five_minutes(self):
-        readme = (PROJECT / "README.md").read_text(encoding="utf-8")
-        story = re.search(r"```sh\n(.*?)```", readme, re.DOTALL)[1]
-        ended = subprocess.run(["bash", "-c", story], cwd=PROJECT, env={**os.environ, "TMPDIR": str(self.folder)},
-                               capture_output=True, text=True, timeout=60)
+        ended = self.five_minutes()
         self.assertEqual((ended.returncode, ended.stderr.count("Killed")), (0, 3), ended.stderr)
         self.assertRegex(ended.stdout, r"^[1-9]\d* names said, 0 lost\nsound\ndrew rates.svg\n$", ended.stderr)
+
+    def test_readmes_five_minutes_on_a_slow_machine(self):
+        ended = self.five_minutes("store = palhavento.open", "time.sleep(0.5); store = palhavento.open")
+        self.assertEqual(ended.returncode, 0, ended.stderr)
+        self.assertRegex(ended.stdout, r"^[1-9]\d* names said, 0 lost\n", ended.stderr)
+
+    def test_readmes_five_minutes_fail_where_nothing_was_said(self):
+        for old, new in (("while True:", "while False:"), ("store = palhavento.open", "exit(); store = palhavento.open")):
+            ended = self.five_minutes(old, new)
+            self.assertNotEqual(ended.returncode, 0, ended.stdout)
+            self.assertNotIn("sound", ended.stdout)
 
     def test_readmes_refusals(self):
         readme = (PROJECT / "README.md").read_text(encoding="utf-8")

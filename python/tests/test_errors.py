@@ -76,6 +76,33 @@ class Raised(InFolder):
         with self.assertRaises(ValueError):
             store.get("a b")
 
+    def test_an_illegal_name_is_told_what_is_wrong_with_it(self) -> None:
+        store = self.open()
+        rule = "A name has 1 to 24 bytes, each 0x21 to 0x7D"
+        for name, shown, wrong in (
+            ("a b", "'a b'", "byte 2 of this one is 0x20 (a blank)"),
+            ("", "''", "this one is empty"),
+            ("x" * 25, f"'{'x' * 25}'", "this one has 25"),
+            ("x" * 1000, f"'{'x' * 32}'...", "this one has 1000"),
+            ("y z" + "x" * 22, f"'y z{'x' * 22}'", "this one has 25, and byte 2 is 0x20 (a blank)"),
+            ("gdp~", "'gdp~'", "byte 4 of this one is 0x7E ('~')"),
+            ("gdp\n", "'gdp\\n'", "byte 4 of this one is 0x0A (a line feed)"),
+            ("preço", "'preço'", "byte 4 of this one is 0xC3 (of 'ç')"),
+            ("\ud800", "'\\ud800'", "byte 1 of this one is 0xED"),
+            (b"a\xff", "'a\\xff'", "byte 2 of this one is 0xFF"),
+        ):
+            for call in (store.__getitem__, store.__contains__, store.__delitem__, lambda name: store.range("a", name),
+                         lambda name: store.update([(name, 1)])):
+                with self.assertRaises(errors.IllegalName) as caught:
+                    call(name)
+                self.assertEqual(str(caught.exception), f"{shown}: {rule}; {wrong}.")
+
+    def test_a_bad_file_is_told_what_is_wrong_with_it(self) -> None:
+        self.path.write_bytes(sound_file(["a"], b=2, slots=2)[:-1])
+        for readonly in (False, True):
+            with self.assertRaisesRegex(errors.BadFile, r"store\.tkf: length: it has 271 bytes, .* \(R2\.7\): The file is"):
+                palhavento.open(self.path, readonly=readonly)
+
     def test_bad_file(self) -> None:
         self.path.write_bytes(b"not a file of names")
         self.refused(errors.BadFile, palhavento.open, self.path)

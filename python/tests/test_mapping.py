@@ -19,7 +19,7 @@ from unittest import mock
 from support import WORDS, InFolder
 
 import palhavento
-from palhavento import errors
+from palhavento import errors, layout
 
 
 def some_name(chance: random.Random) -> str:
@@ -513,16 +513,14 @@ class ForTheMaintainer(InFolder):
         self.assertEqual(trie.cells[1], palhavento.Cell(" ", 1, ("slot", 0), ("slot", 3)))
         self.assertEqual(trie.cells[2], palhavento.Cell("o", 0, ("slot", 2), ("slot", 1)))
 
-    def test_pictures_are_drawn_from_buckets_and_trie(self) -> None:
+    def test_pictures_are_drawn_from_contents_and_trie(self) -> None:
         with mock.patch("palhavento.store.drawing") as drawing:
-            self.assertIs(self.store._repr_html_(), drawing.buckets_svg.return_value)
+            self.assertIs(self.store.svg(), drawing.store_svg.return_value)
             self.assertIs(self.store.trie_svg(), drawing.trie_svg.return_value)
-        drawing.buckets_svg.assert_called_once_with(self.store.buckets(), 4)
+        contents = layout.contents(self.path.read_bytes())
+        self.assertEqual([entry for _, entries in contents for entry in entries], self.store.range())
+        drawing.store_svg.assert_called_once_with(contents, 4, 8, self.store.trie())
         drawing.trie_svg.assert_called_once_with(self.store.trie())
-
-    def test_a_closed_store_has_no_picture(self) -> None:
-        self.store.close()
-        self.assertIsNone(self.store._repr_html_())
 
     def test_a_store_shows_itself(self) -> None:
         self.assertEqual((self.store.path, self.store.b, self.store.slots), (str(self.path), 4, 8))

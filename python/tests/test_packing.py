@@ -50,6 +50,33 @@ class Wheel(InFolder):
                                           env={**os.environ, "PYTHONPATH": str(self.folder / "site")})
         self.assertEqual(printed, "ByCtypes {'a': 1, 'b': 2} 2\n")
 
+    def test_what_is_installed_beside_the_package(self) -> None:
+        with zipfile.ZipFile(self.folder / packing.build_wheel(str(self.folder))) as packed:
+            [data] = {name.split("/")[0] for name in packed.namelist() if ".data/" in name}
+            script = packed.read(f"{data}/scripts/palhavento").decode()
+            self.assertEqual(packed.getinfo(f"{data}/scripts/palhavento").external_attr >> 16, 0o100755)
+            for place, here in (("man/man1/palhavento.1", "man/palhavento.1"),
+                                ("bash-completion/completions/palhavento", "completion/palhavento.bash")):
+                self.assertEqual(packed.read(f"{data}/data/share/{place}"), (packing.HERE / here).read_bytes())
+            packed.extractall(self.folder / "site")
+        # pip puts its own Python there.
+        self.assertTrue(script.startswith("#!python\n"))
+        installed = self.folder / "bin" / "palhavento"
+        installed.parent.mkdir()
+        installed.write_text(script)
+        command = [sys.executable, installed, "create", "a.tkf", "--slots", "2"]
+        printed = subprocess.check_output(command, text=True, cwd=self.folder,
+                                          env={**os.environ, "PYTHONPATH": str(self.folder / "site")})
+        self.assertEqual(printed, "created a.tkf: 2 slots of up to 16 names\n")
+
+    def test_an_editable_one_leads_to_the_package_here(self) -> None:
+        with zipfile.ZipFile(self.folder / packing.build_editable(str(self.folder))) as packed:
+            self.assertNotIn("palhavento/__init__.py", packed.namelist())
+            packed.extractall(self.folder / "site")
+        program = f"import site; site.addsitedir({str(self.folder / 'site')!r}); import palhavento; print(palhavento.__file__)"
+        printed = subprocess.check_output([sys.executable, "-c", program], text=True, cwd=self.folder)
+        self.assertEqual(printed, f"{packing.HERE}/palhavento/__init__.py\n")
+
     def test_its_record_lists_every_file_with_its_sum(self) -> None:
         with zipfile.ZipFile(self.folder / packing.build_wheel(str(self.folder))) as packed:
             record = next(name for name in packed.namelist() if name.endswith("/RECORD"))

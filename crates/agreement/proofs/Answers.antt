@@ -1,12 +1,5 @@
 -- Each answer of `agreement_of` decides agreement.
-use mathlib.Core.Path.{_∙_, _≡_, subst, sym}
-use mathlib.Core.Bool.{false, true}
-use mathlib.Core.List.{List, []}
-use Prim.Native.Nat.{_<_, _≤_, ℕ}
-use native.Mathlib.Omega.{arith}
-use lib.Dec.{eqb}
-use lib.ListN.{drop, getD, length}
-use borrow.Author.Tests.{eq-eqb, eqb-true}
+use Rattle.model.proofs.Prelude.{List, [], _<_, _∙_, _≡_, _≤_, arith, clash, drop, eq-eqb, eqb, eqb-true, false, getD, length, subst, sym, true, ℕ}
 use Rattle.model.specs.declared.Side.{Side}
 use Rattle.model.specs.declared.Side.the-variants.{Cell as further, Slot as slot}
 use Rattle.model.specs.declared.Trie.{Trie}
@@ -28,7 +21,7 @@ module _ (t : Trie) (s : Strings) where
   -- The answer is no.
   module _ {r : Agreement} (no : r .agrees ≡ false) where
     pub not-few : s .few ≡ false → Decides t s r
-    not-few e b fs S H = refused b S t no (λ A. let q = agreed-few b S t H A in let z : _≡_ {A = ℕ} 0 1 = cc in omega arith)
+    not-few e b fs S H = refused b S t no (λ A. let q = agreed-few b S t H A in clash cc)
 
     pub not-count : (t .count ≡ s .count → ⊥) → Decides t s r
     not-count n b fs S H = refused b S t no (λ A. n (agreed-same b S t H A))
@@ -36,8 +29,7 @@ module _ (t : Trie) (s : Strings) where
     pub not-clear : areZeroCells (drop (s .count) (t .cells)) ≡ false → Decides t s r
     not-clear e b fs S H = refused b S t no λ A.
         let q : areZeroCells (drop (s .count) (t .cells)) ≡ true = rw (agreed-same b S t H A) at (past-zeros (t .count) (t .cells) (A .past)) in
-        let z : _≡_ {A = ℕ} 0 1 = cc in
-        omega arith
+        clash cc
 
     pub not-first : 0 < s .count → (t .first ≡ 0 → ⊥) → Decides t s r
     not-first h n b fs S H = refused b S t no (λ A. n (A .first-leaf (omega (arith, agreed-same b S t H A))))

@@ -1,13 +1,5 @@
 -- The test that a cell is zero, part by part, and of the cells from one on.
-use mathlib.Core.Path.{_∙_, _≡_, refl, sym}
-use mathlib.Core.Bool.{Bool, _&&_, false, not, true}
-use mathlib.Core.List.{List, [], _∷_}
-use Prim.Native.Nat.{_+_, _-_, _<_, _≤_, ℕ}
-use native.Mathlib.Numerals.{add-one}
-use native.Mathlib.Omega.{arith}
-use lib.ListN.{drop, length, length-drop}
-use lib.Seq.{drop-cons}
-use borrow.Author.Tests.{eq-eqb, ne-eqb, not-false, not-true}
+use Rattle.model.proofs.Prelude.{Bool, List, [], _&&_, _+_, _-_, _<_, _∙_, _∷_, _≡_, _≤_, add-one, arith, drop, drop-cons, eq-eqb, false, length, length-drop, ne-eqb, not, not-false, not-true, refl, sym, true, ℕ}
 use Rattle.model.specs.declared.Cell.{Cell}
 use Rattle.model.specs.declared.Side.the-variants.{Slot as slot}
 use Rattle.model.specs.Tries.{at-cell, zero-cell}

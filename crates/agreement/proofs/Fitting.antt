@@ -1,11 +1,5 @@
 -- A tree that fits the arrays: its shapes and leaves are the arrays', and a tree with the strings that they hold fits them.
-use mathlib.Core.Path.{_∙_, _≡_, ap, ap₂, refl, sym}
-use mathlib.Core.List.{List, [], _++_, _∷_}
-use Prim.Native.Nat.{_+_, _-_, _<_, _≤_, suc, zero, ℕ}
-use native.Mathlib.Nat.{add-zero, zero-add}
-use native.Mathlib.Omega.{arith}
-use lib.ListN.{List·getD-append, getD, length, length-append, take}
-use lib.Seq.{getD-append-add, getD-at, getD-take, length-take-le}
+use Rattle.model.proofs.Prelude.{List, List·getD-append, [], _++_, _+_, _-_, _<_, _∙_, _∷_, _≡_, _≤_, add-zero, ap, ap₂, arith, getD, getD-append-add, getD-at, getD-take, length, length-append, length-take-le, refl, suc, sym, take, zero, zero-add, ℕ}
 use Rattle.model.specs.Order.{Str}
 use Rattle.model.specs.Tries.{Numbers, Tree, cell, leaf, leaves, node, size, strings}
 use Rattle.model.specs.Rebuilding.{last-digit}

@@ -1,12 +1,5 @@
 -- The pass decides agreement: over the cells of a trie that agrees there is one, and where there is one the trie agrees.
-use mathlib.Core.Path.{_∙_, _≡_, ap, refl, sym}
-use mathlib.Core.Bool.{Bool, false, true}
-use mathlib.Core.List.{List, [], _∷_}
-use Prim.Native.Nat.{_<_, _≤_, ℕ}
-use native.Mathlib.Omega.{arith}
-use lib.ListN.{drop, length, take}
-use lib.Seq.{getD-take, length-take-le}
-use borrow.Author.Tests.{le-leb, leb-true}
+use Rattle.model.proofs.Prelude.{Bool, List, [], _<_, _∙_, _∷_, _≡_, _≤_, ap, arith, clash, drop, false, getD-take, le-leb, leb-true, length, length-take-le, refl, sym, take, true, ℕ}
 use Rattle.model.specs.declared.Cell.{Cell}
 use Rattle.model.specs.declared.Side.{Side}
 use Rattle.model.specs.declared.Trie.{Trie}
@@ -165,4 +158,4 @@ module _ (b : ℕ) {fs : List Slot} (S : Sound b fs) where
 
     -- An answer that is no where it does not agree.
     pub refused : {r : Agreement} → r .agrees ≡ false → (Agrees fs t → ⊥) → Decided fs t r
-    refused {r} e n = decided (λ p. let z : _≡_ {A = ℕ} 0 1 = cc in absurd (omega arith)) (λ A. absurd (n A))
+    refused {r} e n = decided (λ p. clash cc) (λ A. absurd (n A))

@@ -1,12 +1,5 @@
 -- The places of the cells that have met their strings, and the stack of those that have not.
-use mathlib.Core.Path.{_∙_, _≡_, refl, sym}
-use mathlib.Core.List.{List, [], _++_, _∷_}
-use Prim.Native.Nat.{_+_, _-_, _<_, _≤_, suc, zero, ℕ}
-use native.Mathlib.Decide.{decLt, ℕ-discrete}
-use native.Mathlib.Numerals.{add-one}
-use native.Mathlib.Omega.{arith}
-use lib.ListN.{List·getD-append, getD, getD-replicate, length, length-append, length-replicate, length-set, replicate, set}
-use lib.Seq.{getD-append-seam, getD-set-other, getD-set-same}
+use Rattle.model.proofs.Prelude.{List, List·getD-append, [], _++_, _+_, _-_, _<_, _∙_, _∷_, _≡_, _≤_, add-one, arith, decLt, getD, getD-append-seam, getD-replicate, getD-set-other, getD-set-same, length, length-append, length-replicate, length-set, refl, replicate, set, suc, sym, zero, ℕ, ℕ-discrete}
 use Rattle.model.specs.Tries.{occ, one-if}
 use Rattle.model.proofs.Cells.{occ-append, one-if-equal}
 use Rattle.agreement.specs.declared.Frame.{Frame}

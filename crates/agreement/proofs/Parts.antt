@@ -1,17 +1,10 @@
 -- The pass and trees: a pass reads each side as a tree that fits the strings, and over such a tree there is a pass.
-use mathlib.Core.Path.{_∙_, _≡_, refl}
-use mathlib.Core.List.{List, [], _++_, _∷_, append-assoc, append-nil}
-use Prim.Native.Nat.{_+_, _<_, _≤_, suc, ℕ}
-use native.Mathlib.Decide.{ℕ-discrete}
-use native.Mathlib.Numerals.{add-one}
-use native.Mathlib.Omega.{arith}
-use lib.ListN.{getD, length, length-append}
+use Rattle.model.proofs.Prelude.{List, [], _++_, _+_, _<_, _∙_, _∷_, _≡_, _≤_, add-one, append-assoc, append-nil, arith, getD, length, length-append, refl, suc, ℕ, ℕ-discrete}
 use Rattle.model.specs.declared.Cell.{Cell}
 use Rattle.model.specs.declared.Side.{Side}
 use Rattle.model.specs.declared.Side.the-variants.{Cell as further, Slot as slot}
 use Rattle.model.specs.Tries.{Reads, Tree, at-cell, here, leaf, node, occ, size, there}
-use Rattle.model.proofs.Cells.{occ-append, one-if-equal, there-at}
-use Rattle.model.proofs.Passing.{occ-snoc}
+use Rattle.model.proofs.Cells.{occ-append, occ-snoc, one-if-equal, there-at}
 use Rattle.model.proofs.Shapes.{Floors}
 use Rattle.trie.specs.declared.Strings.{Strings}
 use Rattle.trie.specs.Places.{InOrder, cells, no-cells}

@@ -1,13 +1,5 @@
 -- The loop of the pass: what holds before each turn, at the start, from one turn to the next, and at each end.
-use mathlib.Core.Path.{_∙_, _≡_, refl, subst, sym}
-use mathlib.Core.Bool.{false}
-use mathlib.Core.List.{List, [], _++_, _∷_}
-use Prim.Native.Nat.{_+_, _-_, _<_, _≤_, suc, ℕ}
-use native.Mathlib.Numerals.{add-one}
-use native.Mathlib.Omega.{arith}
-use lib.Dec.{eqb}
-use lib.ListN.{getD, length, length-append, length-replicate, length-set, replicate, set}
-use borrow.Author.Tests.{eq-eqb, eqb-true}
+use Rattle.model.proofs.Prelude.{List, [], _++_, _+_, _-_, _<_, _∙_, _∷_, _≡_, _≤_, add-one, arith, clash, eq-eqb, eqb, eqb-true, false, getD, length, length-append, length-replicate, length-set, refl, replicate, set, subst, suc, sym, ℕ}
 use Rattle.model.specs.declared.Cell.{Cell}
 use Rattle.model.specs.declared.Side.{Side}
 use Rattle.model.specs.declared.Side.the-variants.{Cell as further, Slot as slot}
@@ -68,7 +60,7 @@ module _ (cs : List Cell) (s : Strings) (a : Side) where
 
   pub refused : {r : Agreement} → r .agrees ≡ false → Never → Passed cs s a r
   refused {r} e n = record {
-    met = λ q. let z : _≡_ {A = ℕ} 0 1 = cc in absurd (omega arith);
+    met = λ q. clash cc;
     every = λ order p. absurd (n order p);
   }
 

@@ -11,14 +11,14 @@ ghost use lib.ListN.{drop};
 ghost use Rattle.model.specs.Agreeing.{areZeroCells, sameSide};
 ghost use Rattle.agreement.specs.Decides.{Decides};
 ghost use Rattle.agreement.specs.Passes.{Passed};
-use digits::byte;
-use digits::index;
+use digits::u8_of_usize;
+use digits::u16_of_usize;
+use digits::usize_of_u8;
+use digits::usize_of_u16;
 use model::Cell;
 use model::Side;
 use model::Trie;
 use trie::Strings;
-use trie::number;
-use trie::short;
 
 // A cell whose left part is under way, and the length of the path to it.
 pub struct Frame {
@@ -35,7 +35,7 @@ pub struct Agreement {
 // The place of a cell that was not reached.
 const NOWHERE: u16 = 256;
 
-fn no() -> Agreement
+fn disagreement() -> Agreement
     ensures { λ r. ⌜ r .agrees ≡ false ⌝ }
 {
     Agreement {
@@ -103,8 +103,8 @@ fn pass(trie: Trie, strings: Strings) -> Agreement
     loop {
         match place {
             Side::Slot(s) => {
-                if number(s) != index(strings.slots[done]) {
-                    return no();
+                if usize_of_u16(s) != usize_of_u8(strings.slots[done]) {
+                    return disagreement();
                 }
                 if top == 0 {
                     return Agreement {
@@ -114,43 +114,43 @@ fn pass(trie: Trie, strings: Strings) -> Agreement
                 }
                 top -= 1;
                 let frame = frames[top];
-                let k = index(frame.cell);
+                let k = usize_of_u8(frame.cell);
                 let cell = trie.cells[k];
-                let n = index(cell.number);
-                if n + 1 != index(strings.lens[done]) {
-                    return no();
+                let n = usize_of_u8(cell.number);
+                if n + 1 != usize_of_u8(strings.lens[done]) {
+                    return disagreement();
                 }
                 if cell.digit != strings.digits[done] {
-                    return no();
+                    return disagreement();
                 }
                 if places[k] != NOWHERE {
-                    return no();
+                    return disagreement();
                 }
-                places[k] = short(done);
+                places[k] = u16_of_usize(done);
                 done += 1;
-                len = number(frame.len);
+                len = usize_of_u16(frame.len);
                 least = n;
                 place = cell.right;
             }
             Side::Cell(i) => {
                 if count <= entered {
-                    return no();
+                    return disagreement();
                 }
-                let k = number(i);
+                let k = usize_of_u16(i);
                 if count <= k {
-                    return no();
+                    return disagreement();
                 }
                 let cell = trie.cells[k];
-                let n = index(cell.number);
+                let n = usize_of_u8(cell.number);
                 if len < n {
-                    return no();
+                    return disagreement();
                 }
                 if n < least {
-                    return no();
+                    return disagreement();
                 }
                 let frame = Frame {
-                    cell: byte(k),
-                    len: short(len),
+                    cell: u8_of_usize(k),
+                    len: u16_of_usize(len),
                 };
                 frames[top] = frame;
                 top += 1;
@@ -168,24 +168,24 @@ pub fn agreement_of(trie: Trie, strings: Strings) -> Agreement
     ensures { λ r. ⌜ Decides trie strings r ⌝ }
 {
     if !strings.few {
-        return no();
+        return disagreement();
     }
     let count = strings.count;
-    if number(trie.count) != count {
-        return no();
+    if usize_of_u16(trie.count) != count {
+        return disagreement();
     }
     if !is_clear_past(trie, count) {
-        return no();
+        return disagreement();
     }
-    let first = number(trie.first);
+    let first = usize_of_u16(trie.first);
     if count == 0 {
         return Agreement {
-            agrees: first == index(strings.slots[0]),
+            agrees: first == usize_of_u8(strings.slots[0]),
             places: [256u16; 256],
         };
     }
     if first != 0 {
-        return no();
+        return disagreement();
     }
     pass(trie, strings)
 }

@@ -1,237 +1,41 @@
--- What the code tests and counts in a slot's bytes, entry by entry.
-use mathlib.Core.Path.{_∙_, _≡_, ap, refl, sym}
-use mathlib.Core.Bool.{Bool, _&&_, and-assoc, cond, false, not, true}
-use mathlib.Core.List.{List, [], _++_, _∷_}
-use Prim.Native.Nat.{_*_, _+_, _-_, _<_, _≤_, suc, zero, ℕ}
-use native.Mathlib.Decide.{decLt, ℕ-discrete}
-use native.Mathlib.Nat.{add-zero, sub-zero, zero-add}
-use native.Mathlib.Omega.{arith}
-use lib.Dec.{eqb, ltb}
-use lib.ListN.{drop, getD, length, length-drop, take}
-use lib.Seq.{drop-drop, take-add, take-all}
-use borrow.Author.Tests.{eq-eqb, le-ltb, lt-ltb, ne-eqb}
+-- What the code tests in a slot's bytes, entry by entry.
+use Rattle.model.proofs.Prelude.{List, [], _&&_, _*_, _+_, _-_, _<_, _∙_, _∷_, _≡_, _≤_, ap, arith, drop, false, getD, ltb, ne-eqb, not, sub-zero, suc, take, true, ℕ}
 use Rattle.model.specs.Names.{legalFilled}
-use Rattle.model.specs.Checks.{sameStr}
-use Rattle.model.specs.Format.{Bytes, lowOf, valueOf}
-use Rattle.model.proofs.Checks.{sameStr-other, sameStr-self}
-use Rattle.digits.specs.Keys.{continued, isZero, value}
-use Rattle.digits.proofs.Keys.{bytes-part, length-part, value-same}
-use Rattle.bucket.specs.declared.Held.the-variants.{Absent, Value}
-use Rattle.bucket.specs.Forms.{areAmong, areEntries, below, entriesFrom, heldAt, lowValue, notAbove, pieces, values}
+use Rattle.model.proofs.Lists.{drop-entry}
+use Rattle.digits.specs.Keys.{isZero, value}
+use Rattle.bucket.specs.Forms.{areEntries}
 
 pub zero-not : (xs : List ℕ) → getD xs 0 0 ≡ 1 → isZero xs ≡ false
 unfolding isZero
 zero-not [] e = absurd (omega arith)
 zero-not (x ∷ xs) e = rw (ne-eqb x 0 (λ z. omega arith))
 
--- All from k on.
-pub rest : (k : ℕ) (xs : List ℕ) → take (length xs - k) (drop k xs) ≡ drop k xs
-rest k xs = take-all (length xs - k) (drop k xs) (omega (arith, length-drop k xs))
+-- The test of the entries: none is left, all are left, the entry i and those behind it.
+pub entries-end : (xs : List ℕ) (count i : ℕ) → count ≤ i → (last high : ℕ) → areEntries (count - i) xs last high ≡ not (ltb high last)
+unfolding areEntries
+entries-end xs count i h last high = let z : count - i ≡ 0 = omega arith in rw z
 
--- No entries are left.
-module _ (xs : List ℕ) (count i : ℕ) (h : count ≤ i) where
-  none-left : count - i ≡ 0
-  none-left = omega arith
+pub entries-start : (xs : List ℕ) (count last high : ℕ) → areEntries count xs last high ≡ areEntries (count - 0) xs last high
+entries-start xs count last high = rw sub-zero
 
-  pub below-end : (v : ℕ) → i ≤ count → i + below v (values (count - i) xs) ≡ count
-  unfolding below values
-  below-end v k = rw none-left (omega arith)
-
-  pub notAbove-end : (v : ℕ) → i ≤ count → i + notAbove v (values (count - i) xs) ≡ count
-  unfolding notAbove values
-  notAbove-end v k = rw none-left (omega arith)
-
-  pub entries-end : (last high : ℕ) → areEntries (count - i) xs last high ≡ not (ltb high last)
-  unfolding areEntries
-  entries-end last high = rw none-left
-
-  pieces-end : pieces (count - i) xs ≡ []
-  unfolding pieces
-  pieces-end = rw none-left
-
--- All entries are left.
-module _ (xs : List ℕ) (count : ℕ) where
-  pub below-start : (v : ℕ) → below v (values count xs) ≡ 0 + below v (values (count - 0) xs)
-  below-start v = rw (sub-zero, zero-add)
-
-  pub notAbove-start : (v : ℕ) → notAbove v (values count xs) ≡ 0 + notAbove v (values (count - 0) xs)
-  notAbove-start v = rw (sub-zero, zero-add)
-
-  pub entries-start : (last high : ℕ) → areEntries count xs last high ≡ areEntries (count - 0) xs last high
-  entries-start last high = rw sub-zero
-
-  pub pieces-start : pieces count xs ≡ pieces (count - 0) xs
-  pieces-start = rw sub-zero
-
--- The entry i and those behind it.
 module _ (xs : List ℕ) (count i : ℕ) (h : i < count) where
-  abbrev name : List ℕ
-  name = take 24 (drop (32 * i) xs)
-
-  one-less : count - i ≡ suc (count - (i + 1))
-  one-less = omega arith
-
-  behind : drop 32 (drop (32 * i) xs) ≡ drop (32 * (i + 1)) xs
-  behind =
-      let e : 32 * i + 32 ≡ 32 * (i + 1) = omega arith in
-      drop-drop 32 (32 * i) xs ∙ ap (λ (n : ℕ). drop n xs) e
-
-  values-next : values (count - i) (drop (32 * i) xs) ≡ value name ∷ values (count - (i + 1)) (drop (32 * (i + 1)) xs)
-  unfolding values
-  values-next =
-      ap (λ (n : ℕ). values n (drop (32 * i) xs)) one-less
-      ∙ ap (λ (ys : List ℕ). value name ∷ values (count - (i + 1)) ys) behind
-
-  pieces-next : pieces (count - i) (drop (32 * i) xs) ≡ take 32 (drop (32 * i) xs) ∷ pieces (count - (i + 1)) (drop (32 * (i + 1)) xs)
-  unfolding pieces
-  pieces-next =
-      ap (λ (n : ℕ). pieces n (drop (32 * i) xs)) one-less
-      ∙ ap (λ (ys : List ℕ). take 32 (drop (32 * i) xs) ∷ pieces (count - (i + 1)) ys) behind
-
-  pub below-next : (v : ℕ) → ltb (value name) v ≡ true
-      → i + below v (values (count - i) (drop (32 * i) xs)) ≡ i + 1 + below v (values (count - (i + 1)) (drop (32 * (i + 1)) xs))
-  unfolding below
-  below-next v t = rw (values-next, t) (omega arith)
-
-  pub below-last : (v : ℕ) → ltb (value name) v ≡ false → i + below v (values (count - i) (drop (32 * i) xs)) ≡ i
-  unfolding below
-  below-last v t = rw (values-next, t) (add-zero i)
-
-  pub notAbove-next : (v : ℕ) → ltb v (value name) ≡ false
-      → i + notAbove v (values (count - i) (drop (32 * i) xs)) ≡ i + 1 + notAbove v (values (count - (i + 1)) (drop (32 * (i + 1)) xs))
-  unfolding notAbove
-  notAbove-next v t = rw (values-next, t) (omega arith)
-
-  pub notAbove-last : (v : ℕ) → ltb v (value name) ≡ true → i + notAbove v (values (count - i) (drop (32 * i) xs)) ≡ i
-  unfolding notAbove
-  notAbove-last v t = rw (values-next, t) (add-zero i)
+  abbrev name-here : List ℕ
+  name-here = take 24 (drop (32 * i) xs)
 
   entries-next : (last high : ℕ) → areEntries (count - i) (drop (32 * i) xs) last high
-      ≡ (legalFilled name && ltb last (value name) && areEntries (count - (i + 1)) (drop (32 * (i + 1)) xs) (value name) high)
+      ≡ (legalFilled name-here && ltb last (value name-here) && areEntries (count - (i + 1)) (drop (32 * (i + 1)) xs) (value name-here) high)
   unfolding areEntries
   entries-next last high =
-      ap (λ (n : ℕ). areEntries n (drop (32 * i) xs) last high) one-less
-      ∙ ap (λ (ys : List ℕ). legalFilled name && ltb last (value name) && areEntries (count - (i + 1)) ys (value name) high) behind
+      let z : count - i ≡ suc (count - (i + 1)) = omega arith in
+      ap (λ (n : ℕ). areEntries n (drop (32 * i) xs) last high) z
+      ∙ ap (λ (ys : List ℕ). legalFilled name-here && ltb last (value name-here) && areEntries (count - (i + 1)) ys (value name-here) high) (drop-entry i xs)
 
-  pub entries-illegal : (last high : ℕ) → legalFilled name ≡ false → areEntries (count - i) (drop (32 * i) xs) last high ≡ false
+  pub entries-illegal : (last high : ℕ) → legalFilled name-here ≡ false → areEntries (count - i) (drop (32 * i) xs) last high ≡ false
   entries-illegal last high e = entries-next last high ∙ rw e
 
-  pub entries-low : (last high : ℕ) → legalFilled name ≡ true → ltb last (value name) ≡ false → areEntries (count - i) (drop (32 * i) xs) last high ≡ false
+  pub entries-low : (last high : ℕ) → legalFilled name-here ≡ true → ltb last (value name-here) ≡ false → areEntries (count - i) (drop (32 * i) xs) last high ≡ false
   entries-low last high e f = entries-next last high ∙ rw (e, f)
 
-  pub entries-step : (last high k : ℕ) → k ≡ value name → legalFilled name ≡ true → ltb last (value name) ≡ true
+  pub entries-step : (last high k : ℕ) → k ≡ value name-here → legalFilled name-here ≡ true → ltb last (value name-here) ≡ true
       → areEntries (count - i) (drop (32 * i) xs) last high ≡ areEntries (count - (i + 1)) (drop (32 * (i + 1)) xs) k high
   entries-step last high k q e f = entries-next last high ∙ rw (e, f, q)
-
--- What is held at a place.
-module _ (i j : ℕ) (xs : List ℕ) (count v : ℕ) (e : i ≡ j) where
-  pub held-behind : count ≤ i → Absent ≡ heldAt j xs count v
-  unfolding heldAt
-  held-behind h = rw (← e, le-ltb i count h)
-
-  pub held-other : i < count → eqb (value (take 24 (drop (32 * i) xs))) v ≡ false → Absent ≡ heldAt j xs count v
-  unfolding heldAt
-  held-other h t = rw (← e, lt-ltb i count h, t)
-
-  pub held-here : i < count → eqb (value (take 24 (drop (32 * i) xs))) v ≡ true → Value (valueOf (take 8 (drop (32 * i + 24) xs))) ≡ heldAt j xs count v
-  unfolding heldAt
-  held-here h t = rw (← e, lt-ltb i count h, t)
-
--- The entries between two places.
-module _ (xs : List ℕ) (i j p q : ℕ) (e : i ≡ p) (f : j ≡ q) where
-  pub part-none : j ≤ i → [] ≡ entriesFrom p q xs
-  unfolding entriesFrom
-  part-none h = let z : 32 * (q - p) ≡ 0 = omega arith in rw z
-
-  pub part-some : take (64 + 32 * j - (64 + 32 * i)) (drop (64 + 32 * i) xs) ≡ entriesFrom p q xs
-  unfolding entriesFrom
-  part-some = let z : 64 + 32 * q - (64 + 32 * p) ≡ 32 * (q - p) = omega arith in rw (e, f, z)
-
--- A lower limit as it is read.
-pub low-none : (k : ℕ) (xs : List ℕ) → k ≡ 0 → lowValue (lowOf (take k xs)) ≡ 0
-unfolding lowOf lowValue
-low-none k xs e = rw e
-
-pub low-some : (k : ℕ) (xs : List ℕ) → 0 < k → 0 < length xs → lowValue (lowOf (take k xs)) ≡ value (continued (take k xs))
-unfolding lowOf lowValue
-low-some zero xs h g = absurd (omega arith)
-low-some (suc k) [] h g = absurd (omega arith)
-low-some (suc k) (x ∷ xs) h g = refl
-
--- Two entries are the same where their names' and their values' numbers are.
-same-append : (a b c d : List ℕ) → length a ≡ length c → sameStr (a ++ b) (c ++ d) ≡ (sameStr a c && sameStr b d)
-unfolding sameStr
-same-append [] b [] d e = refl
-same-append [] b (y ∷ c) d e = absurd (omega arith)
-same-append (x ∷ a) b [] d e = absurd (omega arith)
-same-append (x ∷ a) b (y ∷ c) d e = rw (same-append a b c d (omega arith)) (sym (and-assoc (eqb x y) (sameStr a c) (sameStr b d)))
-
-same-value : (x y : List ℕ) → Bytes x → Bytes y → length x ≡ length y → sameStr x y ≡ eqb (value x) (value y)
-same-value x y f g e = elim (ℕ-discrete (value x) (value y)) [
-  | yes q ↦ rw (eq-eqb (value x) (value y) q, value-same x y f g e q) (sameStr-self y)
-  | no q ↦ rw (ne-eqb (value x) (value y) q) (sameStr-other x y (λ s. q (ap value s)))
-]
-
-pub same-entry : (x y : List ℕ) (at to : ℕ) → ((i : ℕ) → getD x i 0 < 256) → ((i : ℕ) → getD y i 0 < 256) → at + 32 ≤ length x → to + 32 ≤ length y
-    → sameStr (take 32 (drop at x)) (take 32 (drop to y))
-    ≡ (eqb (value (take 24 (drop at x))) (value (take 24 (drop to y))) && eqb (value (take 8 (drop (at + 24) x))) (value (take 8 (drop (to + 24) y))))
-same-entry x y at to f g h k =
-    let a = take 24 (drop at x) in
-    let b = take 8 (drop (at + 24) x) in
-    let c = take 24 (drop to y) in
-    let d = take 8 (drop (to + 24) y) in
-    let p : take 32 (drop at x) ≡ a ++ b = take-add 24 8 (drop at x) ∙ ap (λ (l : List ℕ). a ++ take 8 l) (drop-drop 24 at x) in
-    let q : take 32 (drop to y) ≡ c ++ d = take-add 24 8 (drop to y) ∙ ap (λ (l : List ℕ). c ++ take 8 l) (drop-drop 24 to y) in
-    let la : length a ≡ 24 = length-part x at 24 (omega arith) in
-    let lb : length b ≡ 8 = length-part x (at + 24) 8 (omega arith) in
-    let lc : length c ≡ 24 = length-part y to 24 (omega arith) in
-    let ld : length d ≡ 8 = length-part y (to + 24) 8 (omega arith) in
-    ap (λ (l : List ℕ). sameStr l (take 32 (drop to y))) p ∙ ap (λ (l : List ℕ). sameStr (a ++ b) l) q
-    ∙ same-append a b c d (la ∙ sym lc)
-    ∙ ap (λ (t : Bool). t && sameStr b d) (same-value a c (bytes-part x 24 at f) (bytes-part y 24 to g) (la ∙ sym lc))
-    ∙ ap (λ (t : Bool). eqb (value a) (value c) && t) (same-value b d (bytes-part x 8 (at + 24) f) (bytes-part y 8 (to + 24) g) (lb ∙ sym ld))
-
--- One step of the walk over two rows of entries.
-among-none : (ns : List (List ℕ)) → areAmong ns [] ≡ true
-unfolding areAmong
-among-none [] = refl
-among-none (n ∷ ns) = refl
-
-module _ (xs ys : List ℕ) (m n i j : ℕ) (hi : i ≤ m) (hj : j < n) where
-  abbrev same : Bool
-  same = sameStr (take 32 (drop (32 * i) xs)) (take 32 (drop (32 * j) ys))
-
-  abbrev left : ℕ → ℕ → Bool
-  left k l = areAmong (pieces (n - k) (drop (32 * k) ys)) (pieces (m - l) (drop (32 * l) xs))
-
-  pub among-step : (r : ℕ) → r ≡ cond (ltb i m && same) 1 0 → (i + r ≤ m) × (left j i ≡ left (j + 1) (i + r))
-  unfolding areAmong
-  among-step r e = elim (decLt i m) [
-    | no h ↦ let k : m ≤ i = omega arith in
-        let z : r ≡ 0 = e ∙ rw (le-ltb i m k) in
-        let o : i + r ≡ i = omega arith in
-        rw o (
-          hi,
-          ap (λ (es : List (List ℕ)). areAmong (pieces (n - j) (drop (32 * j) ys)) es) (pieces-end (drop (32 * i) xs) m i k)
-              ∙ among-none (pieces (n - j) (drop (32 * j) ys))
-              ∙ sym (ap (λ (es : List (List ℕ)). areAmong (pieces (n - (j + 1)) (drop (32 * (j + 1)) ys)) es) (pieces-end (drop (32 * i) xs) m i k)
-              ∙ among-none (pieces (n - (j + 1)) (drop (32 * (j + 1)) ys))),
-        )
-    | yes h ↦ go same refl h (e ∙ rw (lt-ltb i m h))
-  ]
-    where
-      go : (t : Bool) → same ≡ t → i < m → r ≡ cond same 1 0 → (i + r ≤ m) × (left j i ≡ left (j + 1) (i + r))
-      go true s h q =
-          let z : r ≡ 1 = q ∙ rw s in
-          rw z (omega arith, rw (pieces-next ys n j hj, pieces-next xs m i h, s))
-      go false s h q =
-          let z : r ≡ 0 = q ∙ rw s in
-          let o : i + r ≡ i = omega arith in
-          rw o (hi, rw (pieces-next ys n j hj, pieces-next xs m i h, s))
-
-pub among-end : (xs ys : List ℕ) (m n i j : ℕ) → i ≤ m → n ≤ j → areAmong (pieces (n - j) ys) (pieces (m - i) (drop (32 * i) xs)) ≡ eqb i m
-unfolding areAmong
-among-end xs ys m n i j h k = elim (ℕ-discrete i m) [
-  | yes e ↦ rw (pieces-end ys n j k, pieces-end (drop (32 * i) xs) m i (omega arith), eq-eqb i m e)
-  | no e ↦ rw (pieces-end ys n j k, pieces-next xs m i (omega arith), ne-eqb i m e)
-]

@@ -1,29 +1,20 @@
 -- The code's tests of a used slot hold exactly of the slots that were written and are well formed.
-use mathlib.Core.Path.{_∙_, _≡_, ap, ap₂, refl, sym}
-use mathlib.Core.Bool.{Bool, _&&_, cond, false, true}
-use mathlib.Core.Option.{none as nothing, some}
-use mathlib.Core.List.{List, [], _++_, _∷_, append-assoc}
-use Prim.Native.Nat.{_*_, _+_, _-_, _<_, _≤_, suc, zero, ℕ}
-use native.Mathlib.Omega.{arith}
-use lib.Dec.{eqb, leb, ltb}
-use lib.ListN.{drop, getD, length, length-append, length-drop, replicate, take, take-append-drop}
-use lib.Seq.{drop-at, drop-drop, length-take-le, take-add, take-all, take-at, take-take}
-use borrow.Author.Tests.{eqb-true, le-leb, le-ltb, leb-true, lt-ltb, ltb-false, ltb-true, not-true}
-use Rattle.model.specs.Order.{Low, Str, at, none}
-use Rattle.model.specs.Names.{Digits, areDigits, atMost, legalBound, legalFilled}
+use Rattle.model.proofs.Prelude.{Bool, List, [], _&&_, _*_, _++_, _+_, _-_, _<_, _∙_, _∷_, _≡_, _≤_, ap, append-assoc, ap₂, arith, clash, cond, drop, drop-at, drop-drop, eqb, eqb-true, false, getD, le-leb, le-ltb, leb, leb-true, length, length-append, length-drop, length-take-le, ltb, ltb-false, ltb-true, not-true, nothing, refl, replicate, some, suc, sym, take, take-add, take-append-drop, take-at, take-take, true, zero, ℕ}
+use Rattle.model.specs.Checks.{isAbove, isRow, isWell, legalLow, sameStr}
 use Rattle.model.specs.Entries.{Entry}
 use Rattle.model.specs.Files.{Slot, used}
-use Rattle.model.specs.Checks.{isAbove, isRow, isWell, legalLow, sameStr}
-use Rattle.model.specs.Format.{Bytes, entriesBytes, entriesOf, entryBytes, lowDigits, lowOf, padded, readUsed, slotBytes, usedOf, valueBytes, valueOf}
-use Rattle.model.proofs.Lists.{drop-take}
-use Rattle.model.proofs.Names.{both-true, bound-legalBound, legal-bound, legal-length, legalBound-bound, legalFilled-legal}
+use Rattle.model.specs.Format.{Bytes, entriesBytes, entriesOf, entryBytes, entrySize, littleEndian, lowDigits, lowOf, padded, readUsed, slotBytes, usedOf, valueOf, version-1}
+use Rattle.model.specs.Names.{atMost, legalBound, legalFilled}
+use Rattle.model.specs.Order.{Low, Str, at}
 use Rattle.model.proofs.Checks.{Wells, isAbove-above, isRow-row, sameStr-equal, sameStr-self, wells}
-use Rattle.model.proofs.Format.{bytes-drop, bytes-each, bytes-take, length-entriesBytes, length-padded, length-valueBytes, lowOf-lowDigits, padded-front, padded-short, valueBytes-valueOf}
-use Rattle.digits.specs.Keys.{continued, isZero, keyValue, value}
-use Rattle.digits.proofs.Keys.{Under, bound-below, continued-whole, digits-under, name-atMost, value-some}
+use Rattle.model.proofs.Format.{bytes-drop, bytes-each, bytes-take, length-entriesBytes, length-padded, length-littleEndian, lowOf-lowDigits, padded-front, padded-short, littleEndian-valueOf}
+use Rattle.model.proofs.Lists.{drop-take}
+use Rattle.model.proofs.Names.{both-true, legal-length, legalBound-bound, legalFilled-legal}
+use Rattle.digits.proofs.Bounds.{low-above, low-legal, name-high, name-legal, name-low, name-value}
+use Rattle.digits.specs.Keys.{continued, isZero, keyValue, lowValue, value}
+use Rattle.bucket.proofs.Parts.{entries-slot}
+use Rattle.bucket.specs.Forms.{WellRead, areEntries, isClear}
 use Rattle.bucket.specs.declared.Bucket.{Bucket}
-use Rattle.bucket.specs.Forms.{WellRead, areEntries, isClear, lowValue}
-use Rattle.bucket.proofs.Laws.{entries-slot}
 
 unfoldable pub isBound : ℕ → List ℕ → Bool
 isBound len s = leb len 24 && legalBound (take len s) && isZero (drop len s)
@@ -93,18 +84,19 @@ padded-part len k s e h z =
     ∙ sym (padded-short k (take len s) (omega arith))
 
 -- The bytes of the entries that are read.
-entries-bytes : (n : ℕ) (z : List ℕ) → 32 * n ≤ length z → Bytes z → entriesBytes (entriesOf n z) ≡ take (32 * n) z
+entries-bytes : (n : ℕ) (z : List ℕ) → 32 * n ≤ length z → Bytes z → entriesBytes 32 (entriesOf 32 n z) ≡ take (32 * n) z
 unfolding entriesBytes entriesOf entryBytes
 entries-bytes zero z h g = refl
 entries-bytes (suc n) z h g =
     let w = take 8 (drop 24 z) in
-    let v : valueBytes (valueOf w) ≡ w = valueBytes-valueOf w (length-take-le 8 (drop 24 z) (omega (arith, length-drop 24 z))) (bytes-take 8 (drop 24 z) (bytes-drop 24 z g)) in
-    let r : entriesBytes (entriesOf n (drop 32 z)) ≡ take (32 * n) (drop 32 z) = entries-bytes n (drop 32 z) (omega (arith, length-drop 32 z)) (bytes-drop 32 z g) in
+    let k : length w ≡ 8 = length-take-le 8 (drop 24 z) (omega (arith, length-drop 24 z)) in
+    let v : littleEndian 8 (valueOf w) ≡ w = ap (λ (n : ℕ). littleEndian n (valueOf w)) (sym k) ∙ littleEndian-valueOf w (bytes-take 8 (drop 24 z) (bytes-drop 24 z g)) in
+    let r : entriesBytes 32 (entriesOf 32 n (drop 32 z)) ≡ take (32 * n) (drop 32 z) = entries-bytes n (drop 32 z) (omega (arith, length-drop 32 z)) (bytes-drop 32 z g) in
     let s : 32 + 32 * n ≡ 32 * suc n = omega arith in
     ap₂ (λ (p q : List ℕ). (take 24 z ++ p) ++ q) v r ∙ ap (λ (p : List ℕ). p ++ take (32 * n) (drop 32 z)) (sym (take-add 24 8 z))
     ∙ sym (take-add 32 (32 * n) z) ∙ ap (λ (m : ℕ). take m z) s
 
-length-entriesOf : (n : ℕ) (z : List ℕ) → length (entriesOf n z) ≡ n
+length-entriesOf : (n : ℕ) (z : List ℕ) → length (entriesOf 32 n z) ≡ n
 unfolding entriesOf
 length-entriesOf zero z = refl
 length-entriesOf (suc n) z = ap suc (length-entriesOf n (drop 32 z))
@@ -121,38 +113,9 @@ first-four (a ∷ b ∷ []) h = absurd (omega arith)
 first-four (a ∷ b ∷ c ∷ []) h = absurd (omega arith)
 first-four (a ∷ b ∷ c ∷ d ∷ xs) h = refl
 
--- Limits and names as numbers.
-pub under-bound : (x : Str) → legalBound x ≡ true → Under x
-under-bound x e = digits-under 0x20 x (legalBound-bound x e .digits)
-
-pub low-above : (l : Low) (u : Str) → legalLow l ≡ true → legalBound u ≡ true → ltb (lowValue l) (value (continued u)) ≡ isAbove l u
-unfolding lowValue isAbove legalLow continued
-low-above none u g h = lt-ltb 0 (value (continued u)) (value-some (continued u) (some-first u (legalBound-bound u h .digits)))
-  where
-    some-first : (u : Str) → Digits 0x20 u → 0 < getD (continued u) 0 0
-    some-first [] d = omega arith
-    some-first (x ∷ u) d = omega (arith, d .0)
-low-above (at x) u g h =
-    bound-below x u (under-bound x g) (under-bound u h) (legalBound-bound x g .fits) (legalBound-bound u h .fits)
-
-pub name-legal : (n : Str) → legalFilled n ≡ true → legalBound n ≡ true
-name-legal n e =
-    let g = legalFilled-legal n e in
-    let t : take 24 n ≡ n = take-all 24 n (omega (arith, legal-length g)) in
-    sym (ap legalBound t) ∙ bound-legalBound (legal-bound g 24)
-
-pub name-value : (n : Str) → legalFilled n ≡ true → value (continued n) ≡ value n
-name-value n e = ap value (continued-whole n (legal-length (legalFilled-legal n e)))
-
-pub name-low : (l : Low) (n : Str) → legalLow l ≡ true → legalFilled n ≡ true → ltb (lowValue l) (value n) ≡ isAbove l n
-name-low l n g e = ap (ltb (lowValue l)) (sym (name-value n e)) ∙ low-above l n g (name-legal n e)
-
-pub name-high : (n u : Str) → legalFilled n ≡ true → legalBound u ≡ true → leb (value n) (value (continued u)) ≡ atMost n u
-name-high n u e h = name-atMost n u (under-bound n (name-legal n e)) (under-bound u h) (legal-length (legalFilled-legal n e)) (legalBound-bound u h .fits)
-
 -- Entries that pass the code's test are a row, and the other way round.
 entries-row : (n : ℕ) (z : List ℕ) (l : Low) (u : Str) → legalLow l ≡ true → legalBound u ≡ true
-    → areEntries n z (lowValue l) (value (continued u)) ≡ true → (isRow l (entriesOf n z) u ≡ true) × (lowValue l ≤ value (continued u))
+    → areEntries n z (lowValue l) (value (continued u)) ≡ true → (isRow l (entriesOf 32 n z) u ≡ true) × (lowValue l ≤ value (continued u))
 unfolding areEntries isRow entriesOf legalLow lowValue
 entries-row zero z l u g h e = (refl, ltb-false (value (continued u)) (lowValue l) (not-true (ltb (value (continued u)) (lowValue l)) e))
 entries-row (suc n) z l u g h e =
@@ -168,7 +131,7 @@ entries-row (suc n) z l u g h e =
     (rw (q .0, a, b) (r .0), omega (arith, ltb-true (lowValue l) (value x) (q .1)))
 
 row-entries : (es : List Entry) (ys : List ℕ) (l : Low) (u : Str) → legalLow l ≡ true → legalBound u ≡ true → lowValue l ≤ value (continued u)
-    → isRow l es u ≡ true → areEntries (length es) (entriesBytes es ++ ys) (lowValue l) (value (continued u)) ≡ true
+    → isRow l es u ≡ true → areEntries (length es) (entriesBytes 32 es ++ ys) (lowValue l) (value (continued u)) ≡ true
 unfolding areEntries isRow entriesBytes entryBytes legalLow lowValue
 row-entries [] ys l u g h k e = rw (le-ltb (value (continued u)) (lowValue l) k)
 row-entries (x ∷ es) ys l u g h k e =
@@ -178,11 +141,11 @@ row-entries (x ∷ es) ys l u g h k e =
     let q = both-true (legalFilled n && isAbove l n) (atMost n u) (p .0) in
     let s = both-true (legalFilled n) (isAbove l n) (q .0) in
     let len : length n ≡ 24 = legal-length (legalFilled-legal n (s .0)) in
-    let w = valueBytes (x .1) in
-    let z : List ℕ = entriesBytes es ++ ys in
-    let i : n ++ w ++ entriesBytes es ++ ys ≡ n ++ (w ++ z) = rw (append-assoc, append-assoc) in
+    let w = littleEndian 8 (x .1) in
+    let z : List ℕ = entriesBytes 32 es ++ ys in
+    let i : n ++ w ++ entriesBytes 32 es ++ ys ≡ n ++ (w ++ z) = rw (append-assoc, append-assoc) in
     let t : take 24 (n ++ (w ++ z)) ≡ n = take-at n (w ++ z) 24 len in
-    let d : drop 32 (n ++ (w ++ z)) ≡ z = sym (ap (drop 32) (append-assoc n w z)) ∙ drop-at (n ++ w) z 32 (omega (arith, length-append n w, length-valueBytes (x .1))) in
+    let d : drop 32 (n ++ (w ++ z)) ≡ z = sym (ap (drop 32) (append-assoc n w z)) ∙ drop-at (n ++ w) z 32 (omega (arith, length-append n w, length-littleEndian 8 (x .1))) in
     let a : ltb (lowValue l) (value n) ≡ true = name-low l n g (s .0) ∙ s .1 in
     let m : value n ≤ hi = leb-true (value n) hi (name-high n u (s .0) h ∙ q .1) in
     let r : areEntries (length es) z (value (continued n)) hi ≡ true =
@@ -199,7 +162,7 @@ module _ (b : ℕ) (xs : List ℕ) (size : length xs ≡ 64 + 32 * b) (bytes : (
   low = take (getD xs 2 0) (drop 8 xs)
 
   abbrev es : List Entry
-  es = entriesOf n (drop 64 xs)
+  es = entriesOf 32 n (drop 64 xs)
 
   split : (k m : ℕ) (ys : List ℕ) → drop k ys ≡ take m (drop k ys) ++ drop (k + m) ys
   split k m ys = sym (take-append-drop m (drop k ys)) ∙ ap (λ (r : List ℕ). take m (drop k ys) ++ r) (drop-drop m k ys)
@@ -241,7 +204,7 @@ module _ (b : ℕ) (xs : List ℕ) (size : length xs ≡ 64 + 32 * b) (bytes : (
       padded-part len 24 (take 24 (drop from xs)) l (bound-short from len xs e) (bounded len (take 24 (drop from xs)) e .zeros)
       ∙ ap (padded 24) (take-bound from len xs e)
 
-  rest-entries : drop 64 xs ≡ padded (32 * b) (entriesBytes es)
+  rest-entries : drop 64 xs ≡ padded (32 * b) (entriesBytes 32 es)
   rest-entries =
       let z = drop 64 xs in
       let l : length z ≡ 32 * b = omega (arith, length-drop 64 xs) in
@@ -249,12 +212,12 @@ module _ (b : ℕ) (xs : List ℕ) (size : length xs ≡ 64 + 32 * b) (bytes : (
       padded-part (32 * n) (32 * b) z l (omega (arith, t .fits)) d
       ∙ ap (padded (32 * b)) (sym (entries-bytes n z (omega (arith, t .fits)) (bytes-drop 64 xs (bytes-each xs bytes))))
 
-  is-written : xs ≡ slotBytes b (usedOf xs)
-  unfolding slotBytes usedOf
+  is-written : xs ≡ slotBytes (version-1 b) (usedOf 32 xs)
+  unfolding slotBytes usedOf entrySize
   is-written =
       join (take 8 xs) (take 24 (drop 8 xs)) (take 24 (drop 32 xs)) (take 8 (drop 56 xs)) (drop 64 xs)
       (1 ∷ length es ∷ length (lowDigits (lowOf low)) ∷ length (highIn xs) ∷ replicate 4 0)
-      (padded 24 (lowDigits (lowOf low))) (padded 24 (highIn xs)) (replicate 8 0) (padded (32 * b) (entriesBytes es))
+      (padded 24 (lowDigits (lowOf low))) (padded 24 (highIn xs)) (replicate 8 0) (padded (32 * b) (entriesBytes 32 es))
       whole header (bound-at 8 (getD xs 2 0) (omega arith) (t .lower) ∙ ap (padded 24) (sym (low-digits low)))
       (bound-at 32 (getD xs 3 0) (omega arith) (t .upper)) (zeros-at 8 56 (omega arith) (clears .1)) rest-entries
 
@@ -272,29 +235,19 @@ module _ (b : ℕ) (xs : List ℕ) (size : length xs ≡ 64 + 32 * b) (bytes : (
       let r = entries-row n (drop 64 xs) (lowOf low) (highIn xs) g h (t .rowed) .0 in
       rw (g, h, a, r, length-entriesOf n (drop 64 xs)) (le-leb n b (t .fits))
 
-  pub well-read : (k : Bucket) → k .count ≡ getD xs 1 0 → k .lower ≡ getD xs 2 0 → k .upper ≡ getD xs 3 0
-      → keyValue (k .low) ≡ lowValue (lowIn xs) → keyValue (k .high) ≡ value (continued (highIn xs)) → WellRead b xs k
-  unfolding readUsed usedOf
-  well-read k c d e f g =
-      let same : sameStr xs (slotBytes b (usedOf xs)) ≡ true = ap (sameStr xs) (sym is-written) ∙ sameStr-self xs in
+  pub well-read : (k : Bucket) → keyValue (k .low) ≡ lowValue (lowIn xs) → keyValue (k .high) ≡ value (continued (highIn xs)) → WellRead b xs k
+  unfolding readUsed usedOf entrySize
+  well-read k f g =
+      let same : sameStr xs (slotBytes (version-1 b) (usedOf 32 xs)) ≡ true = ap (sameStr xs) (sym is-written) ∙ sameStr-self xs in
       record {
         lower = lowOf low;
         upper = highIn xs;
         entries = es;
         is = rw same;
         well = is-well;
-        count-is = c ∙ sym (length-entriesOf n (drop 64 xs));
-        lower-is = d ∙ sym (ap length (low-digits low) ∙ length-low);
-        upper-is = e ∙ sym length-high;
         low-is = f;
         high-is = g;
       }
-
--- A slot that was written, and is well formed, passes.
-pub low-legal : (l : Low) → legalLow l ≡ true → legalBound (lowDigits l) ≡ true
-unfolding legalLow lowDigits legalBound areDigits
-low-legal none e = refl
-low-legal (at x) e = e
 
 padded-bound : (x : Str) → legalBound x ≡ true → isBound (length x) (padded 24 x) ≡ true
 unfolding isBound
@@ -311,10 +264,10 @@ module _ (b : ℕ) (l : Low) (u : Str) (es : List Entry) (w : isWell b (used l u
   y = padded 24 u
 
   abbrev z : List ℕ
-  z = replicate 8 0 ++ padded (32 * b) (entriesBytes es)
+  z = replicate 8 0 ++ padded (32 * b) (entriesBytes 32 es)
 
   abbrev xs : List ℕ
-  xs = slotBytes b (used l u es)
+  xs = slotBytes (version-1 b) (used l u es)
 
   parts : Wells b l u es
   parts = wells b l u es w
@@ -326,7 +279,7 @@ module _ (b : ℕ) (l : Low) (u : Str) (es : List Entry) (w : isWell b (used l u
   high-fits = legalBound-bound u (parts .high) .fits
 
   from-low : drop 8 xs ≡ x ++ (y ++ z)
-  unfolding slotBytes
+  unfolding slotBytes entrySize
   from-low = refl
 
   from-high : drop 32 xs ≡ y ++ z
@@ -336,7 +289,7 @@ module _ (b : ℕ) (l : Low) (u : Str) (es : List Entry) (w : isWell b (used l u
   from-zeros = sym (drop-drop 24 32 xs) ∙ ap (drop 24) from-high ∙ drop-at y z 24 (length-padded 24 u)
 
   head-is : (getD xs 0 0 ≡ 1) × (getD xs 1 0 ≡ length es) × (getD xs 2 0 ≡ length (lowDigits l)) × (getD xs 3 0 ≡ length u) × (take 4 (drop 4 xs) ≡ replicate 4 0)
-  unfolding slotBytes
+  unfolding slotBytes entrySize
   head-is = (refl, refl, refl, refl, refl)
 
   low-is : lowIn xs ≡ l
@@ -347,17 +300,17 @@ module _ (b : ℕ) (l : Low) (u : Str) (es : List Entry) (w : isWell b (used l u
   high-is : highIn xs ≡ u
   high-is = ap₂ (λ (k : ℕ) (v : List ℕ). take k v) (head-is .3) from-high ∙ padded-front 24 u z high-fits
 
-  length-row : length (entriesBytes es) ≡ 32 * length es
-  length-row = length-entriesBytes (isRow-row l es u (parts .row))
+  length-row : length (entriesBytes 32 es) ≡ 32 * length es
+  length-row = length-entriesBytes 32 (omega arith) (isRow-row l es u (parts .row))
 
-  padded-row : padded (32 * b) (entriesBytes es) ≡ entriesBytes es ++ replicate (32 * b - length (entriesBytes es)) 0
-  padded-row = padded-short (32 * b) (entriesBytes es) (omega (arith, length-row, parts .most))
+  padded-row : padded (32 * b) (entriesBytes 32 es) ≡ entriesBytes 32 es ++ replicate (32 * b - length (entriesBytes 32 es)) 0
+  padded-row = padded-short (32 * b) (entriesBytes 32 es) (omega (arith, length-row, parts .most))
 
   unused : isZero (drop (64 + 32 * length es) xs) ≡ true
   unused =
-      let k = 32 * b - length (entriesBytes es) in
+      let k = 32 * b - length (entriesBytes 32 es) in
       ap isZero (sym (drop-drop (32 * length es) 64 xs) ∙ ap (drop (32 * length es)) (entries-slot b l u es ∙ padded-row)
-      ∙ drop-at (entriesBytes es) (replicate k 0) (32 * length es) length-row)
+      ∙ drop-at (entriesBytes 32 es) (replicate k 0) (32 * length es) length-row)
       ∙ are-zeros k
 
   is-clear : isClear xs (getD xs 1 0) ≡ true
@@ -386,24 +339,24 @@ module _ (b : ℕ) (l : Low) (u : Str) (es : List Entry) (w : isWell b (used l u
         rowed =
             ap₂ (λ (m : Low) (v : Str). areEntries (getD xs 1 0) (drop 64 xs) (lowValue m) (value (continued v))) low-is high-is
             ∙ ap₂ (λ (m : ℕ) (v : List ℕ). areEntries m v lo hi) (head-is .1) (entries-slot b l u es ∙ padded-row)
-            ∙ row-entries es (replicate (32 * b - length (entriesBytes es)) 0) l u (parts .low) (parts .high) k (parts .row);
+            ∙ row-entries es (replicate (32 * b - length (entriesBytes 32 es)) 0) l u (parts .low) (parts .high) k (parts .row);
       }
 
-passes : (b : ℕ) (xs : List ℕ) → xs ≡ slotBytes b (usedOf xs) → isWell b (usedOf xs) ≡ true → Tested b xs
+passes : (b : ℕ) (xs : List ℕ) → xs ≡ slotBytes (version-1 b) (usedOf 32 xs) → isWell b (usedOf 32 xs) ≡ true → Tested b xs
 unfolding usedOf
-passes b xs e w = rw (sym e) at (well-tested b (lowIn xs) (highIn xs) (entriesOf (getD xs 1 0) (drop 64 xs)) w)
+passes b xs e w = rw (sym e) at (well-tested b (lowIn xs) (highIn xs) (entriesOf 32 (getD xs 1 0) (drop 64 xs)) w)
 
 -- So a slot that does not pass is none that was written and is well formed.
-pub not-read : (b : ℕ) (xs : List ℕ) → (Tested b xs → ⊥) → (s : Slot) → readUsed b xs ≡ some s → isWell b s ≡ false
-unfolding readUsed
-not-read b xs f s = go (sameStr xs (slotBytes b (usedOf xs))) (isWell b s) refl refl
+pub not-read : (b : ℕ) (xs : List ℕ) → (Tested b xs → ⊥) → (s : Slot) → readUsed (version-1 b) xs ≡ some s → isWell b s ≡ false
+unfolding readUsed entrySize
+not-read b xs f s = go (sameStr xs (slotBytes (version-1 b) (usedOf 32 xs))) (isWell b s) refl refl
   where
-    go : (t r : Bool) → sameStr xs (slotBytes b (usedOf xs)) ≡ t → isWell b s ≡ r → cond t (some (usedOf xs)) nothing ≡ some s → r ≡ false
+    go : (t r : Bool) → sameStr xs (slotBytes (version-1 b) (usedOf 32 xs)) ≡ t → isWell b s ≡ r → cond t (some (usedOf 32 xs)) nothing ≡ some s → r ≡ false
     go t false e w h = refl
-    go false true e w h = let z : _≡_ {A = ℕ} 0 1 = cc in absurd (omega arith)
+    go false true e w h = clash cc
     go true true e w h =
-        let i : usedOf xs ≡ s = cc in
-        absurd (f (passes b xs (sameStr-equal xs (slotBytes b (usedOf xs)) e) (ap (isWell b) i ∙ w)))
+        let i : usedOf 32 xs ≡ s = cc in
+        absurd (f (passes b xs (sameStr-equal xs (slotBytes (version-1 b) (usedOf 32 xs)) e) (ap (isWell b) i ∙ w)))
 
 pub same-entries : {m n : ℕ} {x y : List ℕ} {p q v w : ℕ} → m ≡ n → x ≡ y → p ≡ q → v ≡ w → areEntries m x p v ≡ areEntries n y q w
 same-entries e f g h = rw (e, f, g, h)

@@ -1,4 +1,4 @@
-// One slot's bytes: reading its parts, free, well formed, its entries in order, and writing a slot whole.
+// One slot's bytes as they are read: its parts, free, well formed, its entries in order, its range.
 //
 // Slot: byte 0 is 1 when used; 1 the entry count; 2 lower length; 3 upper length; 4 to 7 zero; 8 to 31 lower; 32 to 55
 // upper; 56 to 63 zero; then b entries of 32 bytes, a filled name (24) and a value (8, little-endian).
@@ -8,29 +8,14 @@ ghost use Prim.Native.Nat.{_≤_, _<_, _+_, _-_, _*_};
 ghost use lib.Dec.{ltb};
 ghost use lib.ListN.{drop, getD, length, take};
 ghost use Rattle.model.specs.Format.{lowOf};
-ghost use Rattle.digits.specs.Keys.{continued, isZero, keyValue, value};
-ghost use Rattle.bucket.specs.Forms.{Formed, areEntries, heldUnder, holding, isClear, lowValue, partBetween, vacant};
-ghost use Rattle.bucket.specs.Slots.{countAt, lowerAt, upperAt, writtenBytes};
+ghost use Rattle.digits.specs.Keys.{continued, isZero, keyValue, lowValue, value};
+ghost use Rattle.bucket.specs.Forms.{Formed, areEntries, holding, isClear, vacant};
+ghost use Rattle.bucket.specs.Slots.{countAt, lowerAt, upperAt};
 use digits::Key;
-use digits::byte;
-use digits::index;
+use digits::usize_of_u8;
 
-mod entries;
-
-pub use entries::changed_value;
-pub use entries::copy;
-pub use entries::is_copied;
-pub use entries::rank;
-pub use entries::upto;
-pub use entries::value_at;
-pub use entries::with_entry;
-pub use entries::without_entry;
-
-// What a well-formed slot says of itself: how many entries, the lengths of its bounds, and its range (low, high].
+// The range (low, high] of a well-formed slot.
 pub struct Bucket {
-    pub count: usize,
-    pub lower: usize,
-    pub upper: usize,
     pub low: Key,
     pub high: Key,
 }
@@ -51,12 +36,6 @@ pub enum Range {
     Lacks,
 }
 
-// What a bucket holds under a name.
-pub enum Held {
-    Value(u64),
-    Absent,
-}
-
 // A free slot is all zero.
 pub fn vacancy_of(slot: &[u8]) -> Vacancy
     ensures { λ r. ⌜ r ≡ vacant (isZero (now (slot .entry))) ⌝ }
@@ -73,37 +52,37 @@ pub fn vacancy_of(slot: &[u8]) -> Vacancy
 }
 
 // The lower end of a slot's range. An empty lower bound means no lower limit.
-pub fn low_of(slot: &[u8]) -> Key
+pub fn low_key(slot: &[u8]) -> Key
     requires { ⌜ 64 ≤ length (now slot) ⌝ }
     ensures { λ r.
         ⌜ (getD (now (slot .entry)) 2 0 ≤ 24
         → isZero (take (24 - getD (now (slot .entry)) 2 0) (drop (8 + getD (now (slot .entry)) 2 0) (now (slot .entry)))) ≡ true
         → keyValue r ≡ lowValue (lowOf (take (getD (now (slot .entry)) 2 0) (drop 8 (now (slot .entry)))))) ⌝ }
 {
-    let lower = index(slot[2]);
+    let lower = usize_of_u8(slot[2]);
     if lower == 0 {
-        return digits::no_limit();
+        return digits::lowest_key();
     }
     digits::bound_key_at(slot, 8, lower)
 }
 
 // The upper end of a slot's range. An empty upper bound is above all.
-pub fn high_of(slot: &[u8]) -> Key
+pub fn high_key(slot: &[u8]) -> Key
     requires { ⌜ 64 ≤ length (now slot) ⌝ }
     ensures { λ r.
         ⌜ (getD (now (slot .entry)) 3 0 ≤ 24
         → isZero (take (24 - getD (now (slot .entry)) 3 0) (drop (32 + getD (now (slot .entry)) 3 0) (now (slot .entry)))) ≡ true
         → keyValue r ≡ value (continued (take (getD (now (slot .entry)) 3 0) (drop 32 (now (slot .entry)))))) ⌝ }
 {
-    digits::bound_key_at(slot, 32, index(slot[3]))
+    digits::bound_key_at(slot, 32, usize_of_u8(slot[3]))
 }
 
 // The lower bound of a slot.
-pub fn lower_of(slot: &[u8]) -> &[u8]
+pub fn lower_bound(slot: &[u8]) -> &[u8]
     requires { ⌜ 64 ≤ length (now slot) ⌝ }
     ensures { λ r. ⌜ (now r ≡ lowerAt (now (slot .entry))) × (length (now r) ≤ 24) ⌝ }
 {
-    let len = index(slot[2]);
+    let len = usize_of_u8(slot[2]);
     if 24 < len {
         return &slot[8..8];
     }
@@ -112,11 +91,11 @@ pub fn lower_of(slot: &[u8]) -> &[u8]
 }
 
 // The upper bound of a slot.
-pub fn upper_of(slot: &[u8]) -> &[u8]
+pub fn upper_bound(slot: &[u8]) -> &[u8]
     requires { ⌜ 64 ≤ length (now slot) ⌝ }
     ensures { λ r. ⌜ (now r ≡ upperAt (now (slot .entry))) × (length (now r) ≤ 24) ⌝ }
 {
-    let len = index(slot[3]);
+    let len = usize_of_u8(slot[3]);
     if 24 < len {
         return &slot[32..32];
     }
@@ -129,28 +108,11 @@ pub fn count_of(slot: &[u8], b: usize) -> usize
     requires { ⌜ 64 ≤ length (now slot) ⌝ }
     ensures { λ r. ⌜ (r ≡ countAt b (now (slot .entry))) × (r ≤ b) ⌝ }
 {
-    let count = index(slot[1]);
+    let count = usize_of_u8(slot[1]);
     if b < count {
         return b;
     }
     count
-}
-
-// The bytes of the entries whose names lie from the first to the second, both included.
-pub fn part_between(slot: &[u8], b: usize, first: Key, second: Key) -> &[u8]
-    requires { ⌜ (length (now slot) ≡ 64 + 32 * b) × (b ≤ 16) ⌝ }
-    ensures { λ r. ⌜ (length (now r) ≤ 512)
-        × (now r ≡ partBetween (now (slot .entry)) (countAt b (now (slot .entry))) (keyValue first) (keyValue second)) ⌝ }
-{
-    let count = count_of(slot, b);
-    let from = rank(&slot[64..], count, first);
-    let to = upto(&slot[64..], count, second);
-    if to <= from {
-        return &slot[64..64];
-    }
-    let at = 64 + 32 * from;
-    let end = 64 + 32 * to;
-    &slot[at..end]
 }
 
 // Names are legal, strictly ascending and in the range: each is above the one before it, the first above the lower limit.
@@ -199,36 +161,30 @@ pub fn form_of(slot: &[u8], b: usize) -> Form
     if slot[0] != 1 {
         return Form::Ill;
     }
-    let count = index(slot[1]);
+    let count = usize_of_u8(slot[1]);
     if b < count {
         return Form::Ill;
     }
     if !is_clear(slot, count) {
         return Form::Ill;
     }
-    let lower = index(slot[2]);
+    let lower = usize_of_u8(slot[2]);
     if !digits::is_bound(&slot[8..32], lower) {
         return Form::Ill;
     }
-    let upper = index(slot[3]);
+    let upper = usize_of_u8(slot[3]);
     if !digits::is_bound(&slot[32..56], upper) {
         return Form::Ill;
     }
-    let low = low_of(slot);
-    let high = high_of(slot);
+    let low = low_key(slot);
+    let high = high_key(slot);
     if !digits::is_below(low, high) {
         return Form::Ill;
     }
     if !are_entries(&slot[64..], count, low, high) {
         return Form::Ill;
     }
-    Form::Well(Bucket {
-        count,
-        lower,
-        upper,
-        low,
-        high,
-    })
+    Form::Well(Bucket { low, high })
 }
 
 // A bucket's range is the names within its upper bound and not within its lower.
@@ -245,43 +201,4 @@ pub fn range_of(bucket: Bucket, name: Key) -> Range
         return Range::Lacks;
     }
     Range::Holds
-}
-
-// The value under a name.
-pub fn held_under(entries: &[u8], count: usize, name: Key) -> Held
-    requires { ⌜ (32 * count ≤ length (now entries)) × (count ≤ 16) ⌝ }
-    ensures { λ r. ⌜ r ≡ heldUnder (now (entries .entry)) count (keyValue name) ⌝ }
-{
-    let i = rank(entries, count, name);
-    if count <= i {
-        return Held::Absent;
-    }
-    if !digits::is_same(digits::key_at(entries, 32 * i), name) {
-        return Held::Absent;
-    }
-    Held::Value(value_at(entries, i))
-}
-
-// The slot with the same bounds and other entries.
-pub fn rewritten(slot: &[u8], entries: &[u8]) -> [u8; 576]
-    requires { ⌜ (64 ≤ length (now slot)) × (length (now entries) ≤ 512) ⌝ }
-    ensures { λ r. ⌜ r ≡ writtenBytes (lowerAt (now (slot .entry))) (upperAt (now (slot .entry))) (now (entries .entry)) ⌝ }
-{
-    written(lower_of(slot), upper_of(slot), entries)
-}
-
-// A used slot written whole: its bounds and its entries, and zero elsewhere.
-pub fn written(lower: &[u8], upper: &[u8], entries: &[u8]) -> [u8; 576]
-    requires { ⌜ (length (now lower) ≤ 24) × (length (now upper) ≤ 24) × (length (now entries) ≤ 512) ⌝ }
-    ensures { λ r. ⌜ r ≡ writtenBytes (now (lower .entry)) (now (upper .entry)) (now (entries .entry)) ⌝ }
-{
-    let mut slot = [0u8; 576];
-    slot[0] = 1;
-    slot[1] = byte(entries.len() / 32);
-    slot[2] = byte(lower.len());
-    slot[3] = byte(upper.len());
-    copy(&mut slot, 8, lower);
-    copy(&mut slot, 32, upper);
-    copy(&mut slot, 64, entries);
-    slot
 }

@@ -1,9 +1,5 @@
 -- Each call's answer, as a number, with the bytes and words lent: a law for a malformed image, and one for all others.
-use mathlib.Core.Path.{_∙_, _≡_, ap, refl, subst, sym}
-use mathlib.Core.List.{List}
-use Prim.Native.Nat.{ℕ}
-use borrow.Author.Tests.{eq-eqb, ne-eqb}
-use lib.ListN.{length}
+use Rattle.model.proofs.Prelude.{List, _∙_, _≡_, ap, eq-eqb, length, ne-eqb, refl, subst, sym, ℕ}
 use Rattle.model.specs.declared.ListAnswer.{ListAnswer}
 use Rattle.model.specs.declared.LookUpAnswer.{LookUpAnswer}
 use Rattle.model.specs.declared.PutAnswer.{PutAnswer}
@@ -20,10 +16,12 @@ use Rattle.model.specs.Names.{filled}
 use Rattle.model.specs.Format.{checkFile}
 use Rattle.file.specs.declared.survey.Kind.{Kind as Found}
 use Rattle.file.specs.declared.survey.Kind.the-variants.{Bad, Cut, Sound}
-use Rattle.keeper.specs.Outcomes.{created, found, listed, put, rebuilt, recovered, removed}
+use Rattle.whole.specs.Outcomes.{created, found, rebuilt, recovered}
+use Rattle.reading.specs.Outcomes.{listed}
+use Rattle.changing.specs.Outcomes.{put, removed}
 use Rattle.trie.specs.declared.Walk.{Walk}
 use Rattle.trie.specs.Walks.{Walks, walkOf}
-use Rattle.capi.specs.Images.{imageOf, imageSize, trieOf}
+use Rattle.image.specs.Images.{imageOf, imageSize, trieOf}
 use Rattle.capi.specs.Doors.{imageAfter, malformed, outAfter, palCheckOf, palCreateOf, palListOf, palLookUpOf, palPutOf, palRebuildOf, palRecoverOf, palRemoveOf}
 
 module _ (image : List ℕ) (ill : length image ≡ imageSize → ⊥) where
@@ -51,7 +49,7 @@ module _ (image : List ℕ) (ill : length image ≡ imageSize → ⊥) where
   unfolding palListOf
   list-malformed file first second output out = rw (ne-eqb (length image) imageSize ill)
 
--- The keeper's outcome, said.
+-- The call's outcome, said.
 module _ (image : List ℕ) (well : length image ≡ imageSize) where
   pub create-said : (file : List ℕ) (version b slots : ℕ) (g : TrieGiven) {a : TrieAnswer} {ys zs : List ℕ} {n : ℕ} → g .answer ≡ a
       → created g ys ≡ createOf file version b slots → zs ≡ imageOf (g .trie) → n ≡ createSays a .0 → palCreateOf file version b slots image ≡ (n, ys, zs)

@@ -1,4 +1,1 @@
-pub mod Coding
-pub mod Images
-pub mod Agreeing
 pub mod Doors

@@ -11,7 +11,7 @@ use Rattle.model.specs.declared.Trie.{Trie}
 use Rattle.model.specs.Answers.{Said, checkSays, createSays, listSays, lookUpSays, putSays, rebuildSays, recoverSays, removeSays}
 use Rattle.model.specs.Calls.{createOf, listOf, lookUpOf, putOf, rebuildOf, recoverOf, removeOf}
 use Rattle.model.specs.Format.{checkFile}
-use Rattle.capi.specs.Images.{imageOf, imageSize, trieOf}
+use Rattle.image.specs.Images.{imageOf, imageSize, trieOf}
 
 -- "the call itself is malformed, because a trie image has not exactly 1,540 bytes. It comes before every refusal and changes
 -- nothing": then the second, else the first.

@@ -3,25 +3,18 @@
 // 1 to 99 is a refusal with document 01's number; 100 and up says what was done; 255 is an image that has not 1,540 bytes.
 ghost use mathlib.Core.Path.{_≡_};
 ghost use Rattle.capi.specs.Doors.{palCheckOf, palCreateOf, palListOf, palLookUpOf, palPutOf, palRebuildOf, palRecoverOf, palRemoveOf};
+use digits::u64_of_usize;
 use file::Kind;
-use keeper::cause_number;
 use model::ListAnswer;
 use model::LookUpAnswer;
 use model::PutAnswer;
 use model::RecoverAnswer;
 use model::RemoveAnswer;
 use model::TrieAnswer;
-
-mod image;
+use model::cause_number;
 
 // What refuses a trie image of another length, before everything else.
 const MALFORMED: u64 = 255;
-
-fn wide(x: usize) -> u64
-    ensures { λ r. ⌜ r ≡ x ⌝ }
-{
-    x as u64
-}
 
 #[no_mangle]
 pub extern "C" fn pal_create(
@@ -33,10 +26,10 @@ pub extern "C" fn pal_create(
 ) -> u64
     ensures { λ r. ⌜ palCreateOf (now (file .entry)) version b slots (now (trie .entry)) ≡ (r, now (file .exit), now (trie .exit)) ⌝ }
 {
-    if trie.len() != 1540 {
+    if trie.len() != image::BYTES {
         return MALFORMED;
     }
-    let given = keeper::create(file, version, b, slots);
+    let given = whole::create(file, version, b, slots);
     image::encode(trie, given.trie);
     let answer = given.answer;
     match answer {
@@ -49,7 +42,7 @@ pub extern "C" fn pal_create(
 pub extern "C" fn pal_check(file: &[u8]) -> u64
     ensures { λ r. ⌜ r ≡ palCheckOf (now (file .entry)) ⌝ }
 {
-    let kind = keeper::check(file);
+    let kind = whole::check(file);
     match kind {
         Kind::Sound => 140,
         Kind::Cut => 141,
@@ -61,10 +54,10 @@ pub extern "C" fn pal_check(file: &[u8]) -> u64
 pub extern "C" fn pal_recover(file: &mut [u8], limit: u64, out: &mut [u64; 4]) -> u64
     ensures { λ r. ⌜ palRecoverOf (now (file .entry)) limit (now (out .entry)) ≡ (r, now (file .exit), now (out .exit)) ⌝ }
 {
-    let answer = keeper::recover(file, limit);
+    let answer = whole::recover(file, limit);
     match answer {
         RecoverAnswer::Freed(slot) => {
-            out[0] = wide(slot);
+            out[0] = u64_of_usize(slot);
             130
         }
         RecoverAnswer::Nothing => 131,
@@ -80,10 +73,10 @@ pub extern "C" fn pal_recover(file: &mut [u8], limit: u64, out: &mut [u64; 4]) -
 pub extern "C" fn pal_rebuild(file: &[u8], trie: &mut [u8]) -> u64
     ensures { λ r. ⌜ palRebuildOf (now (file .entry)) (now (trie .entry)) ≡ (r, now (trie .exit)) ⌝ }
 {
-    if trie.len() != 1540 {
+    if trie.len() != image::BYTES {
         return MALFORMED;
     }
-    let given = keeper::rebuild(file);
+    let given = whole::rebuild(file);
     image::encode(trie, given.trie);
     let answer = given.answer;
     match answer {
@@ -97,11 +90,11 @@ pub extern "C" fn pal_lookup(file: &[u8], trie: &[u8], name: &[u8], out: &mut [u
     ensures { λ r.
         ⌜ palLookUpOf (now (file .entry)) (now (trie .entry)) (now (name .entry)) (now (out .entry)) ≡ (r, now (out .exit)) ⌝ }
 {
-    if trie.len() != 1540 {
+    if trie.len() != image::BYTES {
         return MALFORMED;
     }
     let filled = digits::filled(name);
-    let answer = keeper::look_up_from(file, image::walk_in(trie, &filled), name);
+    let answer = reading::look_up_from(file, image::walk_in(trie, &filled), name);
     match answer {
         LookUpAnswer::Found(value) => {
             out[0] = value;
@@ -128,10 +121,10 @@ pub extern "C" fn pal_put(
         ⌜ palPutOf (now (file .entry)) (now (trie .entry)) (now (name .entry)) value limit (now (out .entry))
         ≡ (r, now (file .exit), now (trie .exit), now (out .exit)) ⌝ }
 {
-    if trie.len() != 1540 {
+    if trie.len() != image::BYTES {
         return MALFORMED;
     }
-    let given = keeper::put(file, image::decoded(trie), name, value, limit);
+    let given = changing::put(file, image::decoded(trie), name, value, limit);
     let answer = given.answer;
     match answer {
         PutAnswer::Added => {
@@ -163,10 +156,10 @@ pub extern "C" fn pal_remove(
         ⌜ palRemoveOf (now (file .entry)) (now (trie .entry)) (now (name .entry)) limit (now (out .entry))
         ≡ (r, now (file .exit), now (trie .exit), now (out .exit)) ⌝ }
 {
-    if trie.len() != 1540 {
+    if trie.len() != image::BYTES {
         return MALFORMED;
     }
-    let answer = keeper::remove(file, image::decoded(trie), name, limit);
+    let answer = changing::remove(file, image::decoded(trie), name, limit);
     match answer {
         RemoveAnswer::Removed => 120,
         RemoveAnswer::Absent => 101,
@@ -191,10 +184,10 @@ pub extern "C" fn pal_list(
         ⌜ palListOf (now (file .entry)) (now (trie .entry)) (now (first .entry)) (now (second .entry)) (now (output .entry)) (now (out .entry))
         ≡ (r, now (output .exit), now (out .exit)) ⌝ }
 {
-    if trie.len() != 1540 {
+    if trie.len() != image::BYTES {
         return MALFORMED;
     }
-    let answer = keeper::list(file, image::decoded(trie), first, second, output);
+    let answer = reading::list(file, image::decoded(trie), first, second, output);
     match answer {
         ListAnswer::Listed(entries) => {
             out[0] = entries;

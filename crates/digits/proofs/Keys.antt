@@ -1,17 +1,6 @@
 -- Strings as numbers: a number's parts, and the one order.
-use mathlib.Core.Path.{_∙_, _≡_, ap, refl, sym}
-use mathlib.Core.Bool.{Bool, _&&_, and-assoc, cond, false, not, true}
-use mathlib.Core.List.{List, [], _++_, _∷_}
-use Prim.Native.Nat.{_*_, _+_, _-_, _%_, _<_, _^_, _≤_, suc, zero, ℕ}
-use native.Mathlib.Nat.{add-mul, add-zero, mul-assoc, mul-le-mul-right, one-le-pow, pow-suc, sub-zero, suc-mul}
-use native.Mathlib.Numerals.{add-one, unary-clauses}
-use native.Mathlib.Decide.{decLe, decLt, ℕ-discrete}
+use Rattle.model.proofs.Prelude.{List, [], _%_, _&&_, _*_, _++_, _+_, _-_, _<_, _^_, _∙_, _∷_, _≡_, _≤_, add-mul, and-assoc, ap, arith, cond, decLe, decLt, drop, drop-drop, eq-eqb, eqb, eqb-true, false, getD, le-leb, le-ltb, leb, length, length-append, length-drop, length-take, lt-leb, lt-ltb, ltb, mul-assoc, mul-le-mul-right, ne-eqb, not, one-le-pow, pow-suc, refl, replicate, sub-zero, suc, suc-mul, sym, take, take-add, take-at, take-take, true, unary-clauses, zero, ℕ, ℕ-discrete}
 use lib.Pow.{pow-add}
-use native.Mathlib.Omega.{arith}
-use lib.Dec.{eqb, leb, ltb}
-use lib.ListN.{drop, getD, length, length-append, length-drop, length-take, replicate, take}
-use lib.Seq.{drop-cons, drop-drop, take-add, take-at, take-take}
-use borrow.Author.Tests.{eq-eqb, eqb-true, le-leb, le-ltb, lt-leb, lt-ltb, ne-eqb}
 use Rattle.model.specs.Names.{Digits, atMost}
 use Rattle.model.specs.Format.{Bytes}
 use Rattle.model.proofs.Lists.{drop-take, length-made}
@@ -51,34 +40,6 @@ module _ (s : List ℕ) (at : ℕ) where
   pub value-words : at + 24 ≤ length s
       → value (take 24 (drop at s)) ≡ (value (take 8 (drop at s)) * 2 ^ 64 + value (take 8 (drop (at + 8) s))) * 2 ^ 64 + value (take 8 (drop (at + 16) s))
   value-words h = value-split 16 8 (omega arith) ∙ ap (λ (v : ℕ). v * 2 ^ 64 + value (take 8 (drop (at + 16) s))) (value-split 8 8 (omega arith))
-
-value-first : (s : List ℕ) (at k : ℕ) → at < length s → at + suc k ≤ length s
-    → value (take (suc k) (drop at s)) ≡ getD s at 0 * 256 ^ k + value (take k (drop (suc at) s))
-unfolding value
-value-first s at k g h = rw (drop-cons s at 0 g) (ap (λ (m : ℕ). getD s at 0 * 256 ^ m + value (take k (drop (suc at) s))) (omega (arith, length-take k (drop (suc at) s), length-drop (suc at) s)))
-
-value-next : (s : List ℕ) (at j k : ℕ) → at + j + suc k ≤ length s
-    → value (take (suc k) (drop (at + j) s)) ≡ getD s (at + j) 0 * 256 ^ k + value (take k (drop (at + suc j) s))
-value-next s at j k h = simp unary-clauses (value-first s (at + j) k (omega arith) (omega arith))
-
--- A word by its bytes.
-pub value-word : (s : List ℕ) (at : ℕ) → at + 8 ≤ length s
-    → value (take 8 (drop at s))
-    ≡ getD s (at + 7) 0 + 256 * (getD s (at + 6) 0 + 256 * (getD s (at + 5) 0 + 256 * (getD s (at + 4) 0 + 256 * (getD s (at + 3) 0 + 256 * (getD s (at + 2) 0 + 256 * (getD s (at + 1) 0 + 256 * getD s at 0))))))
-unfolding value
-value-word s at h =
-    let a : value (take 8 (drop at s)) ≡ getD s at 0 * 256 ^ 7 + value (take 7 (drop (at + 1) s)) = rw add-one (value-first s at 7 (omega arith) (omega arith)) in
-    omega (
-      arith,
-      a,
-      value-next s at 1 6 (omega arith),
-      value-next s at 2 5 (omega arith),
-      value-next s at 3 4 (omega arith),
-      value-next s at 4 3 (omega arith),
-      value-next s at 5 2 (omega arith),
-      value-next s at 6 1 (omega arith),
-      value-next s at 7 0 (omega arith),
-    )
 
 -- The bytes from k on, as 0xFF.
 unfoldable pub cover : ℕ → List ℕ → List ℕ
@@ -155,19 +116,6 @@ cover-split k n x y e f = rw (cover-append k x y, value-append, e, length-cover 
 
 pub bytes-part : (s : List ℕ) (n at : ℕ) → ((i : ℕ) → getD s i 0 < 256) → Bytes (take n (drop at s))
 bytes-part s n at h = bytes-take n (drop at s) (bytes-drop at s (bytes-each s h))
-
--- A table of fills: each is a power of 256, less one.
-unfoldable pub areFills : ℕ → List ℕ → Bool
-areFills n [] = true
-areFills n (g ∷ x) = eqb (g + 1) (256 ^ n) && areFills (suc n) x
-
-pub fill-at : (n : ℕ) (x : List ℕ) (f : ℕ) → areFills n x ≡ true → f < length x → getD x f 0 + 1 ≡ 256 ^ (n + f)
-unfolding areFills
-fill-at n [] f e h = absurd (omega arith)
-fill-at n (g ∷ x) zero e h = rw add-zero (eqb-true (g + 1) (256 ^ n) (both-true (eqb (g + 1) (256 ^ n)) (areFills (suc n) x) e .0))
-fill-at n (g ∷ x) (suc f) e h =
-    let m : n + suc f ≡ suc n + f = omega arith in
-    rw m (fill-at (suc n) x f (both-true (eqb (g + 1) (256 ^ n)) (areFills (suc n) x) e .1) (omega arith))
 
 -- A word and the fill of what lies behind the string's end: nothing wraps.
 pub word-filled : (x : List ℕ) (k w g r : ℕ) → Bytes x → length x ≡ 8 → isZero (drop k x) ≡ true → w ≡ value x → g + 1 ≡ 256 ^ (8 - k) → r ≡ (w + g) % 2 ^ 64

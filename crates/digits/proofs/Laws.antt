@@ -1,17 +1,5 @@
 -- What one turn of each loop does to the definition that its function meets.
-use mathlib.Core.Path.{_∙_, _≡_, refl, sym}
-use mathlib.Core.Bool.{Bool, _&&_, and-assoc, and-false, cond, false, true}
-use mathlib.Core.List.{List, [], _++_, _∷_, append-nil}
-use mathlib.Core.Logic.{_⊎_, ⊎-elim}
-use Prim.Native.Nat.{_*_, _+_, _-_, _<_, _^_, _≤_, suc, ℕ}
-use native.Mathlib.Decide.{decLt, ℕ-discrete}
-use native.Mathlib.Nat.{mul-le-mul-right, suc-mul, zero-add}
-use native.Mathlib.Numerals.{add-one}
-use native.Mathlib.Omega.{arith}
-use lib.Dec.{eqb, leb, ltb}
-use lib.ListN.{drop, drop-of-length-le, getD, length, length-take, replicate, set, take}
-use lib.Seq.{drop-cons, paste-suc, take-all, take-append-le, take-nil}
-use borrow.Author.Tests.{eq-eqb, le-leb, le-ltb, lt-leb, lt-ltb, ne-eqb}
+use Rattle.model.proofs.Prelude.{Bool, List, [], _&&_, _*_, _++_, _+_, _<_, _^_, _∙_, _∷_, _≡_, _≤_, _⊎_, add-one, and-assoc, and-false, append-nil, arith, cond, decLt, drop, drop-cons, drop-of-length-le, eq-eqb, eqb, false, getD, le-leb, le-ltb, leb, length, length-take, lt-leb, lt-ltb, ltb, mul-le-mul-right, ne-eqb, paste-suc, refl, replicate, set, suc, suc-mul, sym, take, take-all, take-append-le, take-nil, true, zero-add, ℕ, ℕ-discrete, ⊎-elim}
 use Rattle.model.specs.Names.{areDigits, blankEnded, blanks, filled, legalBound, legalFilled, notGreater, within}
 use Rattle.model.specs.Order.{diff, diff-at}
 use Rattle.model.proofs.Lists.{drop-replicate}

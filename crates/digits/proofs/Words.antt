@@ -1,17 +1,7 @@
 -- Eight digits in one word: sums and marks that work on each byte apart.
-use mathlib.Core.Path.{_∙_, _≡_, ap, ap₂, refl, sym}
-use mathlib.Core.Bool.{Bool, _&&_, _||_, and-assoc, and-false, and-true, cond, false, true}
-use mathlib.Core.List.{List, [], _++_, _∷_}
-use Prim.Native.Nat.{_%_, _*_, _+_, _-_, _/_, _<_, _^_, _≤_, suc, zero, ℕ}
-use native.Mathlib.Decide.{decLe, decLt, ℕ-discrete}
-use native.Mathlib.Nat.{add-mul, mul-assoc, pow-suc}
-use native.Mathlib.Omega.{arith}
+use Rattle.model.proofs.Prelude.{Bool, List, [], _%_, _&&_, _*_, _++_, _+_, _/_, _<_, _^_, _||_, _∙_, _∷_, _≡_, _≤_, add-mul, and-assoc, and-false, and-true, ap, ap₂, arith, clash, cond, decLe, decLt, drop, drop-drop, eq-eqb, eqb, false, getD, le-leb, le-ltb, leb, leb-true, length, length-drop, lt-leb, lt-ltb, ltb, ltb-true, mul-assoc, ne-eqb, pow-suc, refl, replicate, suc, sym, take, take-all, take-append-drop, true, zero, ℕ, ℕ-discrete}
 use lib.Bits.{and-block, and-high, and-le-l, bitAnd}
-use lib.Dec.{eqb, leb, ltb}
-use lib.ListN.{drop, getD, length, length-drop, replicate, take, take-append-drop}
-use lib.Seq.{drop-drop, take-all}
 use lib.Pow.{pow-add}
-use borrow.Author.Tests.{eq-eqb, le-leb, le-ltb, leb-true, lt-leb, lt-ltb, ltb-true, ne-eqb}
 use Rattle.model.specs.Names.{areDigits, legalFilled}
 use Rattle.model.specs.Format.{Bytes}
 use Rattle.model.proofs.Names.{both-true}
@@ -207,7 +197,7 @@ not-low : (x : List ℕ) → lows x ≡ false → areDigits 0x20 x ≡ false
 not-low x h = digits-are x ∙ go (mosts x) refl
   where
     go : (m : Bool) → mosts x ≡ m → (leasts x && m) ≡ false
-    go true e = let q : true ≡ false = sym (most-low x e) ∙ h in let z : _≡_ {A = ℕ} 0 1 = cc in absurd (omega arith)
+    go true e = let q : true ≡ false = sym (most-low x e) ∙ h in clash cc
     go false e = and-false (leasts x)
 
 not-most : (x : List ℕ) → mosts x ≡ false → areDigits 0x20 x ≡ false

@@ -4,6 +4,7 @@ use mathlib.Core.List.{List, [], _++_, _∷_}
 use Prim.Native.Nat.{_*_, _+_, _^_, ℕ}
 use lib.Dec.{eqb}
 use lib.ListN.{length, replicate, take}
+use Rattle.model.specs.Order.{Low, at, none}
 use Rattle.digits.specs.declared.Key.{Key}
 use Rattle.digits.specs.declared.Naming.{Naming}
 use Rattle.digits.specs.declared.Naming.the-variants.{Illegal, Legal}
@@ -28,3 +29,8 @@ isZero (d ∷ x) = eqb d 0 && isZero x
 abbrev pub naming : Bool → Naming
 naming true = Legal
 naming false = Illegal
+
+-- A lower limit as it is compared. What is above none is above zero.
+unfoldable pub lowValue : Low → ℕ
+lowValue none = 0
+lowValue (at x) = value (continued x)

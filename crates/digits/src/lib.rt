@@ -6,13 +6,25 @@ ghost use mathlib.Core.Bool.{_&&_, true};
 ghost use mathlib.Core.Logic.{_⊎_};
 ghost use mathlib.Core.Path.{_≡_};
 ghost use mathlib.Core.List.{[], _++_};
-ghost use Prim.Native.Nat.{_≤_, _<_, _+_, _-_, _^_, min, ℕ};
+ghost use Prim.Native.Nat.{_≤_, _<_, _+_, _-_, _^_, ℕ};
 ghost use lib.Dec.{eqb, leb, ltb};
 ghost use lib.ListN.{drop, length, take};
+ghost use Rattle.model.specs.Format.{Bytes, valueOf};
 ghost use Rattle.model.specs.Names as names;
 ghost use Rattle.model.specs.Order.{Str, diff};
 ghost use Rattle.digits.specs.Words.{Word, after, mark, marked};
 ghost use Rattle.digits.specs.Keys.{continued, isZero, keyValue, naming, value};
+
+mod numbers;
+
+pub use numbers::u8_of_usize;
+pub use numbers::u16_of_u8;
+pub use numbers::u16_of_usize;
+pub use numbers::u64_of_u8;
+pub use numbers::u64_of_usize;
+pub use numbers::usize_of_u8;
+pub use numbers::usize_of_u16;
+pub use numbers::usize_of_u32;
 
 // A string of digits as it is compared.
 pub struct Key {
@@ -27,36 +39,51 @@ pub enum Naming {
     Illegal,
 }
 
-// The words whose lowest bytes, 0 to 8 of them, are 0xFF.
-const FILL: [u64; 9] = [
-    0,
-    0xFF,
-    0xFFFF,
-    0xFF_FFFF,
-    0xFFFF_FFFF,
-    0xFF_FFFF_FFFF,
-    0xFFFF_FFFF_FFFF,
-    0xFF_FFFF_FFFF_FFFF,
-    0xFFFF_FFFF_FFFF_FFFF,
-];
-
-pub fn index(x: u8) -> usize
-    ensures { λ r. ⌜ (r ≡ x) × (r < 256) ⌝ }
+// The two bytes from `at` on as one number, the first byte lowest.
+fn two(s: &[u8], at: usize) -> u64
+    requires { ⌜ at + 2 ≤ length (now s) ⌝ }
+    ensures { λ r. ⌜ (r ≡ valueOf (take 2 (drop at (now (s .entry))))) × (r < 65536) ⌝ }
 {
-    x as usize
+    u64_of_u8(s[at]) | (u64_of_u8(s[at + 1]) << 8)
 }
 
-pub fn wide(x: u8) -> u64
-    ensures { λ r. ⌜ (r ≡ x) × (r < 256) ⌝ }
+// Four bytes.
+fn four(s: &[u8], at: usize) -> u64
+    requires { ⌜ at + 4 ≤ length (now s) ⌝ }
+    ensures { λ r. ⌜ (r ≡ valueOf (take 4 (drop at (now (s .entry))))) × (r < 4294967296) ⌝ }
 {
-    x as u64
+    two(s, at) | (two(s, at + 2) << 16)
 }
 
-pub fn byte(x: usize) -> u8
-    requires { ⌜ x < 256 ⌝ }
-    ensures { λ r. ⌜ r ≡ x ⌝ }
+// Eight bytes, in one load.
+pub fn little_endian(s: &[u8], at: usize) -> u64
+    requires { ⌜ at + 8 ≤ length (now s) ⌝ }
+    ensures { λ r. ⌜ r ≡ valueOf (take 8 (drop at (now (s .entry)))) ⌝ }
 {
-    x as u8
+    four(s, at) | (four(s, at + 4) << 32)
+}
+
+// Two bytes in the other order.
+fn swapped_two(w: u64) -> u64
+    requires { ⌜ w < 65536 ⌝ }
+    ensures { λ r. ⌜ (r < 65536) × ((x : Str) → Bytes x → length x ≡ 2 → w ≡ valueOf x → r ≡ value x) ⌝ }
+{
+    ((w & 0xFF) << 8) | (w >> 8)
+}
+
+// Four bytes in the other order.
+fn swapped_four(w: u64) -> u64
+    requires { ⌜ w < 4294967296 ⌝ }
+    ensures { λ r. ⌜ (r < 4294967296) × ((x : Str) → Bytes x → length x ≡ 4 → w ≡ valueOf x → r ≡ value x) ⌝ }
+{
+    (swapped_two(w & 0xFFFF) << 16) | swapped_two(w >> 16)
+}
+
+// The bytes of a word in the other order, by one instruction.
+fn swapped(w: u64) -> u64
+    ensures { λ r. ⌜ ((x : Str) → Word x → w ≡ valueOf x → r ≡ value x) ⌝ }
+{
+    (swapped_four(w & 0xFFFF_FFFF) << 32) | swapped_four(w >> 32)
 }
 
 // The eight bytes from `at` on as one number, the first byte highest.
@@ -64,18 +91,7 @@ pub fn word(s: &[u8], at: usize) -> u64
     requires { ⌜ at + 8 ≤ length (now s) ⌝ }
     ensures { λ r. ⌜ r ≡ value (take 8 (drop at (now (s .entry)))) ⌝ }
 {
-    wide(s[at + 7])
-        + 256
-            * (wide(s[at + 6])
-                + 256
-                    * (wide(s[at + 5])
-                        + 256
-                            * (wide(s[at + 4])
-                                + 256
-                                    * (wide(s[at + 3])
-                                        + 256
-                                            * (wide(s[at + 2])
-                                                + 256 * (wide(s[at + 1]) + 256 * wide(s[at])))))))
+    swapped(little_endian(s, at))
 }
 
 // The 24 digits from `at` on, as they are compared.
@@ -90,18 +106,26 @@ pub fn key_at(s: &[u8], at: usize) -> Key
     }
 }
 
-// How many bytes of a word stay behind a string's end: the word ends at the digit number `end`.
-fn behind(end: usize, len: usize) -> usize
+// 0xFF in the bytes of a word behind the first n.
+fn fill(n: usize) -> u64
+    requires { ⌜ n ≤ 8 ⌝ }
+    ensures { λ r. ⌜ r + 1 ≡ 256 ^ (8 - n) ⌝ }
+{
+    (0xFFFF_FFFF_FFFF_FFFF >> (4 * n)) >> (4 * n)
+}
+
+// How many bytes of a word are a string's: the word ends at the digit number `end`.
+fn inside(end: usize, len: usize) -> usize
     requires { ⌜ (8 ≤ end) × (end ≤ 24) ⌝ }
-    ensures { λ r. ⌜ (r ≤ 8) × (r ≡ min 8 (end - len)) ⌝ }
+    ensures { λ r. ⌜ (r ≤ 8) × (8 - r ≡ 8 - (len - (end - 8))) ⌝ }
 {
     if end <= len {
-        return 0;
-    }
-    if len <= end - 8 {
         return 8;
     }
-    end - len
+    if len <= end - 8 {
+        return 0;
+    }
+    len - (end - 8)
 }
 
 // The word from `at` on, continued by 0xFF behind the string's end. The bytes there are zero in a slot that is well
@@ -112,8 +136,8 @@ fn continued(s: &[u8], at: usize, end: usize, len: usize) -> u64
         ⌜ (isZero (drop (len - (end - 8)) (take 8 (drop at (now (s .entry))))) ≡ true
         → r + 1 ≡ value (take 8 (drop at (now (s .entry)))) + 256 ^ (8 - (len - (end - 8)))) ⌝ }
 {
-    let f = behind(end, len);
-    std::num::wrapping_add_u64(word(s, at), FILL[f])
+    let f = fill(inside(end, len));
+    std::num::wrapping_add_u64(word(s, at), f)
 }
 
 // The bound of `len` digits at `at`, as it is compared.
@@ -130,15 +154,15 @@ pub fn bound_key_at(s: &[u8], at: usize, len: usize) -> Key
     }
 }
 
-// What is below every name: the key of no lower limit.
-pub fn no_limit() -> Key
+// The key of no lower limit, below every name.
+pub fn lowest_key() -> Key
     ensures { λ r. ⌜ keyValue r ≡ 0 ⌝ }
 {
     Key { a: 0, b: 0, c: 0 }
 }
 
-// What the empty upper bound is compared as: above every name and every other bound.
-pub fn no_end() -> Key
+// The key of the empty upper bound, above every name and every other bound.
+pub fn highest_key() -> Key
     ensures { λ r. ⌜ keyValue r ≡ value (continued []) ⌝ }
 {
     Key {

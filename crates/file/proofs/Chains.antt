@@ -1,14 +1,5 @@
 -- Slots in order, read one after the other: whether they follow on each other, and which neighbours have one upper bound.
-use mathlib.Core.Path.{_∙_, _≡_, ap, subst, sym}
-use mathlib.Core.Bool.{Bool, false, true}
-use mathlib.Core.List.{List, List·Memᴰ, [], _∷_}
-use Prim.Native.Nat.{_+_, _<_, _≤_, suc, ℕ}
-use native.Mathlib.Numerals.{add-one}
-use native.Mathlib.Omega.{arith}
-use lib.Dec.{eqb}
-use lib.ListN.{drop, drop-of-length-le, getD, length, take}
-use lib.Seq.{drop-cons, getD-take, length-take-le}
-use borrow.Author.Tests.{eqb-false, eqb-true}
+use Rattle.model.proofs.Prelude.{Bool, List, List·Memᴰ, [], _+_, _<_, _∙_, _∷_, _≡_, _≤_, add-one, ap, arith, clash, drop, drop-cons, drop-of-length-le, eqb, eqb-false, eqb-true, false, getD, getD-take, length, length-take-le, subst, suc, sym, take, true, ℕ}
 use Rattle.model.specs.Order.{Low, at, none}
 use Rattle.model.specs.Names.{Bound, BoundLow, limit, unlimited}
 use Rattle.model.specs.Files.{IsUsed, Slot, Well, free, head, lower-of, ranges, slot-at, upper-of, used}
@@ -16,8 +7,7 @@ use Rattle.model.proofs.Lists.{mem-place}
 use Rattle.model.proofs.Strings.{mem-at}
 use Rattle.model.proofs.Files.{well-parts}
 use Rattle.model.proofs.Surveys.{Follows, From, Neighbours, chain-follows, follows-chain}
-use Rattle.digits.specs.Keys.{continued, value}
-use Rattle.bucket.specs.Forms.{lowValue}
+use Rattle.digits.specs.Keys.{continued, lowValue, value}
 use Rattle.file.specs.Orders.{Chained, Known, Listed, placed}
 use Rattle.file.proofs.Comparing.{high-same, low-same}
 
@@ -87,7 +77,7 @@ module _ {b : ℕ} {xs : List ℕ} {fs : List Slot} (K : Known b xs fs) (order :
 
       pub ended-stop : r ≡ false → Chained false (ranges fs) (take count order)
       ended-stop t = record {
-        chained = λ z. let n : _≡_ {A = ℕ} 0 1 = cc in absurd (omega arith);
+        chained = λ z. clash cc;
         refused = λ z c. eqb-false lv v (sym e ∙ t) (f ∙ ap lowValue (subst (λ Cs. Follows (ranges fs) (E .low) Cs) (next-is j h) (E .onward (chain-follows (ranges fs) (take count order) c)) .0) ∙ sym (E .is));
       }
 

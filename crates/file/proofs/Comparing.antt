@@ -1,27 +1,17 @@
 -- Ranges compared as numbers are ranges in order.
-use mathlib.Core.Path.{_∙_, _≡_, ap, refl, sym}
-use mathlib.Core.Logic.{_⊎_, inl, inr}
-use mathlib.Core.Bool.{Bool, _&&_, _||_, false, not, true}
-use mathlib.Core.List.{List}
-use mathlib.Core.Option.{some}
-use Prim.Native.Nat.{_*_, _+_, _-_, _<_, _≤_, ℕ}
-use native.Mathlib.Omega.{arith}
-use lib.Dec.{eqb, ltb}
-use lib.ListN.{drop, getD, take}
-use borrow.Author.Tests.{eqb-false, eqb-true, le-leb, lt-ltb, ltb-false, ltb-true, not-true}
+use Rattle.model.proofs.Prelude.{Bool, List, _&&_, _*_, _+_, _-_, _<_, _||_, _∙_, _≡_, _≤_, _⊎_, ap, arith, clash, drop, eqb, eqb-false, eqb-true, false, getD, inl, inr, le-leb, lt-ltb, ltb, ltb-false, ltb-true, not, not-true, refl, some, sym, take, true, ℕ}
 use Rattle.model.specs.Order.{Low, Str, _≺_, _⊑_, _⊴_, at, below, least, none}
 use Rattle.model.specs.Names.{Bound, BoundLow, atMost, limit, unlimited}
 use Rattle.model.specs.Checks.{isAbove, legalLow}
 use Rattle.model.specs.Entries.{Entry}
 use Rattle.model.specs.Files.{IsUsed, Slot, Well, entries-of, head, lower-of, slot-at, upper-of, used}
-use Rattle.model.specs.Format.{lowOf, readSlot, slotAt, slotSize}
+use Rattle.model.specs.Format.{entrySize, lowOf, readSlot, slotAt, slotSize, version-1}
 use Rattle.model.proofs.Names.{atMost-le, atMost-lt, bound-legalBound}
 use Rattle.model.proofs.Files.{well-parts}
-use Rattle.digits.specs.Keys.{continued, isZero, value}
+use Rattle.digits.specs.Keys.{continued, isZero, lowValue, value}
 use Rattle.digits.proofs.Keys.{bound-atMost, bound-below, bound-same, digits-under}
-use Rattle.bucket.specs.Forms.{lowValue}
-use Rattle.bucket.proofs.Reading.{low-above}
-use Rattle.bucket.proofs.Rows.{Reads, read-high, read-low, used-reads}
+use Rattle.digits.proofs.Bounds.{low-above}
+use Rattle.bucket.proofs.Slots.{Reads, read-high, read-low, used-reads}
 use Rattle.file.specs.Orders.{Known, Listed, Sorts, ahead, placed, stands}
 use Rattle.file.proofs.Readings.{used-read}
 
@@ -64,16 +54,16 @@ ahead-true h l p q e = go (ltb h p) (eqb h p) (ltb l q) refl refl refl e
     go : (a b c : Bool) → ltb h p ≡ a → eqb h p ≡ b → ltb l q ≡ c → (a || (b && c)) ≡ true → (h < p) ⊎ ((h ≡ p) × (l < q))
     go true b c x y z e = inl (ltb-true h p x)
     go false true true x y z e = inr (eqb-true h p y, ltb-true l q z)
-    go false true false x y z e = let n : _≡_ {A = ℕ} 0 1 = cc in absurd (omega arith)
-    go false false c x y z e = let n : _≡_ {A = ℕ} 0 1 = cc in absurd (omega arith)
+    go false true false x y z e = clash cc
+    go false false c x y z e = clash cc
 
 ahead-false : (h l p q : ℕ) → ahead h l p q ≡ false → (p < h) ⊎ ((p ≡ h) × (q ≤ l))
 unfolding ahead
 ahead-false h l p q e = go (ltb h p) (eqb h p) (ltb l q) refl refl refl e
   where
     go : (a b c : Bool) → ltb h p ≡ a → eqb h p ≡ b → ltb l q ≡ c → (a || (b && c)) ≡ false → (p < h) ⊎ ((p ≡ h) × (q ≤ l))
-    go true b c x y z e = let n : _≡_ {A = ℕ} 0 1 = cc in absurd (omega arith)
-    go false true true x y z e = let n : _≡_ {A = ℕ} 0 1 = cc in absurd (omega arith)
+    go true b c x y z e = clash cc
+    go false true true x y z e = clash cc
     go false true false x y z e = inr (sym (eqb-true h p y), ltb-false l q z)
     go false false c x y z e = let g : h ≡ p → ⊥ = eqb-false h p y in let k : p ≤ h = ltb-false h p x in inl (omega arith)
 
@@ -96,12 +86,12 @@ module _ (b : ℕ) {l m : Low} {u v : Str} {es ns : List Entry} (w : Well b (use
 abbrev pub bytesAt : ℕ → ℕ → List ℕ → List ℕ
 bytesAt b B xs = take (64 + 32 * b) (drop (16 + B * (64 + 32 * b)) xs)
 
-pub bytes-at : (b B : ℕ) (xs : List ℕ) → bytesAt b B xs ≡ slotAt b B xs
-unfolding slotAt slotSize
+pub bytes-at : (b B : ℕ) (xs : List ℕ) → bytesAt b B xs ≡ slotAt (version-1 b) B xs
+unfolding slotAt slotSize entrySize
 bytes-at b B xs = refl
 
 -- The ends of a used slot's range.
-module _ (b : ℕ) (ys : List ℕ) (s : Slot) (k : IsUsed (head s)) (r : readSlot b ys ≡ some s) (w : Well b s) (v : ℕ) where
+module _ (b : ℕ) (ys : List ℕ) (s : Slot) (k : IsUsed (head s)) (r : readSlot (version-1 b) ys ≡ some s) (w : Well b s) (v : ℕ) where
   slot-reads : Reads b ys (lower-of (head s)) (upper-of (head s)) (entries-of s)
   slot-reads = used-reads b ys s k (used-read b ys s k r) w
 
@@ -114,8 +104,8 @@ module _ (b : ℕ) (ys : List ℕ) (s : Slot) (k : IsUsed (head s)) (r : readSlo
   slot-low f = read-low b ys v slot-reads f
 
 module _ {b : ℕ} {xs : List ℕ} {fs : List Slot} (K : Known b xs fs) (B : ℕ) (ys : List ℕ) (e : ys ≡ bytesAt b B xs) where
-  known-read : IsUsed (head (slot-at fs B)) → readSlot b ys ≡ some (slot-at fs B)
-  known-read k = ap (readSlot b) (e ∙ bytes-at b B xs) ∙ K .read B k
+  known-read : IsUsed (head (slot-at fs B)) → readSlot (version-1 b) ys ≡ some (slot-at fs B)
+  known-read k = ap (readSlot (version-1 b)) (e ∙ bytes-at b B xs) ∙ K .read B k
 
   pub known-high : (v : ℕ) → IsUsed (head (slot-at fs B))
       → (getD ys 3 0 ≤ 24 → isZero (take (24 - getD ys 3 0) (drop (32 + getD ys 3 0) ys)) ≡ true → v ≡ value (continued (take (getD ys 3 0) (drop 32 ys))))
@@ -134,7 +124,7 @@ stands-by r h l p q s e f g = rw (← f, ← g) e
 module _ {b : ℕ} {xs : List ℕ} {fs : List Slot} (K : Known b xs fs) (order : List ℕ) (count : ℕ) (L : Listed fs order count)
     (j : ℕ) (i : j < count) (k : ℕ) (e : k ≡ getD order j 0) (ys : List ℕ) (f : ys ≡ bytesAt b k xs) where
   -- What the slot at a place of the order reads as, and the ends of its range.
-  pub place-read : readSlot b ys ≡ some (placed fs order j)
+  pub place-read : readSlot (version-1 b) ys ≡ some (placed fs order j)
   place-read = known-read K (getD order j 0) ys (f ∙ ap (λ B. bytesAt b B xs) e) (L j i)
 
   pub place-high : (v : ℕ) → (getD ys 3 0 ≤ 24 → isZero (take (24 - getD ys 3 0) (drop (32 + getD ys 3 0) ys)) ≡ true → v ≡ value (continued (take (getD ys 3 0) (drop 32 ys))))

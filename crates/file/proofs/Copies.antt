@@ -1,22 +1,16 @@
 -- What the code tests of two slots tells whether the first is a copy of the upper part of the second.
-use mathlib.Core.Path.{_∙_, _≡_, ap, ap₂, sym}
-use mathlib.Core.Bool.{Bool, _&&_, false, true}
-use mathlib.Core.Option.{some}
-use mathlib.Core.List.{List}
-use Prim.Native.Nat.{_*_, _+_, _-_, _<_, _≤_, ℕ}
-use native.Mathlib.Omega.{arith}
-use lib.Dec.{leb, ltb}
-use lib.ListN.{drop, getD, length, take}
+use Rattle.model.proofs.Prelude.{Bool, List, _&&_, _*_, _+_, _-_, _<_, _∙_, _≡_, _≤_, ap, ap₂, arith, clash, drop, false, getD, leb, length, ltb, some, sym, take, true, ℕ}
 use Rattle.model.specs.Order.{Low, Str, _◁_, at}
 use Rattle.model.specs.Entries.{Entry, move}
 use Rattle.model.specs.Files.{Copied, Well, used}
 use Rattle.model.specs.Checks.{legalLow}
-use Rattle.model.specs.Format.{lowOf, readUsed}
-use Rattle.model.proofs.Names.{clash}
-use Rattle.digits.specs.Keys.{isZero}
-use Rattle.bucket.specs.Forms.{areAmong, lowValue, notAbove, pieces, values}
-use Rattle.bucket.proofs.Rows.{read-low, read-values, reads}
-use Rattle.bucket.proofs.Copies.{copied-copy, copy-copied, lower-below, lower-some}
+use Rattle.model.specs.Format.{lowOf, readUsed, version-1}
+use Rattle.model.proofs.Names.{never-both}
+use Rattle.digits.specs.Keys.{isZero, lowValue}
+use Rattle.entries.specs.Rows.{areAmong, notAbove, pieces, values}
+use Rattle.bucket.proofs.Slots.{read-low, read-values, reads}
+use Rattle.file.proofs.Moved.{copied-copy, copy-copied}
+use Rattle.digits.proofs.Bounds.{lower-below, lower-some}
 use Rattle.file.specs.Copies.{CopyTold}
 
 -- A lower limit's number as low_of tells it.
@@ -28,11 +22,11 @@ module _ (b : ℕ) (n a : List ℕ) where
   -- Nothing that reads as used and is well formed is refused wrongly.
   abbrev Refuses : Type 0
   Refuses = (ln la : Low) (un ua : Str) (en ea : List Entry)
-      → readUsed b n ≡ some (used ln un en) → Well b (used ln un en) → readUsed b a ≡ some (used la ua ea) → Well b (used la ua ea)
+      → readUsed (version-1 b) n ≡ some (used ln un en) → Well b (used ln un en) → readUsed (version-1 b) a ≡ some (used la ua ea) → Well b (used la ua ea)
       → (low : Str) → ln ≡ at low → la ◁ low → length ea ≡ b → Copied (move low ea) en → ⊥
 
   refusal : Refuses → CopyTold b n a false
-  refusal f = record { copied = λ e. let z : _≡_ {A = ℕ} 0 1 = cc in absurd (omega arith); refused = λ e rn wn ra wa. f _ _ _ _ _ _ rn wn ra wa }
+  refusal f = record { copied = λ e. clash cc; refused = λ e rn wn ra wa. f _ _ _ _ _ _ rn wn ra wa }
 
   pub not-full : ¬ (getD a 1 0 ≡ b) → CopyTold b n a false
   not-full h = refusal (λ ln la un ua en ea rn wn ra wa low i j k c. h (reads b a ra wa .count ∙ k))
@@ -45,7 +39,7 @@ module _ (b : ℕ) (n a : List ℕ) where
     not-below h = refusal (λ ln la un ua en ea rn wn ra wa low i j k c.
         let N = reads b n rn wn in
         let A = reads b a ra wa in
-        clash (ltb (lowValue la) (lowValue ln)) (lower-below la ln low (A .low) (N .low) i j) (sym (ap₂ ltb (read-low b a ka A ta) (read-low b n kn N tn)) ∙ h))
+        never-both (ltb (lowValue la) (lowValue ln)) (lower-below la ln low (A .low) (N .low) i j) (sym (ap₂ ltb (read-low b a ka A ta) (read-low b n kn N tn)) ∙ h))
 
     -- The test made to the end.
     abbrev test : ℕ → ℕ → Bool
@@ -57,7 +51,7 @@ module _ (b : ℕ) (n a : List ℕ) where
     tested count stay bn ba full h c s r e = record { copied = λ t rn wn ra wa. yes-copy t rn wn ra wa; refused = λ t rn wn ra wa low i j k m. no-copy t rn wn ra wa low i m }
       where
         yes-copy : r ≡ true → {ln la : Low} {un ua : Str} {en ea : List Entry}
-            → readUsed b n ≡ some (used ln un en) → Well b (used ln un en) → readUsed b a ≡ some (used la ua ea) → Well b (used la ua ea)
+            → readUsed (version-1 b) n ≡ some (used ln un en) → Well b (used ln un en) → readUsed (version-1 b) a ≡ some (used la ua ea) → Well b (used la ua ea)
             → (low : Str) × (ln ≡ at low) × (la ◁ low) × (length ea ≡ b) × Copied (move low ea) en
         yes-copy t {ln} {la} {un} {ua} {en} {ea} rn wn ra wa =
             let N = reads b n rn wn in
@@ -70,7 +64,7 @@ module _ (b : ℕ) (n a : List ℕ) where
             (p .0, p .1, p .2, f, copy-copied N A (p .0) f l (read-values b n bn rn) (read-values b a ba ra) count (c ∙ N .count) (sym (ap (test count) q) ∙ sym e ∙ t))
 
         no-copy : r ≡ false → {ln la : Low} {un ua : Str} {en ea : List Entry}
-            → readUsed b n ≡ some (used ln un en) → Well b (used ln un en) → readUsed b a ≡ some (used la ua ea) → Well b (used la ua ea)
+            → readUsed (version-1 b) n ≡ some (used ln un en) → Well b (used ln un en) → readUsed (version-1 b) a ≡ some (used la ua ea) → Well b (used la ua ea)
             → (low : Str) → ln ≡ at low → Copied (move low ea) en → ⊥
         no-copy t {ln} {la} {un} {ua} {en} {ea} rn wn ra wa low i m =
             let N = reads b n rn wn in
@@ -79,4 +73,4 @@ module _ (b : ℕ) (n a : List ℕ) where
             let g : kn ≡ lowValue (at low) = read-low b n kn N tn ∙ ap lowValue i in
             let q : stay ≡ notAbove (lowValue (at low)) (values b (drop 64 a)) = s ∙ ap (λ (k : ℕ). notAbove k (values b (drop 64 a))) g in
             let l : legalLow (at low) ≡ true = sym (ap legalLow i) ∙ N .low in
-            clash r (e ∙ ap (test count) q ∙ copied-copy N A low f l count (c ∙ N .count) m) t
+            never-both r (e ∙ ap (test count) q ∙ copied-copy N A low f l count (c ∙ N .count) m) t

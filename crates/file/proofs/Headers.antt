@@ -1,39 +1,30 @@
 -- The header as it is tested, byte by byte, is the header that a writer writes; and what create writes is a new file.
-use mathlib.Core.Path.{_∙_, _≡_, ap, refl, sym}
-use mathlib.Core.Bool.{Bool, _&&_, false, true}
-use mathlib.Core.Option.{Option, none as nothing, some}
-use mathlib.Core.List.{List, [], _++_, _∷_}
-use Prim.Native.Nat.{_*_, _+_, _-_, _<_, _≤_, suc, zero, ℕ}
-use native.Mathlib.Nat.{suc-mul, zero-mul}
-use native.Mathlib.Omega.{arith}
-use borrow.Author.Tests.{eq-eqb, eqb-true}
-use lib.Dec.{eqb}
-use lib.ListN.{drop, getD, length, length-replicate, replicate, replicate-append-replicate, set, take}
-use lib.Seq.{length-take-le, take-all, take-suc-set}
+use Rattle.model.proofs.Prelude.{Bool, List, Option, [], _&&_, _*_, _++_, _+_, _-_, _<_, _∙_, _∷_, _≡_, _≤_, ap, ap₂, arith, drop, eq-eqb, eqb, eqb-true, false, getD, length, length-replicate, length-take-le, nothing, refl, replicate, replicate-append-replicate, set, some, subst, suc, suc-mul, sym, take, take-all, take-suc-set, true, zero, zero-mul, ℕ}
 use Rattle.model.specs.Order.{none}
 use Rattle.model.specs.Files.{created, free, used}
 use Rattle.model.specs.Checks.{sameStr}
-use Rattle.model.specs.Format.{entriesBytes, fileBytes, fileSize, headerBytes, headerOf, legalSizes, lowDigits, padded, slotBytes, slotSize, slotsBytes}
+use Rattle.model.specs.declared.Layout.{Layout}
+use Rattle.model.specs.Format.{entriesBytes, entrySize, fileBytes, fileSize, headerBytes, headerOf, isOffered, layoutOf, legalSizes, lowDigits, padded, slotBytes, slotSize, slotsBytes, version-1}
 use Rattle.model.proofs.Lists.{at-taken, take-replicate}
-use Rattle.model.proofs.Names.{clash}
+use Rattle.model.proofs.Names.{never-both}
 use Rattle.model.proofs.Checks.{both-join, sameStr-equal, sameStr-other, sameStr-self}
-use Rattle.model.proofs.Format.{Headed, headed-b, headed-headerOf, headed-slots, headerOf-headed, legalSizes-sizes, sizes-legalSizes}
+use Rattle.model.proofs.Format.{Headed, headed-layout, headed-headerOf, headed-slots, headerOf-headed, legalSizes-sizes, sizes-legalSizes}
 use Rattle.digits.specs.Keys.{isZero}
-use Rattle.bucket.proofs.Rows.{zero-same}
+use Rattle.bucket.proofs.Slots.{zero-same}
 use Rattle.file.specs.declared.Size.{Size}
 use Rattle.file.specs.declared.Header.{Header}
 use Rattle.file.specs.declared.Header.the-variants.{Right, Wrong}
 use Rattle.file.specs.Sizes.{Fitting, Said, Sized, Told}
 
 -- A byte of the header that differs.
-pub not-marked : (xs : List ℕ) (i b slots : ℕ) {d : ℕ} → i < 16 → getD (headerBytes b slots) i 0 ≡ d → (getD xs i 0 ≡ d → ⊥)
-    → sameStr (take 16 xs) (headerBytes b slots) ≡ false
+pub not-marked : (xs : List ℕ) (i b slots : ℕ) {d : ℕ} → i < 16 → getD (headerBytes (version-1 b) slots) i 0 ≡ d → (getD xs i 0 ≡ d → ⊥)
+    → sameStr (take 16 xs) (headerBytes (version-1 b) slots) ≡ false
 not-marked xs i b slots h e n =
-    sameStr-other (take 16 xs) (headerBytes b slots) (λ f. n (at-taken 16 xs i f h ∙ e))
+    sameStr-other (take 16 xs) (headerBytes (version-1 b) slots) (λ f. n (at-taken 16 xs i f h ∙ e))
 
 -- The first seven bytes are right: the others decide.
 pub marked-last : (xs : List ℕ) → 16 ≤ length xs → getD xs 0 0 ≡ 0x54 → getD xs 1 0 ≡ 0x4B → getD xs 2 0 ≡ 0x46 → getD xs 3 0 ≡ 1 → getD xs 4 0 ≡ 0
-    → isZero (take 9 (drop 7 xs)) ≡ sameStr (take 16 xs) (headerBytes (getD xs 5 0) (getD xs 6 0))
+    → isZero (take 9 (drop 7 xs)) ≡ sameStr (take 16 xs) (headerBytes (version-1 (getD xs 5 0)) (getD xs 6 0))
 unfolding sameStr headerBytes
 marked-last [] h p q r s t = absurd (omega arith)
 marked-last (a ∷ []) h p q r s t = absurd (omega arith)
@@ -46,61 +37,66 @@ marked-last (a ∷ b ∷ c ∷ d ∷ e ∷ f ∷ g ∷ xs) h p q r s t =
     rw (eq-eqb a 0x54 p, eq-eqb b 0x4B q, eq-eqb c 0x46 r, eq-eqb d 1 s, eq-eqb e 0 t, eq-eqb f f refl, eq-eqb g g refl) (sym (zero-same 9 (take 9 xs) (length-take-le 9 xs (omega arith))))
 
 -- Bytes 5 and 6 are b and slots.
-headed-here : (xs : List ℕ) {b slots : ℕ} → Headed b slots xs → Headed (getD xs 5 0) (getD xs 6 0) xs
-headed-here xs h = rw (headed-b h, headed-slots h) h
+headed-here : (xs : List ℕ) {y : Layout} {slots : ℕ} → Headed y slots xs → Headed (version-1 (getD xs 5 0)) (getD xs 6 0) xs
+unfolding isOffered layoutOf
+headed-here xs {y} {slots} h =
+    let v : y .version ≡ 1 = eqb-true (y .version) 1 (h .sizes .offered) in
+    let c : getD xs 5 0 ≡ y .b = ap (λ (z : Layout). z .b) (headed-layout h) in
+    let i : y ≡ version-1 (getD xs 5 0) = ap₂ (λ (m n : ℕ). record { version = m; b = n }) v (sym c) in
+    rw (headed-slots h) (subst (λ (z : Layout). Headed z slots xs) i h)
 
-pub no-header : (xs : List ℕ) → (Headed (getD xs 5 0) (getD xs 6 0) xs → ⊥) → headerOf xs ≡ nothing
+pub no-header : (xs : List ℕ) → (Headed (version-1 (getD xs 5 0)) (getD xs 6 0) xs → ⊥) → headerOf xs ≡ nothing
 no-header xs n = go (headerOf xs) refl
   where
-    go : (o : Option (ℕ × ℕ)) → headerOf xs ≡ o → o ≡ nothing
+    go : (o : Option (Layout × ℕ)) → headerOf xs ≡ o → o ≡ nothing
     go nothing e = refl
-    go (some (b, slots)) e = absurd (n (headed-here xs (headerOf-headed xs e)))
+    go (some (y, slots)) e = absurd (n (headed-here xs (headerOf-headed xs e)))
 
 pub too-short : (xs : List ℕ) → length xs < 16 → headerOf xs ≡ nothing
 unfolding fileSize
 too-short xs h = no-header xs (λ g. omega (arith, g .whole))
 
-pub ill-marked : (xs : List ℕ) → sameStr (take 16 xs) (headerBytes (getD xs 5 0) (getD xs 6 0)) ≡ false → headerOf xs ≡ nothing
+pub ill-marked : (xs : List ℕ) → sameStr (take 16 xs) (headerBytes (version-1 (getD xs 5 0)) (getD xs 6 0)) ≡ false → headerOf xs ≡ nothing
 ill-marked xs e = no-header xs (λ g.
-    let h : List ℕ = headerBytes (getD xs 5 0) (getD xs 6 0) in
-    clash (sameStr (take 16 xs) h) (ap (λ (l : List ℕ). sameStr l h) (g .header) ∙ sameStr-self h) e)
+    let h : List ℕ = headerBytes (version-1 (getD xs 5 0)) (getD xs 6 0) in
+    never-both (sameStr (take 16 xs) h) (ap (λ (l : List ℕ). sameStr l h) (g .header) ∙ sameStr-self h) e)
 
-pub ill-sized : (xs : List ℕ) → (legalSizes (getD xs 5 0) (getD xs 6 0) && eqb (length xs) (fileSize (getD xs 5 0) (getD xs 6 0))) ≡ false → headerOf xs ≡ nothing
+pub ill-sized : (xs : List ℕ) → (legalSizes (version-1 (getD xs 5 0)) (getD xs 6 0) && eqb (length xs) (fileSize (version-1 (getD xs 5 0)) (getD xs 6 0))) ≡ false → headerOf xs ≡ nothing
 ill-sized xs e = no-header xs (λ g.
-    let t = legalSizes (getD xs 5 0) (getD xs 6 0) in
-    let u = eqb (length xs) (fileSize (getD xs 5 0) (getD xs 6 0)) in
-    clash (t && u) (both-join t u (sizes-legalSizes (g .sizes)) (eq-eqb (length xs) (fileSize (getD xs 5 0) (getD xs 6 0)) (g .whole))) e)
+    let t = legalSizes (version-1 (getD xs 5 0)) (getD xs 6 0) in
+    let u = eqb (length xs) (fileSize (version-1 (getD xs 5 0)) (getD xs 6 0)) in
+    never-both (t && u) (both-join t u (sizes-legalSizes (g .sizes)) (eq-eqb (length xs) (fileSize (version-1 (getD xs 5 0)) (getD xs 6 0)) (g .whole))) e)
 
 -- Legal sizes, and a length that fits them.
-pub said : (xs : List ℕ) (s : Size) → sameStr (take 16 xs) (headerBytes (getD xs 5 0) (getD xs 6 0)) ≡ true
+pub said : (xs : List ℕ) (s : Size) → sameStr (take 16 xs) (headerBytes (version-1 (getD xs 5 0)) (getD xs 6 0)) ≡ true
     → Sized (length xs) s → s .b ≡ getD xs 5 0 → s .slots ≡ getD xs 6 0 → Said s xs
-unfolding fileSize slotSize
+unfolding fileSize slotSize entrySize isOffered
 said xs s e z p q =
     record {
       sized = z;
       header = headed-headerOf (record {
-        sizes = record { b-least = z .legal .b-least; b-most = z .legal .b-most; slots-least = z .legal .slots-least; slots-most = z .legal .slots-most };
+        sizes = record { offered = refl; b-least = z .legal .b-least; b-most = z .legal .b-most; slots-least = z .legal .slots-least; slots-most = z .legal .slots-most };
         whole = z .whole;
-        header = rw (p, q) (sameStr-equal (take 16 xs) (headerBytes (getD xs 5 0) (getD xs 6 0)) e);
+        header = rw (p, q) (sameStr-equal (take 16 xs) (headerBytes (version-1 (getD xs 5 0)) (getD xs 6 0)) e);
       });
     }
 
-pub told : (xs : List ℕ) (h : Header) (b slots : ℕ) → sameStr (take 16 xs) (headerBytes (getD xs 5 0) (getD xs 6 0)) ≡ true
+pub told : (xs : List ℕ) (h : Header) (b slots : ℕ) → sameStr (take 16 xs) (headerBytes (version-1 (getD xs 5 0)) (getD xs 6 0)) ≡ true
     → b ≡ getD xs 5 0 → slots ≡ getD xs 6 0 → Fitting h (length xs) b slots → Told h xs
 told xs (Right s) b slots e p q f = said xs s e (f .0) (f .1 ∙ p) (f .2 ∙ q)
 told xs Wrong b slots e p q f = ill-sized xs (rw (← p, ← q) f)
 
 -- What does not fit: a size that is not legal, or another length.
 pub illegal : (n b slots : ℕ) → ((2 ≤ b) → (b ≤ 16) → (1 ≤ slots) → (slots ≤ 64) → n ≡ 16 + slots * (64 + 32 * b) → ⊥)
-    → (legalSizes b slots && eqb n (fileSize b slots)) ≡ false
-unfolding fileSize slotSize
-illegal n b slots h = go (legalSizes b slots) (eqb n (16 + slots * (64 + 32 * b))) refl refl
+    → (legalSizes (version-1 b) slots && eqb n (fileSize (version-1 b) slots)) ≡ false
+unfolding fileSize slotSize entrySize
+illegal n b slots h = go (legalSizes (version-1 b) slots) (eqb n (16 + slots * (64 + 32 * b))) refl refl
   where
-    go : (t u : Bool) → legalSizes b slots ≡ t → eqb n (16 + slots * (64 + 32 * b)) ≡ u → (t && u) ≡ false
+    go : (t u : Bool) → legalSizes (version-1 b) slots ≡ t → eqb n (16 + slots * (64 + 32 * b)) ≡ u → (t && u) ≡ false
     go false u e f = refl
     go true false e f = refl
     go true true e f =
-        let g = legalSizes-sizes b slots e in
+        let g = legalSizes-sizes (version-1 b) slots e in
         absurd (h (g .b-least) (g .b-most) (g .slots-least) (g .slots-most) (eqb-true n (16 + slots * (64 + 32 * b)) f))
 
 -- Zeros, one more, and up to the end.
@@ -113,24 +109,24 @@ pub zeros-all : (xs : List ℕ) (i n : ℕ) → length xs ≡ n → n ≡ i → 
 zeros-all xs i n e h z = sym (take-all i xs (omega arith)) ∙ z ∙ ap (λ (k : ℕ). replicate {A = ℕ} k 0) (sym h)
 
 -- Free slots are zeros.
-frees : (b k : ℕ) → slotsBytes b (replicate k free) ≡ replicate (k * slotSize b) 0
-unfolding slotsBytes slotBytes
+frees : (b k : ℕ) → slotsBytes (version-1 b) (replicate k free) ≡ replicate (k * slotSize (version-1 b)) 0
+unfolding slotsBytes slotBytes entrySize
 frees b zero = rw zero-mul
 frees b (suc k) =
-    let e : slotSize b + k * slotSize b ≡ suc k * slotSize b = omega (arith, suc-mul k (slotSize b)) in
+    let e : slotSize (version-1 b) + k * slotSize (version-1 b) ≡ suc k * slotSize (version-1 b) = omega (arith, suc-mul k (slotSize (version-1 b))) in
     rw (frees b k, replicate-append-replicate, e)
 
 -- A bucket without limits and entries is a 1 and zeros.
-empty : (b : ℕ) → slotBytes b (used none [] []) ≡ 1 ∷ (replicate 63 0 ++ replicate (32 * b) 0)
-unfolding slotBytes padded lowDigits entriesBytes
+empty : (b : ℕ) → slotBytes (version-1 b) (used none [] []) ≡ 1 ∷ (replicate 63 0 ++ replicate (32 * b) 0)
+unfolding slotBytes padded lowDigits entriesBytes entrySize
 empty b = rw (take-replicate {A = ℕ} (32 * b) (32 * b) 0 (omega arith)) refl
 
 -- The bytes that create writes over zeros.
 abbrev pub marks : ℕ → ℕ → List ℕ → List ℕ
 marks b slots zs = set (set (set (set (set (set (set zs 0 0x54) 1 0x4B) 2 0x46) 3 1) 5 b) 6 slots) 16 1
 
-pub created-bytes : (n b slots : ℕ) → 1 ≤ slots → n ≡ 16 + slots * (64 + 32 * b) → marks b slots (replicate n 0) ≡ fileBytes b (created slots)
-unfolding fileBytes headerBytes slotsBytes slotSize
+pub created-bytes : (n b slots : ℕ) → 1 ≤ slots → n ≡ 16 + slots * (64 + 32 * b) → marks b slots (replicate n 0) ≡ fileBytes (version-1 b) (created slots)
+unfolding fileBytes headerBytes slotsBytes slotSize entrySize
 created-bytes n b slots h e =
     let w = 64 + 32 * b in
     let k = slots - 1 in

@@ -1,27 +1,19 @@
 -- The search for the bucket that holds a name: what each probe says, and how the halves close in.
-use mathlib.Core.Path.{_∙_, _≡_, ap, sym}
-use mathlib.Core.Bool.{Bool, false, not, true}
-use mathlib.Core.Option.{some}
-use mathlib.Core.List.{List, [], _∷_}
-use Prim.Native.Nat.{_*_, _+_, _-_, _<_, _≤_, suc, zero, ℕ}
-use native.Mathlib.Decide.{decLt}
-use native.Mathlib.Omega.{arith}
-use lib.Dec.{ltb}
-use lib.ListN.{drop, getD, length, take}
-use borrow.Author.Tests.{not-false, not-true}
+use Rattle.model.proofs.Prelude.{Bool, List, [], _*_, _+_, _-_, _<_, _∙_, _∷_, _≡_, _≤_, ap, arith, decLt, drop, false, getD, length, ltb, not, not-false, not-true, some, suc, sym, take, true, zero, ℕ}
 use Rattle.model.specs.Order.{Low, Str, _≺_, _⊑_, _⊴_, _◁_, above, at, least as unlimited, none, over, top}
 use Rattle.model.specs.Names.{Legal, atMost}
 use Rattle.model.specs.Files.{Chain, IsUsed, Ranges, Slot, entries-of, head, last, lower-of, next, order-of, ranges, slot-at}
-use Rattle.model.specs.Format.{readSlot, slotAt, slotSize}
+use Rattle.model.specs.Format.{entrySize, readSlot, slotAt, slotSize, version-1}
 use Rattle.model.proofs.Lists.{at-taken}
-use Rattle.model.proofs.Order.{low-lower, lt-le, le-refl, le-trans}
+use Rattle.model.proofs.Order.{le-refl, le-trans, low-lower, lt-le}
 use Rattle.model.proofs.Names.{atMost-le, atMost-lt}
 use Rattle.model.proofs.Strings.{mem-at}
 use Rattle.model.proofs.Ranges.{chain-above, chain-length, chain-some, chain-used}
 use Rattle.model.proofs.Files.{chain-right, used-inside, well-head}
 use Rattle.model.proofs.Format.{readSlot-readFile}
 use Rattle.digits.specs.Keys.{continued, isZero, value}
-use Rattle.bucket.proofs.Rows.{Reads, name-over, read-high, used-reads}
+use Rattle.bucket.proofs.Slots.{Reads, read-high, used-reads}
+use Rattle.digits.proofs.Bounds.{name-over}
 use Rattle.file.specs.declared.Size.{Size}
 use Rattle.file.specs.Holders.{Holder, Ordered, placed, upper-at}
 use Rattle.file.proofs.Readings.{used-read}
@@ -66,12 +58,12 @@ module _ {xs : List ℕ} {s : Size} {order : List ℕ} {count : ℕ} {fs : List 
   -- The bytes of the slot at a place read as that slot.
   pub place-reads : (i k : ℕ) (ys : List ℕ) → i < count → k ≡ getD order i 0 → ys ≡ take (64 + 32 * s .b) (drop (16 + k * (64 + 32 * s .b)) xs)
       → Reads (s .b) ys (lower-of (head (placed fs i))) (upper-at fs i) (entries-of (placed fs i))
-  unfolding slotAt slotSize
+  unfolding slotAt slotSize entrySize
   place-reads i k ys h e f =
       let B = getD (order-of fs) i 0 in
       let p : k ≡ B = e ∙ place-number i h in
       let u = place-used i h in
-      let r : readSlot (s .b) ys ≡ some (slot-at fs B) = rw (f, p) (readSlot-readFile xs (O .is) B (used-inside fs B u)) in
+      let r : readSlot (version-1 (s .b)) ys ≡ some (slot-at fs B) = rw (f, p) (readSlot-readFile xs (O .is) B (used-inside fs B u)) in
       used-reads (s .b) ys (slot-at fs B) u (used-read (s .b) ys (slot-at fs B) u r) (O .sound .well B)
 
   -- Places ascend with their bounds.

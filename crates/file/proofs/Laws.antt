@@ -1,13 +1,7 @@
 -- Laws of a file's sizes, and of lists of slot numbers.
-use mathlib.Core.Path.{_≡_, refl, sym, ap, _∙_}
-use mathlib.Core.List.{List, [], _∷_}
-use Prim.Native.Nat.{ℕ, zero, suc, _+_, _-_, _*_, _≤_, _<_}
-use native.Mathlib.Nat.{suc-mul, mul-le-mul, le-of-eq, add-sub-cancel-left}
-use native.Mathlib.Omega.{arith}
-use lib.ListN.{length, take, drop, set, replicate, length-take, length-drop}
-use lib.Seq.{paste}
+use Rattle.model.proofs.Prelude.{List, [], _*_, _+_, _-_, _<_, _∙_, _∷_, _≡_, _≤_, add-sub-cancel-left, ap, arith, drop, le-of-eq, length, length-drop, length-take, mul-le-mul, paste, refl, replicate, set, suc, suc-mul, sym, take, zero, ℕ}
 use Rattle.file.specs.declared.Size.{Size}
-use Rattle.file.specs.Sizes.{Sized, Below}
+use Rattle.file.specs.Sizes.{Below, Sized}
 
 -- all the slots of a file together are small
 pub slots-fit : (k n : ℕ) → k ≤ 64 → n ≤ 576 → k * n ≤ 36864

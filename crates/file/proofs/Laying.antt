@@ -1,31 +1,19 @@
 -- Slots laid out in order, one more at each step, from the last to the first.
-use mathlib.Core.Path.{_∙_, _≡_, ap, refl, subst, sym}
-use mathlib.Core.Bool.{cond, false, true}
-use mathlib.Core.Option.{Option, none as nothing, some}
-use mathlib.Core.List.{List, List·Memᴰ, List·Memᴰ·append-cases, List·Memᴰ·cases-cons, List·Memᴰ·not-nil, Memᴰ·append-left, Memᴰ·append-right, _++_, _∷_}
-use mathlib.Core.Logic.{inl, inr}
-use Prim.Native.Nat.{_*_, _+_, _<_, _^_, _≤_, suc, zero, ℕ}
-use native.Mathlib.Decide.{decLt, ℕ-discrete}
-use native.Mathlib.Nat.{zero-add}
-use native.Mathlib.Omega.{arith}
-use lib.ListN.{drop, drop-of-length-le, getD, length, length-drop, length-replicate, length-set, replicate, set, take, take-append-drop}
-use lib.Seq.{drop-cons, drop-set-lt, getD-set-other, getD-set-same, take-take}
+use Rattle.model.proofs.Prelude.{List, List·Memᴰ, List·Memᴰ·append-cases, List·Memᴰ·cases-cons, List·Memᴰ·not-nil, Memᴰ·append-left, Memᴰ·append-right, Option, _*_, _++_, _+_, _<_, _^_, _∙_, _∷_, _≡_, _≤_, ap, arith, cond, decLt, drop, drop-cons, drop-of-length-le, drop-set-lt, false, getD, getD-set-other, getD-set-same, inl, inr, length, length-drop, length-replicate, length-set, nothing, refl, replicate, set, some, subst, suc, sym, take, take-append-drop, take-take, true, zero, zero-add, ℕ, ℕ-discrete}
 use Rattle.model.specs.Order.{Low, Str}
 use Rattle.model.specs.Entries.{Entry}
 use Rattle.model.specs.Files.{IsUsed, Slot, Well, free, head, slot-at, used, well-free}
 use Rattle.model.specs.Tries.{occ, one-if}
 use Rattle.model.specs.Checks.{is-bad, isWell}
-use Rattle.model.specs.Format.{readSlot, readSlots, readUsed, slotAt, slotSize}
+use Rattle.model.specs.Format.{entrySize, readSlot, readSlots, readUsed, slotAt, slotSize, version-1}
 use Rattle.model.proofs.Lists.{at-replicate}
-use Rattle.model.proofs.Names.{clash}
-use Rattle.model.proofs.Cells.{occ-append, occ-mem, one-if-equal}
+use Rattle.model.proofs.Names.{never-both}
+use Rattle.model.proofs.Cells.{occ-append, occ-mem, one-if-equal, one-if-not}
 use Rattle.model.proofs.Checks.{isWell-well, well-isWell}
 use Rattle.model.proofs.Files.{cut-well}
-use Rattle.model.proofs.Passing.{one-if-not}
 use Rattle.model.proofs.Format.{readSlots-each}
-use Rattle.digits.specs.Keys.{continued, isZero, value}
-use Rattle.bucket.specs.Forms.{lowValue}
-use Rattle.bucket.proofs.Rows.{read-by-zero}
+use Rattle.digits.specs.Keys.{continued, isZero, lowValue, value}
+use Rattle.bucket.proofs.Slots.{read-by-zero}
 use Rattle.file.specs.declared.Size.{Size}
 use Rattle.file.specs.Maps.{bit-of, map-of}
 use Rattle.file.specs.Orders.{Known, Laid, Listed, Placed, Sorts, placed, stands}
@@ -68,9 +56,9 @@ module _ {xs : List ℕ} {size : Size} {k : ℕ} {order : List ℕ} {count map :
   k-inside : k < length (L .slots)
   k-inside = omega (arith, L .long)
 
-  k-read : readSlot (size .b) (slotAt (size .b) k xs) ≡ cond (isZero ys) (some free) (readUsed (size .b) ys)
-  unfolding slotSize
-  k-read = ap (readSlot (size .b)) (sym (is ∙ bytes-at (size .b) k xs)) ∙ read-by-zero (size .b) ys whole
+  k-read : readSlot (version-1 (size .b)) (slotAt (version-1 (size .b)) k xs) ≡ cond (isZero ys) (some free) (readUsed (version-1 (size .b)) ys)
+  unfolding slotSize entrySize
+  k-read = ap (readSlot (version-1 (size .b))) (sym (is ∙ bytes-at (size .b) k xs)) ∙ read-by-zero (size .b) ys whole
 
   pub laid-free : isZero ys ≡ true → (v : ℕ) → (2 * map + 0 < 2 ^ 64 → v ≡ 2 * map + 0) → Laid xs size k order count v
   laid-free z v f =
@@ -94,17 +82,17 @@ module _ {xs : List ℕ} {size : Size} {k : ℕ} {order : List ℕ} {count map :
       }
 
   -- A used slot that is not well formed.
-  module _ (z : isZero ys ≡ false) (ill : (s : Slot) → readUsed (size .b) ys ≡ some s → isWell (size .b) s ≡ false) where
-    pub ill-slot : (fs : List Slot) → readSlots (size .b) (size .slots) 0 xs ≡ some fs → Well (size .b) (slot-at fs k) → ⊥
+  module _ (z : isZero ys ≡ false) (ill : (s : Slot) → readUsed (version-1 (size .b)) ys ≡ some s → isWell (size .b) s ≡ false) where
+    pub ill-slot : (fs : List Slot) → readSlots (version-1 (size .b)) (size .slots) 0 xs ≡ some fs → Well (size .b) (slot-at fs k) → ⊥
     ill-slot fs e w =
-        let r : readSlot (size .b) (slotAt (size .b) k xs) ≡ some (slot-at fs k) = rw zero-add at (readSlots-each (size .b) (size .slots) 0 k xs inside e) in
-        let u : readUsed (size .b) ys ≡ some (slot-at fs k) = sym (k-read ∙ rw z) ∙ r in
-        clash (isWell (size .b) (slot-at fs k)) (well-isWell (size .b) w) (ill (slot-at fs k) u)
+        let r : readSlot (version-1 (size .b)) (slotAt (version-1 (size .b)) k xs) ≡ some (slot-at fs k) = rw zero-add at (readSlots-each (version-1 (size .b)) (size .slots) 0 k xs inside e) in
+        let u : readUsed (version-1 (size .b)) ys ≡ some (slot-at fs k) = sym (k-read ∙ rw z) ∙ r in
+        never-both (isWell (size .b) (slot-at fs k)) (well-isWell (size .b) w) (ill (slot-at fs k) u)
 
     pub ill-said : is-bad ≡ checkSlots (size .b) (size .slots) xs
-    ill-said = sym (go (readSlots (size .b) (size .slots) 0 xs) refl)
+    ill-said = sym (go (readSlots (version-1 (size .b)) (size .slots) 0 xs) refl)
       where
-        go : (r : Option (List Slot)) → readSlots (size .b) (size .slots) 0 xs ≡ r → checkSlots (size .b) (size .slots) xs ≡ is-bad
+        go : (r : Option (List Slot)) → readSlots (version-1 (size .b)) (size .slots) 0 xs ≡ r → checkSlots (size .b) (size .slots) xs ≡ is-bad
         go nothing e = check-none (size .b) (size .slots) xs e
         go (some fs) e = check-slots (size .b) (size .slots) xs fs e
             ∙ check-bad (size .b) fs (λ S. ill-slot fs e (S .well k), λ N C. ill-slot fs e (cut-well (size .b) C k))
@@ -116,7 +104,7 @@ module _ {xs : List ℕ} {size : Size} {k : ℕ} {order : List ℕ} {count map :
     ill-map v fs e S = absurd (ill-slot fs e (S .well k))
 
   -- A used slot that is well formed.
-  module _ (few : count < 64) {l : Low} {u : Str} {es : List Entry} (z : isZero ys ≡ false) (r : readUsed (size .b) ys ≡ some (used l u es)) (w : isWell (size .b) (used l u es) ≡ true)
+  module _ (few : count < 64) {l : Low} {u : Str} {es : List Entry} (z : isZero ys ≡ false) (r : readUsed (version-1 (size .b)) ys ≡ some (used l u es)) (w : isWell (size .b) (used l u es) ≡ true)
       (hv lv : ℕ) (high : hv ≡ value (continued u)) (low : lv ≡ lowValue l) (place : ℕ) (fits : place ≤ count)
       (P : (fs : List Slot) → Known (size .b) xs fs → Listed fs order count → Placed fs order count hv lv place)
       (n : ℕ) (n-is : n ≡ k) (new : List ℕ) (long : length new ≡ 64) (q : take (count + 1) new ≡ take place order ++ (n ∷ drop place (take count order))) where

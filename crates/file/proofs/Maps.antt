@@ -1,13 +1,7 @@
 -- The map of the used slots: its ones are counted, and the zeros of its complement end at the lowest free slot.
-use mathlib.Core.Path.{_∙_, _≡_, ap, refl}
-use mathlib.Core.List.{List, [], _∷_}
-use Prim.Native.Nat.{_%_, _*_, _+_, _-_, _/_, _<_, _^_, _≤_, suc, zero, ℕ}
-use native.Mathlib.Nat.{pow-suc}
-use native.Mathlib.Omega.{arith}
+use Rattle.model.proofs.Prelude.{List, [], _%_, _*_, _+_, _-_, _/_, _<_, _^_, _∙_, _∷_, _≡_, _≤_, ap, arith, le-ltb, length, lt-ltb, pow-suc, refl, suc, zero, ℕ}
 use lib.Count.{ones, ones-le, ones-step, trailingZeros}
-use lib.ListN.{length}
 use lib.Pow.{pow-pos}
-use borrow.Author.Tests.{le-ltb, lt-ltb}
 use Rattle.model.specs.Files.{Slot, first, free, used}
 use Rattle.model.specs.Changes.{free?}
 use Rattle.model.specs.Entries.{chosen}

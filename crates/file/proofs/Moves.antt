@@ -1,11 +1,5 @@
 -- Slot numbers moved up one by one to put one in, and moved down to leave one out.
-use mathlib.Core.Path.{_∙_, _≡_, ap, refl, sym}
-use mathlib.Core.List.{List, _++_, _∷_}
-use Prim.Native.Nat.{_+_, _-_, _<_, _≤_, suc, zero, ℕ}
-use native.Mathlib.Decide.{decLt, ℕ-discrete}
-use native.Mathlib.Omega.{arith}
-use lib.ListN.{drop, getD, length, length-append, length-drop, length-set, set, take, List·getD-append}
-use lib.Seq.{ext-getD, getD-append-add, getD-at, getD-drop, getD-set-other, getD-set-same, getD-take, length-take-le}
+use Rattle.model.proofs.Prelude.{List, List·getD-append, _++_, _+_, _-_, _<_, _∙_, _∷_, _≡_, _≤_, ap, arith, decLt, drop, ext-getD, getD, getD-append-add, getD-at, getD-drop, getD-set-other, getD-set-same, getD-take, length, length-append, length-drop, length-set, length-take-le, refl, set, suc, sym, take, zero, ℕ, ℕ-discrete}
 use Rattle.model.proofs.Lists.{at-behind}
 
 -- Those from j on have moved up by one.

@@ -1,18 +1,9 @@
 -- What the survey says of slots that are laid out in order is what check says, and of a sound file its order and its map.
-use mathlib.Core.Path.{_∙_, _≡_, ap, refl, subst, sym}
-use mathlib.Core.Bool.{Bool, false, true}
-use mathlib.Core.Option.{none as nothing, some}
-use mathlib.Core.List.{List, List·Memᴰ, [], _++_, _∷_}
-use Prim.Native.Nat.{_-_, _<_, _≤_, suc, ℕ}
-use native.Mathlib.Decide.{decLe}
-use native.Mathlib.Nat.{zero-add}
-use native.Mathlib.Omega.{arith}
-use lib.ListN.{drop, getD, length, take}
-use lib.Seq.{append-snoc, drop-cons, getD-take, length-take-le, split-at, take-suc, take-take}
+use Rattle.model.proofs.Prelude.{Bool, List, List·Memᴰ, [], _++_, _-_, _<_, _∙_, _∷_, _≡_, _≤_, ap, append-snoc, arith, decLe, drop, drop-cons, false, getD, getD-take, length, length-take-le, nothing, refl, some, split-at, subst, suc, sym, take, take-suc, take-take, true, zero-add, ℕ}
 use Rattle.model.specs.Order.{at, none}
 use Rattle.model.specs.Files.{Bad, Chain, Cut, IsUsed, Slot, Sound, free, head, order-of, ranges, slot-at, upper-of, used}
 use Rattle.model.specs.Checks.{Kind, check, is-bad, is-cut, is-sound}
-use Rattle.model.specs.Format.{checkRead, readSlots, readUsed, sized, slotAt}
+use Rattle.model.specs.Format.{checkRead, laidOut, readSlots, readUsed, slotAt, version-1}
 use Rattle.model.proofs.Lists.{mem-insert}
 use Rattle.model.proofs.Files.{cut-not-sound, cut-unique, order-right, used-inside}
 use Rattle.model.proofs.Checks.{Checked, check-right}
@@ -54,21 +45,21 @@ module _ (b : ℕ) (fs : List Slot) where
       go (is-cut M) D = absurd (B .1 M D)
       go is-bad c = refl
 
-pub check-slots : (b slots : ℕ) (xs : List ℕ) (fs : List Slot) → readSlots b slots 0 xs ≡ some fs → checkSlots b slots xs ≡ check b fs
-unfolding checkSlots checkRead sized
+pub check-slots : (b slots : ℕ) (xs : List ℕ) (fs : List Slot) → readSlots (version-1 b) slots 0 xs ≡ some fs → checkSlots b slots xs ≡ check b fs
+unfolding checkSlots checkRead laidOut
 check-slots b slots xs fs e = rw e
 
-pub check-none : (b slots : ℕ) (xs : List ℕ) → readSlots b slots 0 xs ≡ nothing → checkSlots b slots xs ≡ is-bad
-unfolding checkSlots checkRead sized
+pub check-none : (b slots : ℕ) (xs : List ℕ) → readSlots (version-1 b) slots 0 xs ≡ nothing → checkSlots b slots xs ≡ is-bad
+unfolding checkSlots checkRead laidOut
 check-none b slots xs e = rw e
 
 -- What is said of the order and of the map of a sound file.
 abbrev pub Ordered : List ℕ → Size → List ℕ → ℕ → Type 0
 Ordered xs size order count =
-    (fs : List Slot) → readSlots (size .b) (size .slots) 0 xs ≡ some fs → Sound (size .b) fs → (count ≡ length (order-of fs)) × (take count order ≡ order-of fs)
+    (fs : List Slot) → readSlots (version-1 (size .b)) (size .slots) 0 xs ≡ some fs → Sound (size .b) fs → (count ≡ length (order-of fs)) × (take count order ≡ order-of fs)
 
 abbrev pub Mapped : List ℕ → Size → ℕ → Type 0
-Mapped xs size map = (fs : List Slot) → readSlots (size .b) (size .slots) 0 xs ≡ some fs → Sound (size .b) fs → map ≡ map-of fs
+Mapped xs size map = (fs : List Slot) → readSlots (version-1 (size .b)) (size .slots) 0 xs ≡ some fs → Sound (size .b) fs → map ≡ map-of fs
 
 -- A survey made of its parts.
 pub surveyed : (s : Survey) (xs : List ℕ) (size : Size) (count : ℕ) (order : List ℕ) (inner : ℕ) (kind : Found) (map : ℕ)
@@ -108,10 +99,10 @@ module _ {xs : List ℕ} {size : Size} {order : List ℕ} {count map : ℕ} (few
         from B u = elim (decLe k B) [ yes h ↦ h | no h ↦ absurd (rw (L .before B (omega arith)) at u) ]
 
   module _ (L : Laid xs size 0 order count map) where
-    read-is : readSlots (size .b) (size .slots) 0 xs ≡ some (L .slots)
+    read-is : readSlots (version-1 (size .b)) (size .slots) 0 xs ≡ some (L .slots)
     read-is = each-readSlots (size .b) (size .slots) 0 xs (L .slots) (L .long) (λ j h. rw zero-add (L .read j (omega arith) h))
 
-    one : (fs : List Slot) → readSlots (size .b) (size .slots) 0 xs ≡ some fs → fs ≡ L .slots
+    one : (fs : List Slot) → readSlots (version-1 (size .b)) (size .slots) 0 xs ≡ some fs → fs ≡ L .slots
     one fs e = let i = read-is in cc
 
     lists : Lists (L .slots) (take count order)
@@ -196,11 +187,11 @@ module _ {xs : List ℕ} {size : Size} {order : List ℕ} {count map : ℕ} (few
       rest-listed cs l f = listed-mem (L .slots) cs (count - 1) (omega arith)
           (λ B m. rest-used B (subst (λ Cs. List·Memᴰ B Cs) (rest-is (take (count - 1) cs) f) m))
 
-      module _ (n a : List ℕ) (i : n ≡ slotAt (size .b) (getD order place 0) xs) (j : a ≡ slotAt (size .b) (getD order p 0) xs) (c : Bool) (D : CopyTold (size .b) n a c) where
-        n-read : {s : Slot} → slot-at (L .slots) (getD order place 0) ≡ s → IsUsed (head s) → readUsed (size .b) n ≡ some s
+      module _ (n a : List ℕ) (i : n ≡ slotAt (version-1 (size .b)) (getD order place 0) xs) (j : a ≡ slotAt (version-1 (size .b)) (getD order p 0) xs) (c : Bool) (D : CopyTold (size .b) n a c) where
+        n-read : {s : Slot} → slot-at (L .slots) (getD order place 0) ≡ s → IsUsed (head s) → readUsed (version-1 (size .b)) n ≡ some s
         n-read {s} g u = used-read (size .b) n s u (rw (i, ← g) (laid-known L .read (getD order place 0) (rw g u)))
 
-        a-read : {s : Slot} → slot-at (L .slots) (getD order p 0) ≡ s → IsUsed (head s) → readUsed (size .b) a ≡ some s
+        a-read : {s : Slot} → slot-at (L .slots) (getD order p 0) ≡ s → IsUsed (head s) → readUsed (version-1 (size .b)) a ≡ some s
         a-read {s} g u = used-read (size .b) a s u (rw (j, ← g) (laid-known L .read (getD order p 0) (rw g u)))
 
         copy : c ≡ true → Copy (size .b) (L .slots) (getD order p 0) (getD order place 0)

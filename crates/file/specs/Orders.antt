@@ -10,9 +10,8 @@ use lib.ListN.{drop, getD, length, take}
 use Rattle.model.specs.Order.{_≺_, _⊴_, none}
 use Rattle.model.specs.Files.{Chain, IsUsed, Ranges, Slot, Well, free, head, lower-of, slot-at, upper-of}
 use Rattle.model.specs.Tries.{occ}
-use Rattle.model.specs.Format.{readSlot, slotAt}
-use Rattle.digits.specs.Keys.{continued, value}
-use Rattle.bucket.specs.Forms.{lowValue}
+use Rattle.model.specs.Format.{readSlot, slotAt, version-1}
+use Rattle.digits.specs.Keys.{continued, lowValue, value}
 use Rattle.file.specs.declared.Size.{Size}
 use Rattle.file.specs.Maps.{map-of}
 
@@ -26,7 +25,7 @@ stands high low s = ahead high low (value (continued (upper-of (head s)))) (lowV
 
 -- Slots, of which those that are used stand in the file's bytes, and all are free or well formed.
 pub record Known (b : ℕ) (xs : List ℕ) (fs : List Slot) : Type 0 where
-  pub read : (B : ℕ) → IsUsed (head (slot-at fs B)) → readSlot b (slotAt b B xs) ≡ some (slot-at fs B)
+  pub read : (B : ℕ) → IsUsed (head (slot-at fs B)) → readSlot (version-1 b) (slotAt (version-1 b) B xs) ≡ some (slot-at fs B)
   pub well : (B : ℕ) → Well b (slot-at fs B)
 
 -- The slot at a place of the order.
@@ -63,7 +62,7 @@ pub record Laid (xs : List ℕ) (size : Size) (k : ℕ) (order : List ℕ) (coun
   pub slots : List Slot
   pub long : length slots ≡ size .slots
   pub before : (B : ℕ) → B < k → slot-at slots B ≡ free
-  pub read : (B : ℕ) → k ≤ B → B < size .slots → readSlot (size .b) (slotAt (size .b) B xs) ≡ some (slot-at slots B)
+  pub read : (B : ℕ) → k ≤ B → B < size .slots → readSlot (version-1 (size .b)) (slotAt (version-1 (size .b)) B xs) ≡ some (slot-at slots B)
   pub well : (B : ℕ) → Well (size .b) (slot-at slots B)
   pub whole : length order ≡ 64
   pub once : (B : ℕ) → IsUsed (head (slot-at slots B)) → occ B (take count order) ≡ 1

@@ -1,12 +1,12 @@
 -- The sizes of a file that its header says, and what they say of its length.
-use Prim.Native.Nat.{ℕ, _+_, _*_, _≤_, _<_}
+use Prim.Native.Nat.{_*_, _+_, _<_, _≤_, ℕ}
 use mathlib.Core.Path.{_≡_}
 use mathlib.Core.Bool.{_&&_, false}
 use mathlib.Core.Option.{none as nothing, some}
 use mathlib.Core.List.{List}
 use lib.Dec.{eqb}
-use lib.ListN.{length, getD}
-use Rattle.model.specs.Format.{fileSize, headerOf, legalSizes}
+use lib.ListN.{getD, length}
+use Rattle.model.specs.Format.{fileSize, headerOf, legalSizes, version-1}
 use Rattle.file.specs.declared.Size.{Size}
 use Rattle.file.specs.declared.Header.{Header}
 use Rattle.file.specs.declared.Header.the-variants.{Right, Wrong}
@@ -28,12 +28,12 @@ pub record Sized (n : ℕ) (s : Size) : Type 0 where
 -- b, slots and a length: they are legal and the length fits them, or not
 abbrev pub Fitting : Header → ℕ → ℕ → ℕ → Type 0
 Fitting (Right s) n b slots = Sized n s × (s .b ≡ b) × (s .slots ≡ slots)
-Fitting Wrong n b slots = (legalSizes b slots && eqb n (fileSize b slots)) ≡ false
+Fitting Wrong n b slots = (legalSizes (version-1 b) slots && eqb n (fileSize (version-1 b) slots)) ≡ false
 
 -- what a header that is right says
 pub record Said (s : Size) (xs : List ℕ) : Type 0 where
   pub sized : Sized (length xs) s
-  pub header : headerOf xs ≡ some (s .b, s .slots)
+  pub header : headerOf xs ≡ some (version-1 (s .b), s .slots)
 
 abbrev pub Told : Header → List ℕ → Type 0
 Told (Right s) xs = Said s xs

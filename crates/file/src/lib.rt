@@ -8,11 +8,12 @@ ghost use lib.ListN.{length, take, drop, getD, replicate};
 ghost use lib.Seq.{paste};
 ghost use Rattle.model.specs.Files.{created};
 ghost use Rattle.model.specs.Checks.{sameStr};
-ghost use Rattle.model.specs.Format.{fileBytes, headerBytes};
+ghost use Rattle.model.specs.Format.{fileBytes, headerBytes, version-1};
 ghost use Rattle.file.specs.Maps.{RoomTold};
 ghost use Rattle.file.specs.Sizes.{Legal, Sized, Fitting, Told};
-use digits::byte;
-use digits::index;
+use digits::u8_of_usize;
+use digits::usize_of_u8;
+use digits::usize_of_u32;
 
 mod order;
 mod survey;
@@ -72,7 +73,7 @@ pub fn sizes(length: usize, b: usize, slots: usize) -> Header
 // Whether the bytes that say what kind of file it is are right.
 fn is_marked(file: &[u8]) -> bool
     requires { ⌜ 16 ≤ length (now file) ⌝ }
-    ensures { λ r. ⌜ r ≡ sameStr (take 16 (now (file .entry))) (headerBytes (getD (now (file .entry)) 5 0) (getD (now (file .entry)) 6 0)) ⌝ }
+    ensures { λ r. ⌜ r ≡ sameStr (take 16 (now (file .entry))) (headerBytes (version-1 (getD (now (file .entry)) 5 0)) (getD (now (file .entry)) 6 0)) ⌝ }
 {
     if file[0] != b'T' {
         return false;
@@ -102,7 +103,7 @@ pub fn header_of(file: &[u8]) -> Header
     if !is_marked(file) {
         return Header::Wrong;
     }
-    sizes(file.len(), index(file[5]), index(file[6]))
+    sizes(file.len(), usize_of_u8(file[5]), usize_of_u8(file[6]))
 }
 
 // The bytes of slot k.
@@ -123,7 +124,7 @@ pub fn store(file: &mut [u8], size: Size, k: usize, slot: &[u8])
     ensures { λ _. ⌜ now (file .exit) ≡ paste (now (file .entry)) (16 + k * (64 + 32 * size .b)) (now (slot .entry)) (64 + 32 * size .b) ⌝ }
 {
     let at = 16 + k * slot_size(size);
-    bucket::copy(file, at, slot);
+    entries::copy(file, at, slot);
 }
 
 fn clear(file: &mut [u8])
@@ -139,32 +140,26 @@ fn clear(file: &mut [u8])
 // Writes the whole buffer: slot 0 used, no limits, no entries.
 pub fn create(file: &mut [u8], size: Size)
     requires { ⌜ Sized (length (now file)) size ⌝ }
-    ensures { λ _. ⌜ now (file .exit) ≡ fileBytes (size .b) (created (size .slots)) ⌝ }
+    ensures { λ _. ⌜ now (file .exit) ≡ fileBytes (version-1 (size .b)) (created (size .slots)) ⌝ }
 {
     clear(file);
     file[0] = b'T';
     file[1] = b'K';
     file[2] = b'F';
     file[3] = 1;
-    file[5] = byte(size.b);
-    file[6] = byte(size.slots);
+    file[5] = u8_of_usize(size.b);
+    file[6] = u8_of_usize(size.slots);
     file[16] = 1;
-}
-
-fn number(x: u32) -> usize
-    ensures { λ r. ⌜ r ≡ x ⌝ }
-{
-    x as usize
 }
 
 // A new bucket always takes the lowest free slot.
 pub fn lowest_free(used: u64, slots: usize) -> Room
     ensures { λ r. ⌜ RoomTold used slots r ⌝ }
 {
-    if slots <= number(u64::count_ones(used)) {
+    if slots <= usize_of_u32(u64::count_ones(used)) {
         return Room::Full;
     }
-    let lowest = number(u64::trailing_zeros(!used));
+    let lowest = usize_of_u32(u64::trailing_zeros(!used));
     if slots <= lowest {
         return Room::Full;
     }

@@ -5,7 +5,7 @@ ghost use Prim.Native.Nat.{ℕ, _≤_, _<_, _+_, _-_, suc};
 ghost use lib.ListN.{drop, length, take};
 ghost use mathlib.Core.Option.{some};
 ghost use Rattle.model.specs.Files.{IsUsed, Slot, Well, head};
-ghost use Rattle.model.specs.Format.{readSlot};
+ghost use Rattle.model.specs.Format.{readSlot, version-1};
 ghost use Rattle.digits.specs.Keys.{keyValue};
 ghost use Rattle.file.specs.Sizes.{Sized, Below};
 ghost use Rattle.file.specs.Orders.{Known, Listed, Placed, stands};
@@ -13,21 +13,21 @@ ghost use Rattle.file.specs.Holders.{HolderTold};
 use crate::Size;
 use crate::slot_at;
 use digits::Key;
-use digits::index;
+use digits::usize_of_u8;
 
 // Whether the range (low, high] stands before that of a slot. The low ends matter only where the high ends are equal.
 fn is_before(high: Key, low: Key, slot: &[u8]) -> bool
     requires { ⌜ 64 ≤ length (now slot) ⌝ }
-    ensures { λ r. ⌜ ((b : ℕ) (s : Slot) → IsUsed (head s) → readSlot b (now (slot .entry)) ≡ some s → Well b s → r ≡ stands (keyValue high) (keyValue low) s) ⌝ }
+    ensures { λ r. ⌜ ((b : ℕ) (s : Slot) → IsUsed (head s) → readSlot (version-1 b) (now (slot .entry)) ≡ some s → Well b s → r ≡ stands (keyValue high) (keyValue low) s) ⌝ }
 {
-    let other = bucket::high_of(slot);
+    let other = bucket::high_key(slot);
     if digits::is_below(high, other) {
         return true;
     }
     if !digits::is_same(high, other) {
         return false;
     }
-    digits::is_below(low, bucket::low_of(slot))
+    digits::is_below(low, bucket::low_key(slot))
 }
 
 // How many of the slots in order stand before the range (low, high] or are equal to it.
@@ -48,7 +48,7 @@ pub fn place_of(
     let mut most = count;
     while least < most {
         let middle = least + (most - least) / 2;
-        let slot = slot_at(file, size, index(order[middle]));
+        let slot = slot_at(file, size, usize_of_u8(order[middle]));
         if is_before(high, low, slot) {
             most = middle;
         } else {
@@ -99,8 +99,8 @@ pub fn holder(file: &[u8], size: Size, order: &[u8; 64], count: usize, name: Key
     let mut most = count - 1;
     while least < most {
         let middle = least + (most - least) / 2;
-        let slot = slot_at(file, size, index(order[middle]));
-        if digits::is_below(bucket::high_of(slot), name) {
+        let slot = slot_at(file, size, usize_of_u8(order[middle]));
+        if digits::is_below(bucket::high_key(slot), name) {
             least = middle + 1;
         } else {
             most = middle;

@@ -13,8 +13,8 @@ use crate::order;
 use crate::slot_at;
 use bucket::Form;
 use bucket::Vacancy;
-use digits::byte;
-use digits::index;
+use digits::u8_of_usize;
+use digits::usize_of_u8;
 
 pub enum Kind {
     Sound,
@@ -56,21 +56,21 @@ fn is_chain(file: &[u8], size: Size, order: &[u8; 64], count: usize) -> bool
     ensures { λ r. ⌜ ((fs : List Slot) → Known (size .b) (now (file .entry)) fs → Listed fs (now (order .entry)) count
         → Chained r (ranges fs) (take count (now (order .entry)))) ⌝ }
 {
-    let mut end = digits::no_limit();
+    let mut end = digits::lowest_key();
     let mut j = 0;
     while j < count {
-        let slot = slot_at(file, size, index(order[j]));
-        if !digits::is_same(bucket::low_of(slot), end) {
+        let slot = slot_at(file, size, usize_of_u8(order[j]));
+        if !digits::is_same(bucket::low_key(slot), end) {
             return false;
         }
-        end = bucket::high_of(slot);
+        end = bucket::high_key(slot);
         j += 1;
     }
-    digits::is_same(end, digits::no_end())
+    digits::is_same(end, digits::highest_key())
 }
 
 // The first place whose slot has the upper bound of the one before it; the count where there is none.
-fn twin(file: &[u8], size: Size, order: &[u8; 64], count: usize) -> usize
+fn repeated_upper(file: &[u8], size: Size, order: &[u8; 64], count: usize) -> usize
     requires { ⌜ (Sized (length (now file)) size) × (Below (now order) (size .slots)) × (count ≤ 64) × (length (now order) ≡ 64) ⌝ }
     ensures { λ r. ⌜ (r < count → 1 ≤ r)
         × ((fs : List Slot) → Known (size .b) (now (file .entry)) fs → Listed fs (now (order .entry)) count
@@ -78,9 +78,9 @@ fn twin(file: &[u8], size: Size, order: &[u8; 64], count: usize) -> usize
 {
     let mut j = 1;
     while j < count {
-        let before = slot_at(file, size, index(order[j - 1]));
-        let slot = slot_at(file, size, index(order[j]));
-        if digits::is_same(bucket::high_of(before), bucket::high_of(slot)) {
+        let before = slot_at(file, size, usize_of_u8(order[j - 1]));
+        let slot = slot_at(file, size, usize_of_u8(order[j]));
+        if digits::is_same(bucket::high_key(before), bucket::high_key(slot)) {
             return j;
         }
         j += 1;
@@ -94,20 +94,20 @@ fn is_copy_of(n: &[u8], a: &[u8], b: usize) -> bool
     requires { ⌜ (length (now n) ≡ 64 + 32 * b) × (length (now a) ≡ 64 + 32 * b) × (b ≤ 16) ⌝ }
     ensures { λ r. ⌜ CopyTold b (now (n .entry)) (now (a .entry)) r ⌝ }
 {
-    if index(a[1]) != b {
+    if usize_of_u8(a[1]) != b {
         return false;
     }
-    let low = bucket::low_of(n);
-    if !digits::is_below(bucket::low_of(a), low) {
+    let low = bucket::low_key(n);
+    if !digits::is_below(bucket::low_key(a), low) {
         return false;
     }
-    let count = index(n[1]);
+    let count = usize_of_u8(n[1]);
     if b < count {
         return false;
     }
-    let stay = bucket::upto(&a[64..], b, low);
+    let stay = entries::not_above(&a[64..], b, low);
     let moved = 64 + 32 * stay;
-    bucket::is_copied(&a[moved..], b - stay, &n[64..], count)
+    entries::is_copied(&a[moved..], b - stay, &n[64..], count)
 }
 
 // A file with two slots of one upper bound: cut, or bad.
@@ -124,8 +124,8 @@ fn cut_of(
         × ((fs : List Slot) → Known (size .b) (now file) fs → Listed fs (now order) count → Twinned fs (now order) count place) ⌝ }
     ensures { λ r. ⌜ Surveyed r (now (file .entry)) size ⌝ }
 {
-    let inner = index(order[place]);
-    let outer = index(order[place - 1]);
+    let inner = usize_of_u8(order[place]);
+    let outer = usize_of_u8(order[place - 1]);
     if !is_copy_of(
         slot_at(file, size, inner),
         slot_at(file, size, outer),
@@ -147,7 +147,7 @@ fn kind_of(file: &[u8], size: Size, order: &[u8; 64], count: usize, used: u64) -
         × (Laid (now file) size 0 (now order) count used) ⌝ }
     ensures { λ r. ⌜ Surveyed r (now (file .entry)) size ⌝ }
 {
-    let place = twin(file, size, order, count);
+    let place = repeated_upper(file, size, order, count);
     if place < count {
         return cut_of(file, size, order, count, place, used);
     }
@@ -180,7 +180,7 @@ pub fn survey_of(file: &[u8], size: Size) -> Survey
                     return found(Kind::Bad, 0, 0, &[0u8; 64], 0);
                 };
                 let place = order::place_of(file, size, &order, count, bucket.low, bucket.high);
-                order::insert(&mut order, count, place, byte(k));
+                order::insert(&mut order, count, place, u8_of_usize(k));
                 count += 1;
                 used = with_next(used, 1);
             }

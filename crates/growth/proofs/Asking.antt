@@ -1,9 +1,5 @@
 -- What growth is asked with, from the walk of a split key in the range of the slot that is split.
-use mathlib.Core.Path.{_∙_, _≡_, ap, sym}
-use mathlib.Core.List.{List, []}
-use Prim.Native.Nat.{_<_, suc, ℕ}
-use native.Mathlib.Omega.{arith}
-use lib.ListN.{length, take}
+use Rattle.model.proofs.Prelude.{List, [], _<_, _∙_, _≡_, ap, arith, length, suc, sym, take, ℕ}
 use Rattle.model.specs.declared.Trie.{Trie}
 use Rattle.model.specs.Order.{Str, diff}
 use Rattle.model.specs.Files.{In, Slot, Sound, head, slot-at, strings-of}

@@ -1,12 +1,5 @@
 -- The new cells in a row, and the paths that lead to them.
-use mathlib.Core.Path.{_∙_, _≡_, ap, refl, sym}
-use mathlib.Core.List.{List, [], _∷_, append-nil}
-use Prim.Native.Nat.{_+_, _-_, _<_, _≤_, suc, zero, ℕ}
-use native.Mathlib.Numerals.{add-one}
-use native.Mathlib.Omega.{arith}
-use borrow.Author.Tests.{le-ltb, lt-ltb}
-use lib.ListN.{drop, getD, length, length-drop, set, take}
-use lib.Seq.{getD-drop, set-getD, take-suc, take-take}
+use Rattle.model.proofs.Prelude.{List, [], _+_, _-_, _<_, _∙_, _∷_, _≡_, _≤_, add-one, ap, append-nil, arith, clash, drop, getD, getD-drop, le-ltb, length, length-drop, lt-ltb, refl, set, set-getD, suc, sym, take, take-suc, take-take, zero, ℕ}
 use Rattle.model.specs.declared.Cell.{Cell}
 use Rattle.model.specs.declared.Side.{Side}
 use Rattle.model.specs.declared.Side.the-variants.{Cell as further, Slot as slot}
@@ -91,8 +84,8 @@ graft-none {cs} (by-right {m = m} x e) = rw (← e) (set-getD cs m zero-cell)
 pub graft-kept : {cs : List Cell} {a : Side} {A : ℕ} {sp : Spot} {p : Str} (x : Side) → Comes cs a [] root A sp p
     → Kept (at-cell cs (cell-of sp)) (changed (at-cell cs (cell-of sp)) sp x)
 graft-kept x (by-none e) = record { digit = refl; number = refl; left = λ j q. q; right = λ j q. q }
-graft-kept x (by-left y e) = record { digit = refl; number = refl; left = λ j q. (let z : _≡_ {A = ℕ} 0 1 = cc in absurd (omega arith)); right = λ j q. q }
-graft-kept x (by-right y e) = record { digit = refl; number = refl; left = λ j q. q; right = λ j q. (let z : _≡_ {A = ℕ} 0 1 = cc in absurd (omega arith)) }
+graft-kept x (by-left y e) = record { digit = refl; number = refl; left = λ j q. (clash cc); right = λ j q. q }
+graft-kept x (by-right y e) = record { digit = refl; number = refl; left = λ j q. q; right = λ j q. (clash cc) }
 
 pub met-below : {cs : List Cell} {a : Side} {t : Tree} {vs : List ℕ} {p r : Str} {k : ℕ} → Reads cs a t vs → Met cs p a k r → k < length cs
 met-below (there h l x) at-once = h

@@ -1,15 +1,5 @@
 -- The code's cells are the grown trie's.
-use mathlib.Core.Path.{_∙_, _≡_, ap, ap₂, refl, subst, sym}
-use mathlib.Core.Logic.{_≢_}
-use mathlib.Core.List.{List, [], _++_, _∷_, append-nil}
-use mathlib.Core.Bool.{Bool, false, true}
-use Prim.Native.Nat.{_+_, _-_, _<_, _≤_, suc, zero, ℕ}
-use native.Mathlib.Decide.{decLe, decLt, ℕ-discrete}
-use native.Mathlib.Numerals.{add-one}
-use native.Mathlib.Omega.{arith}
-use borrow.Author.Tests.{eq-eqb, le-leb, lt-leb, ne-eqb}
-use lib.ListN.{List·getD-append, drop, getD, length, length-append, length-drop, length-replicate, length-set, replicate, set, take}
-use lib.Seq.{drop-length, ext-getD, getD-append-add, getD-set-other, getD-set-same, getD-take, take-all}
+use Rattle.model.proofs.Prelude.{Bool, List, List·getD-append, [], _++_, _+_, _-_, _<_, _∙_, _∷_, _≡_, _≢_, _≤_, add-one, ap, append-nil, ap₂, arith, clash, decLe, decLt, drop, drop-length, eq-eqb, ext-getD, false, getD, getD-append-add, getD-set-other, getD-set-same, getD-take, le-leb, length, length-append, length-drop, length-replicate, length-set, lt-leb, ne-eqb, refl, replicate, set, subst, suc, sym, take, take-all, true, zero, ℕ, ℕ-discrete}
 use Rattle.model.specs.declared.Cell.{Cell}
 use Rattle.model.specs.declared.Side.{Side}
 use Rattle.model.specs.declared.Side.the-variants.{Cell as further, Slot as slot}
@@ -19,8 +9,7 @@ use Rattle.model.specs.Tries.{Reads, Tree, at-cell, cell, first-leaf-of, leaf, 
 use Rattle.model.specs.Rebuilding.{lay, side-of}
 use Rattle.model.specs.Growth.{Spot, cell-of, cells-grown, cells-turned, changed, grow-cells, grown, grown-trie, left, new-cells, placed, right, root, root-grown, root-turned, turn, turn-cell, turn-cells, turn-side, turned}
 use Rattle.model.proofs.Order.{le-refl}
-use Rattle.model.proofs.Cells.{each-once, length-lay, visits-count}
-use Rattle.model.proofs.Passing.{height, reads-height}
+use Rattle.model.proofs.Cells.{each-once, height, length-lay, reads-height, visits-count}
 use Rattle.model.proofs.GrownCells.{Turned, grow-reads, replace, turn-reads}
 use Rattle.trie.specs.declared.Walk.{Walk}
 use Rattle.trie.specs.Walks.{By}
@@ -455,15 +444,15 @@ module _ {t : Trie} {places lens : List ℕ} {w : Walk} {c s : Str} {shared a : 
 
           to-left : (m : ℕ) → m < n → sp K ≡ left m → (w .cell ≡ m) × (w .left ≡ true) → Dec (i ≡ m) → at-cell J i ≡ at-cell Q i
           to-left m b q y (yes e) =
-              left-joined i h (y .0 ∙ sym e) (y .1) (q ∙ ap (λ (k : ℕ). left k) (sym e)) (λ x. let z : _≡_ {A = ℕ} 0 1 = cc in absurd (omega arith))
+              left-joined i h (y .0 ∙ sym e) (y .1) (q ∙ ap (λ (k : ℕ). left k) (sym e)) (λ x. clash cc)
           to-left m b q y (no d) =
-              other-same i h m (y .0) b d (ap cell-of q) (λ x. let z : i ≡ m = cc in d z) (λ x. let z : _≡_ {A = ℕ} 0 1 = cc in absurd (omega arith))
+              other-same i h m (y .0) b d (ap cell-of q) (λ x. let z : i ≡ m = cc in d z) (λ x. clash cc)
 
           to-right : (m : ℕ) → m < n → sp K ≡ right m → (w .cell ≡ m) × (w .left ≡ false) → Dec (i ≡ m) → at-cell J i ≡ at-cell Q i
           to-right m b q y (yes e) =
-              right-joined i h (y .0 ∙ sym e) (y .1) (q ∙ ap (λ (k : ℕ). right k) (sym e)) (λ x. let z : _≡_ {A = ℕ} 0 1 = cc in absurd (omega arith))
+              right-joined i h (y .0 ∙ sym e) (y .1) (q ∙ ap (λ (k : ℕ). right k) (sym e)) (λ x. clash cc)
           to-right m b q y (no d) =
-              other-same i h m (y .0) b d (ap cell-of q) (λ x. let z : _≡_ {A = ℕ} 0 1 = cc in absurd (omega arith)) (λ x. let z : i ≡ m = cc in d z)
+              other-same i h m (y .0) b d (ap cell-of q) (λ x. clash cc) (λ x. let z : i ≡ m = cc in d z)
 
           go : {j : ℕ} {p : Spot} → Side-by root (os K) j p → sp K ≡ p → By p w → at-cell J i ≡ at-cell Q i
           go (no-cell e) q y = absurd (omega (arith, e, h, order-count K, live K))

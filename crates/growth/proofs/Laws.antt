@@ -1,12 +1,5 @@
 -- What the code's tests say of the definitions, and how its loops go on.
-use mathlib.Core.Path.{_∙_, _≡_, refl}
-use Prim.Native.Nat.{_+_, _-_, _<_, _≤_, ℕ}
-use native.Mathlib.Decide.{decLt}
-use native.Mathlib.Omega.{arith}
-use borrow.Author.Tests.{eq-eqb, le-leb, lt-leb, ne-eqb}
-use mathlib.Core.List.{List}
-use lib.ListN.{getD, length, length-set, set}
-use lib.Seq.{getD-set-other, getD-set-same}
+use Rattle.model.proofs.Prelude.{List, _+_, _-_, _<_, _∙_, _≡_, _≤_, arith, decLt, eq-eqb, getD, getD-set-other, getD-set-same, le-leb, length, length-set, lt-leb, ne-eqb, refl, set, ℕ}
 use Rattle.model.specs.declared.Cell.{Cell}
 use Rattle.model.specs.declared.Side.{Side}
 use Rattle.model.specs.declared.Side.the-variants.{Cell as further, Slot as slot}

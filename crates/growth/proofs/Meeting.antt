@@ -1,19 +1,12 @@
 -- The cells met below a side, each with the path that a walk has there. Redirection turns each cell by its own path.
-use mathlib.Core.Path.{_∙_, _≡_, ap, refl, sym}
-use mathlib.Core.List.{List, [], _++_, _∷_}
-use Prim.Native.Nat.{_+_, _<_, _≤_, suc, zero, ℕ}
-use native.Mathlib.Decide.{decLt, ℕ-discrete}
-use native.Mathlib.Omega.{arith}
-use lib.ListN.{length, set}
-use lib.Seq.{getD-set-other, getD-set-same}
+use Rattle.model.proofs.Prelude.{List, [], _++_, _+_, _<_, _∙_, _∷_, _≡_, _≤_, ap, arith, decLt, getD-set-other, getD-set-same, length, refl, set, suc, sym, zero, ℕ, ℕ-discrete}
 use Rattle.model.specs.declared.Cell.{Cell}
 use Rattle.model.specs.declared.Side.{Side}
 use Rattle.model.specs.declared.Side.the-variants.{Cell as further, Slot as slot}
 use Rattle.model.specs.Order.{Str, _⊑_, le?}
 use Rattle.model.specs.Tries.{Reads, Tree, at-cell, cell, here, leaf, node, occ, one-if, there, walk, zero-cell}
 use Rattle.model.specs.Growth.{Spot, left, right, turn-cell, turn-cells}
-use Rattle.model.proofs.Cells.{occ-append, one-if-equal, reads-agree, reads-set}
-use Rattle.model.proofs.Passing.{height}
+use Rattle.model.proofs.Cells.{height, occ-append, one-if-equal, reads-agree, reads-set}
 use Rattle.model.proofs.GrownCells.{Turned, path-at, spot, turn-reads}
 
 abbrev pub string-of : Cell → Str → Str

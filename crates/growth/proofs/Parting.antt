@@ -1,15 +1,5 @@
 -- The place up to which leaves' paths are not above s.
-use mathlib.Core.Path.{_∙_, _≡_, ap, subst, sym}
-use mathlib.Core.Logic.{_⊎_, inl, inr}
-use mathlib.Core.Bool.{false, true}
-use mathlib.Core.List.{List, List·Memᴰ, []}
-use Prim.Native.Nat.{_<_, _≤_, suc, ℕ}
-use native.Mathlib.Decide.{decLt}
-use native.Mathlib.Numerals.{add-one}
-use native.Mathlib.Omega.{arith}
-use borrow.Author.Tests.{lt-leb}
-use lib.ListN.{List·getD-eq-default, getD, length, length-take, take}
-use lib.Seq.{getD-take, length-take-le, take-all, take-length}
+use Rattle.model.proofs.Prelude.{List, List·Memᴰ, List·getD-eq-default, [], _<_, _∙_, _≡_, _≤_, _⊎_, add-one, ap, arith, decLt, false, getD, getD-take, inl, inr, length, length-take, length-take-le, lt-leb, subst, suc, sym, take, take-all, take-length, true, ℕ}
 use Rattle.model.specs.declared.Trie.{Trie}
 use Rattle.model.specs.Order.{Asc, Str, _⊑_, diff, least, none, top}
 use Rattle.model.specs.Files.{all, bounds, ranges}

@@ -1,10 +1,5 @@
 -- Where cells, leaves and the walk's end stand among the strings.
-use mathlib.Core.Path.{_∙_, _≡_, refl}
-use mathlib.Core.List.{List, [], _++_, _∷_}
-use Prim.Native.Nat.{_+_, _-_, _<_, _≤_, suc, zero, ℕ}
-use native.Mathlib.Decide.{decLt, ℕ-discrete}
-use native.Mathlib.Omega.{arith}
-use lib.ListN.{List·getD-eq-default, getD, length, length-append}
+use Rattle.model.proofs.Prelude.{List, List·getD-eq-default, [], _++_, _+_, _-_, _<_, _∙_, _∷_, _≡_, _≤_, arith, clash, decLt, getD, length, length-append, refl, suc, zero, ℕ, ℕ-discrete}
 use Rattle.model.specs.declared.Cell.{Cell}
 use Rattle.model.specs.declared.Side.{Side}
 use Rattle.model.specs.declared.Side.the-variants.{Slot as slot}
@@ -65,7 +60,7 @@ order-below {cs} (cells {m = m} {vs = ns} {ws = ks} k x y) j h = go (decLt j (le
 none-below : {P : Low → Str → ℕ → Type 0} {cs : List Cell} {a : Side} {t : Tree} {vs : List ℕ} {l : Low} {u : Str} {ss : List Str} (s : ℕ)
     → a ≡ slot s → Reads cs a t vs → Spans P l u t ss → ss ≡ []
 none-below s e here (tip h) = refl
-none-below s e (there h l r) (cut i a b x y) = let z : _≡_ {A = ℕ} 0 1 = cc in absurd (omega arith)
+none-below s e (there h l r) (cut i a b x y) = clash cc
 
 -- The place of a met cell: its string stands there, and one further what the leaf on its right has ns its path.
 pub record Stands (cs : List Cell) (u : Str) (ss : List Str) (os : List ℕ) (m : ℕ) (r : Str) : Type 0 where
@@ -191,7 +186,7 @@ module _ (cs : List Cell) (u q : Str) (xs ys : List Str) (ns ks : List ℕ) (m :
 
 spot-slot : {cs : List Cell} {a : Side} {t : Tree} {vs : List ℕ} (n p : Str) (k : Spot) (s : ℕ) → a ≡ slot s → (x : Reads cs a t vs) → spot n p k x ≡ k
 spot-slot n p k s e here = refl
-spot-slot n p k s e (there h l r) = let z : _≡_ {A = ℕ} 0 1 = cc in absurd (omega arith)
+spot-slot n p k s e (there h l r) = clash cc
 
 pub walk-stands : {P : Low → Str → ℕ → Type 0} {cs : List Cell} {a : Side} {t : Tree} {vs os : List ℕ} {l : Low} {u : Str} {ss : List Str} (c : Str) (k : Spot)
     (x : Reads cs a t vs) → Spans P l u t ss → InOrder cs a os → l ◁ c → c ⊑ u → Ends cs u ss os c k (spot c u k x) (path-at c u t)

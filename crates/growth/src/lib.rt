@@ -9,13 +9,13 @@ ghost use lib.ListN.{length, take};
 ghost use Rattle.model.specs.Order.{diff};
 ghost use Rattle.growth.specs.Grows.{Grows};
 ghost use Rattle.growth.specs.Parts.{Appended, FirstPlace, Redirected, cell-turned, leaf-place, next-side, side-joined, side-turned, walk-joined};
-use digits::index;
+use digits::u16_of_usize;
+use digits::usize_of_u8;
+use digits::usize_of_u16;
 use model::Cell;
 use model::Side;
 use model::Trie;
 use trie::Walk;
-use trie::number;
-use trie::short;
 
 // How many digits s shares with the path of the leaf at which the split key's walk ended: as many beginnings of s are
 // strings already, and all of them where s is a cell's string.
@@ -39,11 +39,11 @@ fn shared_first(s: &[u8], path: &[u8; 24], len: usize) -> usize
 fn leaf_place(walk: Walk, places: &[u16; 256]) -> usize
     ensures { λ r. ⌜ r ≡ leaf-place walk (now (places .entry)) ⌝ }
 {
-    let cell = number(walk.cell);
+    let cell = usize_of_u16(walk.cell);
     if 256 <= cell {
         return 0;
     }
-    let place = number(places[cell]);
+    let place = usize_of_u16(places[cell]);
     if walk.left {
         return place;
     }
@@ -56,7 +56,7 @@ fn place_of(lens: &[u8; 256], from: usize, digits: usize) -> usize
 {
     let mut i = from;
     while i < 256 {
-        if index(lens[i]) == digits {
+        if usize_of_u8(lens[i]) == digits {
             return i;
         }
         i += 1;
@@ -105,7 +105,7 @@ fn redirected(trie: Trie, places: &[u16; 256], count: usize, last: usize, a: u16
     let mut i = 0;
     while i < count {
         let cell = turned.cells[i];
-        let other = turned_cell(cell, number(places[i]), last, a, n);
+        let other = turned_cell(cell, usize_of_u16(places[i]), last, a, n);
         turned.cells[i] = other;
         i += 1;
     }
@@ -140,7 +140,7 @@ fn next_of(i: usize, end: usize, a: u16) -> Side
     ensures { λ r. ⌜ r ≡ next-side i end a ⌝ }
 {
     if i + 1 < end {
-        return Side::Cell(short(i + 1));
+        return Side::Cell(u16_of_usize(i + 1));
     }
     Side::Slot(a)
 }
@@ -167,7 +167,7 @@ fn appended(trie: Trie, count: usize, s: &[u8], shared: usize, a: u16, n: u16) -
         i += 1;
         at += 1;
     }
-    grown.count = short(end);
+    grown.count = u16_of_usize(end);
     grown.first = 0;
     grown
 }
@@ -178,12 +178,12 @@ fn grafted(trie: Trie, count: usize, walk: Walk) -> Trie
     ensures { λ r. ⌜ r ≡ walk-joined trie count walk ⌝ }
 {
     let mut grown = trie;
-    let k = number(walk.cell);
+    let k = usize_of_u16(walk.cell);
     if count <= k {
         return grown;
     }
     let cell = grown.cells[k];
-    let other = joined(cell, walk.left, short(count));
+    let other = joined(cell, walk.left, u16_of_usize(count));
     grown.cells[k] = other;
     grown
 }
@@ -203,7 +203,7 @@ pub fn grown(
     requires { ⌜ (trie .count + length (now s) ≤ 256 + shared) × (shared ≤ length (now s)) × (length (now s) ≤ 24) ⌝ }
     ensures { λ r. ⌜ Grows trie (now (places .entry)) (now (lens .entry)) walk (now (s .entry)) shared a n r ⌝ }
 {
-    let count = number(trie.count);
+    let count = usize_of_u16(trie.count);
     let place = leaf_place(walk, places);
     if shared == s.len() {
         let last = place_of(lens, place, shared);

@@ -1,16 +1,5 @@
 -- The test of agreement is exact: of a sound file it says yes of the tries that agree, and of no other.
-use mathlib.Core.Path.{_∙_, _≡_, ap, ap₂, refl, subst, sym}
-use mathlib.Core.Logic.{inl, inr}
-use mathlib.Core.Bool.{Bool, _&&_, _||_, cond, false, true}
-use mathlib.Core.Option.{Option, none as nothing, some}
-use mathlib.Core.List.{List, [], _++_, _∷_}
-use Prim.Native.Nat.{_+_, _-_, _<_, _≤_, suc, zero, ℕ}
-use native.Mathlib.Decide.{ℕ-discrete}
-use native.Mathlib.Omega.{arith}
-use lib.Dec.{eqb, leb, ltb}
-use lib.ListN.{drop, length, length-take, take}
-use lib.Seq.{getD-drop}
-use borrow.Author.Tests.{eq-eqb, eqb-true, le-leb, leb-true, lt-ltb, ltb-true, ne-eqb}
+use Rattle.model.proofs.Prelude.{Bool, List, Option, [], _&&_, _++_, _+_, _-_, _<_, _||_, _∙_, _∷_, _≡_, _≤_, ap, ap₂, arith, clash, cond, drop, eq-eqb, eqb, eqb-true, false, getD-drop, inl, inr, le-leb, leb, leb-true, length, length-take, lt-ltb, ltb, ltb-true, ne-eqb, nothing, refl, some, subst, suc, sym, take, true, zero, ℕ, ℕ-discrete}
 use Rattle.model.specs.declared.Cell.{Cell}
 use Rattle.model.specs.declared.Side.{Side}
 use Rattle.model.specs.declared.Side.the-variants.{Cell as further, Slot as slot}
@@ -23,9 +12,8 @@ use Rattle.model.specs.Checks.{sameStr}
 use Rattle.model.specs.Agreeing.{areNumbers, areZeroCells, eachOnce, isAgreeing, isTrieOf, joinTrees, readTree, sameSide, sameStrs, slotsBetween, times}
 use Rattle.model.proofs.Names.{both-true}
 use Rattle.model.proofs.Tries.{cast, flat-trie, strings-are, trie-flat}
-use Rattle.model.proofs.Cells.{visits-count}
+use Rattle.model.proofs.Cells.{height, reads-height, visits-count}
 use Rattle.model.proofs.Files.{order-right, strings-asc, strings-right}
-use Rattle.model.proofs.Passing.{height, reads-height}
 use Rattle.model.proofs.Agreement.{CellsAgree, agrees-cells, cells-agree, labelled, leading}
 use Rattle.model.proofs.Checks.{both-join, either-true, sameStr-equal, sameStr-self, true-left, true-right}
 
@@ -33,7 +21,7 @@ use Rattle.model.proofs.Checks.{both-join, either-true, sameStr-equal, 
 module _ (cs : List Cell) where
   pub readTree-reads : (f : ℕ) (a : Side) (t : Tree × List ℕ) → readTree f cs a ≡ some t → Reads cs a (t .0) (t .1)
   unfolding readTree joinTrees
-  readTree-reads zero a t e = let z : _≡_ {A = ℕ} 0 1 = cc in absurd (omega arith)
+  readTree-reads zero a t e = clash cc
   readTree-reads (suc f) (slot s) t e =
       let q : (leaf s, []) ≡ t = cc in
       subst (λ (t : Tree × List ℕ). Reads cs (slot s) (t .0) (t .1)) q here
@@ -46,9 +34,9 @@ module _ (cs : List Cell) where
       go : (b : Bool) (o r : Option (Tree × List ℕ)) → ltb m (length cs) ≡ b → ((t : Tree × List ℕ) → o ≡ some t → Reads cs (c .left) (t .0) (t .1))
           → ((t : Tree × List ℕ) → r ≡ some t → Reads cs (c .right) (t .0) (t .1)) → cond b (joinTrees m (c .digit) (c .number) o r) nothing ≡ some t
           → Reads cs (further m) (t .0) (t .1)
-      go false o r h L R e = let z : _≡_ {A = ℕ} 0 1 = cc in absurd (omega arith)
-      go true nothing r h L R e = let z : _≡_ {A = ℕ} 0 1 = cc in absurd (omega arith)
-      go true (some x) nothing h L R e = let z : _≡_ {A = ℕ} 0 1 = cc in absurd (omega arith)
+      go false o r h L R e = clash cc
+      go true nothing r h L R e = clash cc
+      go true (some x) nothing h L R e = clash cc
       go true (some x) (some y) h L R e =
           let q : (node (c .digit) (c .number) (x .0) (y .0), m ∷ (x .1 ++ y .1)) ≡ t = cc in
           subst (λ (t : Tree × List ℕ). Reads cs (further m) (t .0) (t .1)) q (there (ltb-true m (length cs) h) (L x refl) (R y refl))
@@ -210,7 +198,7 @@ module _ (b : ℕ) {fs : List Slot} (S : Sound b fs) where
           leading (ranges fs) (S .order) (S .chain) (S .listed) x (cast (Labelled fs (S .order)) (es ∙ strings-right b S) (flat-trie (Labelled fs (S .order)) x n flat))
 
       tree : (o : Option (Tree × List ℕ)) → readTree (suc (t .count)) cs a ≡ o → isTrieOf fs (t .count) o ≡ true → CellsAgree (ranges fs) (S .order) cs a
-      tree nothing r e = let z : _≡_ {A = ℕ} 0 1 = cc in absurd (omega arith)
+      tree nothing r e = clash cc
       tree (some (x, vs)) r e =
           let p = both-true (eachOnce (t .count) vs && areNumbers [] x && sameStrs (strings [] x) (strings-of fs)) (sameStr (leaves x) (slotsBetween fs none (strings-of fs))) e in
           let q = both-true (eachOnce (t .count) vs && areNumbers [] x) (sameStrs (strings [] x) (strings-of fs)) (p .0) in

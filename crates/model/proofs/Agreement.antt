@@ -1,28 +1,21 @@
--- Cells that agree with ranges in order: decided by the pass, fed by a cursor.
-use mathlib.Core.Path.{_∙_, _≡_, ap, ap₂, refl, sym}
-use mathlib.Core.Option.{Option, some}
-use mathlib.Core.List.{List, List·Memᴰ, List·Memᴰ·head, List·Memᴰ·tail, [], _++_, _∷_, append-nil}
-use Prim.Native.Nat.{_+_, _-_, _<_, _≤_, suc, ℕ}
-use native.Mathlib.Omega.{arith}
-use lib.ListN.{drop, length, length-append, length-replicate, length-take, replicate, take, take-append-drop}
-use lib.Seq.{getD-append-add, take-append-seam}
+-- Cells that agree with ranges in order; the strings and slots expected, as a cursor gives them.
+use Rattle.model.proofs.Prelude.{List, List·Memᴰ, List·Memᴰ·head, List·Memᴰ·tail, [], _++_, _+_, _-_, _<_, _∙_, _∷_, _≡_, _≤_, ap, append-nil, ap₂, arith, drop, getD-append-add, length, length-append, length-replicate, length-take, refl, replicate, suc, take, take-append-drop, take-append-seam, ℕ}
 use Rattle.model.specs.declared.Cell.{Cell}
 use Rattle.model.specs.declared.Side.{Side}
 use Rattle.model.specs.declared.Side.the-variants.{Cell as further, Slot as slot}
 use Rattle.model.specs.declared.Trie.{Trie}
-use Rattle.model.specs.Order.{Asc, Low, Str, _≺_, _⊑_, _◁_, above, at, end, least, low?, none, over, step, top}
+use Rattle.model.specs.Order.{Low, Str, _≺_, _⊑_, _◁_, above, at, least, low?, none, over, top}
 use Rattle.model.specs.Files.{Chain, In, Ranges, Slot, Sound, all, bounds, fresh, head, last, next, ranges, slot-at, string-count, strings-of}
-use Rattle.model.specs.Tries.{Agrees, Leads, Leaves, Numbers, Reads, Spans, Tree, at-cell, cell, cut, first-leaf-of, leaf, leaf-last, leaf-next, leaves, node, occ, root-side, size, strings, tip, trie-of, walk, walk-trie, zero-cell}
+use Rattle.model.specs.Tries.{Agrees, Leads, Leaves, Numbers, Reads, Spans, Tree, at-cell, first-leaf-of, leaf, leaves, node, occ, root-side, size, strings, trie-of, walk, walk-trie, zero-cell}
 use Rattle.model.specs.Rebuilding.{label, laid, lay, rebuilt, rebuilt-trie, side-of}
 use Rattle.model.proofs.Lists.{at-replicate}
 use Rattle.model.proofs.Order.{le-take, le-trans, lt-le, lt-le-trans}
 use Rattle.model.proofs.Tries.{cast, cells-count, flat-trie, relabel-same, relabel-trie, strings-are, trie-flat}
-use Rattle.model.proofs.Strings.{all-asc, asc-mem, asc-unique, fresh-asc, fresh-begins, trie-asc}
-use Rattle.model.proofs.Ranges.{bounds-all, bounds-asc, chain-some, label-leads, leads-unique}
-use Rattle.model.proofs.Cells.{each-once, laid-each, laid-reads, reads-append, reads-size, upto, visits-count, walk-reads}
+use Rattle.model.proofs.Strings.{asc-mem, asc-unique, fresh-asc, fresh-begins, trie-asc}
+use Rattle.model.proofs.Ranges.{bounds-all, chain-some, label-leads, leads-unique}
+use Rattle.model.proofs.Cells.{laid-each, laid-reads, reads-append, reads-size, upto, visits-count, walk-reads}
 use Rattle.model.proofs.Rebuilding.{rebuilt-agrees, walk-right}
 use Rattle.model.proofs.Files.{count-right, order-right, strings-asc, strings-every, strings-only, strings-right}
-use Rattle.model.proofs.Passing.{Passing, Token, inorder, leads, pass, pass-complete, pass-sound, reads-height, string}
 
 -- The cells, from this side on, are a trie of these slots' bounds and their beginnings, each leaf leading to its bucket.
 pub record CellsAgree (F : Ranges) (Bs : List ℕ) (cs : List Cell) (a : Side) : Type 0 where
@@ -32,71 +25,34 @@ pub record CellsAgree (F : Ranges) (Bs : List ℕ) (cs : List Cell) (a : Side) :
   pub each : (i : ℕ) → i < length cs → occ i visits ≡ 1
   pub trie : Spans (Leads F) none [] tree (all (bounds F Bs))
 
--- What the pass expects: the strings, and the slot of each gap by its label.
+-- What stands in a row: a leaf by the slot that it leads to, or a string.
+pub data Token : Type 0 where
+  leads : ℕ → Token
+  string : Str → Token
+
+-- What is expected in order: the strings, and the slot of each gap by its label.
 module _ (lab : Low → ℕ) where
   abbrev pub expect : Low → List Str → List Token
   expect l [] = leads (lab l) ∷ []
   expect l (x ∷ xs) = leads (lab l) ∷ string x ∷ expect (at x) xs
 
-  expect-join : (xs : List Str) (l : Low) (q : Str) (ys : List Str) → expect l xs ++ (string q ∷ expect (at q) ys) ≡ expect l (xs ++ (q ∷ ys))
-  expect-join [] l q ys = refl
-  expect-join (x ∷ xs) l q ys = ap (λ (es : List Token). leads (lab l) ∷ string x ∷ es) (expect-join xs (at x) q ys)
-
-  pub trie-expect : {l : Low} {u : Str} {t : Tree} {ss : List Str} → Spans (λ l u B. B ≡ lab l) l u t ss → inorder u t ≡ expect l ss
-  trie-expect (tip e) = ap (λ (B : ℕ). leads B ∷ []) e
-  trie-expect {l} (cut {u = u} {d = d} {i = i} {xs = xs} {ys = ys} hi a b L R) =
-      rw (trie-expect L, trie-expect R) (expect-join xs l (cell d i u) ys)
-
   abbrev pub labels : Low → List Str → List ℕ
   labels l [] = lab l ∷ []
   labels l (x ∷ xs) = lab l ∷ labels (at x) xs
-
-  row-labels : {l : Low} {ss : List Str} {u : Str} → Asc l ss u → Leaves (λ l u B. B ≡ lab l) l ss u (labels l ss)
-  row-labels end = leaf-last refl
-  row-labels (step a b s) = leaf-next a b refl (row-labels s)
-
-  abbrev to-strings : List Token → List Str
-  to-strings [] = []
-  to-strings (leads B ∷ es) = to-strings es
-  to-strings (string q ∷ es) = q ∷ to-strings es
 
   abbrev pub to-slots : List Token → List ℕ
   to-slots [] = []
   to-slots (leads B ∷ es) = B ∷ to-slots es
   to-slots (string q ∷ es) = to-slots es
 
-  to-strings-append : (xs ys : List Token) → to-strings (xs ++ ys) ≡ to-strings xs ++ to-strings ys
-  to-strings-append [] ys = refl
-  to-strings-append (leads B ∷ xs) ys = to-strings-append xs ys
-  to-strings-append (string q ∷ xs) ys = ap (λ (r : List Str). q ∷ r) (to-strings-append xs ys)
-
   pub to-slots-append : (xs ys : List Token) → to-slots (xs ++ ys) ≡ to-slots xs ++ to-slots ys
   to-slots-append [] ys = refl
   to-slots-append (leads B ∷ xs) ys = ap (λ (r : List ℕ). B ∷ r) (to-slots-append xs ys)
   to-slots-append (string q ∷ xs) ys = to-slots-append xs ys
 
-  inorder-strings : (p : Str) (t : Tree) → to-strings (inorder p t) ≡ strings p t
-  inorder-strings p (leaf s) = refl
-  inorder-strings p (node d i L R) = simp (to-strings-append, inorder-strings (cell d i p) L, inorder-strings p R)
-
-  inorder-slots : (p : Str) (t : Tree) → to-slots (inorder p t) ≡ leaves t
-  inorder-slots p (leaf s) = refl
-  inorder-slots p (node d i L R) = simp (to-slots-append, inorder-slots (cell d i p) L, inorder-slots p R)
-
-  expect-strings : (l : Low) (ss : List Str) → to-strings (expect l ss) ≡ ss
-  expect-strings l [] = refl
-  expect-strings l (x ∷ xs) = ap (λ (r : List Str). x ∷ r) (expect-strings (at x) xs)
-
   pub expect-slots : (l : Low) (ss : List Str) → to-slots (expect l ss) ≡ labels l ss
   expect-slots l [] = refl
   expect-slots l (x ∷ xs) = ap (λ (r : List ℕ). lab l ∷ r) (expect-slots (at x) xs)
-
-  pub expect-trie : (t : Tree) (l : Low) (u : Str) (ss : List Str) → Numbers u t → Asc l ss u → inorder u t ≡ expect l ss
-      → Spans (λ l u B. B ≡ lab l) l u t ss
-  expect-trie t l u ss n asc e =
-      let es : strings u t ≡ ss = sym (inorder-strings u t) ∙ ap to-strings e ∙ expect-strings l ss in
-      let el : leaves t ≡ labels l ss = sym (inorder-slots u t) ∙ ap to-slots e ∙ expect-slots l ss in
-      rw es at (flat-trie (λ l u B. B ≡ lab l) t {l = l} {u = u} n (rw (es, el) (row-labels asc)))
 
 module _ (F : Ranges) (Bs : List ℕ) (chain : Chain F none Bs) (listed : (B : ℕ) → F .Used B → List·Memᴰ B Bs) where
   pub labelled : (t : Tree) → Spans (Leads F) none [] t (all (bounds F Bs)) → Spans (λ l u B. B ≡ label F Bs l) none [] t (all (bounds F Bs))
@@ -107,31 +63,6 @@ module _ (F : Ranges) (Bs : List ℕ) (chain : Chain F none Bs) (listed : (B : �
   pub leading : (t : Tree) → Spans (λ l u B. B ≡ label F Bs l) none [] t (all (bounds F Bs)) → Spans (Leads F) none [] t (all (bounds F Bs))
   leading t T = rw (relabel-same) at (relabel-trie (λ l u B. B ≡ label F Bs l) (Leads F) (λ u B. B) T least λ l u B x y mv gap e.
       rw e (label-leads F Bs none chain l u least (λ x m. gap x (bounds-all F Bs none chain x m))))
-
-  module _ (cs : List Cell) (a : Side) where
-    abbrev pub agrees? : Option Passing
-    agrees? = pass cs (suc (length cs)) [] a (expect (label F Bs) none (all (bounds F Bs)), [])
-
-    pub agree-sound : (ws : List ℕ) → agrees? ≡ some ([], ws) → ((i : ℕ) → i < length cs → 0 < occ i ws) → CellsAgree F Bs cs a
-    agree-sound ws e marked =
-        let r = pass-sound cs (suc (length cs)) [] a (expect (label F Bs) none (all (bounds F Bs)), []) ([], ws) e in
-        let v : ws ≡ r .visits = r .seen in
-        record {
-          tree = r .tree;
-          visits = r .visits;
-          reads = r .reads;
-          each = λ i h. rw (← v) (omega (arith, marked i h, r .once (λ j. omega arith) i));
-          trie = leading (r .tree)
-              (expect-trie (label F Bs) (r .tree) none [] (all (bounds F Bs)) (r .numbers) (all-asc (bounds F Bs) none (bounds-asc F Bs none chain))
-              (sym (r .tokens ∙ append-nil (inorder [] (r .tree)))));
-        }
-
-    pub agree-complete : (A : CellsAgree F Bs cs a) → agrees? ≡ some ([], A .visits)
-    agree-complete A =
-        let T = labelled (A .tree) (A .trie) in
-        let e : inorder [] (A .tree) ++ [] ≡ expect (label F Bs) none (all (bounds F Bs)) = append-nil (inorder [] (A .tree)) ∙ trie-expect (label F Bs) T in
-        rw e at (pass-complete cs (suc (length cs)) [] [] [] (A .reads) (trie-flat (λ l u B. B ≡ label F Bs l) T .0)
-        (omega (arith, reads-height (A .reads), visits-count (A .reads) (A .each))) (each-once (A .reads) (A .each)))
 
 -- The expected strings and slots as a cursor gives them: after each string the slot of the leaf right of it.
 abbrev pub follow : ℕ → List Str → List Token
@@ -194,7 +125,7 @@ module _ (F : Ranges) where
       (bring lab C (F .upper B) (F .upper C) up (λ x h k. f x h (lt-le-trans k top) ∙ label-here C (D ∷ Bs) x k))
       (tokens-after lab (D ∷ Bs) C (at (F .upper B)) (next u′ e′ a′ b′ c) (λ x h k. f x (le-trans (lt-le up) h) k ∙ label-skip C D Bs x h))
 
-  -- The pass that decides agreement eats exactly this.
+  -- What is expected is what the cursor gives.
   pub expect-cursor : (B : ℕ) (Bs : List ℕ) → Chain F none (B ∷ Bs) → expect (label F (B ∷ Bs)) none (all (bounds F (B ∷ Bs))) ≡ leads B ∷ coming B Bs
   unfolding low?
   expect-cursor B [] c = refl

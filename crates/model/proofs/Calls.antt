@@ -1,11 +1,5 @@
 -- Each request has one list of stores or one refusal, and the function gives it.
-use mathlib.Core.Path.{_∙_, _≡_, ap, refl, subst, sym}
-use mathlib.Core.Option.{Option, none as nothing, some}
-use mathlib.Core.List.{List, [], _∷_}
-use Prim.Native.Nat.{_<_, _≤_, ℕ}
-use native.Mathlib.Decide.{decLe, decLt}
-use native.Mathlib.Omega.{arith}
-use lib.ListN.{length}
+use Rattle.model.proofs.Prelude.{List, Option, [], _<_, _∙_, _∷_, _≡_, _≤_, ap, arith, clash, decLe, decLt, length, nothing, refl, some, subst, sym, ℕ}
 use Rattle.model.specs.Order.{Low, Str, _⊑_, _◁_, at}
 use Rattle.model.specs.Names.{Legal}
 use Rattle.model.specs.Entries.{Entry, chosen, find, insert, without}
@@ -23,7 +17,7 @@ lowest-unique {fs} {M} {N} L K = elim (decLt M N) [
 pub free-lowest : (fs : List Slot) → first free? fs < length fs → Lowest fs (first free? fs)
 free-lowest fs h = record { inside = h; is-free = first-passes free? fs h; lowest = λ B k. first-before free? fs B k }
 
-module _ (b : ℕ) where
+module _ (b : ℕ) (place : List Entry → ℕ) where
   module _ {fs : List Slot} (S : Sound b fs) where
     one-bucket : {A C : ℕ} {l m : Low} {u w : Str} {es gs : List Entry} {n : Str} → slot-at fs A ≡ used l u es → l ◁ n → n ⊑ u → slot-at fs C ≡ used m w gs → m ◁ n → n ⊑ w
         → (A ≡ C) × (used l u es ≡ used m w gs)
@@ -37,7 +31,7 @@ module _ (b : ℕ) where
     unlike : {X : Type 0} (n : Str) (v : ℕ) {l m : Low} {u w : Str} {es gs : List Entry} → used l u es ≡ used m w gs → length (insert n v es) ≤ b → b < length (insert n v gs) → X
     unlike n v e h k = absurd (omega (arith, rw (same-entries e) at h, k))
 
-    pub change-unique : {q : Request} {ss rs : List Store} → Change b fs q ss → Change b fs q rs → ss ≡ rs
+    pub change-unique : {q : Request} {ss rs : List Store} → Change b place fs q ss → Change b place fs q rs → ss ≡ rs
     change-unique (fits {A = A} {l = l} {u = u} {es = es} is g lo up h) (fits {A = C} {l = m} {u = w} {es = gs} is′ g′ lo′ up′ h′) =
         let e : (A ≡ C) × (used l u es ≡ used m w gs) = one-bucket is lo up is′ lo′ up′ in
         let p : A ≡ C = e .0 in let q : used l u es ≡ used m w gs = e .1 in cc
@@ -51,43 +45,43 @@ module _ (b : ℕ) where
         let p : A ≡ C = e .0 in let q : used l u es ≡ used m w gs = e .1 in cc
     change-unique (removes {es = es} {n = n} {w = w} is lo up h) (absent C is′ lo′ up′ h′) =
         let z : _≡_ {A = Option ℕ} nothing (some w) = sym h′ ∙ ap (find n) (sym (same-entries (one-bucket is lo up is′ lo′ up′ .1))) ∙ h in
-        let y : _≡_ {A = ℕ} 0 1 = cc in absurd (omega arith)
+        clash cc
     change-unique (absent A is lo up h) (removes {es = gs} {n = n} {w = w} is′ lo′ up′ h′) =
         let z : _≡_ {A = Option ℕ} nothing (some w) = sym h ∙ ap (find n) (same-entries (one-bucket is lo up is′ lo′ up′ .1)) ∙ h′ in
-        let y : _≡_ {A = ℕ} 0 1 = cc in absurd (omega arith)
+        clash cc
     change-unique (absent A is lo up h) (absent C is′ lo′ up′ h′) = refl
 
     -- And no list of stores where it is refused.
-    pub denied-not-made : {q : Request} {r : ℕ} {ss : List Store} → Denied b fs q r → Change b fs q ss → ⊥
+    pub denied-not-made : {q : Request} {r : ℕ} {ss : List Store} → Denied b place fs q r → Change b place fs q ss → ⊥
     denied-not-made (no-room A es {n = n} {v = v} is lo up h f) (fits is′ g′ lo′ up′ h′) = unlike n v (one-bucket is′ lo′ up′ is lo up .1) h′ h
     denied-not-made (no-room A es is lo up h f) (splits {N = N} is′ g′ lo′ up′ h′ L few) = f N (L .inside) (L .is-free)
     denied-not-made (too-many A N es {n = n} {v = v} is lo up h L k) (fits is′ g′ lo′ up′ h′) = unlike n v (one-bucket is′ lo′ up′ is lo up .1) h′ h
     denied-not-made (too-many A N {l = l} {u = u} es {n = n} {v = v} is lo up h L k) (splits {A = C} {N = M} {l = m} {u = w} {es = gs} is′ g′ lo′ up′ h′ L′ few) =
         let e : (C ≡ A) × (used m w gs ≡ used l u es) = one-bucket is′ lo′ up′ is lo up in
         let p : C ≡ A = e .0 in let q : used m w gs ≡ used l u es = e .1 in let r : M ≡ N = lowest-unique L′ L in
-        let z : halves b M C m w (insert n v gs) ≡ halves b N A l u (insert n v es) = cc in
+        let z : halves b place M C m w (insert n v gs) ≡ halves b place N A l u (insert n v es) = cc in
         absurd (omega (arith, k, subst (λ (ss : List Store). string-count (stored ss fs) ≤ 256) z few))
 
-    pub denied-one : {q : Request} {r r′ : ℕ} → Denied b fs q r → Denied b fs q r′ → r ≡ r′
+    pub denied-one : {q : Request} {r r′ : ℕ} → Denied b place fs q r → Denied b place fs q r′ → r ≡ r′
     denied-one (no-room A es is lo up h f) (no-room A′ es′ is′ lo′ up′ h′ f′) = refl
     denied-one (no-room A es is lo up h f) (too-many A′ N es′ is′ lo′ up′ h′ L k) = absurd (f N (L .inside) (L .is-free))
     denied-one (too-many A N es is lo up h L k) (no-room A′ es′ is′ lo′ up′ h′ f) = absurd (f N (L .inside) (L .is-free))
     denied-one (too-many A N es is lo up h L k) (too-many A′ N′ es′ is′ lo′ up′ h′ L′ k′) = refl
 
-module _ (b : ℕ) (fs : List Slot) where
+module _ (b : ℕ) (place : List Entry → ℕ) (fs : List Slot) where
   pub data Answered (q : Request) : Result → Type 0 where
-    is-made : {ss : List Store} → Change b fs q ss → Answered q (stores ss)
-    is-denied : {r : ℕ} → Denied b fs q r → Answered q (refuse r)
+    is-made : {ss : List Store} → Change b place fs q ss → Answered q (stores ss)
+    is-denied : {r : ℕ} → Denied b place fs q r → Answered q (refuse r)
 
   module _ (S : Sound b fs) (n : Str) where
     in-range : In (head (slot-at fs (first (holds? n) fs))) n
     in-range = let B = bucket b S n in first-right (holds? n) fs (B .0) (B .1) (λ h. h .0)
 
-    pub remove-right : Answered (remove n) (call b fs (remove n))
+    pub remove-right : Answered (remove n) (call b place fs (remove n))
     unfolding call remove-in stores-if
     remove-right = go (first (holds? n) fs) (slot-at fs (first (holds? n) fs)) refl in-range
       where
-        go : (A : ℕ) (x : Slot) → slot-at fs A ≡ x → In (head x) n → Answered (remove n) (remove-in b fs n A x)
+        go : (A : ℕ) (x : Slot) → slot-at fs A ≡ x → In (head x) n → Answered (remove n) (remove-in b place fs n A x)
         go A free e h = absurd (h .0)
         go A (used l u es) e h = by (find n es) refl
           where
@@ -95,11 +89,11 @@ module _ (b : ℕ) (fs : List Slot) where
             by nothing g = is-made (absent A e (h .1) (h .2) g)
             by (some w) g = is-made (removes e (h .1) (h .2) g)
 
-    pub put-right : (v : ℕ) → Legal n → Answered (put n v) (call b fs (put n v))
+    pub put-right : (v : ℕ) → Legal n → Answered (put n v) (call b place fs (put n v))
     unfolding call put-in
     put-right v g = go (first (holds? n) fs) (slot-at fs (first (holds? n) fs)) refl in-range
       where
-        go : (A : ℕ) (x : Slot) → slot-at fs A ≡ x → In (head x) n → Answered (put n v) (put-in b fs n v A x)
+        go : (A : ℕ) (x : Slot) → slot-at fs A ≡ x → In (head x) n → Answered (put n v) (put-in b place fs n v A x)
         go A free e h = absurd (h .0)
         go A (used l u es) e h = elim (decLe (length (insert n v es)) b) [
           | yes k ↦ rw (chosen-yes (decLe (length (insert n v es)) b) k) (is-made (fits e g (h .1) (h .2) k))
@@ -110,11 +104,11 @@ module _ (b : ℕ) (fs : List Slot) where
         ]
           where
             split : b < length (insert n v es) → (j : first free? fs < length fs)
-                → Answered (put n v) (chosen (decLe (string-count (stored (halves b (first free? fs) A l u (insert n v es)) fs)) 256) (stores (halves b (first free? fs) A l u (insert n v es))) (refuse 6))
+                → Answered (put n v) (chosen (decLe (string-count (stored (halves b place (first free? fs) A l u (insert n v es)) fs)) 256) (stores (halves b place (first free? fs) A l u (insert n v es))) (refuse 6))
             split k j =
-                elim (decLe (string-count (stored (halves b (first free? fs) A l u (insert n v es)) fs)) 256) [
-                  | yes i ↦ rw (chosen-yes (decLe (string-count (stored (halves b (first free? fs) A l u (insert n v es)) fs)) 256) i)
+                elim (decLe (string-count (stored (halves b place (first free? fs) A l u (insert n v es)) fs)) 256) [
+                  | yes i ↦ rw (chosen-yes (decLe (string-count (stored (halves b place (first free? fs) A l u (insert n v es)) fs)) 256) i)
                       (is-made (splits e g (h .1) (h .2) k (free-lowest fs j) i))
-                  | no i ↦ rw (chosen-no (decLe (string-count (stored (halves b (first free? fs) A l u (insert n v es)) fs)) 256) i)
-                      (let m : 256 < string-count (stored (halves b (first free? fs) A l u (insert n v es)) fs) = omega arith in is-denied (too-many A (first free? fs) es e (h .1) (h .2) k (free-lowest fs j) m))
+                  | no i ↦ rw (chosen-no (decLe (string-count (stored (halves b place (first free? fs) A l u (insert n v es)) fs)) 256) i)
+                      (let m : 256 < string-count (stored (halves b place (first free? fs) A l u (insert n v es)) fs) = omega arith in is-denied (too-many A (first free? fs) es e (h .1) (h .2) k (free-lowest fs j) m))
                 ]

@@ -1,13 +1,5 @@
 -- What a side reads from cells: determined, kept by appended and changed cells, met by the walk; cells in a row.
-use mathlib.Core.Path.{_∙_, _≡_, refl, sym}
-use mathlib.Core.Logic.{_≢_}
-use mathlib.Core.List.{List, List·Memᴰ, List·Memᴰ·head, List·Memᴰ·tail, [], _++_, _∷_}
-use Prim.Native.Nat.{_+_, _<_, _≤_, suc, zero, ℕ}
-use native.Mathlib.Nat.{add-zero, zero-add}
-use native.Mathlib.Decide.{decLe, ℕ-discrete}
-use native.Mathlib.Omega.{arith}
-use lib.ListN.{List·getD-append, length, length-append, length-set, set}
-use lib.Seq.{getD-append-add, getD-set-other}
+use Rattle.model.proofs.Prelude.{List, List·Memᴰ, List·Memᴰ·head, List·Memᴰ·tail, List·getD-append, [], _++_, _+_, _<_, _∙_, _∷_, _≡_, _≢_, _≤_, add-zero, arith, decLe, getD-append-add, getD-set-other, length, length-append, length-set, max, refl, set, suc, sym, zero, zero-add, ℕ, ℕ-discrete}
 use Rattle.model.specs.declared.Cell.{Cell}
 use Rattle.model.specs.declared.Side.{Side}
 use Rattle.model.specs.declared.Side.the-variants.{Cell as further}
@@ -22,6 +14,21 @@ occ-append m (x ∷ xs) ys = omega (arith, occ-append m xs ys)
 pub one-if-equal : {A : Type 0} → A → (d : Dec A) → one-if d ≡ 1
 one-if-equal a (yes e) = refl
 one-if-equal a (no n) = absurd (n a)
+
+one-if-most : {A : Type 0} (d : Dec A) → one-if d ≤ 1
+one-if-most (yes e) = omega arith
+one-if-most (no n) = omega arith
+
+pub one-if-not : {A : Type 0} → ¬ A → (d : Dec A) → one-if d ≡ 0
+one-if-not k (yes e) = absurd (k e)
+one-if-not k (no n) = refl
+
+pub occ-snoc : (m : ℕ) (vs : List ℕ) → occ m vs ≡ 0 → ((i : ℕ) → occ i vs ≤ 1) → (i : ℕ) → occ i (vs ++ (m ∷ [])) ≤ 1
+occ-snoc m vs o f i = go (ℕ-discrete i m)
+  where
+    go : Dec (i ≡ m) → occ i (vs ++ (m ∷ [])) ≤ 1
+    go (yes e) = rw e (omega (arith, occ-append m vs (m ∷ []), o, one-if-most (ℕ-discrete m m)))
+    go (no n) = omega (arith, occ-append i vs (m ∷ []), f i, one-if-not n (ℕ-discrete i m))
 
 pub not-visited : (m n : ℕ) (vs ws : List ℕ) → occ m (n ∷ (vs ++ ws)) ≡ 0 → (n ≢ m) × (occ m vs ≡ 0) × (occ m ws ≡ 0)
 not-visited m n vs ws o =
@@ -69,6 +76,14 @@ walk-reads {cs} n (suc fuel) p (there {n = m} {L = L} {R = R} {vs = vs} {ws = ws
 pub reads-size : {cs : List Cell} {a : Side} {t : Tree} {vs : List ℕ} → Reads cs a t vs → length vs ≡ size t
 reads-size here = refl
 reads-size (there {vs = vs} {ws = ws} h l r) = omega (arith, reads-size l, reads-size r, length-append vs ws)
+
+abbrev pub height : Tree → ℕ
+height (leaf s) = 1
+height (node d i L R) = suc (max (height L) (height R))
+
+pub reads-height : {cs : List Cell} {a : Side} {t : Tree} {vs : List ℕ} → Reads cs a t vs → height t ≤ suc (length vs)
+reads-height here = omega arith
+reads-height (there {vs = vs} {ws = ws} h l r) = omega (arith, reads-height l, reads-height r, length-append vs ws)
 
 pub reads-below : {cs : List Cell} {a : Side} {t : Tree} {vs : List ℕ} (m : ℕ) → length cs ≤ m → Reads cs a t vs → occ m vs ≡ 0
 reads-below m h here = refl

@@ -1,13 +1,6 @@
 -- All stores of a change made, the file is sound and says what was asked; a part of them, it is as before or cut, and
 -- recovers to what it was.
-use mathlib.Core.Path.{_∙_, _≡_, ap, fun-ext, refl, subst, sym}
-use mathlib.Core.Logic.{_≢_, _⊎_, inl, inr}
-use mathlib.Core.List.{List, List·Memᴰ, List·Memᴰ·head, List·Memᴰ·tail, Memᴰ·append-right, _++_, _∷_}
-use Prim.Native.Nat.{_/_, _<_, _≤_, suc, zero, ℕ}
-use native.Mathlib.Decide.{ℕ-discrete}
-use native.Mathlib.Omega.{arith}
-use lib.ListN.{length, length-set, set, take}
-use lib.Seq.{getD-set-other, getD-set-same, set-getD, set-set}
+use Rattle.model.proofs.Prelude.{List, List·Memᴰ, List·Memᴰ·head, List·Memᴰ·tail, Memᴰ·append-right, _++_, _<_, _∙_, _∷_, _≡_, _≢_, _≤_, _⊎_, ap, arith, fun-ext, getD-set-other, getD-set-same, inl, inr, length, length-set, refl, set, set-getD, set-set, subst, suc, sym, take, zero, ℕ, ℕ-discrete}
 use Rattle.model.specs.Order.{Low, Str, _≺_, _⊑_, _◁_, above, at, le?, none, over, str?}
 use Rattle.model.specs.Names.{Bound, BoundLow, Legal, limit}
 use Rattle.model.specs.Entries.{Entry, Row, find, insert, move, name-at, not?, stay, without}
@@ -225,11 +218,8 @@ module _ (b : ℕ) where
   one-count fs S A l u es is es′ r k = count-right b (one-sound fs S A l u es is es′ r k)
       ∙ ap (λ h. length (all (bounds (by-heads h) (S .order)))) (fun-ext (same-heads fs S A l u es is es′)) ∙ sym (count-right b S)
 
-  module _ (b-two : 2 ≤ b) where
-    pub half : b / 2 < b
-    half = omega arith
-
-    pub change-made : {fs : List Slot} {m : Map} {q : Request} {ss : List Store} → Fine fs m → Change b fs q ss → Fine (stored ss fs) (meant q m)
+  module _ (place : List Entry → ℕ) (place-lt : (ws : List Entry) → place ws < b) where
+    pub change-made : {fs : List Slot} {m : Map} {q : Request} {ss : List Store} → Fine fs m → Change b place fs q ss → Fine (stored ss fs) (meant q m)
     change-made {fs} {m} F (fits {A = A} {l = l} {u = u} {es = es} {n = n} {v = v} is g lo up k) =
         let r = row-insert n v g lo up (well-a fs (F .sound) A l u es is .3) in record {
           sound = one-sound fs (F .sound) A l u es is (insert n v es) r k;
@@ -237,8 +227,8 @@ module _ (b : ℕ) where
           few = rw (one-count fs (F .sound) A l u es is (insert n v es) r k) (F .few);
         }
     change-made {fs} {m} F (splits {A = A} {N = N} {l = l} {u = u} {es = es} {n = n} {v = v} is g lo up big low few) = record {
-      sound = second-sound fs (F .sound) A l u es is n v g lo up big (b / 2) half N low;
-      means = second-means fs (F .sound) A l u es is n v g lo up big (b / 2) half N low m (F .means);
+      sound = second-sound fs (F .sound) A l u es is n v g lo up big (place (insert n v es)) (place-lt (insert n v es)) N low;
+      means = second-means fs (F .sound) A l u es is n v g lo up big (place (insert n v es)) (place-lt (insert n v es)) N low m (F .means);
       few = few;
     }
     change-made {fs} {m} F (removes {A = A} {l = l} {u = u} {es = es} {n = n} is lo up e) =
@@ -259,12 +249,12 @@ module _ (b : ℕ) where
     }
 
     -- Stopped: nothing changed, or the file is cut and freeing its one slot gives back what was there.
-    pub change-stopped : {fs : List Slot} {m : Map} {q : Request} {ss : List Store} → Fine fs m → Change b fs q ss → (k : ℕ) → k < length ss
+    pub change-stopped : {fs : List Slot} {m : Map} {q : Request} {ss : List Store} → Fine fs m → Change b place fs q ss → (k : ℕ) → k < length ss
         → (stored (take k ss) fs ≡ fs) ⊎ ((N : ℕ) × Cut b (stored (take k ss) fs) N × (set (stored (take k ss) fs) N free ≡ fs))
     change-stopped F c zero h = inl refl
     change-stopped F (fits is g lo up k) (suc j) h = absurd (omega arith)
     change-stopped {fs} F (splits {A = A} {N = N} {l = l} {u = u} {es = es} {n = n} {v = v} is g lo up big low few) (suc zero) h =
-        inr (N, first-cut fs (F .sound) A l u es is n v g lo up big (b / 2) half N low, first-back fs (F .sound) A l u es is n v g lo up big (b / 2) half N low)
+        inr (N, first-cut fs (F .sound) A l u es is n v g lo up big (place (insert n v es)) (place-lt (insert n v es)) N low, first-back fs (F .sound) A l u es is n v g lo up big (place (insert n v es)) (place-lt (insert n v es)) N low)
     change-stopped F (splits is g lo up big low few) (suc (suc j)) h = absurd (omega arith)
     change-stopped F (removes is lo up e) (suc j) h = absurd (omega arith)
     change-stopped F (absent A is lo up e) (suc j) h = absurd (omega arith)

@@ -1,9 +1,6 @@
 -- Of the bytes of a file, check says sound, cut or bad exactly where document 01 does, and it says one of them only.
-use mathlib.Core.Path.{_≡_, ap, refl}
-use mathlib.Core.Option.{Option, none as nothing, some}
-use mathlib.Core.List.{List}
-use Prim.Native.Nat.{ℕ}
-use native.Mathlib.Omega.{arith}
+use Rattle.model.proofs.Prelude.{List, Option, _≡_, ap, clash, nothing, refl, some, ℕ}
+use Rattle.model.specs.declared.Layout.{Layout}
 use Rattle.model.specs.Files.{Cut, Slot, Sound}
 use Rattle.model.specs.Checks.{Kind, check, is-bad, is-cut, is-sound}
 use Rattle.model.specs.Format.{BadFile, CutFile, SoundFile, checkFile, checkRead, readFile}
@@ -16,22 +13,22 @@ CheckedFile xs (is-cut N) = CutFile xs N
 CheckedFile xs is-bad = BadFile xs
 
 -- Two readings of one file are the same.
-one-reading : (xs : List ℕ) {b c : ℕ} {fs gs : List Slot} → readFile xs ≡ some (b, fs) → readFile xs ≡ some (c, gs) → _≡_ {A = ℕ × List Slot} (b, fs) (c, gs)
+one-reading : (xs : List ℕ) {y z : Layout} {fs gs : List Slot} → readFile xs ≡ some (y, fs) → readFile xs ≡ some (z, gs) → _≡_ {A = Layout × List Slot} (y, fs) (z, gs)
 one-reading xs p q = cc
 
-no-reading : (xs : List ℕ) {b : ℕ} {fs : List Slot} → readFile xs ≡ nothing → readFile xs ≡ some (b, fs) → ⊥
-no-reading xs p q = let z : _≡_ {A = ℕ} 0 1 = cc in absurd (omega arith)
+no-reading : (xs : List ℕ) {y : Layout} {fs : List Slot} → readFile xs ≡ nothing → readFile xs ≡ some (y, fs) → ⊥
+no-reading xs p q = clash cc
 
-same-sound : {b c : ℕ} {fs gs : List Slot} → _≡_ {A = ℕ × List Slot} (b, fs) (c, gs) → Sound c gs → Sound b fs
-same-sound {b} {c} {fs} {gs} e S =
-    let p : b ≡ c = ap (λ (f : ℕ × List Slot). f .0) e in
-    let q : fs ≡ gs = ap (λ (f : ℕ × List Slot). f .1) e in
+same-sound : {y z : Layout} {fs gs : List Slot} → _≡_ {A = Layout × List Slot} (y, fs) (z, gs) → Sound (z .b) gs → Sound (y .b) fs
+same-sound {y} {z} {fs} {gs} e S =
+    let p : y ≡ z = ap (λ (f : Layout × List Slot). f .0) e in
+    let q : fs ≡ gs = ap (λ (f : Layout × List Slot). f .1) e in
     rw (p, q) S
 
-same-cut : {b c : ℕ} {fs gs : List Slot} (N : ℕ) → _≡_ {A = ℕ × List Slot} (b, fs) (c, gs) → Cut c gs N → Cut b fs N
-same-cut {b} {c} {fs} {gs} N e C =
-    let p : b ≡ c = ap (λ (f : ℕ × List Slot). f .0) e in
-    let q : fs ≡ gs = ap (λ (f : ℕ × List Slot). f .1) e in
+same-cut : {y z : Layout} {fs gs : List Slot} (N : ℕ) → _≡_ {A = Layout × List Slot} (y, fs) (z, gs) → Cut (z .b) gs N → Cut (y .b) fs N
+same-cut {y} {z} {fs} {gs} N e C =
+    let p : y ≡ z = ap (λ (f : Layout × List Slot). f .0) e in
+    let q : fs ≡ gs = ap (λ (f : Layout × List Slot). f .1) e in
     rw (p, q) C
 
 -- "Check gives sound, cut or bad as a result."
@@ -39,22 +36,22 @@ pub checkFile-right : (xs : List ℕ) → CheckedFile xs (checkFile xs)
 unfolding checkFile checkRead
 checkFile-right xs = go (readFile xs) refl
   where
-    said : (b : ℕ) (fs : List Slot) → readFile xs ≡ some (b, fs) → (k : Kind) → Checked b fs k → CheckedFile xs k
-    said b fs e is-sound S = record { b = b; slots = fs; is = e; sound = S }
-    said b fs e (is-cut N) C = record { b = b; slots = fs; is = e; cut = C }
-    said b fs e is-bad B =
+    said : (y : Layout) (fs : List Slot) → readFile xs ≡ some (y, fs) → (k : Kind) → Checked (y .b) fs k → CheckedFile xs k
+    said y fs e is-sound S = record { layout = y; slots = fs; is = e; sound = S }
+    said y fs e (is-cut N) C = record { layout = y; slots = fs; is = e; cut = C }
+    said y fs e is-bad B =
         (λ S. B .0 (same-sound (one-reading xs e (S .is)) (S .sound)), λ N C. B .1 N (same-cut N (one-reading xs e (C .is)) (C .cut)))
 
-    go : (r : Option (ℕ × List Slot)) → readFile xs ≡ r → CheckedFile xs (checkRead r)
+    go : (r : Option (Layout × List Slot)) → readFile xs ≡ r → CheckedFile xs (checkRead r)
     go nothing e = (λ S. no-reading xs e (S .is), λ N C. no-reading xs e (C .is))
-    go (some f) e = said (f .0) (f .1) e (check (f .0) (f .1)) (check-right (f .0) (f .1))
+    go (some f) e = said (f .0) (f .1) e (check (f .0 .b) (f .1)) (check-right (f .0 .b) (f .1))
 
 -- A file is not both sound and cut, and a cut one frees one slot only.
 pub sound-not-cut : {xs : List ℕ} {N : ℕ} → SoundFile xs → CutFile xs N → ⊥
-sound-not-cut {xs} S C = cut-not-sound (C .b) (C .cut) (same-sound (one-reading xs (C .is) (S .is)) (S .sound))
+sound-not-cut {xs} S C = cut-not-sound (C .layout .b) (C .cut) (same-sound (one-reading xs (C .is) (S .is)) (S .sound))
 
 pub one-cut : {xs : List ℕ} {M N : ℕ} → CutFile xs M → CutFile xs N → M ≡ N
-one-cut {xs} {M} {N} C D = cut-unique (C .b) (C .cut) (same-cut N (one-reading xs (C .is) (D .is)) (D .cut))
+one-cut {xs} {M} {N} C D = cut-unique (C .layout .b) (C .cut) (same-cut N (one-reading xs (C .is) (D .is)) (D .cut))
 
 -- So check says sound of a sound file, and cut of a cut one.
 pub checkFile-sound : (xs : List ℕ) → SoundFile xs → checkFile xs ≡ is-sound

@@ -1,21 +1,11 @@
 -- The tests of check are what they test; so check names sound files, the slot to free of cut ones, and bad files.
-use mathlib.Core.Path.{_∙_, _≡_, ap, ap₂, refl}
-use mathlib.Core.Logic.{_⊎_, inl, inr}
-use mathlib.Core.Bool.{Bool, _&&_, _||_, cond, false, not, true}
-use mathlib.Core.List.{List, List·Memᴰ, List·Memᴰ·head, List·Memᴰ·not-nil, List·Memᴰ·tail, [], _∷_}
-use Prim.Native.Nat.{_+_, _<_, _≤_, suc, zero, ℕ}
-use native.Mathlib.Nat.{add-zero, zero-add}
-use native.Mathlib.Decide.{ℕ-discrete}
-use native.Mathlib.Omega.{arith}
-use lib.Dec.{eqb, leb}
-use lib.ListN.{length, set}
-use borrow.Author.Tests.{eq-eqb, eqb-true, le-leb, leb-true, not-true}
+use Rattle.model.proofs.Prelude.{Bool, List, List·Memᴰ, List·Memᴰ·head, List·Memᴰ·not-nil, List·Memᴰ·tail, [], _&&_, _+_, _<_, _||_, _∙_, _∷_, _≡_, _≤_, _⊎_, add-zero, ap, ap₂, arith, clash, cond, eq-eqb, eqb, eqb-true, false, inl, inr, le-leb, leb, leb-true, length, not, not-true, refl, set, suc, true, zero, zero-add, ℕ, ℕ-discrete}
 use Rattle.model.specs.Order.{Low, Str, _◁_, above, at, least, none}
 use Rattle.model.specs.Names.{BoundLow, atMost, legalBound, legalFilled, limit, unlimited}
 use Rattle.model.specs.Entries.{Entry, Row, entry, move, name-at, no-entries, without}
 use Rattle.model.specs.Files.{Bad, Chain, Copied, Cut, IsUsed, Slot, Sound, Well, exactly, free, head, last, lower-of, next, one-more, order-of, ranges, slot-at, upper-of, used, well-free, well-used}
 use Rattle.model.specs.Checks.{Kind, allWell, check, cutBelow, hasTwin, is-bad, is-cut, is-sound, isAbove, isChain, isCopied, isCutBy, isIn, isListed, isRow, isSound, isTwin, isUsed, isWell, legalLow, oneMore, sameEntries, sameLow, sameStr}
-use Rattle.model.proofs.Names.{atMost-le, atMost-lt, both-true, bound-legalBound, clash, le-atMost, legal-legalFilled, legalBound-bound, legalFilled-legal, lt-atMost}
+use Rattle.model.proofs.Names.{atMost-le, atMost-lt, both-true, bound-legalBound, le-atMost, legal-legalFilled, legalBound-bound, legalFilled-legal, lt-atMost, never-both}
 use Rattle.model.proofs.Ranges.{chain-some}
 use Rattle.model.proofs.Files.{order-right, used-inside}
 
@@ -142,7 +132,7 @@ module _ (b : ℕ) where
 
 isUsed-used : (x : Slot) → isUsed x ≡ true → IsUsed (head x)
 unfolding isUsed
-isUsed-used free e = let z : _≡_ {A = ℕ} 0 1 = cc in absurd (omega arith)
+isUsed-used free e = clash cc
 isUsed-used (used l u es) e = tt
 
 used-isUsed : (x : Slot) → IsUsed (head x) → isUsed x ≡ true
@@ -152,7 +142,7 @@ used-isUsed (used l u es) h = refl
 
 isIn-mem : (B : ℕ) (Bs : List ℕ) → isIn B Bs ≡ true → List·Memᴰ B Bs
 unfolding isIn
-isIn-mem B [] e = let z : _≡_ {A = ℕ} 0 1 = cc in absurd (omega arith)
+isIn-mem B [] e = clash cc
 isIn-mem B (C ∷ Bs) e = elim (either-true (eqb B C) (isIn B Bs) e) [ inl q ↦ List·Memᴰ·head (eqb-true B C q) | inr q ↦ List·Memᴰ·tail (isIn-mem B Bs q) ]
 
 mem-isIn : (B : ℕ) (Bs : List ℕ) → List·Memᴰ B Bs → isIn B Bs ≡ true
@@ -164,7 +154,7 @@ mem-isIn B (C ∷ Bs) (List·Memᴰ·tail m) = true-right (eqb B C) (isIn B Bs) 
 module _ (fs : List Slot) where
   isChain-chain : (l : Low) (Bs : List ℕ) → isChain fs l Bs ≡ true → Chain (ranges fs) l Bs
   unfolding isChain
-  isChain-chain l [] e = let z : _≡_ {A = ℕ} 0 1 = cc in absurd (omega arith)
+  isChain-chain l [] e = clash cc
   isChain-chain l (B ∷ []) e =
       let x = slot-at fs B in
       let p = both-true (isUsed x && sameLow (lower-of (head x)) l) (sameStr (upper-of (head x)) []) e in
@@ -193,7 +183,7 @@ listed-used i Bs [] e B h = absurd h
 listed-used i Bs (x ∷ fs) e zero h =
     let p = both-true (not (isUsed x) || isIn i Bs) (isListed (suc i) Bs fs) e .0 in
     rw add-zero (elim (either-true (not (isUsed x)) (isIn i Bs) p)
-    [ inl q ↦ absurd (clash (isUsed x) (used-isUsed x h) (not-true (isUsed x) q)) | inr q ↦ isIn-mem i Bs q ])
+    [ inl q ↦ absurd (never-both (isUsed x) (used-isUsed x h) (not-true (isUsed x) q)) | inr q ↦ isIn-mem i Bs q ])
 listed-used i Bs (x ∷ fs) e (suc B) h =
     let q : suc i + B ≡ i + suc B = omega arith in
     rw q at (listed-used (suc i) Bs fs (both-true (not (isUsed x) || isIn i Bs) (isListed (suc i) Bs fs) e .1) B h)
@@ -241,7 +231,7 @@ sameEntries-self (x ∷ xs) = rw (sameStr-self (x .0), eq-eqb (x .1) (x .1) refl
 
 oneMore-copied : (i : ℕ) (es ns : List Entry) → i ≤ length ns → oneMore i es ns ≡ true → Copied es ns
 unfolding oneMore
-oneMore-copied zero es ns h e = let z : _≡_ {A = ℕ} 0 1 = cc in absurd (omega arith)
+oneMore-copied zero es ns h e = clash cc
 oneMore-copied (suc i) es ns h e = elim (either-true (sameEntries (without (name-at ns i) ns) es) (oneMore i es ns) e)
     [ inl q ↦ one-more i h (sameEntries-equal (without (name-at ns i) ns) es q) | inr q ↦ oneMore-copied i es ns (omega arith) q ]
 
@@ -271,7 +261,7 @@ module _ (b : ℕ) where
 
   isTwin-twin : (low up : Str) (ns : List Entry) (x : Slot) → isTwin b low up ns x ≡ true → Twin low up ns x
   unfolding isTwin
-  isTwin-twin low up ns free e = let z : _≡_ {A = ℕ} 0 1 = cc in absurd (omega arith)
+  isTwin-twin low up ns free e = clash cc
   isTwin-twin low up ns (used l u es) e =
       let p = both-true (sameStr u up && isAbove l low && eqb (length es) b) (isCopied (move low es) ns) e in
       let q = both-true (sameStr u up && isAbove l low) (eqb (length es) b) (p .0) in
@@ -286,7 +276,7 @@ module _ (b : ℕ) where
 
   hasTwin-twin : (low up : Str) (ns : List Entry) (gs : List Slot) → hasTwin b low up ns gs ≡ true → (A : ℕ) × Twin low up ns (slot-at gs A)
   unfolding hasTwin
-  hasTwin-twin low up ns [] e = let z : _≡_ {A = ℕ} 0 1 = cc in absurd (omega arith)
+  hasTwin-twin low up ns [] e = clash cc
   hasTwin-twin low up ns (x ∷ gs) e = elim (either-true (isTwin b low up ns x) (hasTwin b low up ns gs) e)
       [ inl q ↦ (0, isTwin-twin low up ns x q) | inr q ↦ later (hasTwin-twin low up ns gs q) ]
     where
@@ -302,8 +292,8 @@ module _ (b : ℕ) where
   module _ (fs : List Slot) (N : ℕ) where
     pub isCutBy-cut : (x : Slot) → slot-at fs N ≡ x → isCutBy b fs N x ≡ true → Cut b fs N
     unfolding isCutBy
-    isCutBy-cut free i e = let z : _≡_ {A = ℕ} 0 1 = cc in absurd (omega arith)
-    isCutBy-cut (used none up ns) i e = let z : _≡_ {A = ℕ} 0 1 = cc in absurd (omega arith)
+    isCutBy-cut free i e = clash cc
+    isCutBy-cut (used none up ns) i e = clash cc
     isCutBy-cut (used (at low) up ns) i e =
         let p = both-true (isWell b (used (at low) up ns) && hasTwin b low up ns (set fs N free)) (isSound b (set fs N free)) e in
         let q = both-true (isWell b (used (at low) up ns)) (hasTwin b low up ns (set fs N free)) (p .0) in
@@ -349,7 +339,7 @@ module _ (b : ℕ) where
       go : (t : Bool) → isCutBy b fs k (slot-at fs k) ≡ t → (((N : ℕ) → k ≤ N → ¬ Cut b fs N) → Checked fs (cutBelow k b fs)) → Checked fs (cond t (is-cut k) (cutBelow k b fs))
       go true e g = isCutBy-cut fs k (slot-at fs k) refl e
       go false e g = g (λ N h C. elim (ℕ-discrete N k)
-          [ yes q ↦ clash (isCutBy b fs k (slot-at fs k)) (rw q at (cut-isCutBy fs N C)) e | no q ↦ f N (omega arith) C ])
+          [ yes q ↦ never-both (isCutBy b fs k (slot-at fs k)) (rw q at (cut-isCutBy fs N C)) e | no q ↦ f N (omega arith) C ])
 
   -- Sound files are said to be sound, cut ones cut, and the others bad.
   pub check-right : (fs : List Slot) → Checked fs (check b fs)
@@ -358,7 +348,7 @@ module _ (b : ℕ) where
     where
       go : (t : Bool) → isSound b fs ≡ t → Checked fs (cond t is-sound (cutBelow (length fs) b fs))
       go true e = isSound-sound b fs e
-      go false e = cut-below (length fs) fs (λ S. clash (isSound b fs) (sound-isSound b S) e) (λ N h C. inside N h C)
+      go false e = cut-below (length fs) fs (λ S. never-both (isSound b fs) (sound-isSound b S) e) (λ N h C. inside N h C)
         where
           inside : (N : ℕ) → length fs ≤ N → Cut b fs N → ⊥
           inside N h C = omega (arith, used-inside fs N (rw (C .n-is) tt))

@@ -1,11 +1,5 @@
 -- What is found after an insertion and in a part that was kept; parts and their lengths; rows of a range.
-use mathlib.Core.Path.{_∙_, _≡_, refl, sym}
-use mathlib.Core.Logic.{_≢_}
-use mathlib.Core.Option.{none as nothing, some}
-use mathlib.Core.List.{List, [], _∷_}
-use Prim.Native.Nat.{_+_, _<_, _≤_, suc, zero, ℕ}
-use native.Mathlib.Omega.{arith}
-use lib.ListN.{getD, length, take}
+use Rattle.model.proofs.Prelude.{List, [], _+_, _<_, _∙_, _∷_, _≡_, _≢_, _≤_, arith, clash, getD, length, nothing, refl, some, suc, sym, take, zero, ℕ}
 use Rattle.model.specs.Order.{Low, Str, _≺_, _⊑_, _◁_, above, at, diff, le?, over, str?}
 use Rattle.model.specs.Names.{Bound, Legal}
 use Rattle.model.specs.Entries.{Entry, Row, chosen, entry, find, insert, keep, name-at, no-entries, not?, without}
@@ -182,7 +176,7 @@ insert-new n v (entry {e = e} {es = es} g a b r) h = elim (le? n (e .0)) [
 
 pub find-at : (n : Str) (es : List Entry) (v : ℕ) → find n es ≡ some v → (i : ℕ) × (i < length es) × (name-at es i ≡ n)
 unfolding find
-find-at n [] v h = let y : _≡_ {A = ℕ} 0 1 = cc in absurd (omega arith)
+find-at n [] v h = clash cc
 find-at n (e ∷ es) v h = elim (str? n (e .0)) [
   | yes q ↦ (0, omega arith, sym q)
   | no q ↦ next (find-at n es v (sym (chosen-no (str? n (e .0)) q _ _) ∙ h))

@@ -1,23 +1,15 @@
 -- A name has one bucket; sound and cut exclude each other; the slot to free and the range order are determined; the strings.
-use mathlib.Core.Path.{_∙_, _≡_, ap, refl, subst, sym}
-use mathlib.Core.Logic.{_≢_, _⊎_, inl, inr}
-use mathlib.Core.List.{List, List·Memᴰ, [], _∷_}
-use Prim.Native.Nat.{_+_, _<_, _≤_, suc, zero, ℕ}
-use native.Mathlib.Decide.{decLt, ℕ-discrete}
-use native.Mathlib.Omega.{arith}
-use lib.ListN.{List·getD-eq-default, length, set}
-use lib.Seq.{getD-set-other, getD-set-same, set-out}
+use Rattle.model.proofs.Prelude.{List, List·Memᴰ, List·getD-eq-default, [], _+_, _<_, _∙_, _∷_, _≡_, _≢_, _≤_, _⊎_, ap, arith, clash, decLt, getD-set-other, getD-set-same, inl, inr, length, refl, set, set-out, subst, suc, sym, zero, ℕ, ℕ-discrete}
 use Rattle.model.specs.Order.{Asc, Low, Str, _≺_, _◁_, at, le?, nil-not-le, none, over, str?}
 use Rattle.model.specs.Names.{Bound, BoundLow}
 use Rattle.model.specs.Entries.{Entry, Row}
 use Rattle.model.specs.Files.{Begins, BoundOf, Chain, Cut, Head, In, IsString, IsUsed, Ranges, Slot, Sound, Starts, Well, all, bounds, entries-of, first, free, head, last, lower-bound, lower-of, next, no-range, order-from, order-of, range, ranges, slot-at, starts?, string-count, strings-of, upper-bound, upper-of, used, well-free, well-used}
 use Rattle.model.specs.Tries.{occ, one-if, walk}
 use Rattle.model.specs.Rebuilding.{rebuilt}
-use Rattle.model.specs.Changes.{Map, Means}
 use Rattle.model.proofs.Order.{le-refl, low-at, low-lower, lt-le}
 use Rattle.model.proofs.Entries.{chosen-no, chosen-yes}
 use Rattle.model.proofs.Strings.{all-asc, all-begins, begins-in}
-use Rattle.model.proofs.Ranges.{bounds-asc, bounds-from, bounds-to, chain-lower, chain-other, chain-unique, chain-used, range-unique}
+use Rattle.model.proofs.Ranges.{bounds-asc, bounds-from, bounds-to, chain-lower, chain-other, chain-used, range-unique}
 use Rattle.model.proofs.Cells.{occ-mem, total-all, total-le}
 use Rattle.model.proofs.Rebuilding.{rebuilt-agrees, walk-right}
 
@@ -103,7 +95,7 @@ module _ (b : ℕ) where
   module _ {fs : List Slot} {N : ℕ} (C : Cut b fs N) where
     pub other : C .A ≢ N
     other e = let z : _≡_ {A = Slot} free (used (C .a-low) (C .up) (C .old)) = sym (slot-freed fs N) ∙ ap (slot-at (set fs N free)) (sym e) ∙ C .a-is in
-        let y : _≡_ {A = ℕ} 0 1 = cc in absurd (omega arith)
+        clash cc
 
     pub a-there : slot-at fs (C .A) ≡ used (C .a-low) (C .up) (C .old)
     a-there = sym (getD-set-other fs N (C .A) free free other) ∙ C .a-is
@@ -156,16 +148,9 @@ module _ (b : ℕ) where
       | no p ↦ one-range S (upper-of (head (slot-at fs C))) (u, subst (λ l. l ◁ upper-of (head (slot-at fs C))) (sym e) (well-head (S .well C) v), lt-le p) (v, well-head (S .well C) v, le-refl _)
     ]
 
-    -- The order is determined.
-    pub one-order : (T : Sound b fs) → S .order ≡ T .order
-    one-order T = chain-unique (ranges fs) (S .chain) (T .chain) one-lower
-
     -- Each name is in the range of some slot.
     pub bucket : (n : Str) → (A : ℕ) × In (head (slot-at fs A)) n
     bucket n = (walk n [] (rebuilt (ranges fs) (S .order)), walk-right (ranges fs) (rebuilt-agrees (ranges fs) (S .order) (S .chain)) n)
-
-    pub one-map : (m m′ : Map) → Means fs m → Means fs m′ → (k : Str) → m k ≡ m′ k
-    one-map m m′ M M′ k = let B = bucket k in sym (M k (B .0) (B .1)) ∙ M′ k (B .0) (B .1)
 
   module _ {fs : List Slot} (S : Sound b fs) where
     starts-one : (l : Low) (B : ℕ) → IsUsed (head (slot-at fs B)) → lower-of (head (slot-at fs B)) ≡ l → first (starts? l) fs ≡ B
@@ -231,4 +216,4 @@ module _ (b : ℕ) where
             → List·Memᴰ (i .bound) (bounds (ranges fs) (S .order))
         go (u, inr e) = bounds-to (ranges fs) (S .order) none (S .chain) (i .bound) (i .bucket) (S .listed (i .bucket) u) e (some-digit (i .bound) (i .begins))
         go (u, inl e) = elim (chain-lower (ranges fs) (S .order) none (S .chain) (i .bucket) (i .bound) (S .listed (i .bucket) u) e)
-            [ inl q ↦ (let z : _≡_ {A = ℕ} 0 1 = cc in absurd (omega arith)) | inr m ↦ m ]
+            [ inl q ↦ (clash cc) | inr m ↦ m ]

@@ -1,40 +1,35 @@
 -- The bytes of a file: their lengths, reading and writing undo each other, and a store changes exactly one slot.
-use mathlib.Core.Path.{_∙_, _≡_, ap, ap₂, refl, sym}
-use mathlib.Core.Logic.{_≢_}
-use mathlib.Core.Bool.{Bool, _&&_, cond, false, true}
-use mathlib.Core.Option.{Option, none as nothing, some}
-use mathlib.Core.List.{List, [], _++_, _∷_, append-assoc}
-use Prim.Native.Nat.{_%_, _*_, _+_, _-_, _/_, _<_, _^_, _≤_, suc, zero, ℕ}
-use native.Mathlib.Nat.{add-zero, mul-le-mul-right, pow-suc, pow-zero, suc-mul, zero-add, zero-mul}
-use native.Mathlib.Decide.{decLt}
-use native.Mathlib.Omega.{arith}
-use lib.Dec.{eqb, leb}
-use lib.ListN.{List·getD-eq-default, drop, drop-of-length-le, getD, length, length-append, length-replicate, length-set, replicate, set, take, take-append-drop}
-use lib.Seq.{drop-at, drop-cons, drop-drop, drop-nil, drop-paste, length-take-le, paste, take-all, take-append-le, take-append-seam, take-at, take-take}
-use borrow.Author.Tests.{eq-eqb, eqb-true, le-leb, leb-true}
+use Rattle.model.proofs.Prelude.{Bool, List, List·getD-eq-default, Option, [], _%_, _&&_, _*_, _++_, _+_, _-_, _/_, _<_, _^_, _∙_, _∷_, _≡_, _≢_, _≤_, add-zero, ap, append-assoc, ap₂, arith, clash, cond, decLt, drop, drop-at, drop-cons, drop-drop, drop-nil, drop-of-length-le, drop-paste, eq-eqb, eqb, eqb-true, false, getD, le-leb, leb, leb-true, length, length-append, length-replicate, length-set, length-take-le, mul-le-mul-left, mul-le-mul-right, nothing, paste, pow-suc, pow-zero, refl, replicate, set, some, suc, suc-mul, sym, take, take-all, take-append-drop, take-append-le, take-append-seam, take-at, take-take, true, zero, zero-add, zero-mul, ℕ}
+use Rattle.model.specs.declared.Layout.{Layout}
 use Rattle.model.specs.Order.{Low, Str, _◁_, above, at, least, top}
 use Rattle.model.specs.Names.{BoundLow, Digits, Legal, filled, limit, unlimited}
 use Rattle.model.specs.Entries.{Entry, Row, entry, no-entries}
 use Rattle.model.specs.Files.{Slot, Well, entries-of, free, slot-at, used, well-used}
 use Rattle.model.specs.Checks.{sameStr}
-use Rattle.model.specs.Format.{Bytes, Sizes, Values, entriesBytes, entriesOf, entryBytes, fileBytes, fileSize, headerBytes, headerOf, joined, legalSizes, littleEndian, lowDigits, lowOf, padded, readBy, readFile, readSlot, readSlots, readUsed, rightHeader, sized, slotAt, slotBytes, slotSize, slotsBytes, storeBytes, usedOf, valueBytes, valueOf}
+use Rattle.model.specs.Format.{Bytes, Contents, EntrySize, Sizes, entriesBytes, entriesOf, entryBytes, entrySize, fileBytes, fileSize, headerBytes, headerOf, isOffered, joined, laidOut, layoutOf, legalSizes, littleEndian, lowDigits, lowOf, padded, readBy, readFile, readSlot, readSlots, readUsed, rightHeader, slotAt, slotBytes, slotSize, slotsBytes, storeBytes, usedOf, valueOf}
 use Rattle.model.proofs.Lists.{at-taken, drop-past, drop-take, length-made, made-short, take-past}
 use Rattle.model.proofs.Names.{both-true, legal-length}
 use Rattle.model.proofs.Checks.{sameStr-equal, sameStr-self}
 
--- Values.
-valueOf-littleEndian : (n v : ℕ) → v < 256 ^ n → valueOf (littleEndian n v) ≡ v
+-- What is asked of an entry's size.
+pub entry-size : (y : Layout) → EntrySize (entrySize y)
+unfolding entrySize
+entry-size y = record { least = omega arith; most = omega arith; eights = refl }
+
+-- A value of eight bytes fits every entry.
+pub value-fits : (y : Layout) (v : ℕ) → v < 2 ^ 64 → v < 256 ^ (entrySize y - 24)
+unfolding entrySize
+value-fits y v h = h
+
+-- Contents.
+pub valueOf-littleEndian : (n v : ℕ) → v < 256 ^ n → valueOf (littleEndian n v) ≡ v
 unfolding valueOf littleEndian
 valueOf-littleEndian zero v h = omega (arith, pow-zero 256)
 valueOf-littleEndian (suc n) v h =
     let p : 256 ^ suc n ≡ 256 ^ n * 256 = pow-suc 256 n in
     rw (valueOf-littleEndian n (v / 256) (omega arith)) (omega arith)
 
-pub valueOf-valueBytes : (v : ℕ) → v < 2 ^ 64 → valueOf (valueBytes v) ≡ v
-unfolding valueBytes
-valueOf-valueBytes v h = valueOf-littleEndian 8 v h
-
-littleEndian-valueOf : (xs : List ℕ) → Bytes xs → littleEndian (length xs) (valueOf xs) ≡ xs
+pub littleEndian-valueOf : (xs : List ℕ) → Bytes xs → littleEndian (length xs) (valueOf xs) ≡ xs
 unfolding valueOf littleEndian
 littleEndian-valueOf [] h = refl
 littleEndian-valueOf (x ∷ xs) h =
@@ -43,11 +38,7 @@ littleEndian-valueOf (x ∷ xs) h =
     let q : (x + 256 * valueOf xs) / 256 ≡ valueOf xs = omega arith in
     rw (p, q, littleEndian-valueOf xs (h .1))
 
-pub valueBytes-valueOf : (xs : List ℕ) → length xs ≡ 8 → Bytes xs → valueBytes (valueOf xs) ≡ xs
-unfolding valueBytes
-valueBytes-valueOf xs e h = rw (← e) (littleEndian-valueOf xs h)
-
--- The first bytes of a list as a value.
+-- The first bytes of a list as a content.
 valueOf-below : (n : ℕ) (xs : List ℕ) → Bytes xs → valueOf (take n xs) < 256 ^ n
 unfolding valueOf
 valueOf-below zero xs h = omega (arith, pow-zero 256)
@@ -60,14 +51,10 @@ bytes-each [] f = tt
 bytes-each (x ∷ xs) f = (f 0, bytes-each xs (λ i. f (suc i)))
 
 -- Lengths.
-length-littleEndian : (n v : ℕ) → length (littleEndian n v) ≡ n
+pub length-littleEndian : (n v : ℕ) → length (littleEndian n v) ≡ n
 unfolding littleEndian
 length-littleEndian zero v = refl
 length-littleEndian (suc n) v = ap suc (length-littleEndian n (v / 256))
-
-pub length-valueBytes : (v : ℕ) → length (valueBytes v) ≡ 8
-unfolding valueBytes
-length-valueBytes v = length-littleEndian 8 v
 
 pub length-padded : (k : ℕ) (xs : List ℕ) → length (padded k xs) ≡ k
 unfolding padded
@@ -77,35 +64,40 @@ pub padded-short : (k : ℕ) (xs : List ℕ) → length xs ≤ k → padded k xs
 unfolding padded
 padded-short k xs h = made-short k 0 xs h
 
-pub length-entriesBytes : {l : Low} {u : Str} {es : List Entry} → Row l es u → length (entriesBytes es) ≡ 32 * length es
-unfolding entriesBytes entryBytes
-length-entriesBytes no-entries = refl
-length-entriesBytes (entry {e = e} {es = es} g a c r) =
-    omega (arith, length-append (e .0 ++ valueBytes (e .1)) (entriesBytes es), length-append (e .0) (valueBytes (e .1)), legal-length g, length-valueBytes (e .1), length-entriesBytes r)
+pub length-entryBytes : (e : ℕ) → 24 ≤ e → (x : Entry) → length (x .0) ≡ 24 → length (entryBytes e x) ≡ e
+unfolding entryBytes
+length-entryBytes e h x k =
+    omega (arith, length-append (x .0) (littleEndian (e - 24) (x .1)), length-littleEndian (e - 24) (x .1))
 
-pub length-slotBytes : (b : ℕ) (s : Slot) → length (slotBytes b s) ≡ slotSize b
+pub length-entriesBytes : (e : ℕ) → 24 ≤ e → {l : Low} {u : Str} {es : List Entry} → Row l es u → length (entriesBytes e es) ≡ e * length es
+unfolding entriesBytes
+length-entriesBytes e h no-entries = omega arith
+length-entriesBytes e h (entry {e = x} {es = es} g a c r) =
+    omega (arith, length-append (entryBytes e x) (entriesBytes e es), length-entryBytes e h x (legal-length g), length-entriesBytes e h r)
+
+pub length-slotBytes : (y : Layout) (s : Slot) → length (slotBytes y s) ≡ slotSize y
 unfolding slotBytes slotSize
-length-slotBytes b free = length-replicate (64 + 32 * b) 0
-length-slotBytes b (used l u es) =
+length-slotBytes y free = length-replicate (64 + entrySize y * y .b) 0
+length-slotBytes y (used l u es) =
     let x = padded 24 (lowDigits l) in
-    let y = padded 24 u in
-    let z : List ℕ = replicate 8 0 ++ padded (32 * b) (entriesBytes es) in
-    omega (arith, length-append x (y ++ z), length-append y z, length-padded 24 (lowDigits l), length-padded 24 u, length-padded (32 * b) (entriesBytes es))
+    let up = padded 24 u in
+    let z : List ℕ = replicate 8 0 ++ padded (entrySize y * y .b) (entriesBytes (entrySize y) es) in
+    omega (arith, length-append x (up ++ z), length-append up z, length-padded 24 (lowDigits l), length-padded 24 u, length-padded (entrySize y * y .b) (entriesBytes (entrySize y) es))
 
-length-slotsBytes : (b : ℕ) (fs : List Slot) → length (slotsBytes b fs) ≡ length fs * slotSize b
+length-slotsBytes : (y : Layout) (fs : List Slot) → length (slotsBytes y fs) ≡ length fs * slotSize y
 unfolding slotsBytes
-length-slotsBytes b [] = omega arith
-length-slotsBytes b (s ∷ fs) =
-    omega (arith, length-append (slotBytes b s) (slotsBytes b fs), length-slotBytes b s, length-slotsBytes b fs, suc-mul (length fs) (slotSize b))
+length-slotsBytes y [] = omega arith
+length-slotsBytes y (s ∷ fs) =
+    omega (arith, length-append (slotBytes y s) (slotsBytes y fs), length-slotBytes y s, length-slotsBytes y fs, suc-mul (length fs) (slotSize y))
 
-pub length-headerBytes : (b slots : ℕ) → length (headerBytes b slots) ≡ 16
+pub length-headerBytes : (y : Layout) (slots : ℕ) → length (headerBytes y slots) ≡ 16
 unfolding headerBytes
-length-headerBytes b slots = refl
+length-headerBytes y slots = refl
 
-pub length-fileBytes : (b : ℕ) (fs : List Slot) → length (fileBytes b fs) ≡ fileSize b (length fs)
+pub length-fileBytes : (y : Layout) (fs : List Slot) → length (fileBytes y fs) ≡ fileSize y (length fs)
 unfolding fileBytes fileSize
-length-fileBytes b fs =
-    omega (arith, length-append (headerBytes b (length fs)) (slotsBytes b fs), length-headerBytes b (length fs), length-slotsBytes b fs)
+length-fileBytes y fs =
+    omega (arith, length-append (headerBytes y (length fs)) (slotsBytes y fs), length-headerBytes y (length fs), length-slotsBytes y fs)
 
 -- What is written reads back.
 pub lowOf-lowDigits : {l : Low} {u : Str} → l ◁ u → lowOf (lowDigits l) ≡ l
@@ -124,225 +116,251 @@ pub padded-front : (k : ℕ) (xs ys : List ℕ) → length xs ≤ k → take (le
 padded-front k xs ys h =
     rw (padded-short k xs h, append-assoc) (take-append-seam xs (replicate (k - length xs) 0 ++ ys))
 
-entries-read : {l : Low} {u : Str} {es : List Entry} (ys : List ℕ) → Row l es u → Values es → entriesOf (length es) (entriesBytes es ++ ys) ≡ es
+pub entries-read : (e : ℕ) → 24 ≤ e → {l : Low} {u : Str} {es : List Entry} (ys : List ℕ) → Row l es u → Contents e es
+    → entriesOf e (length es) (entriesBytes e es ++ ys) ≡ es
 unfolding entriesOf entriesBytes entryBytes
-entries-read ys no-entries v = refl
-entries-read ys (entry {e = e} {es = es} g a c r) v =
-    let n = e .0 in
-    let w = valueBytes (e .1) in
-    let q : List ℕ = entriesBytes es ++ ys in
-    let i : n ++ w ++ entriesBytes es ++ ys ≡ n ++ (w ++ q) = rw (append-assoc, append-assoc) in
+entries-read e h ys no-entries v = refl
+entries-read e h ys (entry {e = x} {es = es} g a c r) v =
+    let n = x .0 in
+    let m = e - 24 in
+    let w = littleEndian m (x .1) in
+    let q : List ℕ = entriesBytes e es ++ ys in
+    let i : n ++ w ++ entriesBytes e es ++ ys ≡ n ++ (w ++ q) = rw (append-assoc, append-assoc) in
     let f : take 24 (n ++ (w ++ q)) ≡ n = take-at n (w ++ q) 24 (legal-length g) in
     let d : drop 24 (n ++ (w ++ q)) ≡ w ++ q = drop-at n (w ++ q) 24 (legal-length g) in
-    let t : take 8 (w ++ q) ≡ w = take-at w q 8 (length-valueBytes (e .1)) in
-    let k : drop 32 (n ++ (w ++ q)) ≡ q = drop-past n (w ++ q) 32 8 (omega (arith, legal-length g)) ∙ drop-at w q 8 (length-valueBytes (e .1)) in
-    rw (i, f, d, t, k, valueOf-valueBytes (e .1) (v .0), entries-read ys r (v .1))
+    let t : take m (w ++ q) ≡ w = take-at w q m (length-littleEndian m (x .1)) in
+    let k : drop e (n ++ (w ++ q)) ≡ q =
+    drop-past n (w ++ q) e m (omega (arith, legal-length g)) ∙ drop-at w q m (length-littleEndian m (x .1)) in
+    rw (i, f, d, t, k, valueOf-littleEndian m (x .1) (v .0), entries-read e h ys r (v .1))
 
-usedOf-slotBytes : (b : ℕ) {l : Low} {u : Str} {es : List Entry} → Well b (used l u es) → Values es → usedOf (slotBytes b (used l u es)) ≡ used l u es
+usedOf-slotBytes : (y : Layout) {l : Low} {u : Str} {es : List Entry} → Well (y .b) (used l u es) → Contents (entrySize y) es
+    → usedOf (entrySize y) (slotBytes y (used l u es)) ≡ used l u es
 unfolding usedOf slotBytes
-usedOf-slotBytes b {l = l} {u = u} {es = es} (well-used g h c r k) v =
+usedOf-slotBytes y {l = l} {u = u} {es = es} (well-used g h c r few) v =
     let x = padded 24 (lowDigits l) in
-    let y = padded 24 u in
-    let z = padded (32 * b) (entriesBytes es) in
+    let up = padded 24 u in
+    let z = padded (entrySize y * y .b) (entriesBytes (entrySize y) es) in
     let t : List ℕ = replicate 8 0 ++ z in
-    let a : take (length (lowDigits l)) (x ++ (y ++ t)) ≡ lowDigits l = padded-front 24 (lowDigits l) (y ++ t) (fits-low g) in
-    let d : drop 24 (x ++ (y ++ t)) ≡ y ++ t = drop-at x (y ++ t) 24 (length-padded 24 (lowDigits l)) in
-    let p : take (length u) (y ++ t) ≡ u = padded-front 24 u t (h .fits) in
-    let e : drop 56 (x ++ (y ++ t)) ≡ z = drop-past x (y ++ t) 56 32 (omega (arith, length-padded 24 (lowDigits l))) ∙ drop-past y t 32 8 (omega (arith, length-padded 24 u)) in
-    let q : z ≡ entriesBytes es ++ replicate (32 * b - length (entriesBytes es)) 0 = padded-short (32 * b) (entriesBytes es) (omega (arith, length-entriesBytes r)) in
-    rw (a, d, p, e, q, lowOf-lowDigits c, entries-read (replicate (32 * b - length (entriesBytes es)) 0) r v)
+    let a : take (length (lowDigits l)) (x ++ (up ++ t)) ≡ lowDigits l = padded-front 24 (lowDigits l) (up ++ t) (fits-low g) in
+    let d : drop 24 (x ++ (up ++ t)) ≡ up ++ t = drop-at x (up ++ t) 24 (length-padded 24 (lowDigits l)) in
+    let p : take (length u) (up ++ t) ≡ u = padded-front 24 u t (h .fits) in
+    let e : drop 56 (x ++ (up ++ t)) ≡ z = drop-past x (up ++ t) 56 32 (omega (arith, length-padded 24 (lowDigits l))) ∙ drop-past up t 32 8 (omega (arith, length-padded 24 u)) in
+    let k : 24 ≤ entrySize y = omega (arith, entry-size y .least) in
+    let ws = entriesBytes (entrySize y) es in
+    let n = length-entriesBytes (entrySize y) k r in
+    let m = mul-le-mul-left {m = length es} {n = y .b} (entrySize y) few in
+    let q : z ≡ ws ++ replicate (entrySize y * y .b - length ws) 0 = padded-short (entrySize y * y .b) ws (omega arith) in
+    rw (a, d, p, e, q, lowOf-lowDigits c, entries-read (entrySize y) k (replicate (entrySize y * y .b - length ws) 0) r v)
 
-not-free : (b : ℕ) (l : Low) (u : Str) (es : List Entry) → sameStr (slotBytes b (used l u es)) (slotBytes b free) ≡ false
+not-free : (y : Layout) (l : Low) (u : Str) (es : List Entry) → sameStr (slotBytes y (used l u es)) (slotBytes y free) ≡ false
 unfolding slotBytes slotSize sameStr
-not-free b l u es = let e : 64 + 32 * b ≡ suc (63 + 32 * b) = omega arith in rw e
+not-free y l u es = let e : 64 + entrySize y * y .b ≡ suc (63 + entrySize y * y .b) = omega arith in rw e
 
-pub readSlot-slotBytes : (b : ℕ) {s : Slot} → Well b s → Values (entries-of s) → readSlot b (slotBytes b s) ≡ some s
+pub readSlot-slotBytes : (y : Layout) {s : Slot} → Well (y .b) s → Contents (entrySize y) (entries-of s) → readSlot y (slotBytes y s) ≡ some s
 unfolding readSlot readUsed
-readSlot-slotBytes b {s = free} w v = rw (sameStr-self (slotBytes b free))
-readSlot-slotBytes b {s = used l u es} w v =
-    rw (not-free b l u es, usedOf-slotBytes b w v, sameStr-self (slotBytes b (used l u es)))
+readSlot-slotBytes y {s = free} w v = rw (sameStr-self (slotBytes y free))
+readSlot-slotBytes y {s = used l u es} w v =
+    rw (not-free y l u es, usedOf-slotBytes y w v, sameStr-self (slotBytes y (used l u es)))
 
 -- What is read was written.
-pub slotBytes-readSlot : (b : ℕ) (xs : List ℕ) {s : Slot} → readSlot b xs ≡ some s → xs ≡ slotBytes b s
+pub slotBytes-readSlot : (y : Layout) (xs : List ℕ) {s : Slot} → readSlot y xs ≡ some s → xs ≡ slotBytes y s
 unfolding readSlot readUsed
-slotBytes-readSlot b xs {s} = as-free (sameStr xs (slotBytes b free)) (sameStr xs (slotBytes b (usedOf xs))) refl refl
+slotBytes-readSlot y xs {s} = as-free (sameStr xs (slotBytes y free)) (sameStr xs (slotBytes y (usedOf (entrySize y) xs))) refl refl
   where
-    as-free : (t r : Bool) → sameStr xs (slotBytes b free) ≡ t → sameStr xs (slotBytes b (usedOf xs)) ≡ r
-        → cond t (some free) (cond r (some (usedOf xs)) nothing) ≡ some s → xs ≡ slotBytes b s
-    as-free true r e f h = let i : free ≡ s = cc in rw (← i) (sameStr-equal xs (slotBytes b free) e)
-    as-free false true e f h = let i : usedOf xs ≡ s = cc in rw (← i) (sameStr-equal xs (slotBytes b (usedOf xs)) f)
-    as-free false false e f h = let z : _≡_ {A = ℕ} 0 1 = cc in absurd (omega arith)
+    as-free : (t r : Bool) → sameStr xs (slotBytes y free) ≡ t → sameStr xs (slotBytes y (usedOf (entrySize y) xs)) ≡ r
+        → cond t (some free) (cond r (some (usedOf (entrySize y) xs)) nothing) ≡ some s → xs ≡ slotBytes y s
+    as-free true r e f h = let i : free ≡ s = cc in rw (← i) (sameStr-equal xs (slotBytes y free) e)
+    as-free false true e f h = let i : usedOf (entrySize y) xs ≡ s = cc in rw (← i) (sameStr-equal xs (slotBytes y (usedOf (entrySize y) xs)) f)
+    as-free false false e f h = clash cc
 
 -- Slots of a file, and its header, where the writer put them.
-drop-slotsBytes : (b k : ℕ) (fs : List Slot) → drop (k * slotSize b) (slotsBytes b fs) ≡ slotsBytes b (drop k fs)
+drop-slotsBytes : (y : Layout) (k : ℕ) (fs : List Slot) → drop (k * slotSize y) (slotsBytes y fs) ≡ slotsBytes y (drop k fs)
 unfolding slotsBytes
-drop-slotsBytes b zero fs = rw zero-mul
-drop-slotsBytes b (suc k) [] = drop-nil (suc k * slotSize b)
-drop-slotsBytes b (suc k) (s ∷ fs) =
-    drop-past (slotBytes b s) (slotsBytes b fs) (suc k * slotSize b) (k * slotSize b) (omega (arith, suc-mul k (slotSize b), length-slotBytes b s)) ∙ drop-slotsBytes b k fs
+drop-slotsBytes y zero fs = rw zero-mul
+drop-slotsBytes y (suc k) [] = drop-nil (suc k * slotSize y)
+drop-slotsBytes y (suc k) (s ∷ fs) =
+    drop-past (slotBytes y s) (slotsBytes y fs) (suc k * slotSize y) (k * slotSize y) (omega (arith, suc-mul k (slotSize y), length-slotBytes y s)) ∙ drop-slotsBytes y k fs
 
-drop-fileBytes : (b k : ℕ) (fs : List Slot) → drop (16 + k * slotSize b) (fileBytes b fs) ≡ slotsBytes b (drop k fs)
+drop-fileBytes : (y : Layout) (k : ℕ) (fs : List Slot) → drop (16 + k * slotSize y) (fileBytes y fs) ≡ slotsBytes y (drop k fs)
 unfolding fileBytes
-drop-fileBytes b k fs =
-    drop-past (headerBytes b (length fs)) (slotsBytes b fs) (16 + k * slotSize b) (k * slotSize b) (omega (arith, length-headerBytes b (length fs))) ∙ drop-slotsBytes b k fs
+drop-fileBytes y k fs =
+    drop-past (headerBytes y (length fs)) (slotsBytes y fs) (16 + k * slotSize y) (k * slotSize y) (omega (arith, length-headerBytes y (length fs))) ∙ drop-slotsBytes y k fs
 
-pub slotAt-fileBytes : (b k : ℕ) (fs : List Slot) → k < length fs → slotAt b k (fileBytes b fs) ≡ slotBytes b (slot-at fs k)
+pub slotAt-fileBytes : (y : Layout) (k : ℕ) (fs : List Slot) → k < length fs → slotAt y k (fileBytes y fs) ≡ slotBytes y (slot-at fs k)
 unfolding slotAt slotsBytes
-slotAt-fileBytes b k fs h =
-    rw (drop-fileBytes b k fs, drop-cons fs k free h) (take-at (slotBytes b (slot-at fs k)) (slotsBytes b (drop (suc k) fs)) (slotSize b) (length-slotBytes b (slot-at fs k)))
+slotAt-fileBytes y k fs h =
+    rw (drop-fileBytes y k fs, drop-cons fs k free h) (take-at (slotBytes y (slot-at fs k)) (slotsBytes y (drop (suc k) fs)) (slotSize y) (length-slotBytes y (slot-at fs k)))
 
-pub take-fileBytes : (b : ℕ) (fs : List Slot) → take 16 (fileBytes b fs) ≡ headerBytes b (length fs)
+pub take-fileBytes : (y : Layout) (fs : List Slot) → take 16 (fileBytes y fs) ≡ headerBytes y (length fs)
 unfolding fileBytes
-take-fileBytes b fs = take-at (headerBytes b (length fs)) (slotsBytes b fs) 16 (length-headerBytes b (length fs))
+take-fileBytes y fs = take-at (headerBytes y (length fs)) (slotsBytes y fs) 16 (length-headerBytes y (length fs))
 
-pub sizes-legalSizes : {b slots : ℕ} → Sizes b slots → legalSizes b slots ≡ true
+pub sizes-legalSizes : {y : Layout} {slots : ℕ} → Sizes y slots → legalSizes y slots ≡ true
 unfolding legalSizes
-sizes-legalSizes {b} {slots} g =
-    rw (le-leb 2 b (g .b-least), le-leb b 16 (g .b-most), le-leb 1 slots (g .slots-least), le-leb slots 64 (g .slots-most))
+sizes-legalSizes {y} {slots} g =
+    rw (g .offered, le-leb 2 (y .b) (g .b-least), le-leb (y .b) 16 (g .b-most), le-leb 1 slots (g .slots-least), le-leb slots 64 (g .slots-most))
 
-pub legalSizes-sizes : (b slots : ℕ) → legalSizes b slots ≡ true → Sizes b slots
+pub legalSizes-sizes : (y : Layout) (slots : ℕ) → legalSizes y slots ≡ true → Sizes y slots
 unfolding legalSizes
-legalSizes-sizes b slots e =
-    let p = both-true (leb 2 b && leb b 16 && leb 1 slots) (leb slots 64) e in
-    let q = both-true (leb 2 b && leb b 16) (leb 1 slots) (p .0) in
-    let r = both-true (leb 2 b) (leb b 16) (q .0) in
-    record { b-least = leb-true 2 b (r .0); b-most = leb-true b 16 (r .1); slots-least = leb-true 1 slots (q .1); slots-most = leb-true slots 64 (p .1) }
+legalSizes-sizes y slots e =
+    let o = isOffered (y .version) in
+    let p = both-true (o && leb 2 (y .b) && leb (y .b) 16 && leb 1 slots) (leb slots 64) e in
+    let q = both-true (o && leb 2 (y .b) && leb (y .b) 16) (leb 1 slots) (p .0) in
+    let r = both-true (o && leb 2 (y .b)) (leb (y .b) 16) (q .0) in
+    let s = both-true o (leb 2 (y .b)) (r .0) in
+    record {
+      offered = s .0;
+      b-least = leb-true 2 (y .b) (s .1);
+      b-most = leb-true (y .b) 16 (r .1);
+      slots-least = leb-true 1 slots (q .1);
+      slots-most = leb-true slots 64 (p .1);
+    }
+
+-- A version that is offered fits its two bytes.
+offered-small : (v : ℕ) → isOffered v ≡ true → v < 65536
+unfolding isOffered
+offered-small v e = omega (arith, eqb-true v 1 e)
 
 -- What a header that is right says.
-pub record Headed (b slots : ℕ) (xs : List ℕ) : Type 0 where
-  pub sizes : Sizes b slots
-  pub whole : length xs ≡ fileSize b slots
-  pub header : take 16 xs ≡ headerBytes b slots
+pub record Headed (y : Layout) (slots : ℕ) (xs : List ℕ) : Type 0 where
+  pub sizes : Sizes y slots
+  pub whole : length xs ≡ fileSize y slots
+  pub header : take 16 xs ≡ headerBytes y slots
 
--- Byte 5 is b.
-pub headed-b : {b slots : ℕ} {xs : List ℕ} → Headed b slots xs → getD xs 5 0 ≡ b
-unfolding headerBytes
-headed-b {xs = xs} g = at-taken 16 xs 5 (g .header) (omega arith)
+-- Bytes 3 and 4 are the version, byte 5 is b.
+pub headed-layout : {y : Layout} {slots : ℕ} {xs : List ℕ} → Headed y slots xs → layoutOf xs ≡ y
+unfolding headerBytes layoutOf
+headed-layout {y} {xs = xs} g =
+    let low : getD xs 3 0 ≡ y .version % 256 = at-taken 16 xs 3 (g .header) (omega arith) in
+    let high : getD xs 4 0 ≡ y .version / 256 = at-taken 16 xs 4 (g .header) (omega arith) in
+    let v : getD xs 3 0 + 256 * getD xs 4 0 ≡ y .version = omega arith in
+    let c : getD xs 5 0 ≡ y .b = at-taken 16 xs 5 (g .header) (omega arith) in
+    ap₂ (λ (m n : ℕ). record { version = m; b = n }) v c
 
 -- Byte 6 is slots.
-pub headed-slots : {b slots : ℕ} {xs : List ℕ} → Headed b slots xs → getD xs 6 0 ≡ slots
+pub headed-slots : {y : Layout} {slots : ℕ} {xs : List ℕ} → Headed y slots xs → getD xs 6 0 ≡ slots
 unfolding headerBytes
 headed-slots {xs = xs} g = at-taken 16 xs 6 (g .header) (omega arith)
 
-pub headed-headerOf : {b slots : ℕ} {xs : List ℕ} → Headed b slots xs → headerOf xs ≡ some (b, slots)
-unfolding headerOf rightHeader headerBytes
-headed-headerOf {b} {slots} {xs} g =
-    rw (headed-b g, headed-slots g, sizes-legalSizes (g .sizes), eq-eqb (length xs) (fileSize b slots) (g .whole), g .header, sameStr-self (headerBytes b slots))
+pub headed-headerOf : {y : Layout} {slots : ℕ} {xs : List ℕ} → Headed y slots xs → headerOf xs ≡ some (y, slots)
+unfolding headerOf rightHeader
+headed-headerOf {y} {slots} {xs} g =
+    rw (headed-layout g, headed-slots g, sizes-legalSizes (g .sizes), eq-eqb (length xs) (fileSize y slots) (g .whole), g .header, sameStr-self (headerBytes y slots))
 
-readSlots-fileBytes : (b n k : ℕ) (fs : List Slot) → ((B : ℕ) → Well b (slot-at fs B)) → ((B : ℕ) → Values (entries-of (slot-at fs B)))
-    → k + n ≡ length fs → readSlots b n k (fileBytes b fs) ≡ some (drop k fs)
+readSlots-fileBytes : (y : Layout) (n k : ℕ) (fs : List Slot) → ((B : ℕ) → Well (y .b) (slot-at fs B)) → ((B : ℕ) → Contents (entrySize y) (entries-of (slot-at fs B)))
+    → k + n ≡ length fs → readSlots y n k (fileBytes y fs) ≡ some (drop k fs)
 unfolding readSlots joined
-readSlots-fileBytes b zero k fs w v e = rw (drop-of-length-le fs {i = k} (omega arith))
-readSlots-fileBytes b (suc n) k fs w v e =
-    rw (slotAt-fileBytes b k fs (omega arith), readSlot-slotBytes b (w k) (v k), readSlots-fileBytes b n (suc k) fs w v (omega arith), drop-cons fs k free (omega arith))
+readSlots-fileBytes y zero k fs w v e = rw (drop-of-length-le fs {i = k} (omega arith))
+readSlots-fileBytes y (suc n) k fs w v e =
+    rw (slotAt-fileBytes y k fs (omega arith), readSlot-slotBytes y (w k) (v k), readSlots-fileBytes y n (suc k) fs w v (omega arith), drop-cons fs k free (omega arith))
 
-pub readFile-fileBytes : (b : ℕ) (fs : List Slot) → Sizes b (length fs) → ((B : ℕ) → Well b (slot-at fs B)) → ((B : ℕ) → Values (entries-of (slot-at fs B)))
-    → readFile (fileBytes b fs) ≡ some (b, fs)
-unfolding readFile readBy sized
-readFile-fileBytes b fs g w v = rw (headed-headerOf (record { sizes = g; whole = length-fileBytes b fs; header = take-fileBytes b fs }), readSlots-fileBytes b (length fs) 0 fs w v (omega arith))
+pub readFile-fileBytes : (y : Layout) (fs : List Slot) → Sizes y (length fs) → ((B : ℕ) → Well (y .b) (slot-at fs B)) → ((B : ℕ) → Contents (entrySize y) (entries-of (slot-at fs B)))
+    → readFile (fileBytes y fs) ≡ some (y, fs)
+unfolding readFile readBy laidOut
+readFile-fileBytes y fs g w v = rw (headed-headerOf (record { sizes = g; whole = length-fileBytes y fs; header = take-fileBytes y fs }), readSlots-fileBytes y (length fs) 0 fs w v (omega arith))
 
-slotsBytes-readSlots : (b n k : ℕ) (xs : List ℕ) {fs : List Slot} → length xs ≡ 16 + (k + n) * slotSize b → readSlots b n k xs ≡ some fs
-    → (length fs ≡ n) × (drop (16 + k * slotSize b) xs ≡ slotsBytes b fs)
+slotsBytes-readSlots : (y : Layout) (n k : ℕ) (xs : List ℕ) {fs : List Slot} → length xs ≡ 16 + (k + n) * slotSize y → readSlots y n k xs ≡ some fs
+    → (length fs ≡ n) × (drop (16 + k * slotSize y) xs ≡ slotsBytes y fs)
 unfolding readSlots joined slotAt slotsBytes
-slotsBytes-readSlots b zero k xs {fs} e h =
+slotsBytes-readSlots y zero k xs {fs} e h =
     let i : [] ≡ fs = cc in
     let z : k + 0 ≡ k = omega arith in
-    let f : length xs ≡ 16 + k * slotSize b = rw z at e in
-    rw (← i) (refl, drop-of-length-le xs {i = 16 + k * slotSize b} (omega arith))
-slotsBytes-readSlots b (suc n) k xs {fs} e h =
-    go (readSlot b (slotAt b k xs)) (readSlots b n (suc k) xs) refl refl
-    (λ gs f. let i : suc k + n ≡ k + suc n = omega arith in slotsBytes-readSlots b n (suc k) xs (rw i e) f) h
+    let f : length xs ≡ 16 + k * slotSize y = rw z at e in
+    rw (← i) (refl, drop-of-length-le xs {i = 16 + k * slotSize y} (omega arith))
+slotsBytes-readSlots y (suc n) k xs {fs} e h =
+    go (readSlot y (slotAt y k xs)) (readSlots y n (suc k) xs) refl refl
+    (λ gs f. let i : suc k + n ≡ k + suc n = omega arith in slotsBytes-readSlots y n (suc k) xs (rw i e) f) h
   where
-    go : (a : Option Slot) (r : Option (List Slot)) → readSlot b (slotAt b k xs) ≡ a → readSlots b n (suc k) xs ≡ r
-        → ((gs : List Slot) → readSlots b n (suc k) xs ≡ some gs → (length gs ≡ n) × (drop (16 + suc k * slotSize b) xs ≡ slotsBytes b gs))
-        → joined a r ≡ some fs → (length fs ≡ suc n) × (drop (16 + k * slotSize b) xs ≡ slotsBytes b fs)
-    go nothing r p q f h = let z : _≡_ {A = ℕ} 0 1 = cc in absurd (omega arith)
-    go (some s) nothing p q f h = let z : _≡_ {A = ℕ} 0 1 = cc in absurd (omega arith)
+    go : (a : Option Slot) (r : Option (List Slot)) → readSlot y (slotAt y k xs) ≡ a → readSlots y n (suc k) xs ≡ r
+        → ((gs : List Slot) → readSlots y n (suc k) xs ≡ some gs → (length gs ≡ n) × (drop (16 + suc k * slotSize y) xs ≡ slotsBytes y gs))
+        → joined a r ≡ some fs → (length fs ≡ suc n) × (drop (16 + k * slotSize y) xs ≡ slotsBytes y fs)
+    go nothing r p q f h = clash cc
+    go (some s) nothing p q f h = clash cc
     go (some s) (some gs) p q f h =
-        let z = slotSize b in
-        let m = 16 + k * slotSize b in
+        let z = slotSize y in
+        let m = 16 + k * slotSize y in
         let i : s ∷ gs ≡ fs = cc in
         let j : 16 + suc k * z ≡ m + z = omega (arith, suc-mul k z) in
-        let t : take z (drop m xs) ≡ slotBytes b s = slotBytes-readSlot b (slotAt b k xs) p in
-        let d : drop z (drop m xs) ≡ slotsBytes b gs = drop-drop z m xs ∙ (rw j at (f gs q .1)) in
-        rw (← i) (ap suc (f gs q .0), sym (take-append-drop z (drop m xs)) ∙ ap₂ (λ (x y : List ℕ). x ++ y) t d)
+        let t : take z (drop m xs) ≡ slotBytes y s = slotBytes-readSlot y (slotAt y k xs) p in
+        let d : drop z (drop m xs) ≡ slotsBytes y gs = drop-drop z m xs ∙ (rw j at (f gs q .1)) in
+        rw (← i) (ap suc (f gs q .0), sym (take-append-drop z (drop m xs)) ∙ ap₂ (λ (x z : List ℕ). x ++ z) t d)
 
-rightHeader-headed : (b slots : ℕ) (xs : List ℕ) → rightHeader b slots xs ≡ true → Headed b slots xs
+rightHeader-headed : (y : Layout) (slots : ℕ) (xs : List ℕ) → rightHeader y slots xs ≡ true → Headed y slots xs
 unfolding rightHeader
-rightHeader-headed b slots xs e =
-    let p = both-true (legalSizes b slots && eqb (length xs) (fileSize b slots)) (sameStr (take 16 xs) (headerBytes b slots)) e in
-    let q = both-true (legalSizes b slots) (eqb (length xs) (fileSize b slots)) (p .0) in
-    record { sizes = legalSizes-sizes b slots (q .0); whole = eqb-true (length xs) (fileSize b slots) (q .1); header = sameStr-equal (take 16 xs) (headerBytes b slots) (p .1) }
+rightHeader-headed y slots xs e =
+    let p = both-true (legalSizes y slots && eqb (length xs) (fileSize y slots)) (sameStr (take 16 xs) (headerBytes y slots)) e in
+    let q = both-true (legalSizes y slots) (eqb (length xs) (fileSize y slots)) (p .0) in
+    record { sizes = legalSizes-sizes y slots (q .0); whole = eqb-true (length xs) (fileSize y slots) (q .1); header = sameStr-equal (take 16 xs) (headerBytes y slots) (p .1) }
 
-pub headerOf-headed : (xs : List ℕ) {b slots : ℕ} → headerOf xs ≡ some (b, slots) → Headed b slots xs
+pub headerOf-headed : (xs : List ℕ) {y : Layout} {slots : ℕ} → headerOf xs ≡ some (y, slots) → Headed y slots xs
 unfolding headerOf
-headerOf-headed xs {b} {slots} = go (rightHeader (getD xs 5 0) (getD xs 6 0) xs) refl
+headerOf-headed xs {y} {slots} = go (rightHeader (layoutOf xs) (getD xs 6 0) xs) refl
   where
-    go : (t : Bool) → rightHeader (getD xs 5 0) (getD xs 6 0) xs ≡ t → cond {A = Option (ℕ × ℕ)} t (some (getD xs 5 0, getD xs 6 0)) nothing ≡ some (b, slots) → Headed b slots xs
+    go : (t : Bool) → rightHeader (layoutOf xs) (getD xs 6 0) xs ≡ t → cond {A = Option (Layout × ℕ)} t (some (layoutOf xs, getD xs 6 0)) nothing ≡ some (y, slots) → Headed y slots xs
     go true e h =
-        let p : _≡_ {A = ℕ × ℕ} (getD xs 5 0, getD xs 6 0) (b, slots) = cc in
-        let i : getD xs 5 0 ≡ b = ap (λ (q : ℕ × ℕ). q .0) p in
-        let j : getD xs 6 0 ≡ slots = ap (λ (q : ℕ × ℕ). q .1) p in
-        rw (i, j) at (rightHeader-headed (getD xs 5 0) (getD xs 6 0) xs e)
-    go false e h = let z : _≡_ {A = ℕ} 0 1 = cc in absurd (omega arith)
+        let p : _≡_ {A = Layout × ℕ} (layoutOf xs, getD xs 6 0) (y, slots) = cc in
+        let i : layoutOf xs ≡ y = ap (λ (q : Layout × ℕ). q .0) p in
+        let j : getD xs 6 0 ≡ slots = ap (λ (q : Layout × ℕ). q .1) p in
+        rw (i, j) at (rightHeader-headed (layoutOf xs) (getD xs 6 0) xs e)
+    go false e h = clash cc
 
-listed-slots : {b slots : ℕ} {xs : List ℕ} {fs : List Slot} → Headed b slots xs → readSlots b slots 0 xs ≡ some fs → (length fs ≡ slots) × (drop 16 xs ≡ slotsBytes b fs)
+listed-slots : {y : Layout} {slots : ℕ} {xs : List ℕ} {fs : List Slot} → Headed y slots xs → readSlots y slots 0 xs ≡ some fs → (length fs ≡ slots) × (drop 16 xs ≡ slotsBytes y fs)
 unfolding fileSize
-listed-slots {b} {slots} {xs} g e =
-    let d = slotsBytes-readSlots b slots 0 xs (rw zero-add (g .whole)) e in
+listed-slots {y} {slots} {xs} g e =
+    let d = slotsBytes-readSlots y slots 0 xs (rw zero-add (g .whole)) e in
     (d .0, rw zero-mul at (d .1))
 
 -- What a file that is read says: its header, then its slots.
-pub record Read (b : ℕ) (fs : List Slot) (xs : List ℕ) : Type 0 where
-  pub headed : Headed b (length fs) xs
-  pub listed : readSlots b (length fs) 0 xs ≡ some fs
+pub record Read (y : Layout) (fs : List Slot) (xs : List ℕ) : Type 0 where
+  pub headed : Headed y (length fs) xs
+  pub listed : readSlots y (length fs) 0 xs ≡ some fs
 
-pub readFile-read : (xs : List ℕ) {b : ℕ} {fs : List Slot} → readFile xs ≡ some (b, fs) → Read b fs xs
-unfolding readFile readBy sized
-readFile-read xs {b} {fs} = header (headerOf xs) refl
+pub readFile-read : (xs : List ℕ) {y : Layout} {fs : List Slot} → readFile xs ≡ some (y, fs) → Read y fs xs
+unfolding readFile readBy laidOut
+readFile-read xs {y} {fs} = header (headerOf xs) refl
   where
-    header : (h : Option (ℕ × ℕ)) → headerOf xs ≡ h → readBy h xs ≡ some (b, fs) → Read b fs xs
-    header nothing e f = let z : _≡_ {A = ℕ} 0 1 = cc in absurd (omega arith)
+    header : (h : Option (Layout × ℕ)) → headerOf xs ≡ h → readBy h xs ≡ some (y, fs) → Read y fs xs
+    header nothing e f = clash cc
     header (some (c, slots)) e f = slots-of (readSlots c slots 0 xs) refl f
       where
-        slots-of : (r : Option (List Slot)) → readSlots c slots 0 xs ≡ r → sized c r ≡ some (b, fs) → Read b fs xs
-        slots-of nothing p f = let z : _≡_ {A = ℕ} 0 1 = cc in absurd (omega arith)
+        slots-of : (r : Option (List Slot)) → readSlots c slots 0 xs ≡ r → laidOut c r ≡ some (y, fs) → Read y fs xs
+        slots-of nothing p f = clash cc
         slots-of (some gs) p f =
-            let o : _≡_ {A = ℕ × List Slot} (c, gs) (b, fs) = cc in
-            let i : c ≡ b = ap (λ (x : ℕ × List Slot). x .0) o in
-            let j : gs ≡ fs = ap (λ (x : ℕ × List Slot). x .1) o in
+            let o : _≡_ {A = Layout × List Slot} (c, gs) (y, fs) = cc in
+            let i : c ≡ y = ap (λ (x : Layout × List Slot). x .0) o in
+            let j : gs ≡ fs = ap (λ (x : Layout × List Slot). x .1) o in
             let g = headerOf-headed xs e in
             let m : length gs ≡ slots = listed-slots g p .0 in
             rw (← i, ← j) (record { headed = rw m g; listed = rw m p })
 
-pub fileBytes-readFile : (xs : List ℕ) {b : ℕ} {fs : List Slot} → readFile xs ≡ some (b, fs) → (xs ≡ fileBytes b fs) × Sizes b (length fs)
+pub fileBytes-readFile : (xs : List ℕ) {y : Layout} {fs : List Slot} → readFile xs ≡ some (y, fs) → (xs ≡ fileBytes y fs) × Sizes y (length fs)
 unfolding fileBytes
 fileBytes-readFile xs e =
     let r = readFile-read xs e in
     (sym (take-append-drop 16 xs) ∙ rw (r .headed .header, listed-slots (r .headed) (r .listed) .1), r .headed .sizes)
 
 -- Each slot of a file that is read, read by itself.
-pub readSlots-each : (b n k j : ℕ) (xs : List ℕ) {fs : List Slot} → j < n → readSlots b n k xs ≡ some fs → readSlot b (slotAt b (k + j) xs) ≡ some (slot-at fs j)
+pub readSlots-each : (y : Layout) (n k j : ℕ) (xs : List ℕ) {fs : List Slot} → j < n → readSlots y n k xs ≡ some fs → readSlot y (slotAt y (k + j) xs) ≡ some (slot-at fs j)
 unfolding readSlots joined
-readSlots-each b zero k j xs h e = absurd (omega arith)
-readSlots-each b (suc n) k j xs {fs} h e =
-    go j h (readSlot b (slotAt b k xs)) (readSlots b n (suc k) xs) refl refl (λ i gs q f. readSlots-each b n (suc k) i xs q f) e
+readSlots-each y zero k j xs h e = absurd (omega arith)
+readSlots-each y (suc n) k j xs {fs} h e =
+    go j h (readSlot y (slotAt y k xs)) (readSlots y n (suc k) xs) refl refl (λ i gs q f. readSlots-each y n (suc k) i xs q f) e
   where
-    go : (j : ℕ) → j < suc n → (a : Option Slot) (r : Option (List Slot)) → readSlot b (slotAt b k xs) ≡ a → readSlots b n (suc k) xs ≡ r
-        → ((i : ℕ) (gs : List Slot) → i < n → readSlots b n (suc k) xs ≡ some gs → readSlot b (slotAt b (suc k + i) xs) ≡ some (slot-at gs i))
-        → joined a r ≡ some fs → readSlot b (slotAt b (k + j) xs) ≡ some (slot-at fs j)
-    go j h nothing r p q f e = let z : _≡_ {A = ℕ} 0 1 = cc in absurd (omega arith)
-    go j h (some s) nothing p q f e = let z : _≡_ {A = ℕ} 0 1 = cc in absurd (omega arith)
+    go : (j : ℕ) → j < suc n → (a : Option Slot) (r : Option (List Slot)) → readSlot y (slotAt y k xs) ≡ a → readSlots y n (suc k) xs ≡ r
+        → ((i : ℕ) (gs : List Slot) → i < n → readSlots y n (suc k) xs ≡ some gs → readSlot y (slotAt y (suc k + i) xs) ≡ some (slot-at gs i))
+        → joined a r ≡ some fs → readSlot y (slotAt y (k + j) xs) ≡ some (slot-at fs j)
+    go j h nothing r p q f e = clash cc
+    go j h (some s) nothing p q f e = clash cc
     go zero h (some s) (some gs) p q f e = let i : s ∷ gs ≡ fs = cc in rw (add-zero, ← i) p
     go (suc j) h (some s) (some gs) p q f e =
         let i : s ∷ gs ≡ fs = cc in
         let m : k + suc j ≡ suc k + j = omega arith in
         rw (m, ← i) (f j gs (omega arith) q)
 
-pub readSlot-readFile : (xs : List ℕ) {b : ℕ} {fs : List Slot} → readFile xs ≡ some (b, fs) → (k : ℕ) → k < length fs → readSlot b (slotAt b k xs) ≡ some (slot-at fs k)
-readSlot-readFile xs {b} {fs} e k h = rw zero-add at (readSlots-each b (length fs) 0 k xs h (readFile-read xs e .listed))
+pub readSlot-readFile : (xs : List ℕ) {y : Layout} {fs : List Slot} → readFile xs ≡ some (y, fs) → (k : ℕ) → k < length fs → readSlot y (slotAt y k xs) ≡ some (slot-at fs k)
+readSlot-readFile xs {y} {fs} e k h = rw zero-add at (readSlots-each y (length fs) 0 k xs h (readFile-read xs e .listed))
 
--- Values read from bytes are below 2 ^ 64.
+-- Contents read from bytes fit the bytes.
 pub bytes-drop : (n : ℕ) (xs : List ℕ) → Bytes xs → Bytes (drop n xs)
 bytes-drop zero xs h = h
 bytes-drop (suc n) [] h = tt
@@ -353,24 +371,25 @@ bytes-take zero xs h = tt
 bytes-take (suc n) [] h = tt
 bytes-take (suc n) (x ∷ xs) h = (h .0, bytes-take n xs (h .1))
 
-values-entriesOf : (n : ℕ) (xs : List ℕ) → Bytes xs → Values (entriesOf n xs)
+contents-entriesOf : (e n : ℕ) (xs : List ℕ) → Bytes xs → Contents e (entriesOf e n xs)
 unfolding entriesOf
-values-entriesOf zero xs h = tt
-values-entriesOf (suc n) xs h = (valueOf-below 8 (drop 24 xs) (bytes-drop 24 xs h), values-entriesOf n (drop 32 xs) (bytes-drop 32 xs h))
+contents-entriesOf e zero xs h = tt
+contents-entriesOf e (suc n) xs h =
+    (valueOf-below (e - 24) (drop 24 xs) (bytes-drop 24 xs h), contents-entriesOf e n (drop e xs) (bytes-drop e xs h))
 
-pub values-readSlot : (b : ℕ) (xs : List ℕ) {s : Slot} → Bytes xs → readSlot b xs ≡ some s → Values (entries-of s)
+pub contents-readSlot : (y : Layout) (xs : List ℕ) {s : Slot} → Bytes xs → readSlot y xs ≡ some s → Contents (entrySize y) (entries-of s)
 unfolding readSlot readUsed usedOf
-values-readSlot b xs {s} k = go (sameStr xs (slotBytes b free)) (sameStr xs (slotBytes b (usedOf xs)))
+contents-readSlot y xs {s} k = go (sameStr xs (slotBytes y free)) (sameStr xs (slotBytes y (usedOf (entrySize y) xs)))
   where
-    go : (t r : Bool) → cond t (some free) (cond r (some (usedOf xs)) nothing) ≡ some s → Values (entries-of s)
+    go : (t r : Bool) → cond t (some free) (cond r (some (usedOf (entrySize y) xs)) nothing) ≡ some s → Contents (entrySize y) (entries-of s)
     go true r h = let i : free ≡ s = cc in rw (← i) tt
-    go false true h = let i : usedOf xs ≡ s = cc in rw (← i) (values-entriesOf (getD xs 1 0) (drop 64 xs) (bytes-drop 64 xs k))
-    go false false h = let z : _≡_ {A = ℕ} 0 1 = cc in absurd (omega arith)
+    go false true h = let i : usedOf (entrySize y) xs ≡ s = cc in rw (← i) (contents-entriesOf (entrySize y) (getD xs 1 0) (drop 64 xs) (bytes-drop 64 xs k))
+    go false false h = clash cc
 
-pub values-readFile : (xs : List ℕ) {b : ℕ} {fs : List Slot} → Bytes xs → readFile xs ≡ some (b, fs) → (B : ℕ) → Values (entries-of (slot-at fs B))
+pub contents-readFile : (xs : List ℕ) {y : Layout} {fs : List Slot} → Bytes xs → readFile xs ≡ some (y, fs) → (B : ℕ) → Contents (entrySize y) (entries-of (slot-at fs B))
 unfolding slotAt
-values-readFile xs {b} {fs} k e B = elim (decLt B (length fs)) [
-  | yes h ↦ values-readSlot b (slotAt b B xs) (bytes-take (slotSize b) (drop (16 + B * slotSize b) xs) (bytes-drop (16 + B * slotSize b) xs k)) (readSlot-readFile xs e B h)
+contents-readFile xs {y} {fs} k e B = elim (decLt B (length fs)) [
+  | yes h ↦ contents-readSlot y (slotAt y B xs) (bytes-take (slotSize y) (drop (16 + B * slotSize y) xs) (bytes-drop (16 + B * slotSize y) xs k)) (readSlot-readFile xs e B h)
   | no h ↦ rw (List·getD-eq-default fs free {n = B} (omega arith)) tt
 ]
 
@@ -408,100 +427,100 @@ unfolding lowDigits
 bytes-low unlimited = tt
 bytes-low (limit {x = x} g) = bytes-digits 0x20 x (g .digits)
 
-bytes-entries : {l : Low} {u : Str} {es : List Entry} → Row l es u → Bytes (entriesBytes es)
-unfolding entriesBytes entryBytes valueBytes
-bytes-entries no-entries = tt
-bytes-entries (entry {e = e} {es = es} g a c r) =
-    bytes-append (e .0 ++ valueBytes (e .1)) (entriesBytes es)
-    (bytes-append (e .0) (valueBytes (e .1)) (bytes-legal g) (bytes-littleEndian 8 (e .1))) (bytes-entries r)
+bytes-entries : (e : ℕ) {l : Low} {u : Str} {es : List Entry} → Row l es u → Bytes (entriesBytes e es)
+unfolding entriesBytes entryBytes
+bytes-entries e no-entries = tt
+bytes-entries e (entry {e = x} {es = es} g a c r) =
+    bytes-append (entryBytes e x) (entriesBytes e es)
+    (bytes-append (x .0) (littleEndian (e - 24) (x .1)) (bytes-legal g) (bytes-littleEndian (e - 24) (x .1))) (bytes-entries e r)
 
-bytes-slotBytes : (b : ℕ) → b ≤ 16 → {s : Slot} → Well b s → Bytes (slotBytes b s)
+bytes-slotBytes : (y : Layout) → y .b ≤ 16 → {s : Slot} → Well (y .b) s → Bytes (slotBytes y s)
 unfolding slotBytes
-bytes-slotBytes b h {s = free} w = bytes-same (slotSize b) 0 (omega arith)
-bytes-slotBytes b h {s = used l u es} (well-used g p c r k) =
-    let z : List ℕ = padded (32 * b) (entriesBytes es) in
-    let y : List ℕ = replicate 8 0 ++ z in
-    let x : List ℕ = padded 24 u ++ y in
+bytes-slotBytes y h {s = free} w = bytes-same (slotSize y) 0 (omega arith)
+bytes-slotBytes y h {s = used l u es} (well-used g p c r k) =
+    let z : List ℕ = padded (entrySize y * y .b) (entriesBytes (entrySize y) es) in
+    let up : List ℕ = replicate 8 0 ++ z in
+    let x : List ℕ = padded 24 u ++ up in
     let w : List ℕ = padded 24 (lowDigits l) ++ x in
-    let bz : Bytes z = bytes-padded (32 * b) (entriesBytes es) (bytes-entries r) in
-    let by : Bytes y = bytes-append (replicate 8 0) z (bytes-same 8 0 (omega arith)) bz in
-    let bx : Bytes x = bytes-append (padded 24 u) y (bytes-padded 24 u (bytes-digits 0x20 u (p .digits))) by in
+    let bz : Bytes z = bytes-padded (entrySize y * y .b) (entriesBytes (entrySize y) es) (bytes-entries (entrySize y) r) in
+    let by : Bytes up = bytes-append (replicate 8 0) z (bytes-same 8 0 (omega arith)) bz in
+    let bx : Bytes x = bytes-append (padded 24 u) up (bytes-padded 24 u (bytes-digits 0x20 u (p .digits))) by in
     let bw : Bytes w = bytes-append (padded 24 (lowDigits l)) x (bytes-padded 24 (lowDigits l) (bytes-low g)) bx in
     (omega arith, (omega arith, (omega (arith, fits-low g), (omega (arith, p .fits), bytes-append (replicate 4 0) w (bytes-same 4 0 (omega arith)) bw))))
 
-bytes-slotsBytes : (b : ℕ) → b ≤ 16 → (fs : List Slot) → ((B : ℕ) → Well b (slot-at fs B)) → Bytes (slotsBytes b fs)
+bytes-slotsBytes : (y : Layout) → y .b ≤ 16 → (fs : List Slot) → ((B : ℕ) → Well (y .b) (slot-at fs B)) → Bytes (slotsBytes y fs)
 unfolding slotsBytes
-bytes-slotsBytes b h [] w = tt
-bytes-slotsBytes b h (s ∷ fs) w = bytes-append (slotBytes b s) (slotsBytes b fs) (bytes-slotBytes b h (w 0)) (bytes-slotsBytes b h fs (λ B. w (suc B)))
+bytes-slotsBytes y h [] w = tt
+bytes-slotsBytes y h (s ∷ fs) w = bytes-append (slotBytes y s) (slotsBytes y fs) (bytes-slotBytes y h (w 0)) (bytes-slotsBytes y h fs (λ B. w (suc B)))
 
-pub bytes-fileBytes : (b : ℕ) (fs : List Slot) → Sizes b (length fs) → ((B : ℕ) → Well b (slot-at fs B)) → Bytes (fileBytes b fs)
+pub bytes-fileBytes : (y : Layout) (fs : List Slot) → Sizes y (length fs) → ((B : ℕ) → Well (y .b) (slot-at fs B)) → Bytes (fileBytes y fs)
 unfolding fileBytes headerBytes
-bytes-fileBytes b fs g w =
-    bytes-append (headerBytes b (length fs)) (slotsBytes b fs)
-    (omega arith, (omega arith, (omega arith, (omega arith, (omega arith, (omega (arith, g .b-most), (omega (arith, g .slots-most), bytes-same 9 0 (omega arith))))))))
-    (bytes-slotsBytes b (g .b-most) fs w)
+bytes-fileBytes y fs g w =
+    bytes-append (headerBytes y (length fs)) (slotsBytes y fs)
+    (omega arith, (omega arith, (omega arith, (omega arith, (omega (arith, offered-small (y .version) (g .offered)), (omega (arith, g .b-most), (omega (arith, g .slots-most), bytes-same 9 0 (omega arith))))))))
+    (bytes-slotsBytes y (g .b-most) fs w)
 
 -- A store changes exactly one slot.
 paste-behind : (p xs s : List ℕ) (n m w : ℕ) → length p ≡ n → paste (p ++ xs) (n + m) s w ≡ p ++ paste xs m s w
 paste-behind p xs s n m w h =
     rw (take-past p xs (n + m) m (omega arith), drop-past p xs (n + m + w) (m + w) (omega arith)) (simp append-assoc)
 
-paste-slotsBytes : (b k : ℕ) (s : Slot) (fs : List Slot) → k < length fs
-    → paste (slotsBytes b fs) (k * slotSize b) (slotBytes b s) (slotSize b) ≡ slotsBytes b (set fs k s)
+paste-slotsBytes : (y : Layout) (k : ℕ) (s : Slot) (fs : List Slot) → k < length fs
+    → paste (slotsBytes y fs) (k * slotSize y) (slotBytes y s) (slotSize y) ≡ slotsBytes y (set fs k s)
 unfolding slotsBytes
-paste-slotsBytes b k s [] h = absurd (omega arith)
-paste-slotsBytes b zero s (x ∷ fs) h =
-    rw (zero-mul, zero-add, take-all (slotSize b) (slotBytes b s) (omega (arith, length-slotBytes b s)), drop-at (slotBytes b x) (slotsBytes b fs) (slotSize b) (length-slotBytes b x))
-paste-slotsBytes b (suc k) s (x ∷ fs) h =
-    let e : suc k * slotSize b ≡ slotSize b + k * slotSize b = omega (arith, suc-mul k (slotSize b)) in
-    rw e (paste-behind (slotBytes b x) (slotsBytes b fs) (slotBytes b s) (slotSize b) (k * slotSize b) (slotSize b) (length-slotBytes b x)
-    ∙ ap (λ (r : List ℕ). slotBytes b x ++ r) (paste-slotsBytes b k s fs (omega arith)))
+paste-slotsBytes y k s [] h = absurd (omega arith)
+paste-slotsBytes y zero s (x ∷ fs) h =
+    rw (zero-mul, zero-add, take-all (slotSize y) (slotBytes y s) (omega (arith, length-slotBytes y s)), drop-at (slotBytes y x) (slotsBytes y fs) (slotSize y) (length-slotBytes y x))
+paste-slotsBytes y (suc k) s (x ∷ fs) h =
+    let e : suc k * slotSize y ≡ slotSize y + k * slotSize y = omega (arith, suc-mul k (slotSize y)) in
+    rw e (paste-behind (slotBytes y x) (slotsBytes y fs) (slotBytes y s) (slotSize y) (k * slotSize y) (slotSize y) (length-slotBytes y x)
+    ∙ ap (λ (r : List ℕ). slotBytes y x ++ r) (paste-slotsBytes y k s fs (omega arith)))
 
-pub storeBytes-fileBytes : (b k : ℕ) (s : Slot) (fs : List Slot) → k < length fs → storeBytes b k s (fileBytes b fs) ≡ fileBytes b (set fs k s)
+pub storeBytes-fileBytes : (y : Layout) (k : ℕ) (s : Slot) (fs : List Slot) → k < length fs → storeBytes y k s (fileBytes y fs) ≡ fileBytes y (set fs k s)
 unfolding storeBytes fileBytes
-storeBytes-fileBytes b k s fs h =
-    rw length-set (paste-behind (headerBytes b (length fs)) (slotsBytes b fs) (slotBytes b s) 16 (k * slotSize b) (slotSize b) (length-headerBytes b (length fs))
-    ∙ ap (λ (r : List ℕ). headerBytes b (length fs) ++ r) (paste-slotsBytes b k s fs h))
+storeBytes-fileBytes y k s fs h =
+    rw length-set (paste-behind (headerBytes y (length fs)) (slotsBytes y fs) (slotBytes y s) 16 (k * slotSize y) (slotSize y) (length-headerBytes y (length fs))
+    ∙ ap (λ (r : List ℕ). headerBytes y (length fs) ++ r) (paste-slotsBytes y k s fs h))
 
 -- The same of any bytes that are long enough to hold slot k.
-module _ (b k : ℕ) (s : Slot) (xs : List ℕ) (fits : 16 + k * slotSize b + slotSize b ≤ length xs) where
-  take-stored : (n : ℕ) → n ≤ 16 + k * slotSize b → take n (storeBytes b k s xs) ≡ take n xs
+module _ (y : Layout) (k : ℕ) (s : Slot) (xs : List ℕ) (fits : 16 + k * slotSize y + slotSize y ≤ length xs) where
+  take-stored : (n : ℕ) → n ≤ 16 + k * slotSize y → take n (storeBytes y k s xs) ≡ take n xs
   unfolding storeBytes
   take-stored n h =
-      let m = 16 + k * slotSize b in
-      let z = slotSize b in
-      rw append-assoc (take-append-le n (take m xs) (take z (slotBytes b s) ++ drop (m + z) xs) (omega (arith, length-take-le m xs (omega arith))) ∙ take-take n m xs h)
+      let m = 16 + k * slotSize y in
+      let z = slotSize y in
+      rw append-assoc (take-append-le n (take m xs) (take z (slotBytes y s) ++ drop (m + z) xs) (omega (arith, length-take-le m xs (omega arith))) ∙ take-take n m xs h)
 
-  pub slotAt-storeBytes : slotAt b k (storeBytes b k s xs) ≡ slotBytes b s
+  pub slotAt-storeBytes : slotAt y k (storeBytes y k s xs) ≡ slotBytes y s
   unfolding slotAt storeBytes
   slotAt-storeBytes =
-      let m = 16 + k * slotSize b in
-      let z = slotSize b in
-      let w : take z (slotBytes b s) ≡ slotBytes b s = take-all z (slotBytes b s) (omega (arith, length-slotBytes b s)) in
-      rw (w, append-assoc, drop-at (take m xs) (slotBytes b s ++ drop (m + z) xs) m (length-take-le m xs (omega arith))) (take-at (slotBytes b s) (drop (m + z) xs) z (length-slotBytes b s))
+      let m = 16 + k * slotSize y in
+      let z = slotSize y in
+      let w : take z (slotBytes y s) ≡ slotBytes y s = take-all z (slotBytes y s) (omega (arith, length-slotBytes y s)) in
+      rw (w, append-assoc, drop-at (take m xs) (slotBytes y s ++ drop (m + z) xs) m (length-take-le m xs (omega arith))) (take-at (slotBytes y s) (drop (m + z) xs) z (length-slotBytes y s))
 
-  before-stored : (j : ℕ) → j < k → slotAt b j (storeBytes b k s xs) ≡ slotAt b j xs
+  before-stored : (j : ℕ) → j < k → slotAt y j (storeBytes y k s xs) ≡ slotAt y j xs
   unfolding slotAt
   before-stored j h =
-      let z = slotSize b in
-      let n = 16 + j * slotSize b in
+      let z = slotSize y in
+      let n = 16 + j * slotSize y in
       let f : n + z ≤ 16 + k * z = omega (arith, suc-mul j z, mul-le-mul-right {m = suc j} {n = k} z h) in
-      part n z (storeBytes b k s xs) ∙ ap (λ (l : List ℕ). drop n l) (take-stored (n + z) f) ∙ sym (part n z xs)
+      part n z (storeBytes y k s xs) ∙ ap (λ (l : List ℕ). drop n l) (take-stored (n + z) f) ∙ sym (part n z xs)
     where
       part : (n z : ℕ) (l : List ℕ) → take z (drop n l) ≡ drop n (take (n + z) l)
       part n z l = let e : n + z - n ≡ z = omega arith in sym (drop-take n (n + z) l ∙ rw e)
 
-  behind-stored : (j : ℕ) → k < j → slotAt b j (storeBytes b k s xs) ≡ slotAt b j xs
+  behind-stored : (j : ℕ) → k < j → slotAt y j (storeBytes y k s xs) ≡ slotAt y j xs
   unfolding slotAt storeBytes
   behind-stored j h =
-      let z = slotSize b in
-      let m = 16 + k * slotSize b in
-      let n = 16 + j * slotSize b in
+      let z = slotSize y in
+      let m = 16 + k * slotSize y in
+      let n = 16 + j * slotSize y in
       let f : m + z ≤ n = omega (arith, suc-mul k z, mul-le-mul-right {m = suc k} {n = j} z h) in
       let i : n ≡ m + z + (n - (m + z)) = omega arith in
-      rw i (ap (take z) (sym (drop-drop (n - (m + z)) (m + z) (paste xs m (slotBytes b s) z))
-      ∙ ap (λ (l : List ℕ). drop (n - (m + z)) l) (drop-paste xs m (slotBytes b s) z (omega arith) (omega (arith, length-slotBytes b s)))
+      rw i (ap (take z) (sym (drop-drop (n - (m + z)) (m + z) (paste xs m (slotBytes y s) z))
+      ∙ ap (λ (l : List ℕ). drop (n - (m + z)) l) (drop-paste xs m (slotBytes y s) z (omega arith) (omega (arith, length-slotBytes y s)))
       ∙ drop-drop (n - (m + z)) (m + z) xs))
 
-  pub others-storeBytes : (j : ℕ) → j ≢ k → slotAt b j (storeBytes b k s xs) ≡ slotAt b j xs
+  pub others-storeBytes : (j : ℕ) → j ≢ k → slotAt y j (storeBytes y k s xs) ≡ slotAt y j xs
   others-storeBytes j h = elim (decLt j k) [ yes q ↦ before-stored j q | no q ↦ behind-stored j (omega arith) ]

@@ -1,12 +1,5 @@
 -- Growth and redirection in the cells: cells that agree before a split agree after it.
-use mathlib.Core.Path.{_∙_, _≡_, ap, refl, sym}
-use mathlib.Core.Logic.{_≢_, _⊎_, inl, inr}
-use mathlib.Core.List.{List, List·Memᴰ, List·Memᴰ·append-cases, List·Memᴰ·cases-cons, List·Memᴰ·not-nil, [], _++_, _∷_}
-use Prim.Native.Nat.{_+_, _<_, _≤_, suc, zero, ℕ}
-use native.Mathlib.Decide.{decLe, ℕ-discrete}
-use native.Mathlib.Omega.{arith}
-use lib.ListN.{List·getD-append, length, length-append, length-set, set, take}
-use lib.Seq.{drop-length, getD-append-add, getD-set-other, getD-set-same, length-take-le}
+use Rattle.model.proofs.Prelude.{List, List·Memᴰ, List·Memᴰ·append-cases, List·Memᴰ·cases-cons, List·Memᴰ·not-nil, List·getD-append, [], _++_, _+_, _<_, _∙_, _∷_, _≡_, _≢_, _≤_, _⊎_, ap, arith, decLe, drop-length, getD-append-add, getD-set-other, getD-set-same, inl, inr, length, length-append, length-set, length-take-le, refl, set, suc, sym, take, zero, ℕ, ℕ-discrete}
 use Rattle.model.specs.declared.Cell.{Cell}
 use Rattle.model.specs.declared.Side.{Side}
 use Rattle.model.specs.declared.Side.the-variants.{Cell as further}
@@ -17,8 +10,7 @@ use Rattle.model.specs.Rebuilding.{lay, side-of}
 use Rattle.model.specs.Growth.{Spot, cell-of, cells-grown, cells-turned, changed, graft, grow-cells, grown, left, new-cells, path-cells, placed, relabel, right, root, root-grown, root-turned, spot-cells, string?, turn, turn-cell, turn-cells, turn-side}
 use Rattle.model.proofs.Order.{diff-lt-left, le-refl, le-take, le-trans, lt-le, sandwich}
 use Rattle.model.proofs.Tries.{inside}
-use Rattle.model.proofs.Cells.{Stands, each-once, lay-reads, length-lay, not-visited, numbers-upto, occ-append, one-if-equal, reads-agree, reads-below, reads-set, there-at, upto, upto-above, upto-once, visits-count, walk-reads}
-use Rattle.model.proofs.Passing.{height, reads-height}
+use Rattle.model.proofs.Cells.{Stands, each-once, height, lay-reads, length-lay, not-visited, numbers-upto, occ-append, one-if-equal, reads-agree, reads-below, reads-height, reads-set, there-at, upto, upto-above, upto-once, visits-count, walk-reads}
 use Rattle.model.proofs.Agreement.{CellsAgree}
 use Rattle.model.proofs.Splitting.{SplitAt, split-agrees}
 

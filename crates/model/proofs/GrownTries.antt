@@ -1,9 +1,5 @@
 -- A made change keeps the trie's agreement: as it is where the ranges stay, grown where a bucket was split.
-use mathlib.Core.Path.{_≡_, ap, fun-ext, refl, subst, sym}
-use mathlib.Core.List.{List, [], _++_, _∷_}
-use Prim.Native.Nat.{_/_, _<_, _≤_, suc, zero, ℕ}
-use native.Mathlib.Omega.{arith}
-use lib.ListN.{length, length-take, set, take}
+use Rattle.model.proofs.Prelude.{List, [], _++_, _/_, _<_, _∷_, _≡_, _≤_, ap, arith, fun-ext, length, length-take, refl, set, subst, suc, sym, take, zero, ℕ}
 use Rattle.model.specs.declared.Cell.{Cell}
 use Rattle.model.specs.declared.Side.{Side}
 use Rattle.model.specs.declared.Side.the-variants.{Cell as further, Slot as slot}
@@ -22,7 +18,7 @@ use Rattle.model.proofs.Cells.{visits-count}
 use Rattle.model.proofs.Agreement.{CellsAgree, agrees-cells, cells-agree, trie-of-agrees}
 use Rattle.model.proofs.Splitting.{SplitAt}
 use Rattle.model.proofs.GrownCells.{grows}
-use Rattle.model.proofs.Changes.{after-second, half, is-split, length-all, one-sound, row-all, same-heads, second-sound, well-a}
+use Rattle.model.proofs.Changes.{after-second, is-split, length-all, one-sound, row-all, same-heads, second-sound, well-a}
 
 -- A root that is a cell is cell 0, and stays so.
 pub root-further : (count first : ℕ) → (count ≡ 0 → ⊥) → further 0 ≡ root-side count first
@@ -95,13 +91,13 @@ module _ (b : ℕ) where
           C : CellsAgree (ranges gs) (second-sound b fs S A l u es is n v legal lo up big i i-lt N lowest .order) (cells-turned cs a c s A N) (root-turned cs a c s A N)
           C = grown-agree (rw (ec, ea) (agrees-cells b S G))
 
-  pub change-agrees : 2 ≤ b → {fs : List Slot} {q : Request} {ss : List Store} (S : Sound b fs) (c : Change b fs q ss) {t : Trie} → Agrees fs t → Agrees (stored ss fs) (trie-after b c t)
+  pub change-agrees : (place : List Entry → ℕ) → ((ws : List Entry) → place ws < b) → {fs : List Slot} {q : Request} {ss : List Store} (S : Sound b fs) (c : Change b place fs q ss) {t : Trie} → Agrees fs t → Agrees (stored ss fs) (trie-after b place c t)
   unfolding trie-after
-  change-agrees b-two {fs} S (fits {A = A} {l = l} {u = u} {es = es} {n = n} {v = v} is g lo up k) G =
+  change-agrees place place-lt {fs} S (fits {A = A} {l = l} {u = u} {es = es} {n = n} {v = v} is g lo up k) G =
       kept-agrees fs S A l u es is (insert n v es) (row-insert n v g lo up (well-a b fs S A l u es is .3)) k G
-  change-agrees b-two {fs} S (splits {A = A} {N = N} {l = l} {u = u} {es = es} {n = n} {v = v} is g lo up big low few) {t} G =
-      grown-agrees fs S A l u es is n v g lo up big (b / 2) (half b b-two) N low (take (t .count) (t .cells)) (root-side (t .count) (t .first)) refl refl G few
-  change-agrees b-two {fs} S (removes {A = A} {l = l} {u = u} {es = es} {n = n} is lo up e) G =
+  change-agrees place place-lt {fs} S (splits {A = A} {N = N} {l = l} {u = u} {es = es} {n = n} {v = v} is g lo up big low few) {t} G =
+      grown-agrees fs S A l u es is n v g lo up big (place (insert n v es)) (place-lt (insert n v es)) N low (take (t .count) (t .cells)) (root-side (t .count) (t .first)) refl refl G few
+  change-agrees place place-lt {fs} S (removes {A = A} {l = l} {u = u} {es = es} {n = n} is lo up e) G =
       let w = well-a b fs S A l u es is in
       kept-agrees fs S A l u es is (without n es) (row-keep (λ k. not? (str? k n)) l u (w .3) (λ k p c d. (c, d))) (omega (arith, length-keep (λ k. not? (str? k n)) es, w .4)) G
-  change-agrees b-two S (absent A is lo up e) G = G
+  change-agrees place place-lt S (absent A is lo up e) G = G

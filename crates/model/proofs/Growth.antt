@@ -1,12 +1,5 @@
 -- A chain of cells at a leaf is a trie of the leaf's interval; grafting it keeps a trie a trie.
-use mathlib.Core.Path.{_∙_, _≡_, ap, refl, sym}
-use mathlib.Core.Logic.{_≢_, _⊎_, inl, inr}
-use mathlib.Core.List.{List, List·Memᴰ, List·Memᴰ·head, List·Memᴰ·tail, Memᴰ·append-left, Memᴰ·append-right, [], _++_, _∷_, append-assoc, append-nil}
-use Prim.Native.Nat.{_<_, _≤_, suc, ℕ}
-use native.Mathlib.Numerals.{add-one}
-use native.Mathlib.Omega.{arith}
-use lib.ListN.{drop, getD, length, length-append, take, take-append-drop}
-use lib.Seq.{drop-cons, length-take-le, take-length, take-suc}
+use Rattle.model.proofs.Prelude.{List, List·Memᴰ, List·Memᴰ·head, List·Memᴰ·tail, Memᴰ·append-left, Memᴰ·append-right, [], _++_, _<_, _∙_, _∷_, _≡_, _≢_, _≤_, _⊎_, add-one, ap, append-assoc, append-nil, arith, drop, drop-cons, getD, inl, inr, length, length-append, length-take-le, refl, suc, sym, take, take-append-drop, take-length, take-suc, ℕ}
 use Rattle.model.specs.Order.{Low, Str, _≺_, _⊑_, _⊴_, _◁_, above, at, diff, le?}
 use Rattle.model.specs.Files.{fresh, longer}
 use Rattle.model.specs.Tries.{Spans, Tree, cell, cut, leaf, node, tip}

@@ -1,3 +1,4 @@
+pub mod Prelude
 pub mod Order
 pub mod Lists
 pub mod Names
@@ -10,12 +11,12 @@ pub mod Cells
 pub mod Rebuilding
 pub mod Shapes
 pub mod Files
-pub mod Passing
 pub mod Agreement
 pub mod Splitting
 pub mod GrownCells
 pub mod Changes
 pub mod Calls
+pub mod Places
 pub mod Checks
 pub mod Agreeing
 pub mod Surveys
@@ -23,5 +24,5 @@ pub mod Format
 pub mod CheckedFiles
 pub mod Stores
 pub mod GrownTries
-pub mod Histories
+pub mod Created
 pub mod LookUps

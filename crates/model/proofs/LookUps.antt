@@ -1,13 +1,5 @@
 -- A trie that agrees with a sound file is never stale: its walk arrives, and a lookup answers what the bucket holds.
-use mathlib.Core.Path.{_≡_, refl}
-use mathlib.Core.Bool.{cond, true}
-use mathlib.Core.Option.{some}
-use mathlib.Core.List.{List, List·Memᴰ, List·Memᴰ·head, List·Memᴰ·tail, Memᴰ·append-left, Memᴰ·append-right, [], _∷_}
-use Prim.Native.Nat.{_<_, _≤_, suc, zero, ℕ}
-use native.Mathlib.Decide.{decLt, ℕ-discrete}
-use native.Mathlib.Omega.{arith}
-use lib.ListN.{length, length-append, length-take}
-use borrow.Author.Tests.{le-leb, lt-ltb}
+use Rattle.model.proofs.Prelude.{List, List·Memᴰ, List·Memᴰ·head, List·Memᴰ·tail, Memᴰ·append-left, Memᴰ·append-right, [], _<_, _∷_, _≡_, _≤_, arith, cond, decLt, le-leb, length, length-append, length-take, lt-ltb, refl, some, suc, true, zero, ℕ, ℕ-discrete}
 use Rattle.model.specs.declared.Cell.{Cell}
 use Rattle.model.specs.declared.Side.{Side}
 use Rattle.model.specs.declared.Trie.{Trie}
@@ -91,8 +83,8 @@ pub lookup-agrees : (xs : List ℕ) (t : Trie) (name : List ℕ) (S : SoundFile 
     → lookUpOf xs t name ≡ heldAnswer (find (filled name) (entries-of (slot-at (S .slots) (walk-trie t (filled name)))))
 unfolding lookUpOf headedAnswer arrivedAnswer
 lookup-agrees xs t name S A legal =
-    rw (legal, header, le-leb (t .count) 256 (A .few), arrive-agrees (S .b) (S .sound) A n (length-filled name) (length (S .slots)) refl, readSlot-readFile xs (S .is) k (used-inside (S .slots) k (i .0)))
-    (slot-answers (S .b) n (slot-at (S .slots) k) (S .sound .well k) i)
+    rw (legal, header, le-leb (t .count) 256 (A .few), arrive-agrees (S .layout .b) (S .sound) A n (length-filled name) (length (S .slots)) refl, readSlot-readFile xs (S .is) k (used-inside (S .slots) k (i .0)))
+    (slot-answers (S .layout .b) n (slot-at (S .slots) k) (S .sound .well k) i)
   where
     n : Str
     n = filled name
@@ -101,7 +93,7 @@ lookup-agrees xs t name S A legal =
     k = walk-trie t n
 
     i : In (head (slot-at (S .slots) k)) n
-    i = agrees-walk (S .b) (S .sound) A n
+    i = agrees-walk (S .layout .b) (S .sound) A n
 
-    header : headerOf xs ≡ some (S .b, length (S .slots))
+    header : headerOf xs ≡ some (S .layout, length (S .slots))
     header = headed-headerOf (readFile-read xs (S .is) .headed)

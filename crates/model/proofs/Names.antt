@@ -1,13 +1,5 @@
 -- The tests of names and bounds are what they test; within and not above are one; the split string is the first difference's.
-use mathlib.Core.Path.{_∙_, _≡_, ap, ap₂, refl, sym}
-use mathlib.Core.Bool.{Bool, _&&_, cond, false, true, true≢false}
-use mathlib.Core.List.{[], _++_, _∷_}
-use Prim.Native.Nat.{_+_, _-_, _<_, _≤_, suc, zero, ℕ}
-use native.Mathlib.Decide.{decLe, decLt, ℕ-discrete}
-use native.Mathlib.Omega.{arith}
-use lib.Dec.{eqb, leb, ltb}
-use lib.ListN.{length, length-append, length-replicate, length-take, replicate, take}
-use borrow.Author.Tests.{eq-eqb, eqb-true, le-leb, le-ltb, leb-true, lt-ltb, ne-eqb}
+use Rattle.model.proofs.Prelude.{Bool, [], _&&_, _++_, _+_, _-_, _<_, _∙_, _∷_, _≡_, _≤_, ap, ap₂, arith, clash, cond, decLe, decLt, eq-eqb, eqb, eqb-true, false, le-leb, le-ltb, leb, leb-true, length, length-append, length-replicate, length-take, lt-ltb, ltb, ne-eqb, refl, replicate, suc, sym, take, true, true≢false, zero, ℕ, ℕ-discrete}
 use Rattle.model.specs.Order.{Str, _≺_, _⊑_, at, diff, diff-at, digit, head-le, nil-not-le, tail-le, top}
 use Rattle.model.specs.Names.{Bound, Digits, Legal, areDigits, atMost, blankEnded, blanks, filled, legalBound, legalFilled, legalName, notGreater, smaller, splitFrom, splitString, within}
 use Rattle.model.proofs.Lists.{length-made, made-short}
@@ -24,11 +16,11 @@ stand a b = elim (decLt a b) [ yes h ↦ less h | no h ↦ elim (ℕ-discrete a 
 
 pub both-true : (a b : Bool) → (a && b) ≡ true → (a ≡ true) × (b ≡ true)
 both-true true b e = (refl, e)
-both-true false b e = let z : _≡_ {A = ℕ} 0 1 = cc in absurd (omega arith)
+both-true false b e = clash cc
 
 -- No test is both true and false.
-pub clash : (t : Bool) → t ≡ true → t ≡ false → ⊥
-clash t e f = true≢false (sym e ∙ f)
+pub never-both : (t : Bool) → t ≡ true → t ≡ false → ⊥
+never-both t e f = true≢false (sym e ∙ f)
 
 pub le-atMost : (x y : Str) → x ⊑ y → atMost x y ≡ true
 unfolding atMost
@@ -46,7 +38,7 @@ pub atMost-le : (x y : Str) → atMost x y ≡ true → x ⊑ y
 unfolding atMost
 atMost-le [] [] e = top
 atMost-le (a ∷ x) [] e = top
-atMost-le [] (b ∷ y) e = let z : _≡_ {A = ℕ} 0 1 = cc in absurd (omega arith)
+atMost-le [] (b ∷ y) e = clash cc
 atMost-le (a ∷ x) (b ∷ y) e = go (stand a b) e (atMost-le x y)
   where
     go : Stand a b → cond (ltb a b) true (cond (eqb a b) (atMost x y) false) ≡ true → (atMost x y ≡ true → x ⊑ y) → (a ∷ x) ⊑ (b ∷ y)
@@ -54,10 +46,10 @@ atMost-le (a ∷ x) (b ∷ y) e = go (stand a b) e (atMost-le x y)
     go (equal q) e f = let k : a ≤ b = omega arith in digit k (λ r. f (rw (le-ltb a b (omega arith), eq-eqb a b q) at e))
     go (more h) e f =
         let n : false ≡ true = rw (le-ltb a b (omega arith), ne-eqb a b (λ q. absurd (omega arith))) at e in
-        let z : _≡_ {A = ℕ} 0 1 = cc in absurd (omega arith)
+        clash cc
 
 pub atMost-lt : (x y : Str) → atMost x y ≡ false → y ≺ x
-atMost-lt x y e p = clash (atMost x y) (le-atMost x y p) e
+atMost-lt x y e p = never-both (atMost x y) (le-atMost x y p) e
 
 pub lt-atMost : (x y : Str) → y ≺ x → atMost x y ≡ false
 lt-atMost x y p = go (atMost x y) refl
@@ -178,7 +170,7 @@ ended (d ∷ n) e = elim (ℕ-discrete d 0x20) [
 
 pub legalFilled-legal : (n : Str) → legalFilled n ≡ true → Legal n
 unfolding legalFilled
-legalFilled-legal [] e = let z : _≡_ {A = ℕ} 0 1 = cc in absurd (omega arith)
+legalFilled-legal [] e = clash cc
 legalFilled-legal (d ∷ n) e =
     let p = both-true (eqb (length n) 23 && leb 0x21 d && leb d 0x7D) (blankEnded n) e in
     let q = both-true (eqb (length n) 23 && leb 0x21 d) (leb d 0x7D) (p .0) in

@@ -1,12 +1,5 @@
 -- The order is total, transitive and antisymmetric; beginnings, the sandwich, the first difference; lower limits.
-use mathlib.Core.Path.{_∙_, _≡_, ap, refl, sym}
-use mathlib.Core.Logic.{_⊎_, inl, inr}
-use mathlib.Core.List.{[], _++_, _∷_}
-use Prim.Native.Nat.{_<_, _≤_, suc, zero, ℕ}
-use native.Mathlib.Decide.{decLe, ℕ-discrete}
-use native.Mathlib.Omega.{arith}
-use lib.ListN.{length, take}
-use lib.Seq.{take-take}
+use Rattle.model.proofs.Prelude.{[], _++_, _<_, _∙_, _∷_, _≡_, _≤_, _⊎_, ap, arith, decLe, inl, inr, length, refl, suc, sym, take, take-take, zero, ℕ, ℕ-discrete}
 use Rattle.model.specs.Order.{Low, Str, _≺_, _⊑_, _⊴_, _◁_, above, at, below, diff, diff-at, digit, head-le, le?, least, nil-not-le, none, tail-le, top}
 
 pub le-refl : (x : Str) → x ⊑ x

@@ -1,11 +1,5 @@
 -- Slots in range order: each name in the range of one slot, each leaf with one slot; the bounds ascend.
-use mathlib.Core.Path.{_∙_, _≡_, ap, refl, sym}
-use mathlib.Core.Logic.{_≢_, _⊎_, inl, inr}
-use mathlib.Core.List.{List, List·Memᴰ, List·Memᴰ·cases-cons, List·Memᴰ·head, List·Memᴰ·not-nil, List·Memᴰ·tail, Memᴰ·cast, [], _∷_}
-use Prim.Native.Nat.{_<_, ℕ}
-use native.Mathlib.Omega.{arith}
-use lib.ListN.{length}
-use lib.Seq.{take-length}
+use Rattle.model.proofs.Prelude.{List, List·Memᴰ, List·Memᴰ·cases-cons, List·Memᴰ·head, List·Memᴰ·not-nil, List·Memᴰ·tail, Memᴰ·cast, [], _<_, _∙_, _∷_, _≡_, _≢_, _⊎_, ap, arith, inl, inr, length, refl, sym, take-length, ℕ}
 use Rattle.model.specs.Order.{Asc, Low, Str, _≺_, _⊑_, _⊴_, _◁_, at, end, low?, over, step, top}
 use Rattle.model.specs.Files.{Chain, Ranges, all, bounds, last, next}
 use Rattle.model.specs.Tries.{Leads}
@@ -113,15 +107,3 @@ module _ (F : Ranges) where
       go : (at (F .upper C) ≡ at y) ⊎ List·Memᴰ y (bounds F (D ∷ Bs)) → (m ≡ at y) ⊎ List·Memᴰ y (bounds F (C ∷ D ∷ Bs))
       go (inl e) = let p : y ≡ F .upper C = cc in inr (List·Memᴰ·head p)
       go (inr k) = inr (List·Memᴰ·tail k)
-
-pub chain-unique : (F : Ranges) {l : Low} {Bs Cs : List ℕ} → Chain F l Bs → Chain F l Cs
-    → ((B C : ℕ) → F .Used B → F .Used C → F .lower B ≡ F .lower C → B ≡ C) → Bs ≡ Cs
-chain-unique F (last {B = B} u e f) (last {B = C} u′ e′ f′) g = ap (λ D. D ∷ []) (g B C u u′ (e ∙ sym e′))
-chain-unique F (last {B = B} u e f) (next {B = C} u′ e′ a b c) g =
-    absurd (b (rw (ap (F .upper) (g C B u′ u (e′ ∙ sym e)) ∙ f) (le-refl [])))
-chain-unique F (next {B = B} u e a b c) (last {B = C} u′ e′ f′) g =
-    absurd (b (rw (ap (F .upper) (g B C u u′ (e ∙ sym e′)) ∙ f′) (le-refl [])))
-chain-unique F (next {B = B} {Bs = Bs} u e a b c) (next {B = C} {Bs = Cs} u′ e′ a′ b′ c′) g =
-    let p : B ≡ C = g B C u u′ (e ∙ sym e′) in
-    let q : Bs ≡ Cs = chain-unique F c (rw (← p) at c′) g in
-    cc

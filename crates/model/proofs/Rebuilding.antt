@@ -1,13 +1,5 @@
 -- Of a run, any string with fewest digits serves as root; the middle one has fewest; so the rebuilt trie leads every leaf to its bucket.
-use mathlib.Core.Path.{_∙_, _≡_, ap, refl, subst, sym}
-use mathlib.Core.Logic.{_⊎_, inl, inr}
-use mathlib.Core.List.{List, List·Memᴰ, List·Memᴰ·append-cases, List·Memᴰ·cases-cons, List·Memᴰ·head, List·Memᴰ·not-nil, List·Memᴰ·tail, Memᴰ·append-left, Memᴰ·append-right, [], _++_, _∷_}
-use Prim.Native.Nat.{_+_, _-_, _/_, _<_, _≤_, min, suc, zero, ℕ}
-use native.Mathlib.Nat.{sub-zero}
-use native.Mathlib.Decide.{ℕ-discrete}
-use native.Mathlib.Omega.{arith}
-use lib.ListN.{drop, getD, length, length-drop, length-take, take}
-use lib.Seq.{split-at, take-all, take-suc}
+use Rattle.model.proofs.Prelude.{List, List·Memᴰ, List·Memᴰ·append-cases, List·Memᴰ·cases-cons, List·Memᴰ·head, List·Memᴰ·not-nil, List·Memᴰ·tail, Memᴰ·append-left, Memᴰ·append-right, [], _++_, _+_, _-_, _/_, _<_, _∙_, _∷_, _≡_, _≤_, _⊎_, ap, arith, drop, getD, inl, inr, length, length-drop, length-take, min, refl, split-at, sub-zero, subst, suc, sym, take, take-all, take-suc, zero, ℕ, ℕ-discrete}
 use Rattle.model.specs.Order.{Asc, Low, Str, _≺_, _⊑_, _◁_, at, least, none, over, top}
 use Rattle.model.specs.Files.{Chain, Ranges, all, bounds}
 use Rattle.model.specs.Tries.{Leads, Spans, Tree, cell, tip, walk}

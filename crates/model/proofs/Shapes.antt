@@ -1,12 +1,6 @@
 -- A trie's strings are determined by a number and a digit a cell, in order, if no number in the right part of a cell is
 -- smaller than the cell's own: so a pass that compares these two alone decides which strings a trie has.
-use mathlib.Core.Path.{_∙_, _≡_, ap, refl, sym}
-use mathlib.Core.List.{List, List·Memᴰ, List·Memᴰ·head, Memᴰ·append-left, Memᴰ·append-right, [], _++_, _∷_}
-use Prim.Native.Nat.{_<_, _≤_, ℕ}
-use native.Mathlib.Decide.{decLt}
-use native.Mathlib.Omega.{arith}
-use lib.ListN.{length, take}
-use lib.Seq.{length-take-le, take-all, take-append-le, take-take}
+use Rattle.model.proofs.Prelude.{List, List·Memᴰ, List·Memᴰ·head, Memᴰ·append-left, Memᴰ·append-right, [], _++_, _<_, _∙_, _∷_, _≡_, _≤_, ap, arith, decLt, length, length-take-le, refl, sym, take, take-all, take-append-le, take-take, ℕ}
 use Rattle.model.specs.Order.{Low, Str, _≺_, _⊑_, _◁_, at, over}
 use Rattle.model.specs.Tries.{Numbers, Spans, Tree, cell, cut, leaf, node, strings, tip}
 use Rattle.model.proofs.Order.{le-take, le-trans, lt-le, sandwich}

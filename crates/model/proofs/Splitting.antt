@@ -1,12 +1,5 @@
 -- A split of a bucket: N comes right after A, s is added to the bounds, and the grown trie leads every leaf to its bucket.
-use mathlib.Core.Path.{_∙_, _≡_, ap, refl, sym}
-use mathlib.Core.Logic.{_≢_, _⊎_, inl, inr}
-use mathlib.Core.List.{List, List·Memᴰ, List·Memᴰ·append-cases, List·Memᴰ·head, List·Memᴰ·tail, Memᴰ·append-left, Memᴰ·append-right, Memᴰ·cast, [], _++_, _∷_}
-use Prim.Native.Nat.{_<_, _≤_, suc, ℕ}
-use native.Mathlib.Decide.{ℕ-discrete}
-use native.Mathlib.Omega.{arith}
-use lib.ListN.{length, take}
-use lib.Seq.{length-take-le, take-length, take-nil}
+use Rattle.model.proofs.Prelude.{List, List·Memᴰ, List·Memᴰ·append-cases, List·Memᴰ·head, List·Memᴰ·tail, Memᴰ·append-left, Memᴰ·append-right, Memᴰ·cast, [], _++_, _<_, _∙_, _∷_, _≡_, _≢_, _≤_, _⊎_, ap, arith, inl, inr, length, length-take-le, refl, suc, sym, take, take-length, take-nil, ℕ, ℕ-discrete}
 use Rattle.model.specs.Order.{Asc, Low, Str, _≺_, _⊑_, _◁_, above, at, diff, le?, least, none, top}
 use Rattle.model.specs.Files.{Begins, Chain, Ranges, all, bounds, fresh, last, next}
 use Rattle.model.specs.Tries.{Leads, Spans, Tree}

@@ -1,12 +1,5 @@
 -- A list of bounds and their beginnings: ascending, closed under beginnings, and exactly these.
-use mathlib.Core.Path.{_∙_, _≡_, ap, refl, sym}
-use mathlib.Core.Logic.{_⊎_, inl, inr}
-use mathlib.Core.List.{List, List·Memᴰ, List·Memᴰ·append-cases, List·Memᴰ·cases-cons, List·Memᴰ·eq-of-singleton, List·Memᴰ·head, List·Memᴰ·not-nil, List·Memᴰ·tail, Memᴰ·append-left, Memᴰ·append-right, Memᴰ·cast, [], _++_, _∷_, append-assoc}
-use Prim.Native.Nat.{_+_, _-_, _<_, _≤_, suc, zero, ℕ}
-use native.Mathlib.Decide.{decLe}
-use native.Mathlib.Omega.{arith}
-use lib.ListN.{drop, getD, length, length-drop, length-take, take}
-use lib.Seq.{take-add, take-all, take-take}
+use Rattle.model.proofs.Prelude.{List, List·Memᴰ, List·Memᴰ·append-cases, List·Memᴰ·cases-cons, List·Memᴰ·eq-of-singleton, List·Memᴰ·head, List·Memᴰ·not-nil, List·Memᴰ·tail, Memᴰ·append-left, Memᴰ·append-right, Memᴰ·cast, [], _++_, _+_, _-_, _<_, _∙_, _∷_, _≡_, _≤_, _⊎_, ap, append-assoc, arith, decLe, drop, getD, inl, inr, length, length-drop, length-take, refl, suc, sym, take, take-add, take-all, take-take, zero, ℕ}
 use Rattle.model.specs.Order.{Asc, Low, Str, _≺_, _⊑_, _◁_, above, at, diff, end, nil-not-le, over, step, top}
 use Rattle.model.specs.Files.{Begins, all, fresh, longer}
 use Rattle.model.specs.Tries.{Spans, Tree, cut, tip}

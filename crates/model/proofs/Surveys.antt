@@ -1,12 +1,5 @@
 -- The used slots listed by upper bound, and where two are equal by lower limit, decide whether a file is sound, cut or bad.
-use mathlib.Core.Path.{_∙_, _≡_, ap, refl, subst, sym}
-use mathlib.Core.Logic.{_≢_, _⊎_, inl, inr}
-use mathlib.Core.List.{List, List·Memᴰ, List·Memᴰ·cases-cons, List·Memᴰ·head, List·Memᴰ·not-nil, List·Memᴰ·tail, Memᴰ·append-right, Memᴰ·cast, [], _++_, _∷_}
-use Prim.Native.Nat.{_<_, _≤_, ℕ}
-use native.Mathlib.Decide.{ℕ-discrete}
-use native.Mathlib.Omega.{arith}
-use lib.ListN.{length, set}
-use lib.Seq.{getD-set-other}
+use Rattle.model.proofs.Prelude.{List, List·Memᴰ, List·Memᴰ·cases-cons, List·Memᴰ·head, List·Memᴰ·not-nil, List·Memᴰ·tail, Memᴰ·append-right, Memᴰ·cast, [], _++_, _<_, _∙_, _∷_, _≡_, _≢_, _≤_, _⊎_, ap, arith, clash, getD-set-other, inl, inr, length, refl, set, subst, sym, ℕ, ℕ-discrete}
 use Rattle.model.specs.Order.{Low, Str, _≺_, _⊴_, _◁_, at, below, least, none, over, top}
 use Rattle.model.specs.Entries.{Entry, move}
 use Rattle.model.specs.Files.{Bad, Chain, Copied, Cut, IsUsed, Ranges, Slot, Sound, Well, free, head, last, lower-of, next, ranges, slot-at, upper-of, used, well-free}
@@ -244,7 +237,7 @@ module _ (b : ℕ) where
 
     -- Slots that follow on each other are a chain.
     pub follows-chain : (Bs : List ℕ) → ((B : ℕ) → List·Memᴰ B Bs → IsUsed (head (slot-at fs B))) → Follows (ranges fs) none Bs → Chain (ranges fs) none Bs
-    follows-chain [] u h = let z : _≡_ {A = ℕ} 0 1 = cc in absurd (omega arith)
+    follows-chain [] u h = clash cc
     follows-chain (B ∷ Bs) u h = follows-from B Bs none u h
 
     pub chain-sound : {Bs : List ℕ} → Lists fs Bs → Chain (ranges fs) none Bs → Sound b fs

@@ -1,12 +1,5 @@
 -- The walk ends at the leaf whose interval holds the name; all strings lie inside; the flat wording and the tree's are the same.
-use mathlib.Core.Path.{_∙_, _≡_, ap, refl, subst}
-use mathlib.Core.Logic.{_⊎_, inl, inr}
-use mathlib.Core.List.{List, List·Memᴰ, List·Memᴰ·append-cases, List·Memᴰ·cases-cons, List·Memᴰ·not-nil, [], _++_, _∷_}
-use Prim.Native.Nat.{_≤_, suc, ℕ}
-use native.Mathlib.Numerals.{add-one}
-use native.Mathlib.Omega.{arith}
-use lib.ListN.{length, length-append, take}
-use lib.Seq.{length-take-le}
+use Rattle.model.proofs.Prelude.{List, List·Memᴰ, List·Memᴰ·append-cases, List·Memᴰ·cases-cons, List·Memᴰ·not-nil, [], _++_, _∙_, _∷_, _≡_, _≤_, _⊎_, add-one, ap, arith, inl, inr, length, length-append, length-take-le, refl, subst, suc, take, ℕ}
 use Rattle.model.specs.Order.{Low, Str, _≺_, _⊑_, _⊴_, _◁_, above, at, le?, over}
 use Rattle.model.specs.Tries.{Leaves, Numbers, Spans, Tree, cell, cut, leaf, leaf-last, leaf-next, leaves, node, size, strings, tip, walk}
 use Rattle.model.specs.Growth.{relabel}

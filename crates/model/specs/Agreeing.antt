@@ -2,7 +2,7 @@
 use mathlib.Core.Bool.{Bool, _&&_, _||_, cond, false, true}
 use mathlib.Core.Option.{Option, none as nothing, some}
 use mathlib.Core.List.{List, [], _++_, _∷_}
-use Prim.Native.Nat.{_-_, suc, zero, ℕ}
+use Prim.Native.Nat.{suc, zero, ℕ}
 use lib.Dec.{eqb, leb, ltb}
 use lib.ListN.{drop, length, take}
 use Rattle.model.specs.declared.Cell.{Cell}

@@ -2,12 +2,13 @@
 use mathlib.Core.Bool.{_&&_, cond}
 use mathlib.Core.Option.{Option, none as nothing, some}
 use mathlib.Core.List.{List, [], _++_, _∷_}
-use Prim.Native.Nat.{_*_, _/_, suc, zero, ℕ}
+use Prim.Native.Nat.{_*_, suc, zero, ℕ}
 use lib.Dec.{eqb, leb, ltb}
-use lib.ListN.{drop, getD, length, replicate, take}
+use lib.ListN.{drop, length, replicate, take}
 use Rattle.model.specs.declared.Cause.{Cause}
 use Rattle.model.specs.declared.Cause.the-variants.{BadFile, CutFile, IllegalName, ManyStrings, NoFreeSlot, ShortOutput, StaleTrie, WrongSize}
 use Rattle.model.specs.declared.Cell.{Cell}
+use Rattle.model.specs.declared.Layout.{Layout}
 use Rattle.model.specs.declared.ListAnswer.{ListAnswer}
 use Rattle.model.specs.declared.ListAnswer.the-variants.{Listed, Refused as ListRefused}
 use Rattle.model.specs.declared.LookUpAnswer.{LookUpAnswer}
@@ -31,9 +32,10 @@ use Rattle.model.specs.Tries.{at-cell, cell, root-side, zero-cell}
 use Rattle.model.specs.Rebuilding.{rebuilt-trie}
 use Rattle.model.specs.Growth.{grown-trie}
 use Rattle.model.specs.Changes.{Result, Store, call, holds?, put, refuse, remove, split-of, stores}
+use Rattle.model.specs.Places.{place-of}
 use Rattle.model.specs.Checks.{Kind, is-bad, is-cut, is-sound, isAbove, isWell}
 use Rattle.model.specs.Agreeing.{isAgreeing}
-use Rattle.model.specs.Format.{checkFile, entriesBytes, entrySize, fileBytes, fileSize, headerOf, legalSizes, readFile, readSlot, slotAt, storeBytes, version}
+use Rattle.model.specs.Format.{checkFile, entriesBytes, entrySize, fileBytes, fileSize, headerOf, layoutOf, legalSizes, readFile, readSlot, slotAt, storeBytes}
 
 -- "one with count 0 and first leaf 0"
 abbrev pub new-trie : Trie
@@ -54,8 +56,9 @@ pub record Rebuilt : Type 0 where
 -- Refused 8: "create with b, slots or length not as above".
 unfoldable pub createOf : List ℕ → ℕ → ℕ → ℕ → Created
 createOf xs v b slots =
-    cond (eqb v version && legalSizes b slots && eqb (length xs) (fileSize b slots))
-    (record { answer = Given; file = fileBytes b (created slots); trie = new-trie })
+    let y : Layout = record { version = v; b = b } in
+    cond (legalSizes y slots && eqb (length xs) (fileSize y slots))
+    (record { answer = Given; file = fileBytes y (created slots); trie = new-trie })
     (record { answer = TrieRefused WrongSize; file = xs; trie = new-trie })
 
 -- "Check gives sound, cut or bad as a result." It is `checkFile`.
@@ -65,14 +68,13 @@ pub record Recovered : Type 0 where
   pub answer : RecoverAnswer
   pub file : List ℕ
 
--- "Recover frees slot N of a cut file in one store and names it; on a sound file it says nothing to do." The header's byte 5
--- is b.
+-- "Recover frees slot N of a cut file in one store and names it; on a sound file it says nothing to do."
 unfoldable pub recoverBy : List ℕ → ℕ → Kind → Recovered
 recoverBy xs limit is-bad = record { answer = RecoverRefused BadFile; file = xs }
 recoverBy xs limit is-sound = record { answer = Nothing; file = xs }
 recoverBy xs limit (is-cut N) =
     cond (ltb limit 1) (record { answer = RecoverStopped 0; file = xs })
-    (record { answer = Freed N; file = storeBytes (getD xs 5 0) N free xs })
+    (record { answer = Freed N; file = storeBytes (layoutOf xs) N free xs })
 
 unfoldable pub recoverOf : List ℕ → ℕ → Recovered
 recoverOf xs limit =
@@ -83,7 +85,7 @@ recoverOf xs limit =
 abbrev pub no-rebuilt : Cause → Rebuilt
 no-rebuilt c = record { answer = TrieRefused c; trie = new-trie }
 
-unfoldable pub rebuildBy : Kind → Option (ℕ × List Slot) → Rebuilt
+unfoldable pub rebuildBy : Kind → Option (Layout × List Slot) → Rebuilt
 rebuildBy is-bad f = no-rebuilt BadFile
 rebuildBy (is-cut N) f = no-rebuilt CutFile
 rebuildBy is-sound nothing = no-rebuilt BadFile
@@ -121,11 +123,11 @@ slotAnswer b n (some (used l u es)) =
     cond (isWell b (used l u es))
     (cond (isAbove l n && atMost n u) (heldAnswer (find n es)) (LookUpRefused StaleTrie)) (LookUpRefused BadFile)
 
-unfoldable pub arrivedAnswer : List ℕ → ℕ → Str → Option ℕ → LookUpAnswer
-arrivedAnswer xs b n nothing = LookUpRefused StaleTrie
-arrivedAnswer xs b n (some k) = slotAnswer b n (readSlot b (slotAt b k xs))
+unfoldable pub arrivedAnswer : List ℕ → Layout → Str → Option ℕ → LookUpAnswer
+arrivedAnswer xs y n nothing = LookUpRefused StaleTrie
+arrivedAnswer xs y n (some k) = slotAnswer (y .b) n (readSlot y (slotAt y k xs))
 
-unfoldable pub headedAnswer : List ℕ → Trie → Str → Option (ℕ × ℕ) → LookUpAnswer
+unfoldable pub headedAnswer : List ℕ → Trie → Str → Option (Layout × ℕ) → LookUpAnswer
 headedAnswer xs t n nothing = LookUpRefused BadFile
 headedAnswer xs t n (some h) =
     let a = arrivedAnswer xs (h .0) n (arrive (t .count) (h .1) (t .count) (t .cells) n [] (root-side (t .count) (t .first))) in
@@ -140,9 +142,9 @@ lookUpOf xs t name =
 -- "Put, remove and list check the whole file and full agreement": refused 2, 3 or 4, or the file.
 pub data Looked : Type 0 where
   refusing : Cause → Looked
-  fine : ℕ → List Slot → Looked
+  fine : Layout → List Slot → Looked
 
-unfoldable pub lookedBy : Trie → Kind → Option (ℕ × List Slot) → Looked
+unfoldable pub lookedBy : Trie → Kind → Option (Layout × List Slot) → Looked
 lookedBy t is-bad f = refusing BadFile
 lookedBy t (is-cut N) f = refusing CutFile
 lookedBy t is-sound nothing = refusing BadFile
@@ -152,17 +154,17 @@ unfoldable pub lookedOf : List ℕ → Trie → Looked
 lookedOf xs t = lookedBy t (checkFile xs) (readFile xs)
 
 -- Stores made one after another.
-unfoldable pub storesBytes : ℕ → List Store → List ℕ → List ℕ
-storesBytes b [] xs = xs
-storesBytes b (s ∷ ss) xs = storesBytes b ss (storeBytes b (s .0) (s .1) xs)
+unfoldable pub storesBytes : Layout → List Store → List ℕ → List ℕ
+storesBytes y [] xs = xs
+storesBytes y (s ∷ ss) xs = storesBytes y ss (storeBytes y (s .0) (s .1) xs)
 
 -- "The trie grows with the last store": two stores are a split, the new slot first and then A.
-unfoldable pub trieAfter : ℕ → List Slot → Str → ℕ → List Store → Trie → Trie
-trieAfter b fs n v [] t = t
-trieAfter b fs n v (x ∷ []) t = t
-trieAfter b fs n v (x ∷ y ∷ ss) t =
+unfoldable pub trieAfter : ℕ → (List Entry → ℕ) → List Slot → Str → ℕ → List Store → Trie → Trie
+trieAfter b place fs n v [] t = t
+trieAfter b place fs n v (x ∷ []) t = t
+trieAfter b place fs n v (x ∷ y ∷ ss) t =
     let ws = insert n v (entries-of (slot-at fs (y .0))) in
-    grown-trie t (name-at ws (b / 2)) (split-of b ws) (y .0) (x .0)
+    grown-trie t (name-at ws (place ws)) (split-of b place ws) (y .0) (x .0)
 
 -- What put leaves.
 pub record PutDone : Type 0 where
@@ -181,20 +183,20 @@ refusalOf r = cond (eqb r 5) NoFreeSlot ManyStrings
 
 -- "If nothing is refused and the limit is below the stores needed, they make that many and say stopped, with the number
 -- made; the trie is unchanged."
-unfoldable pub putMade : List ℕ → Trie → ℕ → List Slot → Str → ℕ → ℕ → Result → PutDone
-putMade xs t b fs n v limit (refuse r) = record { answer = PutRefused (refusalOf r); file = xs; trie = t }
-putMade xs t b fs n v limit (stores ss) =
+unfoldable pub putMade : List ℕ → Trie → Layout → List Slot → Str → ℕ → ℕ → Result → PutDone
+putMade xs t y fs n v limit (refuse r) = record { answer = PutRefused (refusalOf r); file = xs; trie = t }
+putMade xs t y fs n v limit (stores ss) =
     cond (ltb limit (length ss))
-    (record { answer = PutStopped limit; file = storesBytes b (take limit ss) xs; trie = t })
+    (record { answer = PutStopped limit; file = storesBytes y (take limit ss) xs; trie = t })
     (record {
       answer = putAnswer (find n (entries-of (slot-at fs (first (holds? n) fs))));
-      file = storesBytes b ss xs;
-      trie = trieAfter b fs n v ss t;
+      file = storesBytes y ss xs;
+      trie = trieAfter (y .b) (place-of y) fs n v ss t;
     })
 
 unfoldable pub putLooked : List ℕ → Trie → Str → ℕ → ℕ → Looked → PutDone
 putLooked xs t n v limit (refusing c) = record { answer = PutRefused c; file = xs; trie = t }
-putLooked xs t n v limit (fine b fs) = putMade xs t b fs n v limit (call b fs (put n v))
+putLooked xs t n v limit (fine y fs) = putMade xs t y fs n v limit (call (y .b) (place-of y) fs (put n v))
 
 -- Put, in the order 8, 1, 2, 3, 4, 5, 6.
 unfoldable pub putOf : List ℕ → Trie → List ℕ → ℕ → ℕ → PutDone
@@ -213,15 +215,15 @@ abbrev pub removeAnswer : List Store → RemoveAnswer
 removeAnswer [] = NotHeld
 removeAnswer (s ∷ ss) = Removed
 
-unfoldable pub removeMade : List ℕ → ℕ → ℕ → Result → RemoveDone
-removeMade xs b limit (refuse r) = record { answer = RemoveRefused BadFile; file = xs }
-removeMade xs b limit (stores ss) =
-    cond (ltb limit (length ss)) (record { answer = RemoveStopped limit; file = storesBytes b (take limit ss) xs })
-    (record { answer = removeAnswer ss; file = storesBytes b ss xs })
+unfoldable pub removeMade : List ℕ → Layout → ℕ → Result → RemoveDone
+removeMade xs y limit (refuse r) = record { answer = RemoveRefused BadFile; file = xs }
+removeMade xs y limit (stores ss) =
+    cond (ltb limit (length ss)) (record { answer = RemoveStopped limit; file = storesBytes y (take limit ss) xs })
+    (record { answer = removeAnswer ss; file = storesBytes y ss xs })
 
 unfoldable pub removeLooked : List ℕ → Str → ℕ → Looked → RemoveDone
 removeLooked xs n limit (refusing c) = record { answer = RemoveRefused c; file = xs }
-removeLooked xs n limit (fine b fs) = removeMade xs b limit (call b fs (remove n))
+removeLooked xs n limit (fine y fs) = removeMade xs y limit (call (y .b) (place-of y) fs (remove n))
 
 -- Remove, in the order 8, 1, 2, 3, 4.
 unfoldable pub removeOf : List ℕ → Trie → List ℕ → ℕ → RemoveDone
@@ -249,14 +251,14 @@ between low high (e ∷ es) =
 
 -- "List writes entries, ascending, .. and nothing behind them, and gives their number." Refused 7: "list output shorter
 -- than 32 bytes times the entries to be listed".
-unfoldable pub listEntries : List Entry → List ℕ → ListDone
-listEntries es out =
-    cond (ltb (length out) (entrySize * length es)) (record { answer = ListRefused ShortOutput; output = out })
-    (record { answer = Listed (length es); output = entriesBytes es ++ drop (entrySize * length es) out })
+unfoldable pub listEntries : ℕ → List Entry → List ℕ → ListDone
+listEntries e es out =
+    cond (ltb (length out) (e * length es)) (record { answer = ListRefused ShortOutput; output = out })
+    (record { answer = Listed (length es); output = entriesBytes e es ++ drop (e * length es) out })
 
 unfoldable pub listLooked : Str → Str → List ℕ → Looked → ListDone
 listLooked low high out (refusing c) = record { answer = ListRefused c; output = out }
-listLooked low high out (fine b fs) = listEntries (between low high (entriesIn fs (order-of fs))) out
+listLooked low high out (fine y fs) = listEntries (entrySize y) (between low high (entriesIn fs (order-of fs))) out
 
 -- List, in the order 1, 2, 3, 4, 7.
 unfoldable pub listOf : List ℕ → Trie → List ℕ → List ℕ → List ℕ → ListDone

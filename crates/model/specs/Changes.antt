@@ -3,7 +3,7 @@ use mathlib.Core.Path.{_≡_, refl}
 use mathlib.Core.Logic.{_≢_}
 use mathlib.Core.Option.{Option, none as nothing, some}
 use mathlib.Core.List.{List, [], _∷_}
-use Prim.Native.Nat.{_/_, _<_, _≤_, ℕ}
+use Prim.Native.Nat.{_<_, _≤_, ℕ}
 use native.Mathlib.Decide.{decLe, decLt}
 use native.Mathlib.Omega.{arith}
 use lib.ListN.{length, set}
@@ -37,10 +37,11 @@ pub record Lowest (fs : List Slot) (N : ℕ) : Type 0 where
 abbrev pub split-string : ℕ → ℕ → List Entry → Str
 split-string i j ws = splitString (name-at ws i) (name-at ws j)
 
-module _ (b : ℕ) where
-  -- "With b + 1, sorted: the split key is at position m = b/2 + 1 (.. positions from 1)", against the last name.
+-- Over any rule that names, of b + 1 sorted entries, the place of the split key, counted from 0: its position less one.
+module _ (b : ℕ) (place : List Entry → ℕ) where
+  -- The split string of the split key, against the last name.
   abbrev pub split-of : List Entry → Str
-  split-of ws = split-string (b / 2) b ws
+  split-of ws = split-string (place ws) b ws
 
   -- "the new slot, bounds s and A's upper; then A, upper now s"
   abbrev pub new-half : List Entry → Str → Slot
@@ -70,7 +71,7 @@ module _ (b : ℕ) where
   unfoldable pub trie-after : {fs : List Slot} {q : Request} {ss : List Store} → Change fs q ss → Trie → Trie
   trie-after (fits is g lo up k) t = t
   trie-after (splits {A = A} {N = N} {es = es} {n = n} {v = v} is g lo up k f c) t =
-      grown-trie t (name-at (insert n v es) (b / 2)) (split-of (insert n v es)) A N
+      grown-trie t (name-at (insert n v es) (place (insert n v es))) (split-of (insert n v es)) A N
   trie-after (removes is lo up e) t = t
   trie-after (absent A is lo up e) t = t
 
@@ -104,14 +105,14 @@ unfoldable pub stores-if : Option ℕ → List Store → List Store
 stores-if nothing ss = []
 stores-if (some v) ss = ss
 
-module _ (b : ℕ) (fs : List Slot) where
+module _ (b : ℕ) (place : List Entry → ℕ) (fs : List Slot) where
   -- The name's slot is A, and holds x.
   unfoldable pub put-in : Str → ℕ → ℕ → Slot → Result
   put-in n v A free = refuse 2
   put-in n v A (used l u es) =
       let ws = insert n v es in
       let N = first free? fs in
-      let ss = halves b N A l u ws in
+      let ss = halves b place N A l u ws in
       let split = chosen (decLt N (length fs)) (chosen (decLe (string-count (stored ss fs)) 256) (stores ss) (refuse 6)) (refuse 5) in
       chosen (decLe (length ws) b) (stores ((A, used l u ws) ∷ [])) split
 

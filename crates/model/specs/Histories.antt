@@ -1,18 +1,14 @@
--- Demand 3: a new file, then any calls, each stopped after any of its stores, with the trie lost and recovered.
-use mathlib.Core.Path.{_≡_}
+-- A new file, then any calls, each stopped after any of its stores, with the trie lost and recovered.
 use mathlib.Core.Bool.{_&&_, cond}
 use mathlib.Core.Option.{none as nothing}
 use mathlib.Core.List.{List, [], _∷_}
-use Prim.Native.Nat.{_≤_, suc, zero, ℕ}
+use Prim.Native.Nat.{suc, zero, ℕ}
 use lib.Dec.{leb, ltb}
 use lib.ListN.{length, set, take}
-use Rattle.model.specs.declared.Trie.{Trie}
 use Rattle.model.specs.Order.{Str}
 use Rattle.model.specs.Names.{legalFilled}
-use Rattle.model.specs.Entries.{find}
-use Rattle.model.specs.Files.{Slot, Sound, created, entries-of, free, slot-at, string-count}
-use Rattle.model.specs.Tries.{Agrees, walk-trie}
-use Rattle.model.specs.Rebuilding.{rebuilt-trie}
+use Rattle.model.specs.Entries.{Entry}
+use Rattle.model.specs.Files.{Slot, created, free}
 use Rattle.model.specs.Changes.{Map, Request, Result, call, meant, put, refuse, remove, stored, stores}
 use Rattle.model.specs.Checks.{Kind, check, is-bad, is-cut, is-sound}
 
@@ -44,11 +40,11 @@ recovered fs m zero (is-cut N) = down fs m
 recovered fs m (suc j) (is-cut N) = ready (set fs N free) m
 recovered fs m j is-bad = down fs m
 
-module _ (b slots : ℕ) where
+module _ (b slots : ℕ) (place : List Entry → ℕ) where
   -- Refused: a store limit above 2, an illegal name, and every change while there is no trie.
   unfoldable pub act : Act → World → World
   act (ask q j) (ready fs m) =
-      let w = answered q j fs m (call b fs q) in
+      let w = answered q j fs m (call b place fs q) in
       cond (leb j 2 && legalFilled (asked-name q)) w (ready fs m)
   act (ask q j) (down fs m) = down fs m
   act lose (ready fs m) = down fs m
@@ -60,11 +56,3 @@ module _ (b slots : ℕ) where
   unfoldable pub run : List Act → World
   run [] = ready (created slots) (λ k. nothing)
   run (a ∷ acts) = act a (run acts)
-
-  -- "Every legal name then looks up as that history says .. and .. rebuilding after it never refuse": the rebuilt trie
-  -- agrees, and any trie that agrees leads each name to what was said of it.
-  pub record Demand3 (m : Map) (fs : List Slot) : Type 0 where
-    pub sound : Sound b fs
-    pub few : string-count fs ≤ 256
-    pub rebuilds : Agrees fs (rebuilt-trie fs)
-    pub lookup : {t : Trie} → Agrees fs t → (k : Str) → find k (entries-of (slot-at fs (walk-trie t k))) ≡ m k

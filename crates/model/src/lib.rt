@@ -1,4 +1,6 @@
 // Document 01's types: the trie, and what the calls answer.
+ghost use mathlib.Core.Path.{_≡_};
+ghost use Rattle.model.specs.Answers.{number};
 
 // Each side leads either to a slot or to a further cell.
 pub enum Side {
@@ -20,6 +22,12 @@ pub struct Trie {
     pub first: u16,
 }
 
+// What a file's header says of its slots: the version, and b, the entries that a bucket holds.
+pub struct Layout {
+    pub version: usize,
+    pub b: usize,
+}
+
 // Why a call refuses, in the order of the numbers.
 pub enum Cause {
     IllegalName,
@@ -30,6 +38,22 @@ pub enum Cause {
     ManyStrings,
     ShortOutput,
     WrongSize,
+}
+
+// Document 01's number of each refusal.
+pub fn cause_number(cause: Cause) -> u64
+    ensures { λ r. ⌜ r ≡ number cause ⌝ }
+{
+    match cause {
+        Cause::IllegalName => 1,
+        Cause::BadFile => 2,
+        Cause::CutFile => 3,
+        Cause::StaleTrie => 4,
+        Cause::NoFreeSlot => 5,
+        Cause::ManyStrings => 6,
+        Cause::ShortOutput => 7,
+        Cause::WrongSize => 8,
+    }
 }
 
 pub enum LookUpAnswer {

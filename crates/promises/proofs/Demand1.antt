@@ -1,14 +1,7 @@
 -- Demand 1: each call refuses exactly when a cause of its table holds, with the first, and a refusal changes nothing.
-use mathlib.Core.Path.{_∙_, _≡_, ap, refl, sym}
-use mathlib.Core.Logic.{inl, inr}
-use mathlib.Core.Bool.{Bool, _&&_, cond, false, true}
-use mathlib.Core.Option.{Option, none as nothing, some}
-use mathlib.Core.List.{List, [], _++_, _∷_}
-use Prim.Native.Nat.{_*_, _<_, _≤_, ℕ}
-use native.Mathlib.Omega.{arith}
-use borrow.Author.Tests.{eq-eqb, eqb-true, le-leb, leb-false, leb-true, lt-ltb, ltb-true}
-use lib.Dec.{eqb, leb, ltb}
-use lib.ListN.{drop, length, take}
+use Rattle.model.proofs.Prelude.{Bool, List, Option, [], _&&_, _*_, _++_, _<_, _∙_, _∷_, _≡_, _≤_, ap, arith, clash, cond, drop, eq-eqb, eqb, eqb-true, false, inl, inr, le-leb, leb, leb-false, leb-true, length, lt-ltb, ltb, ltb-true, nothing, refl, some, sym, take, true, ℕ}
+use Rattle.model.specs.declared.Trie.{Trie}
+use Rattle.model.specs.declared.Layout.{Layout}
 use Rattle.model.specs.declared.Cause.{Cause}
 use Rattle.model.specs.declared.Cause.the-variants.{BadFile as bad-file, CutFile as cut-file, IllegalName as illegal-name, ManyStrings as many-strings, NoFreeSlot as no-free-slot, ShortOutput as short-output, StaleTrie as stale-trie, WrongSize as wrong-size}
 use Rattle.model.specs.declared.ListAnswer.the-variants.{Listed, Refused as ListRefused}
@@ -17,7 +10,6 @@ use Rattle.model.specs.declared.LookUpAnswer.the-variants.{Refused as LookUpRef
 use Rattle.model.specs.declared.PutAnswer.the-variants.{Refused as PutRefused, Stopped as PutStopped}
 use Rattle.model.specs.declared.RecoverAnswer.the-variants.{Freed, Refused as RecoverRefused, Stopped as RecoverStopped}
 use Rattle.model.specs.declared.RemoveAnswer.the-variants.{Refused as RemoveRefused, Stopped as RemoveStopped}
-use Rattle.model.specs.declared.Trie.{Trie}
 use Rattle.model.specs.declared.TrieAnswer.the-variants.{Given, Refused as TrieRefused}
 use Rattle.model.specs.Order.{Str}
 use Rattle.model.specs.Names.{areDigits, atMost, filled, legalName}
@@ -28,70 +20,75 @@ use Rattle.model.specs.Rebuilding.{rebuilt-trie}
 use Rattle.model.specs.Changes.{Denied, Request, Result, Store, holds?, no-room, put, remove, too-many}
 use Rattle.model.specs.Checks.{Kind, is-bad, is-cut, is-sound, isAbove, isWell, sameStr}
 use Rattle.model.specs.Agreeing.{isAgreeing}
-use Rattle.model.specs.Format.{BadFile, SoundFile, checkFile, entriesBytes, entrySize, fileBytes, fileSize, headerBytes, headerOf, legalSizes, readFile, readSlot, rightHeader, slotAt, slotBytes, storeBytes, version}
+use Rattle.model.specs.Format.{BadFile, SoundFile, checkFile, entriesBytes, entrySize, fileBytes, fileSize, headerBytes, headerOf, layoutOf, legalSizes, readFile, readSlot, rightHeader, slotAt, slotBytes, storeBytes}
+use Rattle.model.specs.Places.{place-of}
 use Rattle.model.specs.Calls.{Created, ListDone, Looked, PutDone, Rebuilt, Recovered, RemoveDone, arrivedAnswer, between, createOf, entriesIn, fine, headedAnswer, heldAnswer, listEntries, listLooked, listOf, lookUpOf, lookedBy, lookedOf, new-trie, no-rebuilt, putAnswer, putLooked, putMade, putOf, rebuildBy, rebuildOf, recoverBy, recoverOf, refusalOf, refusing, removeAnswer, removeLooked, removeMade, removeOf, slotAnswer, storesBytes, trieAfter}
-use Rattle.model.proofs.Names.{areDigits-digits, atMost-le, both-true, clash, digits-areDigits, le-atMost, legalName-legal}
+use Rattle.model.proofs.Names.{areDigits-digits, atMost-le, both-true, digits-areDigits, le-atMost, legalName-legal, never-both}
 use Rattle.model.proofs.Checks.{above-isAbove, both-join, isAbove-above, isWell-well, sameStr-equal, sameStr-self, well-isWell}
 use Rattle.model.proofs.Agreeing.{agrees-isAgreeing}
 use Rattle.model.proofs.Calls.{Answered, denied-not-made, denied-one, is-denied, is-made, put-right, remove-right}
 use Rattle.model.proofs.CheckedFiles.{CheckedFile, checkFile-right, sound-not-cut}
 use Rattle.model.proofs.Format.{legalSizes-sizes, readSlot-slotBytes, sizes-legalSizes, slotBytes-readSlot}
-use Rattle.promises.specs.Demand1.{Creatable, Demand1, Ends, IsCut, IsElsewhere, IsMalformed, IsZero, LegalName, Listing, Lost, Many, PutDenied, RightHeader, Short, Stale, Strays, Table, b-of, create-table, list-table, look-up-table, put-table, rebuild-table, recover-table, remove-table, slots-of}
+use Rattle.promises.specs.Calls.{our-calls}
+use Rattle.promises.specs.Demand1.{Creatable, Demand1, Ends, IsCut, IsElsewhere, IsMalformed, IsZero, LegalName, Listing, Lost, Many, PutDenied, RightHeader, Short, Stale, Strays, Table, create-table, list-table, look-up-table, put-table, rebuild-table, recover-table, remove-table, slots-of}
 use Rattle.promises.proofs.Leading.{Passed, looked-passed}
 use Rattle.promises.proofs.Listings.{listed-right, listings-same}
 use Rattle.promises.proofs.Tables.{Verdict, exactly, leaves, pass, skip, stop}
 use Rattle.promises.proofs.Walking.{arrives-walked, strays-walked, walked, walked-right}
 
 -- The tests of names and headers say what is so.
-legal-name : (name : List ℕ) → legalName name ≡ true → LegalName name
+pub legal-name : (name : List ℕ) → legalName name ≡ true → LegalName name
 unfolding legalName
 legal-name name e =
     let p = both-true (leb 1 (length name) && leb (length name) 24) (areDigits 0x21 name) e in
     let q = both-true (leb 1 (length name)) (leb (length name) 24) (p .0) in
     record { least = leb-true 1 (length name) (q .0); most = leb-true (length name) 24 (q .1); digits = areDigits-digits 0x21 name (p .1) }
 
-name-legal : {name : List ℕ} → LegalName name → legalName name ≡ true
+pub name-legal : {name : List ℕ} → LegalName name → legalName name ≡ true
 unfolding legalName
 name-legal {name} L = rw (le-leb 1 (length name) (L .least), le-leb (length name) 24 (L .most)) (digits-areDigits 0x21 name (L .digits))
 
 illegal : (name : List ℕ) → legalName name ≡ false → ¬ LegalName name
-illegal name e L = clash (legalName name) (name-legal L) e
+illegal name e L = never-both (legalName name) (name-legal L) e
 
-right-header : (xs : List ℕ) → rightHeader (b-of xs) (slots-of xs) xs ≡ true → RightHeader xs
+right-header : (xs : List ℕ) → rightHeader (layoutOf xs) (slots-of xs) xs ≡ true → RightHeader xs
 unfolding rightHeader
 right-header xs e =
-    let p = both-true (legalSizes (b-of xs) (slots-of xs) && eqb (length xs) (fileSize (b-of xs) (slots-of xs))) (sameStr (take 16 xs) (headerBytes (b-of xs) (slots-of xs))) e in
-    let q = both-true (legalSizes (b-of xs) (slots-of xs)) (eqb (length xs) (fileSize (b-of xs) (slots-of xs))) (p .0) in
+    let p = both-true (legalSizes (layoutOf xs) (slots-of xs) && eqb (length xs) (fileSize (layoutOf xs) (slots-of xs))) (sameStr (take 16 xs) (headerBytes (layoutOf xs) (slots-of xs))) e in
+    let q = both-true (legalSizes (layoutOf xs) (slots-of xs)) (eqb (length xs) (fileSize (layoutOf xs) (slots-of xs))) (p .0) in
     record {
-      sizes = legalSizes-sizes (b-of xs) (slots-of xs) (q .0);
-      whole = eqb-true (length xs) (fileSize (b-of xs) (slots-of xs)) (q .1);
-      header = sameStr-equal (take 16 xs) (headerBytes (b-of xs) (slots-of xs)) (p .1);
+      sizes = legalSizes-sizes (layoutOf xs) (slots-of xs) (q .0);
+      whole = eqb-true (length xs) (fileSize (layoutOf xs) (slots-of xs)) (q .1);
+      header = sameStr-equal (take 16 xs) (headerBytes (layoutOf xs) (slots-of xs)) (p .1);
     }
 
-header-right : {xs : List ℕ} → RightHeader xs → rightHeader (b-of xs) (slots-of xs) xs ≡ true
+header-right : {xs : List ℕ} → RightHeader xs → rightHeader (layoutOf xs) (slots-of xs) xs ≡ true
 unfolding rightHeader
 header-right {xs} R =
-    rw (sizes-legalSizes (R .sizes), eq-eqb (length xs) (fileSize (b-of xs) (slots-of xs)) (R .whole), R .header) (sameStr-self (headerBytes (b-of xs) (slots-of xs)))
+    rw (sizes-legalSizes (R .sizes), eq-eqb (length xs) (fileSize (layoutOf xs) (slots-of xs)) (R .whole), R .header) (sameStr-self (headerBytes (layoutOf xs) (slots-of xs)))
 
 -- A limit above 2.
 above-2 : {limit : ℕ} → ltb 2 limit ≡ false → ¬ (2 < limit)
-above-2 {limit} e h = clash (ltb 2 limit) (lt-ltb 2 limit h) e
+above-2 {limit} e h = never-both (ltb 2 limit) (lt-ltb 2 limit h) e
 
 -- Two readings of one file are the same.
-module _ {xs : List ℕ} {b : ℕ} {fs : List Slot} (e : readFile xs ≡ some (b, fs)) (S : SoundFile xs) where
-  same-file : _≡_ {A = ℕ × List Slot} (S .b, S .slots) (b, fs)
-  same-file = let o : _≡_ {A = Option (ℕ × List Slot)} (some (S .b, S .slots)) (some (b, fs)) = sym (S .is) ∙ e in cc
+module _ {xs : List ℕ} {y : Layout} {fs : List Slot} (e : readFile xs ≡ some (y, fs)) (S : SoundFile xs) where
+  same-file : _≡_ {A = Layout × List Slot} (S .layout, S .slots) (y, fs)
+  same-file = let o : _≡_ {A = Option (Layout × List Slot)} (some (S .layout, S .slots)) (some (y, fs)) = sym (S .is) ∙ e in cc
 
-  same-b : S .b ≡ b
-  same-b = ap (λ (f : ℕ × List Slot). f .0) same-file
+  same-layout : S .layout ≡ y
+  same-layout = ap (λ (f : Layout × List Slot). f .0) same-file
 
-  same-slots : S .slots ≡ fs
-  same-slots = ap (λ (f : ℕ × List Slot). f .1) same-file
+  pub same-slots : S .slots ≡ fs
+  same-slots = ap (λ (f : Layout × List Slot). f .1) same-file
 
 -- Create.
 module _ (xs : List ℕ) (v b slots : ℕ) where
+  abbrev y : Layout
+  y = record { version = v; b = b }
+
   abbrev right-sizes : Bool
-  right-sizes = eqb v version && legalSizes b slots && eqb (length xs) (fileSize b slots)
+  right-sizes = legalSizes y slots && eqb (length xs) (fileSize y slots)
 
   create-verdict : Verdict TrieRefused (λ (d : Created). d .answer) (λ (d : Created). (d .file ≡ xs) × (d .trie ≡ new-trie)) (create-table xs v b slots)
       (createOf xs v b slots)
@@ -100,19 +97,17 @@ module _ (xs : List ℕ) (v b slots : ℕ) where
     where
       go : (c : Bool) → right-sizes ≡ c
           → Verdict TrieRefused (λ (d : Created). d .answer) (λ (d : Created). (d .file ≡ xs) × (d .trie ≡ new-trie)) (create-table xs v b slots)
-          (cond c (record { answer = Given; file = fileBytes b (created slots); trie = new-trie }) (record { answer = TrieRefused wrong-size; file = xs; trie = new-trie }))
+          (cond c (record { answer = Given; file = fileBytes y (created slots); trie = new-trie }) (record { answer = TrieRefused wrong-size; file = xs; trie = new-trie }))
       go true e =
-          let p = both-true (eqb v version && legalSizes b slots) (eqb (length xs) (fileSize b slots)) e in
-          let q = both-true (eqb v version) (legalSizes b slots) (p .0) in
-          let C : Creatable xs v b slots = record {
-            is-version = eqb-true v version (q .0);
-            sizes = legalSizes-sizes b slots (q .1);
-            whole = eqb-true (length xs) (fileSize b slots) (p .1);
+          let p = both-true (legalSizes y slots) (eqb (length xs) (fileSize y slots)) e in
+          let C : Creatable xs y slots = record {
+            sizes = legalSizes-sizes y slots (p .0);
+            whole = eqb-true (length xs) (fileSize y slots) (p .1);
           } in
-          skip (λ n. n C) (pass (λ c q. let z : _≡_ {A = ℕ} 0 1 = cc in absurd (omega arith)))
+          skip (λ n. n C) (pass (λ c q. clash cc))
       go false e =
-          stop refl (refl, refl) (λ C. clash right-sizes
-          (rw (eq-eqb v version (C .is-version), sizes-legalSizes (C .sizes)) (eq-eqb (length xs) (fileSize b slots) (C .whole))) e)
+          stop refl (refl, refl) (λ C. never-both right-sizes
+          (rw (sizes-legalSizes (C .sizes)) (eq-eqb (length xs) (fileSize y slots) (C .whole))) e)
 
 -- Recover.
 module _ (xs : List ℕ) (limit : ℕ) where
@@ -124,13 +119,13 @@ module _ (xs : List ℕ) (limit : ℕ) where
   recover-verdict = go (ltb 2 limit) refl
     where
       freed : (N : ℕ) (c : Bool)
-          → RecoverVerdict [] (cond c (record { answer = RecoverStopped 0; file = xs }) (record { answer = Freed N; file = storeBytes (b-of xs) N free xs }))
-      freed N true = pass (λ c q. let z : _≡_ {A = ℕ} 0 1 = cc in absurd (omega arith))
-      freed N false = pass (λ c q. let z : _≡_ {A = ℕ} 0 1 = cc in absurd (omega arith))
+          → RecoverVerdict [] (cond c (record { answer = RecoverStopped 0; file = xs }) (record { answer = Freed N; file = storeBytes (layoutOf xs) N free xs }))
+      freed N true = pass (λ c q. clash cc)
+      freed N false = pass (λ c q. clash cc)
 
       by : (k : Kind) → CheckedFile xs k → RecoverVerdict ((bad-file, BadFile xs) ∷ []) (recoverBy xs limit k)
       by is-bad B = stop refl refl B
-      by is-sound S = skip (λ B. B .0 S) (pass (λ c q. let z : _≡_ {A = ℕ} 0 1 = cc in absurd (omega arith)))
+      by is-sound S = skip (λ B. B .0 S) (pass (λ c q. clash cc))
       by (is-cut N) C = skip (λ B. B .1 N C) (freed N (ltb limit 1))
 
       go : (c : Bool) → ltb 2 limit ≡ c
@@ -147,36 +142,36 @@ module _ (xs : List ℕ) where
   unfolding rebuildOf rebuildBy
   rebuild-verdict = go (checkFile xs) (checkFile-right xs) (readFile xs) refl
     where
-      go : (k : Kind) → CheckedFile xs k → (r : Option (ℕ × List Slot)) → readFile xs ≡ r → RebuildVerdict (rebuild-table xs) (rebuildBy k r)
+      go : (k : Kind) → CheckedFile xs k → (r : Option (Layout × List Slot)) → readFile xs ≡ r → RebuildVerdict (rebuild-table xs) (rebuildBy k r)
       go is-bad B r e = stop refl refl B
       go (is-cut N) C r e = skip (λ B. B .1 N C) (stop refl refl (N, C))
       go is-sound S nothing e =
-          let o : _≡_ {A = Option (ℕ × List Slot)} nothing (some (S .b, S .slots)) = sym e ∙ S .is in
-          let z : _≡_ {A = ℕ} 0 1 = cc in absurd (omega arith)
+          let o : _≡_ {A = Option (Layout × List Slot)} nothing (some (S .layout, S .slots)) = sym e ∙ S .is in
+          clash cc
       go is-sound S (some f) e = skip (λ B. B .0 S) (skip (λ c. sound-not-cut S (c .1)) (few (leb (string-count (f .1)) 256) refl))
         where
           few : (c : Bool) → leb (string-count (f .1)) 256 ≡ c
               → RebuildVerdict ((many-strings, Many xs) ∷ []) (cond c (record { answer = Given; trie = rebuilt-trie (f .1) }) (no-rebuilt many-strings))
           few true q =
               skip (λ M. let h : 256 < string-count (f .1) = rw (same-slots e (M .file)) at (M .many) in absurd (omega (arith, h, leb-true (string-count (f .1)) 256 q)))
-              (pass (λ c q. let z : _≡_ {A = ℕ} 0 1 = cc in absurd (omega arith)))
+              (pass (λ c q. clash cc))
           few false q = stop refl refl (record { file = S; many = rw (same-slots e S) (leb-false (string-count (f .1)) 256 q) })
 
 module _ {A D : Type 0} {Refused : Cause → A} {answer : D → A} {Kept : D → Type 0} where
   -- The checks of put, remove and list: rows 2, 3 and 4, and what follows where they pass.
   looked-verdict : (xs : List ℕ) (t : Trie) (rest : Table) (done : Looked → D) → ((c : Cause) → answer (done (refusing c)) ≡ Refused c) → ((c : Cause) → Kept (done (refusing c)))
-      → ((b : ℕ) (fs : List Slot) → Passed xs t b fs → Verdict Refused answer Kept rest (done (fine b fs)))
+      → ((y : Layout) (fs : List Slot) → Passed xs t y fs → Verdict Refused answer Kept rest (done (fine y fs)))
       → Verdict Refused answer Kept ((bad-file, BadFile xs) ∷ (cut-file, IsCut xs) ∷ (stale-trie, Stale xs t) ∷ rest) (done (lookedOf xs t))
   unfolding lookedOf lookedBy
   looked-verdict xs t rest done says keeps follows = go (checkFile xs) refl (checkFile-right xs) (readFile xs) refl
     where
-      go : (k : Kind) → checkFile xs ≡ k → CheckedFile xs k → (r : Option (ℕ × List Slot)) → readFile xs ≡ r
+      go : (k : Kind) → checkFile xs ≡ k → CheckedFile xs k → (r : Option (Layout × List Slot)) → readFile xs ≡ r
           → Verdict Refused answer Kept ((bad-file, BadFile xs) ∷ (cut-file, IsCut xs) ∷ (stale-trie, Stale xs t) ∷ rest) (done (lookedBy t k r))
       go is-bad d B r e = stop (says bad-file) (keeps bad-file) B
       go (is-cut N) d C r e = skip (λ B. B .1 N C) (stop (says cut-file) (keeps cut-file) (N, C))
       go is-sound d S nothing e =
-          let o : _≡_ {A = Option (ℕ × List Slot)} nothing (some (S .b, S .slots)) = sym e ∙ S .is in
-          let z : _≡_ {A = ℕ} 0 1 = cc in absurd (omega arith)
+          let o : _≡_ {A = Option (Layout × List Slot)} nothing (some (S .layout, S .slots)) = sym e ∙ S .is in
+          clash cc
       go is-sound d S (some f) e = skip (λ B. B .0 S) (skip (λ c. sound-not-cut S (c .1)) (agreed (isAgreeing (f .1) t) refl))
         where
           agreed : (a : Bool) → isAgreeing (f .1) t ≡ a
@@ -185,7 +180,7 @@ module _ {A D : Type 0} {Refused : Cause → A} {answer : D → A} {Kept : D →
               let p : Passed xs t (f .0) (f .1) = looked-passed xs t (f .0) (f .1) (rw (d, e, q)) in
               skip (λ T. T .differs (rw (same-slots e (T .file)) (p .agrees))) (follows (f .0) (f .1) p)
           agreed false q =
-              let differs : ¬ Agrees (S .slots) t = λ A. clash (isAgreeing (S .slots) t) (agrees-isAgreeing (S .b) (S .sound) A) (rw (same-slots e S) q) in
+              let differs : ¬ Agrees (S .slots) t = λ A. never-both (isAgreeing (S .slots) t) (agrees-isAgreeing (S .layout .b) (S .sound) A) (rw (same-slots e S) q) in
               stop (says stale-trie) (keeps stale-trie) (record { file = S; differs = differs })
 
   -- The rows 8 and 1 before them, of put and remove.
@@ -211,28 +206,28 @@ module _ (xs : List ℕ) (t : Trie) (name : List ℕ) (v limit : ℕ) where
   abbrev rest : Table
   rest = (no-free-slot, PutDenied xs name v 5) ∷ (many-strings, PutDenied xs name v 6) ∷ []
 
-  put-passed : (b : ℕ) (ss : List Store) (t′ : Trie) (s : Bool) (o : Option ℕ)
-      → PutVerdict [] (cond s (record { answer = PutStopped limit; file = storesBytes b (take limit ss) xs; trie = t }) (record { answer = putAnswer o; file = storesBytes b ss xs; trie = t′ }))
-  put-passed b ss t′ true o = pass (λ c q. let z : _≡_ {A = ℕ} 0 1 = cc in absurd (omega arith))
-  put-passed b ss t′ false nothing = pass (λ c q. let z : _≡_ {A = ℕ} 0 1 = cc in absurd (omega arith))
-  put-passed b ss t′ false (some old) = pass (λ c q. let z : _≡_ {A = ℕ} 0 1 = cc in absurd (omega arith))
+  put-passed : (y : Layout) (ss : List Store) (t′ : Trie) (s : Bool) (o : Option ℕ)
+      → PutVerdict [] (cond s (record { answer = PutStopped limit; file = storesBytes y (take limit ss) xs; trie = t }) (record { answer = putAnswer o; file = storesBytes y ss xs; trie = t′ }))
+  put-passed y ss t′ true o = pass (λ c q. clash cc)
+  put-passed y ss t′ false nothing = pass (λ c q. clash cc)
+  put-passed y ss t′ false (some old) = pass (λ c q. clash cc)
 
-  module _ (b : ℕ) (fs : List Slot) (p : Passed xs t b fs) where
-    denied-here : {why : ℕ} → PutDenied xs name v why → Denied b fs (put n v) why
-    denied-here D = rw (same-b (p .is) (D .file), same-slots (p .is) (D .file)) at (D .denied)
+  module _ (y : Layout) (fs : List Slot) (p : Passed xs t y fs) where
+    denied-here : {why : ℕ} → PutDenied xs name v why → Denied (y .b) (place-of y) fs (put n v) why
+    denied-here D = rw (same-layout (p .is) (D .file), same-slots (p .is) (D .file)) at (D .denied)
 
-    here-denied : {why : ℕ} → Denied b fs (put n v) why → PutDenied xs name v why
-    here-denied d = record { file = record { b = b; slots = fs; is = p .is; sound = p .sound }; denied = d }
+    here-denied : {why : ℕ} → Denied (y .b) (place-of y) fs (put n v) why → PutDenied xs name v why
+    here-denied d = record { file = record { layout = y; slots = fs; is = p .is; sound = p .sound }; denied = d }
 
-    put-made : {r : Result} → Answered b fs (put n v) r → PutVerdict rest (putMade xs t b fs n v limit r)
+    put-made : {r : Result} → Answered (y .b) (place-of y) fs (put n v) r → PutVerdict rest (putMade xs t y fs n v limit r)
     unfolding putMade refusalOf
     put-made (is-made {ss = ss} c) =
-        skip (λ D. denied-not-made b (p .sound) (denied-here D) c)
-        (skip (λ D. denied-not-made b (p .sound) (denied-here D) c)
-        (put-passed b ss (trieAfter b fs n v ss t) (ltb limit (length ss)) (find n (entries-of (slot-at fs (first (holds? n) fs))))))
+        skip (λ D. denied-not-made (y .b) (place-of y) (p .sound) (denied-here D) c)
+        (skip (λ D. denied-not-made (y .b) (place-of y) (p .sound) (denied-here D) c)
+        (put-passed y ss (trieAfter (y .b) (place-of y) fs n v ss t) (ltb limit (length ss)) (find n (entries-of (slot-at fs (first (holds? n) fs))))))
     put-made (is-denied (no-room A es is lo up h f)) = stop refl (refl, refl) (here-denied (no-room A es is lo up h f))
     put-made (is-denied (too-many A N es is lo up h L k)) =
-        skip (λ D. absurd (omega (arith, denied-one b (p .sound) (denied-here D) (too-many A N es is lo up h L k))))
+        skip (λ D. absurd (omega (arith, denied-one (y .b) (place-of y) (p .sound) (denied-here D) (too-many A N es is lo up h L k))))
         (stop refl (refl, refl) (here-denied (too-many A N es is lo up h L k)))
 
   put-verdict : PutVerdict (put-table xs t name v limit) (putOf xs t name v limit)
@@ -242,16 +237,16 @@ module _ (xs : List ℕ) (t : Trie) (name : List ℕ) (v limit : ℕ) where
       (putLooked xs t n v limit (lookedOf xs t)) (record { answer = PutRefused wrong-size; file = xs; trie = t }) (record { answer = PutRefused illegal-name; file = xs; trie = t })
       refl (refl, refl) refl (refl, refl)
       (λ e. looked-verdict xs t rest (putLooked xs t n v limit) (λ c. refl) (λ c. (refl, refl))
-      (λ b fs p. put-made b fs p (put-right b fs (p .sound) n v (legalName-legal name e))))
+      (λ y fs p. put-made y fs p (put-right (y .b) (place-of y) fs (p .sound) n v (legalName-legal name e))))
 
 -- Remove, which is never denied.
 abbrev IsPut : Request → Type 0
 IsPut (put m v) = Unit {0}
 IsPut (remove m) = ⊥
 
-denied-put : {b : ℕ} {fs : List Slot} {q : Request} {r : ℕ} → Denied b fs q r → IsPut q
-denied-put (no-room A es is lo up h f) = tt
-denied-put (too-many A N es is lo up h L k) = tt
+denied-put : {b : ℕ} (place : List Entry → ℕ) {fs : List Slot} {q : Request} {r : ℕ} → Denied b place fs q r → IsPut q
+denied-put place (no-room A es is lo up h f) = tt
+denied-put place (too-many A N es is lo up h L k) = tt
 
 module _ (xs : List ℕ) (t : Trie) (name : List ℕ) (limit : ℕ) where
   abbrev k : Str
@@ -260,23 +255,23 @@ module _ (xs : List ℕ) (t : Trie) (name : List ℕ) (limit : ℕ) where
   abbrev RemoveVerdict : Table → RemoveDone → Type 0
   RemoveVerdict rs d = Verdict RemoveRefused (λ (d : RemoveDone). d .answer) (λ (d : RemoveDone). d .file ≡ xs) rs d
 
-  remove-passed : (b : ℕ) (ss : List Store) (s : Bool) (rs : List Store)
-      → RemoveVerdict [] (cond s (record { answer = RemoveStopped limit; file = storesBytes b (take limit ss) xs }) (record { answer = removeAnswer rs; file = storesBytes b ss xs }))
-  remove-passed b ss true rs = pass (λ c q. let z : _≡_ {A = ℕ} 0 1 = cc in absurd (omega arith))
-  remove-passed b ss false [] = pass (λ c q. let z : _≡_ {A = ℕ} 0 1 = cc in absurd (omega arith))
-  remove-passed b ss false (r ∷ rs) = pass (λ c q. let z : _≡_ {A = ℕ} 0 1 = cc in absurd (omega arith))
+  remove-passed : (y : Layout) (ss : List Store) (s : Bool) (rs : List Store)
+      → RemoveVerdict [] (cond s (record { answer = RemoveStopped limit; file = storesBytes y (take limit ss) xs }) (record { answer = removeAnswer rs; file = storesBytes y ss xs }))
+  remove-passed y ss true rs = pass (λ c q. clash cc)
+  remove-passed y ss false [] = pass (λ c q. clash cc)
+  remove-passed y ss false (r ∷ rs) = pass (λ c q. clash cc)
 
-  remove-made : {b : ℕ} {fs : List Slot} {r : Result} → Answered b fs (remove k) r → RemoveVerdict [] (removeMade xs b limit r)
+  remove-made : (y : Layout) {fs : List Slot} {r : Result} → Answered (y .b) (place-of y) fs (remove k) r → RemoveVerdict [] (removeMade xs y limit r)
   unfolding removeMade
-  remove-made {b} (is-made {ss = ss} c) = remove-passed b ss (ltb limit (length ss)) ss
-  remove-made (is-denied d) = absurd (denied-put d)
+  remove-made y (is-made {ss = ss} c) = remove-passed y ss (ltb limit (length ss)) ss
+  remove-made y (is-denied d) = absurd (denied-put (place-of y) d)
 
   remove-verdict : RemoveVerdict (remove-table xs t name limit) (removeOf xs t name limit)
   unfolding removeOf removeLooked
   remove-verdict =
       asked-verdict name limit ((bad-file, BadFile xs) ∷ (cut-file, IsCut xs) ∷ (stale-trie, Stale xs t) ∷ [])
       (removeLooked xs k limit (lookedOf xs t)) (record { answer = RemoveRefused wrong-size; file = xs }) (record { answer = RemoveRefused illegal-name; file = xs }) refl refl refl refl
-      (λ e. looked-verdict xs t [] (removeLooked xs k limit) (λ c. refl) (λ c. refl) (λ b fs p. remove-made (remove-right b fs (p .sound) k)))
+      (λ e. looked-verdict xs t [] (removeLooked xs k limit) (λ c. refl) (λ c. refl) (λ y fs p. remove-made y (remove-right (y .b) (place-of y) fs (p .sound) k)))
 
 -- List.
 module _ (xs : List ℕ) (t : Trie) (low high out : List ℕ) where
@@ -286,30 +281,30 @@ module _ (xs : List ℕ) (t : Trie) (low high out : List ℕ) where
   abbrev listed : List Slot → List Entry
   listed fs = between (filled low) (filled high) (entriesIn fs (order-of fs))
 
-  list-made : (b : ℕ) (fs : List Slot) → Passed xs t b fs → ListVerdict ((short-output, Short xs low high out) ∷ []) (listEntries (listed fs) out)
+  list-made : (y : Layout) (fs : List Slot) → Passed xs t y fs → ListVerdict ((short-output, Short xs low high out) ∷ []) (listEntries (entrySize y) (listed fs) out)
   unfolding listEntries
-  list-made b fs p = go (ltb (length out) (entrySize * length (listed fs))) refl
+  list-made y fs p = go (ltb (length out) (entrySize y * length (listed fs))) refl
     where
       right : Listing fs (filled low) (filled high) (listed fs)
-      right = listed-right b (p .sound) (filled low) (filled high)
+      right = listed-right (y .b) (p .sound) (filled low) (filled high)
 
-      go : (s : Bool) → ltb (length out) (entrySize * length (listed fs)) ≡ s
+      go : (s : Bool) → ltb (length out) (entrySize y * length (listed fs)) ≡ s
           → ListVerdict ((short-output, Short xs low high out) ∷ [])
           (cond s (record { answer = ListRefused short-output; output = out })
-          (record { answer = Listed (length (listed fs)); output = entriesBytes (listed fs) ++ drop (entrySize * length (listed fs)) out }))
+          (record { answer = Listed (length (listed fs)); output = entriesBytes (entrySize y) (listed fs) ++ drop (entrySize y * length (listed fs)) out }))
       go true e =
           stop refl refl (record {
-            file = record { b = b; slots = fs; is = p .is; sound = p .sound };
+            file = record { layout = y; slots = fs; is = p .is; sound = p .sound };
             listed = listed fs;
             listing = right;
-            short = ltb-true (length out) (entrySize * length (listed fs)) e;
+            short = ltb-true (length out) (entrySize y * length (listed fs)) e;
           })
       go false e =
           skip (λ S.
           let same : S .listed ≡ listed fs = listings-same (rw (same-slots (p .is) (S .file)) at (S .listing)) right in
-          let h : length out < entrySize * length (listed fs) = rw same at (S .short) in
-          clash (ltb (length out) (entrySize * length (listed fs))) (lt-ltb (length out) (entrySize * length (listed fs)) h) e)
-          (pass (λ c q. let z : _≡_ {A = ℕ} 0 1 = cc in absurd (omega arith)))
+          let h : length out < entrySize y * length (listed fs) = rw (same-layout (p .is) (S .file), same) at (S .short) in
+          never-both (ltb (length out) (entrySize y * length (listed fs))) (lt-ltb (length out) (entrySize y * length (listed fs)) h) e)
+          (pass (λ c q. clash cc))
 
   list-verdict : ListVerdict (list-table xs t low high out) (listOf xs t low high out)
   unfolding listOf listLooked
@@ -323,7 +318,7 @@ module _ (xs : List ℕ) (t : Trie) (low high out : List ℕ) where
           (looked-verdict xs t ((short-output, Short xs low high out) ∷ []) (listLooked (filled low) (filled high) out) (λ c. refl) (λ c. refl) list-made)
       go false e =
           stop refl refl
-          (λ L. clash (legalName low && legalName high) (both-join (legalName low) (legalName high) (name-legal (L .0)) (name-legal (L .1))) e)
+          (λ L. never-both (legalName low && legalName high) (both-join (legalName low) (legalName high) (name-legal (L .0)) (name-legal (L .1))) e)
 
 -- Look up, which is lent all to read only.
 abbrev LookUpVerdict : Table → LookUpAnswer → Type 0
@@ -336,103 +331,103 @@ module _ (xs : List ℕ) (t : Trie) (name : List ℕ) where
   abbrev ended : Option ℕ
   ended = walked (slots-of xs) t m (t .count) [] (root-side (t .count) (t .first))
 
-  at-end : {P : List ℕ → Type 0} {k : ℕ} → ended ≡ some k → Ends xs t m P → P (slotAt (b-of xs) k xs)
+  at-end : {P : List ℕ → Type 0} {k : ℕ} → ended ≡ some k → Ends xs t m P → P (slotAt (layoutOf xs) k xs)
   at-end {k = k} e E =
       let o : some (E .k) ≡ some k = sym (arrives-walked (slots-of xs) t m (E .arrives)) ∙ e in
       let j : E .k ≡ k = cc in
       rw j at (E .so)
 
-  zero-free : (b : ℕ) (ys : List ℕ) → IsZero b ys → readSlot b ys ≡ some free
+  zero-free : (y : Layout) (ys : List ℕ) → IsZero y ys → readSlot y ys ≡ some free
   unfolding slotBytes
-  zero-free b ys e = rw e (readSlot-slotBytes b well-free tt)
+  zero-free y ys e = rw e (readSlot-slotBytes y well-free tt)
 
-  free-zero : (b : ℕ) (ys : List ℕ) → readSlot b ys ≡ some free → IsZero b ys
+  free-zero : (y : Layout) (ys : List ℕ) → readSlot y ys ≡ some free → IsZero y ys
   unfolding slotBytes
-  free-zero b ys e = slotBytes-readSlot b ys e
+  free-zero y ys e = slotBytes-readSlot y ys e
 
   abbrev slot-rows : Table
   slot-rows =
-      (stale-trie, Ends xs t m (IsZero (b-of xs))) ∷ (bad-file, Ends xs t m (IsMalformed (b-of xs)))
-      ∷ (stale-trie, Ends xs t m (IsElsewhere (b-of xs) m)) ∷ []
+      (stale-trie, Ends xs t m (IsZero (layoutOf xs))) ∷ (bad-file, Ends xs t m (IsMalformed (layoutOf xs)))
+      ∷ (stale-trie, Ends xs t m (IsElsewhere (layoutOf xs) m)) ∷ []
 
   module _ (k : ℕ) (arrived : ended ≡ some k) where
     abbrev ys : List ℕ
-    ys = slotAt (b-of xs) k xs
+    ys = slotAt (layoutOf xs) k xs
 
     ends : {P : List ℕ → Type 0} → P ys → Ends xs t m P
     ends h = record { k = k; arrives = rw arrived at (walked-right (slots-of xs) t m (t .count) [] (root-side (t .count) (t .first))); so = h }
 
     held-passed : (o : Option ℕ) → LookUpVerdict [] (heldAnswer o)
-    held-passed nothing = pass (λ c q. let z : _≡_ {A = ℕ} 0 1 = cc in absurd (omega arith))
-    held-passed (some v) = pass (λ c q. let z : _≡_ {A = ℕ} 0 1 = cc in absurd (omega arith))
+    held-passed nothing = pass (λ c q. clash cc)
+    held-passed (some v) = pass (λ c q. clash cc)
 
-    slot-verdict : (o : Option Slot) → readSlot (b-of xs) ys ≡ o → LookUpVerdict slot-rows (slotAnswer (b-of xs) m o)
+    slot-verdict : (o : Option Slot) → readSlot (layoutOf xs) ys ≡ o → LookUpVerdict slot-rows (slotAnswer (layoutOf xs .b) m o)
     unfolding slotAnswer
     slot-verdict nothing e =
-        skip (λ E. let f : readSlot (b-of xs) ys ≡ some free = zero-free (b-of xs) ys (at-end arrived E) in let z : _≡_ {A = ℕ} 0 1 = cc in absurd (omega arith))
-        (stop refl tt (ends (λ s f W. let z : _≡_ {A = ℕ} 0 1 = cc in absurd (omega arith))))
-    slot-verdict (some free) e = stop refl tt (ends (free-zero (b-of xs) ys e))
+        skip (λ E. let f : readSlot (layoutOf xs) ys ≡ some free = zero-free (layoutOf xs) ys (at-end arrived E) in clash cc)
+        (stop refl tt (ends (λ s f W. clash cc)))
+    slot-verdict (some free) e = stop refl tt (ends (free-zero (layoutOf xs) ys e))
     slot-verdict (some (used l u es)) e =
-        skip (λ E. let f : readSlot (b-of xs) ys ≡ some free = zero-free (b-of xs) ys (at-end arrived E) in let z : _≡_ {A = ℕ} 0 1 = cc in absurd (omega arith))
-        (well (isWell (b-of xs) (used l u es)) (isAbove l m && atMost m u) refl refl)
+        skip (λ E. let f : readSlot (layoutOf xs) ys ≡ some free = zero-free (layoutOf xs) ys (at-end arrived E) in clash cc)
+        (well (isWell (layoutOf xs .b) (used l u es)) (isAbove l m && atMost m u) refl refl)
       where
-        one : (s : Slot) → readSlot (b-of xs) ys ≡ some s → s ≡ used l u es
+        one : (s : Slot) → readSlot (layoutOf xs) ys ≡ some s → s ≡ used l u es
         one s f = let o : some s ≡ some (used l u es) = sym f ∙ e in cc
 
         inside : (isAbove l m && atMost m u) ≡ true → In (head (used l u es)) m
         inside d = let p = both-true (isAbove l m) (atMost m u) d in (tt, isAbove-above l m (p .0), atMost-le m u (p .1))
 
-        formed : isWell (b-of xs) (used l u es) ≡ true → IsMalformed (b-of xs) ys → ⊥
-        formed c f = f (used l u es) e (isWell-well (b-of xs) (used l u es) c)
+        formed : isWell (layoutOf xs .b) (used l u es) ≡ true → IsMalformed (layoutOf xs) ys → ⊥
+        formed c f = f (used l u es) e (isWell-well (layoutOf xs .b) (used l u es) c)
 
-        well : (w r : Bool) → isWell (b-of xs) (used l u es) ≡ w → (isAbove l m && atMost m u) ≡ r
-            → LookUpVerdict ((bad-file, Ends xs t m (IsMalformed (b-of xs))) ∷ (stale-trie, Ends xs t m (IsElsewhere (b-of xs) m)) ∷ [])
+        well : (w r : Bool) → isWell (layoutOf xs .b) (used l u es) ≡ w → (isAbove l m && atMost m u) ≡ r
+            → LookUpVerdict ((bad-file, Ends xs t m (IsMalformed (layoutOf xs))) ∷ (stale-trie, Ends xs t m (IsElsewhere (layoutOf xs) m)) ∷ [])
             (cond w (cond r (heldAnswer (find m es)) (LookUpRefused stale-trie)) (LookUpRefused bad-file))
         well false r c d =
-            stop refl tt (ends (λ s f W. clash (isWell (b-of xs) (used l u es)) (well-isWell (b-of xs) (rw (one s f) at W)) c))
+            stop refl tt (ends (λ s f W. never-both (isWell (layoutOf xs .b) (used l u es)) (well-isWell (layoutOf xs .b) (rw (one s f) at W)) c))
         well true true c d =
             skip (λ E. formed c (at-end arrived E))
             (skip (λ E. elsewhere (at-end arrived E)) (held-passed (find m es)))
           where
-            elsewhere : IsElsewhere (b-of xs) m ys → ⊥
+            elsewhere : IsElsewhere (layoutOf xs) m ys → ⊥
             elsewhere (s, f, out) = out (rw (one s f) (inside d))
         well true false c d =
             skip (λ E. formed c (at-end arrived E))
-            (stop refl tt (ends (used l u es, e, λ i. clash (isAbove l m && atMost m u) (both-join (isAbove l m) (atMost m u) (above-isAbove (i .1)) (le-atMost m u (i .2))) d)))
+            (stop refl tt (ends (used l u es, e, λ i. never-both (isAbove l m && atMost m u) (both-join (isAbove l m) (atMost m u) (above-isAbove (i .1)) (le-atMost m u (i .2))) d)))
 
-  arrived-verdict : (o : Option ℕ) → ended ≡ o → t .count ≤ 256 → LookUpVerdict ((stale-trie, Lost xs t m) ∷ slot-rows) (arrivedAnswer xs (b-of xs) m o)
+  arrived-verdict : (o : Option ℕ) → ended ≡ o → t .count ≤ 256 → LookUpVerdict ((stale-trie, Lost xs t m) ∷ slot-rows) (arrivedAnswer xs (layoutOf xs) m o)
   unfolding arrivedAnswer
   arrived-verdict nothing e h =
       let w : Strays (slots-of xs) t m (t .count) [] (root-side (t .count) (t .first)) = rw e at (walked-right (slots-of xs) t m (t .count) [] (root-side (t .count) (t .first))) in
       stop refl tt (inr w)
-  arrived-verdict (some k) e h = skip lost (slot-verdict k e (readSlot (b-of xs) (slotAt (b-of xs) k xs)) refl)
+  arrived-verdict (some k) e h = skip lost (slot-verdict k e (readSlot (layoutOf xs) (slotAt (layoutOf xs) k xs)) refl)
     where
       lost : Lost xs t m → ⊥
       lost (inl g) = absurd (omega (arith, g, h))
       lost (inr w) =
           let o : _≡_ {A = Option ℕ} nothing (some k) = sym (strays-walked (slots-of xs) t m w) ∙ e in
-          let z : _≡_ {A = ℕ} 0 1 = cc in absurd (omega arith)
+          clash cc
 
   headed-verdict : (c : Bool) → leb (t .count) 256 ≡ c
-      → LookUpVerdict ((stale-trie, Lost xs t m) ∷ slot-rows) (cond c (arrivedAnswer xs (b-of xs) m ended) (LookUpRefused stale-trie))
+      → LookUpVerdict ((stale-trie, Lost xs t m) ∷ slot-rows) (cond c (arrivedAnswer xs (layoutOf xs) m ended) (LookUpRefused stale-trie))
   headed-verdict true e = arrived-verdict ended refl (leb-true (t .count) 256 e)
   headed-verdict false e = stop refl tt (inl (leb-false (t .count) 256 e))
 
   look-up-verdict : LookUpVerdict (look-up-table xs t name) (lookUpOf xs t name)
   unfolding lookUpOf headedAnswer headerOf
-  look-up-verdict = go (legalName name) (rightHeader (b-of xs) (slots-of xs) xs) refl refl
+  look-up-verdict = go (legalName name) (rightHeader (layoutOf xs) (slots-of xs) xs) refl refl
     where
-      go : (g h : Bool) → legalName name ≡ g → rightHeader (b-of xs) (slots-of xs) xs ≡ h
-          → LookUpVerdict (look-up-table xs t name) (cond g (headedAnswer xs t m (cond h (some (b-of xs, slots-of xs)) nothing)) (LookUpRefused illegal-name))
+      go : (g h : Bool) → legalName name ≡ g → rightHeader (layoutOf xs) (slots-of xs) xs ≡ h
+          → LookUpVerdict (look-up-table xs t name) (cond g (headedAnswer xs t m (cond h (some (layoutOf xs, slots-of xs)) nothing)) (LookUpRefused illegal-name))
       go false h d e = stop refl tt (illegal name d)
       go true false d e =
-          skip (λ n. n (legal-name name d)) (stop refl tt (λ R. clash (rightHeader (b-of xs) (slots-of xs) xs) (header-right R) e))
+          skip (λ n. n (legal-name name d)) (stop refl tt (λ R. never-both (rightHeader (layoutOf xs) (slots-of xs) xs) (header-right R) e))
       go true true d e =
           skip (λ n. n (legal-name name d)) (skip (λ n. n (right-header xs e)) (headed-verdict (leb (t .count) 256) refl))
 
 -- "A refusal carries the number of the first cause that holds in the table's stated order (look up has its own), is given
 -- exactly then, and changes no file, trie or output."
-pub demand-1 : Demand1
+pub demand-1 : Demand1 our-calls
 demand-1 = record {
   create = λ xs v b slots. exactly (λ c d e. cc) (create-table xs v b slots) (create-verdict xs v b slots);
   recover = λ xs limit. exactly (λ c d e. cc) (recover-table xs limit) (recover-verdict xs limit);

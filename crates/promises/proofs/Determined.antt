@@ -1,5 +1,5 @@
 -- Each public statement determines its outcome, since it is an equation.
-use mathlib.Core.Path.{_∙_, _≡_, sym}
+use Rattle.model.proofs.Prelude.{_∙_, _≡_, sym}
 use Rattle.model.specs.Format.{checkFile}
 use Rattle.model.specs.Calls.{createOf, listOf, lookUpOf, putOf, rebuildOf, recoverOf, removeOf}
 use Rattle.promises.specs.Determined.{Determined, Determines}

@@ -1,37 +1,33 @@
 -- Demand 2: grown and rebuilt tries lead every possible name to the one bucket whose range holds it.
-use mathlib.Core.Path.{_∙_, _≡_, ap, refl, sym}
-use mathlib.Core.Bool.{Bool, cond, false, true}
-use mathlib.Core.Option.{Option, none as nothing, some}
-use mathlib.Core.List.{List}
-use Prim.Native.Nat.{_/_, _<_, _^_, _≤_, ℕ}
-use native.Mathlib.Omega.{arith}
-use borrow.Author.Tests.{leb-true}
-use lib.Dec.{leb, ltb}
-use lib.ListN.{length, take}
+use Rattle.model.proofs.Prelude.{Bool, List, Option, _&&_, _<_, _^_, _∙_, _≡_, _≤_, ap, clash, cond, eqb, false, leb, leb-true, length, ltb, nothing, refl, some, sym, take, true, ℕ}
+use Rattle.model.specs.declared.Trie.{Trie}
+use Rattle.model.specs.declared.Layout.{Layout}
 use Rattle.model.specs.declared.Cause.the-variants.{IllegalName, ManyStrings, StaleTrie, WrongSize}
 use Rattle.model.specs.declared.PutAnswer.the-variants.{Refused as PutRefused, Stopped as PutStopped}
-use Rattle.model.specs.declared.TrieAnswer.the-variants.{Given}
-use Rattle.model.specs.declared.Trie.{Trie}
+use Rattle.model.specs.declared.TrieAnswer.the-variants.{Given, Refused as TrieRefused}
 use Rattle.model.specs.Order.{Str}
 use Rattle.model.specs.Names.{Legal, filled, legalName}
 use Rattle.model.specs.Entries.{find, insert}
-use Rattle.model.specs.Files.{Slot, Sound, entries-of, first, slot-at, string-count}
+use Rattle.model.specs.Files.{Slot, Sound, created, entries-of, first, slot-at, string-count}
 use Rattle.model.specs.Tries.{Agrees}
 use Rattle.model.specs.Rebuilding.{rebuilt-trie}
 use Rattle.model.specs.Changes.{Change, Result, Store, fits, holds?, put, splits, stored}
 use Rattle.model.specs.Checks.{Kind, is-bad, is-cut, is-sound}
 use Rattle.model.specs.Agreeing.{isAgreeing}
-use Rattle.model.specs.Format.{Bytes, SoundFile, checkFile, readFile}
-use Rattle.model.specs.Calls.{Looked, PutDone, fine, lookedBy, lookedOf, no-rebuilt, putAnswer, putLooked, putMade, putOf, rebuildBy, rebuildOf, refusing, storesBytes, trieAfter}
-use Rattle.model.proofs.Names.{legalName-legal}
+use Rattle.model.specs.Format.{Bytes, SoundFile, checkFile, fileBytes, fileSize, legalSizes, readFile}
+use Rattle.model.specs.Places.{place-of}
+use Rattle.model.specs.Calls.{Created, Looked, PutDone, createOf, fine, lookedBy, lookedOf, new-trie, no-rebuilt, putAnswer, putLooked, putMade, putOf, rebuildBy, rebuildOf, refusing, storesBytes, trieAfter}
+use Rattle.model.proofs.Names.{both-true, legalName-legal}
 use Rattle.model.proofs.Files.{one-range}
 use Rattle.model.proofs.Agreement.{agrees-walk, rebuilt-trie-agrees}
 use Rattle.model.proofs.Agreeing.{isAgreeing-agrees}
 use Rattle.model.proofs.Entries.{row-insert}
-use Rattle.model.proofs.Changes.{half, one-sound, second-sound, well-a}
+use Rattle.model.proofs.Places.{place-lt}
+use Rattle.model.proofs.Changes.{one-sound, second-sound, well-a}
 use Rattle.model.proofs.Calls.{Answered, is-denied, is-made, put-right}
 use Rattle.model.proofs.CheckedFiles.{CheckedFile, checkFile-right}
-use Rattle.model.proofs.Format.{fileBytes-readFile}
+use Rattle.model.proofs.Format.{fileBytes-readFile, legalSizes-sizes, value-fits}
+use Rattle.model.proofs.Created.{created-agrees, created-fine, created-left}
 use Rattle.model.proofs.GrownTries.{change-agrees}
 use Rattle.model.proofs.Stores.{read-stored, trieAfter-is}
 use Rattle.promises.specs.Demand2.{LeadsRight, Made}
@@ -41,67 +37,94 @@ unfoldable pub leads : (xs : List ℕ) (t : Trie) (S : SoundFile xs) → Agrees 
 leads xs t S A = record {
   file = S;
   agrees = A;
-  arrives = λ n. agrees-walk (S .b) (S .sound) A n;
-  alone = λ n B h. one-range (S .b) (S .sound) n h (agrees-walk (S .b) (S .sound) A n);
+  arrives = λ n. agrees-walk (S .layout .b) (S .sound) A n;
+  alone = λ n B h. one-range (S .layout .b) (S .sound) n h (agrees-walk (S .layout .b) (S .sound) A n);
 }
+
+-- The trie that create gives.
+pub created-leads : (xs : List ℕ) (v b slots : ℕ) → createOf xs v b slots .answer ≡ Given → LeadsRight (createOf xs v b slots .file) (createOf xs v b slots .trie)
+unfolding createOf
+created-leads xs v b slots = go (legalSizes y slots && eqb (length xs) (fileSize y slots)) refl
+  where
+    y : Layout
+    y = record { version = v; b = b }
+
+    made : Created
+    made = record { answer = Given; file = fileBytes y (created slots); trie = new-trie }
+
+    denied : Created
+    denied = record { answer = TrieRefused WrongSize; file = xs; trie = new-trie }
+
+    go : (c : Bool) → (legalSizes y slots && eqb (length xs) (fileSize y slots)) ≡ c → cond c made denied .answer ≡ Given
+        → LeadsRight (cond c made denied .file) (cond c made denied .trie)
+    go true e h =
+        let p = both-true (legalSizes y slots) (eqb (length xs) (fileSize y slots)) e in
+        let S : SoundFile (fileBytes y (created slots)) = record {
+          layout = y;
+          slots = created slots;
+          is = created-left y slots (legalSizes-sizes y slots (p .0)) .is;
+          sound = created-fine b slots .sound;
+        } in
+        leads (fileBytes y (created slots)) new-trie S (created-agrees b slots)
+    go false e h = clash cc
 
 -- "the trie rebuilt from the bucket headers alone"
 pub rebuilt-leads : (xs : List ℕ) → rebuildOf xs .answer ≡ Given → LeadsRight xs (rebuildOf xs .trie)
 unfolding rebuildOf rebuildBy
 rebuilt-leads xs = go (checkFile xs) (checkFile-right xs) (readFile xs) refl
   where
-    go : (k : Kind) → CheckedFile xs k → (r : Option (ℕ × List Slot)) → readFile xs ≡ r → rebuildBy k r .answer ≡ Given → LeadsRight xs (rebuildBy k r .trie)
-    go is-bad c r e h = let z : _≡_ {A = ℕ} 0 1 = cc in absurd (omega arith)
-    go (is-cut N) c r e h = let z : _≡_ {A = ℕ} 0 1 = cc in absurd (omega arith)
-    go is-sound c nothing e h = let z : _≡_ {A = ℕ} 0 1 = cc in absurd (omega arith)
+    go : (k : Kind) → CheckedFile xs k → (r : Option (Layout × List Slot)) → readFile xs ≡ r → rebuildBy k r .answer ≡ Given → LeadsRight xs (rebuildBy k r .trie)
+    go is-bad c r e h = clash cc
+    go (is-cut N) c r e h = clash cc
+    go is-sound c nothing e h = clash cc
     go is-sound S (some f) e h = by (leb (string-count (f .1)) 256) refl h
       where
-        same : f ≡ (S .b, S .slots)
-        same = let q : some f ≡ some (S .b, S .slots) = sym e ∙ S .is in cc
+        same : f ≡ (S .layout, S .slots)
+        same = let q : some f ≡ some (S .layout, S .slots) = sym e ∙ S .is in cc
 
         by : (t : Bool) → leb (string-count (f .1)) 256 ≡ t
             → cond t (record { answer = Given; trie = rebuilt-trie (f .1) }) (no-rebuilt ManyStrings) .answer ≡ Given
             → LeadsRight xs (cond t (record { answer = Given; trie = rebuilt-trie (f .1) }) (no-rebuilt ManyStrings) .trie)
         by true q h =
             let few : string-count (S .slots) ≤ 256 = rw same at (leb-true (string-count (f .1)) 256 q) in
-            rw same (leads xs (rebuilt-trie (S .slots)) S (rebuilt-trie-agrees (S .b) (S .sound) few))
-        by false q h = let z : _≡_ {A = ℕ} 0 1 = cc in absurd (omega arith)
+            rw same (leads xs (rebuilt-trie (S .slots)) S (rebuilt-trie-agrees (S .layout .b) (S .sound) few))
+        by false q h = clash cc
 
 -- What passed the checks of put, remove and list: a sound file that reads so, and a trie that agrees with it.
-pub record Passed (xs : List ℕ) (t : Trie) (b : ℕ) (fs : List Slot) : Type 0 where
-  pub is : readFile xs ≡ some (b, fs)
-  pub sound : Sound b fs
+pub record Passed (xs : List ℕ) (t : Trie) (y : Layout) (fs : List Slot) : Type 0 where
+  pub is : readFile xs ≡ some (y, fs)
+  pub sound : Sound (y .b) fs
   pub agrees : Agrees fs t
 
-pub looked-passed : (xs : List ℕ) (t : Trie) (b : ℕ) (fs : List Slot) → lookedOf xs t ≡ fine b fs → Passed xs t b fs
+pub looked-passed : (xs : List ℕ) (t : Trie) (y : Layout) (fs : List Slot) → lookedOf xs t ≡ fine y fs → Passed xs t y fs
 unfolding lookedOf lookedBy
-looked-passed xs t b fs = go (checkFile xs) (checkFile-right xs) (readFile xs) refl
+looked-passed xs t y fs = go (checkFile xs) (checkFile-right xs) (readFile xs) refl
   where
-    go : (k : Kind) → CheckedFile xs k → (r : Option (ℕ × List Slot)) → readFile xs ≡ r → lookedBy t k r ≡ fine b fs → Passed xs t b fs
-    go is-bad c r e h = let z : _≡_ {A = ℕ} 0 1 = cc in absurd (omega arith)
-    go (is-cut N) c r e h = let z : _≡_ {A = ℕ} 0 1 = cc in absurd (omega arith)
-    go is-sound c nothing e h = let z : _≡_ {A = ℕ} 0 1 = cc in absurd (omega arith)
+    go : (k : Kind) → CheckedFile xs k → (r : Option (Layout × List Slot)) → readFile xs ≡ r → lookedBy t k r ≡ fine y fs → Passed xs t y fs
+    go is-bad c r e h = clash cc
+    go (is-cut N) c r e h = clash cc
+    go is-sound c nothing e h = clash cc
     go is-sound S (some f) e h = by (isAgreeing (f .1) t) refl h
       where
-        by : (a : Bool) → isAgreeing (f .1) t ≡ a → cond a (fine (f .0) (f .1)) (refusing StaleTrie) ≡ fine b fs → Passed xs t b fs
+        by : (a : Bool) → isAgreeing (f .1) t ≡ a → cond a (fine (f .0) (f .1)) (refusing StaleTrie) ≡ fine y fs → Passed xs t y fs
         by true q h =
-            let eb : f .0 ≡ b = cc in
+            let eb : f .0 ≡ y = cc in
             let ef : f .1 ≡ fs = cc in
-            let read : readFile xs ≡ some (b, fs) = rw (← eb, ← ef) e in
-            let one : _≡_ {A = Option (ℕ × List Slot)} (some (b, fs)) (some (S .b, S .slots)) = sym read ∙ S .is in
-            let pair : _≡_ {A = ℕ × List Slot} (S .b, S .slots) (b, fs) = cc in
-            let sb : S .b ≡ b = ap (λ (f : ℕ × List Slot). f .0) pair in
-            let sf : S .slots ≡ fs = ap (λ (f : ℕ × List Slot). f .1) pair in
-            let sound : Sound b fs = rw (sb, sf) at (S .sound) in
-            record { is = read; sound = sound; agrees = isAgreeing-agrees b sound t (rw ef at q) }
-        by false q h = let z : _≡_ {A = ℕ} 0 1 = cc in absurd (omega arith)
+            let read : readFile xs ≡ some (y, fs) = rw (← eb, ← ef) e in
+            let one : _≡_ {A = Option (Layout × List Slot)} (some (y, fs)) (some (S .layout, S .slots)) = sym read ∙ S .is in
+            let pair : _≡_ {A = Layout × List Slot} (S .layout, S .slots) (y, fs) = cc in
+            let sb : S .layout ≡ y = ap (λ (f : Layout × List Slot). f .0) pair in
+            let sf : S .slots ≡ fs = ap (λ (f : Layout × List Slot). f .1) pair in
+            let sound : Sound (y .b) fs = rw (sb, sf) at (S .sound) in
+            record { is = read; sound = sound; agrees = isAgreeing-agrees (y .b) sound t (rw ef at q) }
+        by false q h = clash cc
 
 -- A put that is made leaves a sound file.
-put-sound : (b : ℕ) → 2 ≤ b → {fs : List Slot} {n : Str} {v : ℕ} {ss : List Store} → Sound b fs → Change b fs (put n v) ss → Sound b (stored ss fs)
-put-sound b h {fs} S (fits {A = A} {l = l} {u = u} {es = es} {n = n} {v = v} is g lo up k) =
-    one-sound b fs S A l u es is (insert n v es) (row-insert n v g lo up (well-a b fs S A l u es is .3)) k
-put-sound b h {fs} S (splits {A = A} {N = N} {l = l} {u = u} {es = es} {n = n} {v = v} is g lo up big low few) =
-    second-sound b fs S A l u es is n v g lo up big (b / 2) (half b h) N low
+put-sound : (y : Layout) → 2 ≤ y .b → {fs : List Slot} {n : Str} {v : ℕ} {ss : List Store} → Sound (y .b) fs → Change (y .b) (place-of y) fs (put n v) ss → Sound (y .b) (stored ss fs)
+put-sound y h {fs} S (fits {A = A} {l = l} {u = u} {es = es} {n = n} {v = v} is g lo up k) =
+    one-sound (y .b) fs S A l u es is (insert n v es) (row-insert n v g lo up (well-a (y .b) fs S A l u es is .3)) k
+put-sound y h {fs} S (splits {A = A} {N = N} {l = l} {u = u} {es = es} {n = n} {v = v} is g lo up big low few) =
+    second-sound (y .b) fs S A l u es is n v g lo up big (place-of y (insert n v es)) (place-lt y h (insert n v es)) N low
 
 -- What a put leaves leads right if the put was made.
 abbrev Right : PutDone → Type 0
@@ -111,32 +134,32 @@ module _ (xs : List ℕ) (t : Trie) (name : List ℕ) (v limit : ℕ) (bytes : B
   abbrev n : Str
   n = filled name
 
-  after : (b : ℕ) (fs : List Slot) → Passed xs t b fs → {ss : List Store} → Change b fs (put n v) ss → LeadsRight (storesBytes b ss xs) (trieAfter b fs n v ss t)
-  after b fs p {ss} c =
-      let two : 2 ≤ b = fileBytes-readFile xs (p .is) .1 .b-least in
-      let S : Sound b (stored ss fs) = put-sound b two (p .sound) c in
-      let F : SoundFile (storesBytes b ss xs) = record { b = b; slots = stored ss fs; is = read-stored b xs bytes (p .is) c small S; sound = S } in
-      leads (storesBytes b ss xs) (trieAfter b fs n v ss t) F (rw (trieAfter-is b n v c t) (change-agrees b two (p .sound) c (p .agrees)))
+  after : (y : Layout) (fs : List Slot) → Passed xs t y fs → {ss : List Store} → Change (y .b) (place-of y) fs (put n v) ss → LeadsRight (storesBytes y ss xs) (trieAfter (y .b) (place-of y) fs n v ss t)
+  after y fs p {ss} c =
+      let two : 2 ≤ y .b = fileBytes-readFile xs (p .is) .1 .b-least in
+      let S : Sound (y .b) (stored ss fs) = put-sound y two (p .sound) c in
+      let F : SoundFile (storesBytes y ss xs) = record { layout = y; slots = stored ss fs; is = read-stored y xs bytes (p .is) (place-of y) c (value-fits y v small) S; sound = S } in
+      leads (storesBytes y ss xs) (trieAfter (y .b) (place-of y) fs n v ss t) F (rw (trieAfter-is (y .b) (place-of y) n v c t) (change-agrees (y .b) (place-of y) (place-lt y two) (p .sound) c (p .agrees)))
 
-  made : (b : ℕ) (fs : List Slot) → Passed xs t b fs → {r : Result} → Answered b fs (put n v) r → Right (putMade xs t b fs n v limit r)
+  made : (y : Layout) (fs : List Slot) → Passed xs t y fs → {r : Result} → Answered (y .b) (place-of y) fs (put n v) r → Right (putMade xs t y fs n v limit r)
   unfolding putMade
-  made b fs p (is-denied d) h = absurd h
-  made b fs p (is-made {ss = ss} c) h = stopped (ltb limit (length ss)) h
+  made y fs p (is-denied d) h = absurd h
+  made y fs p (is-made {ss = ss} c) h = stopped (ltb limit (length ss)) h
     where
       short : PutDone
-      short = record { answer = PutStopped limit; file = storesBytes b (take limit ss) xs; trie = t }
+      short = record { answer = PutStopped limit; file = storesBytes y (take limit ss) xs; trie = t }
 
       whole : PutDone
-      whole = record { answer = putAnswer (find n (entries-of (slot-at fs (first (holds? n) fs)))); file = storesBytes b ss xs; trie = trieAfter b fs n v ss t }
+      whole = record { answer = putAnswer (find n (entries-of (slot-at fs (first (holds? n) fs)))); file = storesBytes y ss xs; trie = trieAfter (y .b) (place-of y) fs n v ss t }
 
       stopped : (s : Bool) → Right (cond s short whole)
       stopped true h = absurd h
-      stopped false h = after b fs p c
+      stopped false h = after y fs p c
 
   looked : (l : Looked) → lookedOf xs t ≡ l → Legal n → Right (putLooked xs t n v limit l)
   unfolding putLooked
   looked (refusing c) e g h = absurd h
-  looked (fine b fs) e g h = let p = looked-passed xs t b fs e in made b fs p (put-right b fs (p .sound) n v g) h
+  looked (fine y fs) e g h = let p = looked-passed xs t y fs e in made y fs p (put-right (y .b) (place-of y) fs (p .sound) n v g) h
 
   -- "the grown trie": after every put that is made, from whatever agreeing trie.
   pub put-leads : Made (putOf xs t name v limit .answer) → LeadsRight (putOf xs t name v limit .file) (putOf xs t name v limit .trie)

@@ -1,10 +1,12 @@
 pub mod Situations
-pub mod Demand2
 pub mod Leading
-pub mod Demand3
 pub mod Tables
 pub mod Walking
 pub mod Listings
 pub mod Demand1
+pub mod Demand2
+pub mod Stops
+pub mod Demand3
+pub mod Meanings
 pub mod Determined
 pub mod Strength

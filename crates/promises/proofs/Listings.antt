@@ -1,9 +1,5 @@
 -- The entries to be listed are one list, and the buckets in range order give it.
-use mathlib.Core.Path.{_≡_, ap₂, refl, sym}
-use mathlib.Core.Logic.{_⊎_, inl, inr}
-use mathlib.Core.Bool.{Bool, _&&_, cond, false, true}
-use mathlib.Core.List.{List, List·Memᴰ, List·Memᴰ·append-cases, List·Memᴰ·cases-cons, List·Memᴰ·head, List·Memᴰ·not-nil, List·Memᴰ·tail, Memᴰ·append-left, Memᴰ·append-right, [], _++_, _∷_}
-use Prim.Native.Nat.{ℕ}
+use Rattle.model.proofs.Prelude.{Bool, List, List·Memᴰ, List·Memᴰ·append-cases, List·Memᴰ·cases-cons, List·Memᴰ·head, List·Memᴰ·not-nil, List·Memᴰ·tail, Memᴰ·append-left, Memᴰ·append-right, [], _&&_, _++_, _∷_, _≡_, _⊎_, ap₂, cond, false, inl, inr, refl, sym, true, ℕ}
 use Rattle.model.specs.Order.{Low, Str, _⊑_, _⊴_, _◁_, at, below, over, top}
 use Rattle.model.specs.Names.{atMost}
 use Rattle.model.specs.Entries.{Entry, Row, entry, no-entries}

@@ -1,55 +1,113 @@
 -- The public statements rule the wrong versions out: files with two slots are computed, and the rest follows.
-use mathlib.Core.Path.{_∙_, _≡_, ap, refl, subst, sym}
-use mathlib.Core.Bool.{Bool, cond, false, true}
-use mathlib.Core.Option.{Option, none as nothing, some}
-use mathlib.Core.List.{List, [], _∷_}
-use Prim.Native.Nat.{_+_, _/_, ℕ}
-use native.Mathlib.Decide.{decLe, decLt, ℕ-discrete}
-use native.Mathlib.Omega.{arith}
-use borrow.Author.Tests.{le-ltb, ltb-true}
-use lib.Dec.{ltb}
-use lib.ListN.{getD, length, take}
-use Rattle.model.specs.declared.Cause.the-variants.{IllegalName, WrongSize}
-use Rattle.model.specs.declared.LookUpAnswer.the-variants.{Absent as NotFound, Refused as LookUpRefused}
-use Rattle.model.specs.declared.PutAnswer.the-variants.{Added, Refused as PutRefused, Stopped as PutStopped}
-use Rattle.model.specs.declared.RecoverAnswer.the-variants.{Freed, Refused as RecoverRefused, Stopped as RecoverStopped}
-use Rattle.model.specs.declared.RemoveAnswer.the-variants.{Refused as RemoveRefused, Removed, Stopped as RemoveStopped}
+use Rattle.model.proofs.Prelude.{Bool, List, Option, [], _+_, _/_, _∙_, _∷_, _≡_, arith, clash, cond, decLe, decLt, false, length, ltb, ltb-true, nothing, refl, some, sym, take, true, ℕ, ℕ-discrete}
 use Rattle.model.specs.declared.Side.the-variants.{Slot as slot}
 use Rattle.model.specs.declared.Trie.{Trie}
+use Rattle.model.specs.declared.Layout.{Layout}
+use Prim.Native.String.{String}
+use Rattle.model.specs.declared.Cause.{Cause}
+use Rattle.model.specs.declared.Cause.the-variants.{BadFile, CutFile, IllegalName, StaleTrie, WrongSize}
+use Rattle.model.specs.declared.TrieAnswer.the-variants.{Given, Refused as TrieRefused}
+use Rattle.model.specs.declared.ListAnswer.the-variants.{Listed, Refused as ListRefused}
+use Rattle.model.specs.declared.LookUpAnswer.{LookUpAnswer}
+use Rattle.model.specs.declared.RecoverAnswer.{RecoverAnswer}
+use Rattle.model.specs.Tries.{walk-trie}
+use Rattle.model.proofs.Agreeing.{agrees-isAgreeing}
+use Rattle.model.proofs.Created.{created-left}
+use Rattle.model.proofs.Names.{legalName-legal, never-both}
+use Rattle.model.proofs.Format.{legalSizes-sizes}
+use Rattle.model.specs.declared.LookUpAnswer.the-variants.{Absent as NotFound, Found, Refused as LookUpRefused}
+use Rattle.model.specs.declared.PutAnswer.the-variants.{Added, Refused as PutRefused, Stopped as PutStopped}
+use Rattle.model.specs.declared.RecoverAnswer.the-variants.{Freed, Nothing, Refused as RecoverRefused}
+use Rattle.model.specs.declared.RemoveAnswer.the-variants.{Absent as NotHeld, Refused as RemoveRefused}
 use Rattle.model.specs.Order.{Str, le?, low?, str?}
 use Rattle.model.specs.Names.{areDigits, atMost, blankEnded, blanks, filled, legalBound, legalFilled, legalName, notGreater, smaller, splitFrom, splitString, within}
 use Rattle.model.specs.Entries.{chosen, find, insert, keep, not?}
 use Rattle.model.specs.Files.{Slot, entries-of, first, free, low-same?, order-from, slot-at, starts?, string-count}
-use Rattle.model.specs.Changes.{Result, absent, call, free?, holds?, put, put-in, remove, remove-in, removes, split-of, split-string, stores-if}
-use Rattle.model.specs.Checks.{Kind, allWell, check, cutBelow, hasTwin, is-bad, is-cut, is-sound, isAbove, isChain, isCopied, isCutBy, isIn, isListed, isRow, isSound, isTwin, isUsed, isWell, legalLow, oneMore, sameEntries, sameLow, sameStr}
+use Rattle.model.specs.Changes.{Map, Result, call, free?, holds?, put, put-in, refuse, remove, remove-in, split-of, split-string, stores, stores-if}
+use Rattle.model.specs.Checks.{allWell, check, cutBelow, hasTwin, is-bad, isAbove, isChain, isCopied, isCutBy, isIn, isListed, isRow, isSound, isTwin, isUsed, isWell, legalLow, oneMore, sameEntries, sameLow, sameStr}
 use Rattle.model.specs.Agreeing.{areNumbers, areZeroCells, eachOnce, isAgreeing, isTrieOf, joinTrees, readTree, sameSide, sameStrs, slotsBetween, times}
-use Rattle.model.specs.Format.{checkFile, checkRead, entriesBytes, entriesOf, entryBytes, fileBytes, fileSize, headerBytes, headerOf, joined, legalSizes, littleEndian, lowDigits, lowOf, padded, readBy, readFile, readSlot, readSlots, readUsed, rightHeader, sized, slotAt, slotBytes, slotSize, slotsBytes, storeBytes, usedOf, valueBytes, valueOf}
-use Rattle.model.specs.Calls.{Looked, PutDone, Recovered, RemoveDone, arrive, arrivedAnswer, between, createOf, entriesIn, fine, headedAnswer, listEntries, listLooked, listOf, lookUpOf, lookedBy, lookedOf, new-trie, putAnswer, putLooked, putMade, putOf, rebuildBy, rebuildOf, recoverBy, recoverOf, refusalOf, refusing, removeLooked, removeMade, removeOf, slotAnswer, storesBytes, trieAfter}
-use Rattle.model.proofs.Names.{clash, legalName-legal}
-use Rattle.model.proofs.Checks.{sameStr-self}
-use Rattle.model.proofs.Calls.{Answered, is-denied, is-made, put-right, remove-right}
-use Rattle.promises.specs.Texts.{bytes}
+use Rattle.model.specs.Format.{checkFile, checkRead, entriesBytes, entriesOf, entryBytes, entrySize, fileBytes, fileSize, headerBytes, headerOf, isOffered, joined, laidOut, layoutOf, legalSizes, littleEndian, lowDigits, lowOf, padded, readBy, readFile, readSlot, readSlots, readUsed, rightHeader, slotAt, slotBytes, slotSize, slotsBytes, storeBytes, usedOf, valueOf, version-1}
+use Rattle.model.specs.Places.{place-of}
+use Rattle.model.specs.Calls.{Looked, PutDone, arrive, arrivedAnswer, between, createOf, entriesIn, fine, headedAnswer, heldAnswer, listEntries, listLooked, listOf, lookUpOf, lookedBy, lookedOf, new-trie, putAnswer, putLooked, putMade, putOf, rebuildBy, rebuildOf, recoverBy, recoverOf, refusalOf, refusing, removeLooked, removeMade, removeOf, slotAnswer, storesBytes, trieAfter}
+use Rattle.model.proofs.Calls.{Answered, is-denied, is-made, put-right}
+use Rattle.promises.specs.Texts.{bytes, name}
 use Rattle.promises.specs.Growing.{of-cells}
 use Rattle.promises.specs.Situations.{a-cell, entries, names, rates-slots, rz-slots}
-use Rattle.promises.specs.Strength.{Answers, BothAtOnce, CutsFirst, KeepsInner, LookUp, LookUpMeets, OneResult, Put, PutMeets, Recover, RecoverMeets, RefusesAll, StoppedAfter, StoresNothing, Strength, bare-cells, cut-down, five, full-file, new-file, one-turned, split-file, stopped-file}
-use Rattle.promises.specs.Demand2.{Made}
+use Rattle.promises.specs.Calls.{Calls}
+use Rattle.promises.specs.Demand1.{Demand1, LegalName}
+use Rattle.promises.specs.Demand2.{Demand2, LeadsRight, Made, Truthful, true-entry, truly-absent}
+use Rattle.promises.specs.Demand3.{Demand3, Kept, Recovers, State, after, after-freeing, after-put, after-rebuild, after-recover, after-remove, differing, file-of, nothing-to-do, now, put-by, remove-by, replaced, said, start, step, stopped-at-0}
+use Rattle.promises.specs.WrongCalls.{IsRefused, OneResult, RefusesAll, absent-instead, both, both-at-once, buffer, by-create, by-list, by-look-up, by-put, by-rebuild, by-recover, by-remove, cuts-first, ends?, exchanged, free-outer, idles, inner-kept, keeps-inner, make, make-looked, make-put, miscounts, put-a, put-b, put-b-stopped, put-c, put-c-stopped, remove-a, removes-nothing, stores-nothing}
+use Rattle.promises.specs.Strength.{StoppedAfter, Strength, bare-cells, five, full-file, new-file, one-turned, split-file, stopped-file}
+use Rattle.promises.proofs.Demand1.{demand-1, legal-name, same-slots}
+use Rattle.promises.proofs.Demand2.{demand-2}
 use Rattle.promises.proofs.Leading.{Passed, looked-passed}
+
+-- The wrong versions' states: what the new file is, and what is left after a, after a and b, and after a put that is stopped.
+abbrev new-state : State
+new-state = start (createOf buffer 1 2 2)
+
+abbrev one-put : Calls → State
+one-put C = after C (put-a ∷ []) new-state
+
+abbrev put-and-removed : Calls → State
+put-and-removed C = after C (put-a ∷ remove-a ∷ []) new-state
+
+abbrev two-puts : Calls → State
+two-puts C = after C (put-a ∷ put-b ∷ []) new-state
+
+abbrev stopped-put : Calls → State
+stopped-put C = after C (put-a ∷ put-b ∷ put-c-stopped ∷ []) new-state
+
+abbrev stopped-inside : Calls → State
+stopped-inside C = after C (put-a ∷ put-c ∷ put-b-stopped ∷ []) new-state
+
+-- What a lookup gives after rebuilding.
+abbrev rebuilt-look-up : Calls → State → String → LookUpAnswer
+rebuilt-look-up C s w = C .look-up (file-of s) (C .rebuild (file-of s) .trie) (bytes w)
 
 -- What computes.
 record Computed : Type 0 where
-  answers : Answers
-  illegal : lookUpOf new-file new-trie [] ≡ LookUpRefused IllegalName
-  put-file : sameStr (putOf new-file new-trie (bytes "a") 1 2 .file) new-file ≡ false
+  create-given : createOf buffer 1 2 2 .answer ≡ Given
+  recover-nothing : recoverOf new-file 2 .answer ≡ Nothing
+  rebuild-given : rebuildOf new-file .answer ≡ Given
+  look-up-absent : lookUpOf new-file new-trie (bytes "a") ≡ NotFound
+  put-added : putOf new-file new-trie (bytes "a") 1 2 .answer ≡ Added
+  remove-absent : removeOf new-file new-trie (bytes "a") 2 .answer ≡ NotHeld
+  list-none : listOf new-file new-trie (bytes "a") (bytes "b") [] .answer ≡ Listed 0
+  created-file : createOf buffer 1 2 2 .file ≡ new-file
+  created-trie : createOf buffer 1 2 2 .trie ≡ new-trie
+  new-sizes : legalSizes (version-1 2) 2 ≡ true
+  a-legal : legalName (bytes "a") ≡ true
+  c-legal : legalName (bytes "c") ≡ true
+  put-found : lookUpOf (putOf new-file new-trie (bytes "a") 1 2 .file) (putOf new-file new-trie (bytes "a") 1 2 .trie) (bytes "a") ≡ Found 1
+  nothing-recovered : stores-nothing .recover (file-of (one-put stores-nothing)) 1 .answer ≡ Nothing
+  nothing-found : rebuilt-look-up stores-nothing (one-put stores-nothing) "a" ≡ NotFound
+  nothing-said : heldAnswer (said (one-put stores-nothing) (name "a")) ≡ Found 1
+  absent-recovered : removes-nothing .recover (file-of (put-and-removed removes-nothing)) 1 .answer ≡ Nothing
+  absent-found : rebuilt-look-up removes-nothing (put-and-removed removes-nothing) "a" ≡ Found 1
+  absent-said : heldAnswer (said (put-and-removed removes-nothing) (name "a")) ≡ NotFound
+  both-recovered : both-at-once .recover (file-of (stopped-put both-at-once)) 1 .answer ≡ Nothing
+  both-found : rebuilt-look-up both-at-once (stopped-put both-at-once) "c" ≡ Found 3
+  both-said : heldAnswer (said (stopped-put both-at-once) (name "c")) ≡ NotFound
+  miscounted : miscounts .put (file-of (two-puts miscounts)) new-trie (bytes "c") 3 1 .answer ≡ PutStopped 2
+  idled : idles .put (file-of (two-puts idles)) new-trie (bytes "c") 3 1 .answer ≡ PutStopped 1
+  idle-file : replaced (file-of (two-puts idles)) (idles .put (file-of (two-puts idles)) new-trie (bytes "c") 3 1 .file) ≡ 0
+  cut-first-bad : cuts-first .recover (file-of (stopped-inside cuts-first)) 1 .answer ≡ RecoverRefused BadFile
+  inner-freed : keeps-inner .recover (file-of (stopped-put keeps-inner)) 1 .answer ≡ Freed 0
+  inner-refused : keeps-inner .rebuild (keeps-inner .recover (file-of (stopped-put keeps-inner)) 1 .file) .answer ≡ TrieRefused BadFile
   stopped-0 : putOf full-file new-trie (bytes "c") 3 0 ≡ record { answer = PutStopped 0; file = full-file; trie = new-trie }
   stopped-1 : putOf full-file new-trie (bytes "c") 3 1 ≡ record { answer = PutStopped 1; file = stopped-file; trie = new-trie }
   made-2 : putOf full-file new-trie (bytes "c") 3 2 ≡ record { answer = Added; file = split-file; trie = of-cells (a-cell "b" 0 (slot 0) (slot 1) ∷ []) }
-  both-differ : sameStr stopped-file split-file ≡ false
-  cut-differs : sameStr stopped-file (storeBytes 2 0 cut-down full-file) ≡ false
+  kept-cut : putOf stopped-file new-trie (bytes "d") 4 2 .answer ≡ PutRefused CutFile
+  kept-stale : putOf split-file new-trie (bytes "d") 4 2 .answer ≡ PutRefused StaleTrie
+  kept-good : putOf full-file new-trie (bytes "c") 3 2 .answer ≡ Added
   recovers : recoverOf stopped-file 1 ≡ record { answer = Freed 1; file = full-file }
-  inner-differs : sameStr full-file (storeBytes 2 0 free stopped-file) ≡ false
-  inner-bad : checkFile (storeBytes 2 0 free stopped-file) ≡ is-bad
-  last-name : split-of 4 five ≡ bytes "r"
+  inner-bad : checkFile (storeBytes (version-1 2) 0 free stopped-file) ≡ is-bad
+  last-name : split-of 4 (place-of (version-1 4)) five ≡ bytes "r"
   neighbour : split-string (4 / 2) (4 / 2 + 1) five ≡ bytes "ra "
+  rates-read : readFile (fileBytes (version-1 2) rates-slots) ≡ some (version-1 2, rates-slots)
+  rz-read : readFile (fileBytes (version-1 2) rz-slots) ≡ some (version-1 2, rz-slots)
   without-beginnings : isAgreeing rates-slots bare-cells ≡ false
   one-leaf : isAgreeing rz-slots one-turned ≡ false
 
@@ -65,80 +123,228 @@ unfolding
     isAbove legalLow sameStr sameLow isRow isWell allWell isUsed isChain isIn isListed isSound sameEntries oneMore
     isCopied isTwin hasTwin isCutBy cutBelow check
     joinTrees readTree sameSide areZeroCells times eachOnce areNumbers sameStrs slotsBetween isTrieOf isAgreeing
-    slotSize fileSize legalSizes headerBytes padded littleEndian valueBytes valueOf entryBytes entriesBytes lowDigits
-    lowOf slotBytes slotsBytes fileBytes entriesOf usedOf readUsed readSlot slotAt joined readSlots rightHeader headerOf
-    sized readBy readFile checkRead checkFile storeBytes
+    isOffered entrySize slotSize fileSize legalSizes headerBytes padded littleEndian valueOf entryBytes entriesBytes lowDigits
+    lowOf slotBytes slotsBytes fileBytes entriesOf usedOf readUsed readSlot slotAt joined readSlots rightHeader layoutOf headerOf
+    laidOut readBy readFile checkRead checkFile storeBytes
     createOf recoverBy recoverOf rebuildBy rebuildOf arrive slotAnswer arrivedAnswer headedAnswer lookUpOf lookedBy
     lookedOf storesBytes trieAfter refusalOf putMade putLooked putOf removeMade removeLooked removeOf entriesIn between
     listEntries listLooked listOf
+    now after-put after-remove after-recover after-rebuild put-by remove-by step after differing
+    make make-looked make-put absent-instead both exchanged ends? free-outer inner-kept
     decLe decLt ℕ-discrete
 computed = record {
-  answers = record {
-    create-given = refl;
-    recover-nothing = refl;
-    rebuild-given = refl;
-    look-up-absent = refl;
-    put-added = refl;
-    remove-absent = refl;
-    list-none = refl;
-  };
-  illegal = refl;
-  put-file = refl;
+  create-given = refl;
+  recover-nothing = refl;
+  rebuild-given = refl;
+  look-up-absent = refl;
+  put-added = refl;
+  remove-absent = refl;
+  list-none = refl;
+  created-file = refl;
+  created-trie = refl;
+  new-sizes = refl;
+  a-legal = refl;
+  c-legal = refl;
+  put-found = refl;
+  nothing-recovered = refl;
+  nothing-found = refl;
+  nothing-said = refl;
+  absent-recovered = refl;
+  absent-found = refl;
+  absent-said = refl;
+  both-recovered = refl;
+  both-found = refl;
+  both-said = refl;
+  miscounted = refl;
+  idled = refl;
+  idle-file = refl;
+  cut-first-bad = refl;
+  inner-freed = refl;
+  inner-refused = refl;
   stopped-0 = refl;
   stopped-1 = refl;
   made-2 = refl;
-  both-differ = refl;
-  cut-differs = refl;
+  kept-cut = refl;
+  kept-stale = refl;
+  kept-good = refl;
   recovers = refl;
-  inner-differs = refl;
   inner-bad = refl;
   last-name = refl;
   neighbour = refl;
+  rates-read = refl;
+  rz-read = refl;
   without-beginnings = refl;
   one-leaf = refl;
 }
 
--- Bytes that the test tells apart are not the same.
-apart : {xs ys : List ℕ} → sameStr xs ys ≡ false → xs ≡ ys → ⊥
-apart {xs} {ys} n e = clash (sameStr ys ys) (sameStr-self ys) (rw e at n)
+-- Refusing everything: where ours does not refuse, demand 1 lets nobody refuse.
+not-all : (C : Calls) → RefusesAll C → ¬ Demand1 C
+not-all C (by-create f) D =
+    let r = f buffer 1 2 2 in
+    let q : Given ≡ TrieRefused (r .0) = sym (computed .create-given) ∙ demand-1 .create buffer 1 2 2 (r .0) .1 (D .create buffer 1 2 2 (r .0) .0 (r .1)) in
+    clash cc
+not-all C (by-recover f) D =
+    let r = f new-file 2 in
+    let q : Nothing ≡ RecoverRefused (r .0) = sym (computed .recover-nothing) ∙ demand-1 .recover new-file 2 (r .0) .1 (D .recover new-file 2 (r .0) .0 (r .1)) in
+    clash cc
+not-all C (by-rebuild f) D =
+    let r = f new-file in
+    let q : Given ≡ TrieRefused (r .0) = sym (computed .rebuild-given) ∙ demand-1 .rebuild new-file (r .0) .1 (D .rebuild new-file (r .0) .0 (r .1)) in
+    clash cc
+not-all C (by-look-up f) D =
+    let n = bytes "a" in
+    let r = f new-file new-trie n in
+    let q : NotFound ≡ LookUpRefused (r .0) = sym (computed .look-up-absent) ∙ demand-1 .look-up new-file new-trie n (r .0) .1 (D .look-up new-file new-trie n (r .0) .0 (r .1)) in
+    clash cc
+not-all C (by-put f) D =
+    let n = bytes "a" in
+    let r = f new-file new-trie n 1 2 in
+    let q : Added ≡ PutRefused (r .0) = sym (computed .put-added) ∙ demand-1 .put new-file new-trie n 1 2 (r .0) .1 (D .put new-file new-trie n 1 2 (r .0) .0 (r .1)) in
+    clash cc
+not-all C (by-remove f) D =
+    let n = bytes "a" in
+    let r = f new-file new-trie n 2 in
+    let q : NotHeld ≡ RemoveRefused (r .0) = sym (computed .remove-absent) ∙ demand-1 .remove new-file new-trie n 2 (r .0) .1 (D .remove new-file new-trie n 2 (r .0) .0 (r .1)) in
+    clash cc
+not-all C (by-list f) D =
+    let m = bytes "a" in
+    let n = bytes "b" in
+    let r = f new-file new-trie m n [] in
+    let q : Listed 0 ≡ ListRefused (r .0) = sym (computed .list-none) ∙ demand-1 .list new-file new-trie m n [] (r .0) .1 (D .list new-file new-trie m n [] (r .0) .0 (r .1)) in
+    clash cc
 
-not-all : (f : Put) → PutMeets f → ¬ RefusesAll f
-not-all f m r = go (r new-file new-trie (bytes "a") 1 2)
+-- What demand 2 leaves of a lookup with a trie that leads right is one answer: ours.
+true-one : {xs : List ℕ} {t : Trie} (L : LeadsRight xs t) (n : Str) {x y : LookUpAnswer} → Truthful (L .file .slots) n x → Truthful (L .file .slots) n y → x ≡ y
+true-one {t = t} L n {x} {y} p q = go (held p) (held q)
   where
-    is : f new-file new-trie (bytes "a") 1 2 .answer ≡ Added
-    is = ap (λ (d : PutDone). d .answer) (m new-file new-trie (bytes "a") 1 2) ∙ computed .answers .put-added
+    held : {x : LookUpAnswer} → Truthful (L .file .slots) n x → x ≡ heldAnswer (find n (entries-of (slot-at (L .file .slots) (walk-trie t n))))
+    held (true-entry B i e) = rw (← L .alone n B i, e)
+    held (truly-absent B i e) = rw (← L .alone n B i, e)
 
-    go : (c : _) × (f new-file new-trie (bytes "a") 1 2 .answer ≡ PutRefused c) → ⊥
-    go (c, e) = let q : Added ≡ PutRefused c = sym is ∙ e in let z : _≡_ {A = ℕ} 0 1 = cc in absurd (omega arith)
+    go : x ≡ heldAnswer (find n (entries-of (slot-at (L .file .slots) (walk-trie t n)))) → y ≡ heldAnswer (find n (entries-of (slot-at (L .file .slots) (walk-trie t n)))) → x ≡ y
+    go e f = e ∙ sym f
 
-not-one : (f : LookUp) → LookUpMeets f → ¬ OneResult f
-not-one f m r =
-    let q : NotFound ≡ LookUpRefused IllegalName =
-    sym (computed .answers .look-up-absent) ∙ sym (m new-file new-trie (bytes "a")) ∙ r new-file new-file new-trie new-trie (bytes "a") [] ∙ m new-file new-trie [] ∙ computed .illegal in
-    let z : _≡_ {A = ℕ} 0 1 = cc in absurd (omega arith)
+new-leads : LeadsRight new-file new-trie
+new-leads = rw (computed .created-file, computed .created-trie) at (demand-2 .created buffer 1 2 2 (computed .create-given))
 
-not-nothing : (f : Put) → PutMeets f → ¬ StoresNothing f
-not-nothing f m r =
-    let e : f new-file new-trie (bytes "a") 1 2 ≡ putOf new-file new-trie (bytes "a") 1 2 = m new-file new-trie (bytes "a") 1 2 in
-    let a : f new-file new-trie (bytes "a") 1 2 .answer ≡ Added = ap (λ (d : PutDone). d .answer) e ∙ computed .answers .put-added in
-    apart (computed .put-file) (ap (λ (d : PutDone). d .file) (sym e) ∙ r new-file new-trie (bytes "a") 1 2 (subst Made (sym a) tt))
+abbrev a-put : PutDone
+a-put = putOf new-file new-trie (bytes "a") 1 2
 
--- What a version that meets the statement leaves after one store, and after two.
-module _ (f : Put) (m : PutMeets f) where
-  after-1 : f full-file new-trie (bytes "c") 3 1 .file ≡ stopped-file
-  after-1 = ap (λ (d : PutDone). d .file) (m full-file new-trie (bytes "c") 3 1 ∙ computed .stopped-1)
+put-leads : LeadsRight (a-put .file) (a-put .trie)
+put-leads =
+    let made : Made (a-put .answer) = rw (computed .put-added) tt in
+    demand-2 .grown new-file new-trie (bytes "a") 1 2 (created-left (version-1 2) 2 (legalSizes-sizes (version-1 2) 2 (computed .new-sizes)) .bytes) (omega arith) made
 
-  after-2 : f full-file new-trie (bytes "c") 3 2 .file ≡ split-file
-  after-2 = ap (λ (d : PutDone). d .file) (m full-file new-trie (bytes "c") 3 2 ∙ computed .made-2)
+module _ (C : Calls) (D : Demand2 C) where
+  as-ours : {xs : List ℕ} {t : Trie} → LeadsRight xs t → (name : List ℕ) → LegalName name → C .look-up xs t name ≡ lookUpOf xs t name
+  as-ours {xs} {t} L name g = true-one L (filled name) (D .led xs t name L g) (demand-2 .led xs t name L g)
 
-  not-both : ¬ BothAtOnce f
-  not-both r = apart (computed .both-differ) (sym after-1 ∙ r full-file new-trie (bytes "c") 3 ∙ after-2)
+  absent-first : C .look-up new-file new-trie (bytes "a") ≡ NotFound
+  absent-first = as-ours new-leads (bytes "a") (legal-name (bytes "a") (computed .a-legal)) ∙ computed .look-up-absent
 
-  not-cut-first : ¬ CutsFirst f
-  not-cut-first r = apart (computed .cut-differs) (sym after-1 ∙ r)
+  found-then : C .look-up (a-put .file) (a-put .trie) (bytes "a") ≡ Found 1
+  found-then = as-ours put-leads (bytes "a") (legal-name (bytes "a") (computed .a-legal)) ∙ computed .put-found
 
-not-inner : (f : Recover) → RecoverMeets f → ¬ KeepsInner f
-not-inner f m r = apart (computed .inner-differs) (sym (ap (λ (d : Recovered). d .file) (m stopped-file 1 ∙ computed .recovers)) ∙ r)
+not-one : (C : Calls) → OneResult C → ¬ Demand2 C
+not-one C f D =
+    let q : NotFound ≡ Found 1 = sym (absent-first C D) ∙ f new-file (a-put .file) new-trie (a-put .trie) (bytes "a") (bytes "a") ∙ found-then C D in
+    clash cc
+
+not-lookups : (C : Calls) → ((xs : List ℕ) (t : Trie) (name : List ℕ) → IsRefused LookUpRefused (C .look-up xs t name)) → ¬ Demand2 C
+not-lookups C f D =
+    let r = f new-file new-trie (bytes "a") in
+    let q : NotFound ≡ LookUpRefused (r .0) = sym (absent-first C D) ∙ r .1 in
+    clash cc
+
+-- A trie that does not agree with the file's slots does not lead right.
+misleads : {xs : List ℕ} {t : Trie} {y : Layout} {fs : List Slot} → LeadsRight xs t → readFile xs ≡ some (y, fs) → isAgreeing fs t ≡ false → ⊥
+misleads {xs} {t} {y} {fs} L e n =
+    never-both (isAgreeing fs t) (rw (same-slots e (L .file)) at (agrees-isAgreeing (L .file .layout .b) (L .file .sound) (L .agrees))) n
+
+-- What demand 3 says of a recovery, by what the recovery says.
+module _ (C : Calls) {xs ys : List ℕ} {m : Map} {limit : ℕ} {x : RecoverAnswer} (R : Recovers C xs m limit x ys) where
+  nothing-kept : x ≡ Nothing → Kept C xs (C .rebuild xs .trie) m
+  nothing-kept e = go R e
+    where
+      go : {x : RecoverAnswer} {ys : List ℕ} → Recovers C xs m limit x ys → x ≡ Nothing → Kept C xs (C .rebuild xs .trie) m
+      go (after-freeing g K) e = clash cc
+      go (nothing-to-do g K) e = K
+      go (stopped-at-0 z) e = clash cc
+
+  freed-given : {N : ℕ} → x ≡ Freed N → C .rebuild ys .answer ≡ Given
+  freed-given {N} e = go R e
+    where
+      go : {x : RecoverAnswer} {ys : List ℕ} → Recovers C xs m limit x ys → x ≡ Freed N → C .rebuild ys .answer ≡ Given
+      go (after-freeing g K) e = g
+      go (nothing-to-do g K) e = clash cc
+      go (stopped-at-0 z) e = clash cc
+
+  never-refused : {c : Cause} → x ≡ RecoverRefused c → ⊥
+  never-refused {c} e = go R e
+    where
+      go : {x : RecoverAnswer} {ys : List ℕ} → Recovers C xs m limit x ys → x ≡ RecoverRefused c → ⊥
+      go (after-freeing g K) e = clash cc
+      go (nothing-to-do g K) e = clash cc
+      go (stopped-at-0 z) e = clash cc
+
+-- A wrong put with our stores is ours.
+ours-but-for : (xs : List ℕ) (t : Trie) (name : List ℕ) (v limit : ℕ) → make-put take (λ made. made) (λ ss. ss) xs t name v limit ≡ putOf xs t name v limit
+unfolding make make-looked make-put putMade putLooked putOf
+ours-but-for xs t name v limit = rw (looked (lookedOf xs t))
+  where
+    made : (y : Layout) (fs : List Slot) (r : Result)
+        → make take (λ made. made) (λ ss. ss) xs t y fs (filled name) v limit r ≡ putMade xs t y fs (filled name) v limit r
+    made y fs (refuse r) = refl
+    made y fs (stores ss) = refl
+
+    looked : (l : Looked) → make-looked take (λ made. made) (λ ss. ss) xs t (filled name) v limit l ≡ putLooked xs t (filled name) v limit l
+    looked (refusing c) = refl
+    looked (fine y fs) = made y fs (call (y .b) (place-of y) fs (put (filled name) v))
+
+not-nothing : ¬ Demand3 stores-nothing
+not-nothing D =
+    let H = D .always buffer 1 2 2 (computed .create-given) (put-a ∷ []) in
+    let K = nothing-kept stores-nothing (H .recovery 1 (omega arith)) (computed .nothing-recovered) in
+    let q : NotFound ≡ Found 1 = sym (computed .nothing-found) ∙ K .looks-up (bytes "a") (legal-name (bytes "a") (computed .a-legal)) ∙ computed .nothing-said in
+    clash cc
+
+not-absent : ¬ Demand3 removes-nothing
+not-absent D =
+    let H = D .always buffer 1 2 2 (computed .create-given) (put-a ∷ remove-a ∷ []) in
+    let K = nothing-kept removes-nothing (H .recovery 1 (omega arith)) (computed .absent-recovered) in
+    let q : Found 1 ≡ NotFound = sym (computed .absent-found) ∙ K .looks-up (bytes "a") (legal-name (bytes "a") (computed .a-legal)) ∙ computed .absent-said in
+    clash cc
+
+not-both : ¬ Demand3 both-at-once
+not-both D =
+    let H = D .always buffer 1 2 2 (computed .create-given) (put-a ∷ put-b ∷ put-c-stopped ∷ []) in
+    let K = nothing-kept both-at-once (H .recovery 1 (omega arith)) (computed .both-recovered) in
+    let q : Found 3 ≡ NotFound = sym (computed .both-found) ∙ K .looks-up (bytes "c") (legal-name (bytes "c") (computed .c-legal)) ∙ computed .both-said in
+    clash cc
+
+not-miscounted : ¬ Demand3 miscounts
+not-miscounted D =
+    let H = D .always buffer 1 2 2 (computed .create-given) (put-a ∷ put-b ∷ []) in
+    let S = H .put-stopped new-trie (bytes "c") 3 1 2 (computed .miscounted) in
+    absurd (omega (arith, S .as-limited))
+
+not-idle : ¬ Demand3 idles
+not-idle D =
+    let H = D .always buffer 1 2 2 (computed .create-given) (put-a ∷ put-b ∷ []) in
+    let S = H .put-stopped new-trie (bytes "c") 3 1 1 (computed .idled) in
+    let q : _≡_ {A = ℕ} 0 1 = sym (computed .idle-file) ∙ S .as-made in
+    clash q
+
+not-cut-first : ¬ Demand3 cuts-first
+not-cut-first D =
+    let H = D .always buffer 1 2 2 (computed .create-given) (put-a ∷ put-c ∷ put-b-stopped ∷ []) in
+    never-refused cuts-first (H .recovery 1 (omega arith)) (computed .cut-first-bad)
+
+not-inner : ¬ Demand3 keeps-inner
+not-inner D =
+    let H = D .always buffer 1 2 2 (computed .create-given) (put-a ∷ put-b ∷ put-c-stopped ∷ []) in
+    let q : TrieRefused BadFile ≡ Given = sym (computed .inner-refused) ∙ freed-given keeps-inner (H .recovery 1 (omega arith)) (computed .inner-freed) in
+    clash cc
 
 -- A put that says stopped made the first of its stores, as many as it says.
 module _ (xs : List ℕ) (t : Trie) (name : List ℕ) (v limit made : ℕ) where
@@ -148,105 +354,58 @@ module _ (xs : List ℕ) (t : Trie) (name : List ℕ) (v limit made : ℕ) where
   abbrev After : PutDone → Type 0
   After d = d .answer ≡ PutStopped made → StoppedAfter xs name v made (d .file)
 
-  after-made : (b : ℕ) (fs : List Slot) → Passed xs t b fs → {r : Result} → Answered b fs (put n v) r → After (putMade xs t b fs n v limit r)
+  after-made : (y : Layout) (fs : List Slot) → Passed xs t y fs → {r : Result} → Answered (y .b) (place-of y) fs (put n v) r → After (putMade xs t y fs n v limit r)
   unfolding putMade
-  after-made b fs p (is-denied d) e = let z : _≡_ {A = ℕ} 0 1 = cc in absurd (omega arith)
-  after-made b fs p (is-made {ss = ss} c) e = go (ltb limit (length ss)) refl (find n (entries-of (slot-at fs (first (holds? n) fs)))) e
+  after-made y fs p (is-denied d) e = clash cc
+  after-made y fs p (is-made {ss = ss} c) e = go (ltb limit (length ss)) refl (find n (entries-of (slot-at fs (first (holds? n) fs)))) e
     where
       go : (s : Bool) → ltb limit (length ss) ≡ s → (o : Option ℕ)
-          → After (cond s (record { answer = PutStopped limit; file = storesBytes b (take limit ss) xs; trie = t }) (record { answer = putAnswer o; file = storesBytes b ss xs; trie = trieAfter b fs n v ss t }))
+          → After (cond s (record { answer = PutStopped limit; file = storesBytes y (take limit ss) xs; trie = t }) (record { answer = putAnswer o; file = storesBytes y ss xs; trie = trieAfter (y .b) (place-of y) fs n v ss t }))
       go true h o e =
           let q : limit ≡ made = cc in
-          record { b = b; slots = fs; is = p .is; needed = ss; change = c; short = rw q at (ltb-true limit (length ss) h); left = rw q }
-      go false h nothing e = let z : _≡_ {A = ℕ} 0 1 = cc in absurd (omega arith)
-      go false h (some old) e = let z : _≡_ {A = ℕ} 0 1 = cc in absurd (omega arith)
+          record { layout = y; slots = fs; is = p .is; needed = ss; change = c; short = rw q at (ltb-true limit (length ss) h); left = rw q }
+      go false h nothing e = clash cc
+      go false h (some old) e = clash cc
 
   after-looked : (l : Looked) → lookedOf xs t ≡ l → legalName name ≡ true → After (putLooked xs t n v limit l)
   unfolding putLooked
-  after-looked (refusing c) e g q = let z : _≡_ {A = ℕ} 0 1 = cc in absurd (omega arith)
-  after-looked (fine b fs) e g q = let p = looked-passed xs t b fs e in after-made b fs p (put-right b fs (p .sound) n v (legalName-legal name g)) q
+  after-looked (refusing c) e g q = clash cc
+  after-looked (fine y fs) e g q = let p = looked-passed xs t y fs e in after-made y fs p (put-right (y .b) (place-of y) fs (p .sound) n v (legalName-legal name g)) q
 
-  after-put : After (putOf xs t name v limit)
+  first-stores : After (putOf xs t name v limit)
   unfolding putOf
-  after-put = go (ltb 2 limit) (legalName name) refl
+  first-stores = go (ltb 2 limit) (legalName name) refl
     where
       go : (l g : Bool) → legalName name ≡ g
           → After (cond l (record { answer = PutRefused WrongSize; file = xs; trie = t }) (cond g (putLooked xs t n v limit (lookedOf xs t)) (record { answer = PutRefused IllegalName; file = xs; trie = t })))
-      go true g e q = let z : _≡_ {A = ℕ} 0 1 = cc in absurd (omega arith)
-      go false false e q = let z : _≡_ {A = ℕ} 0 1 = cc in absurd (omega arith)
+      go true g e q = clash cc
+      go false false e q = clash cc
       go false true e q = after-looked (lookedOf xs t) refl e q
-
--- Remove and recover, stopped, made no store.
-module _ (xs : List ℕ) (t : Trie) (name : List ℕ) (limit made : ℕ) where
-  abbrev RemoveNone : RemoveDone → Type 0
-  RemoveNone d = d .answer ≡ RemoveStopped made → (made ≡ 0) × (d .file ≡ xs)
-
-  remove-none : (b : ℕ) (fs : List Slot) {r : Result} → Answered b fs (remove (filled name)) r → RemoveNone (removeMade xs b limit r)
-  unfolding removeMade storesBytes
-  remove-none b fs (is-denied d) = λ e. let z : _≡_ {A = ℕ} 0 1 = cc in absurd (omega arith)
-  remove-none b fs (is-made (absent A is lo up q)) = rw (le-ltb limit 0 (omega arith)) (λ e. let z : _≡_ {A = ℕ} 0 1 = cc in absurd (omega arith))
-  remove-none b fs (is-made {ss = ss} (removes is lo up q)) = go (ltb limit 1) refl
-    where
-      go : (s : Bool) → ltb limit 1 ≡ s
-          → RemoveNone (cond s (record { answer = RemoveStopped limit; file = storesBytes b (take limit ss) xs }) (record { answer = Removed; file = storesBytes b ss xs }))
-      go true h e =
-          let z : limit ≡ 0 = omega (arith, ltb-true limit 1 h) in
-          let q : limit ≡ made = cc in
-          (sym q ∙ z, rw z)
-      go false h e = let z : _≡_ {A = ℕ} 0 1 = cc in absurd (omega arith)
-
-  remove-looked : (l : Looked) → lookedOf xs t ≡ l → RemoveNone (removeLooked xs (filled name) limit l)
-  unfolding removeLooked
-  remove-looked (refusing c) e q = let z : _≡_ {A = ℕ} 0 1 = cc in absurd (omega arith)
-  remove-looked (fine b fs) e q = remove-none b fs (remove-right b fs (looked-passed xs t b fs e .sound) (filled name)) q
-
-  none-removed : RemoveNone (removeOf xs t name limit)
-  unfolding removeOf
-  none-removed = go (ltb 2 limit) (legalName name)
-    where
-      go : (l g : Bool)
-          → RemoveNone (cond l (record { answer = RemoveRefused WrongSize; file = xs }) (cond g (removeLooked xs (filled name) limit (lookedOf xs t)) (record { answer = RemoveRefused IllegalName; file = xs })))
-      go true g e = let z : _≡_ {A = ℕ} 0 1 = cc in absurd (omega arith)
-      go false false e = let z : _≡_ {A = ℕ} 0 1 = cc in absurd (omega arith)
-      go false true e = remove-looked (lookedOf xs t) refl e
-
-module _ (xs : List ℕ) (limit made : ℕ) where
-  abbrev RecoverNone : Recovered → Type 0
-  RecoverNone d = d .answer ≡ RecoverStopped made → (made ≡ 0) × (d .file ≡ xs)
-
-  none-freed : RecoverNone (recoverOf xs limit)
-  unfolding recoverOf recoverBy
-  none-freed = go (ltb 2 limit) (checkFile xs)
-    where
-      freed : (N : ℕ) (c : Bool) → RecoverNone (cond c (record { answer = RecoverStopped 0; file = xs }) (record { answer = Freed N; file = storeBytes (getD xs 5 0) N free xs }))
-      freed N true e = let q : 0 ≡ made = cc in (sym q, refl)
-      freed N false e = let z : _≡_ {A = ℕ} 0 1 = cc in absurd (omega arith)
-
-      go : (l : Bool) (k : Kind) → RecoverNone (cond l (record { answer = RecoverRefused WrongSize; file = xs }) (recoverBy xs limit k))
-      go true k e = let z : _≡_ {A = ℕ} 0 1 = cc in absurd (omega arith)
-      go false is-bad e = let z : _≡_ {A = ℕ} 0 1 = cc in absurd (omega arith)
-      go false is-sound e = let z : _≡_ {A = ℕ} 0 1 = cc in absurd (omega arith)
-      go false (is-cut N) e = freed N (ltb limit 1) e
 
 pub strength : Strength
 strength = record {
-  answers = computed .answers;
   refuses-all = not-all;
+  refuses-lookups = not-lookups;
   one-result = not-one;
-  stores-nothing = not-nothing;
-  both-at-once = not-both;
-  cuts-first = not-cut-first;
-  stopped-after = λ f m xs t name v limit made. subst (After xs t name v limit made) (sym (m xs t name v limit)) (after-put xs t name v limit made);
-  remove-stopped = none-removed;
-  recover-stopped = none-freed;
+  ours-but-for = ours-but-for;
+  not-nothing = not-nothing;
+  not-absent = not-absent;
+  not-both = not-both;
+  not-miscounted = not-miscounted;
+  not-idle = not-idle;
+  not-cut-first = not-cut-first;
+  not-inner = not-inner;
+  stopped-after = first-stores;
   stopped-0 = computed .stopped-0;
   stopped-1 = computed .stopped-1;
   made-2 = computed .made-2;
-  keeps-inner = not-inner;
+  kept-cut = computed .kept-cut;
+  kept-stale = computed .kept-stale;
+  kept-good = computed .kept-good;
   recovers = computed .recovers;
   inner-bad = computed .inner-bad;
   last-name = computed .last-name;
   neighbour = computed .neighbour;
-  without-beginnings = computed .without-beginnings;
-  one-leaf = computed .one-leaf;
+  without-beginnings = λ L. misleads L (computed .rates-read) (computed .without-beginnings);
+  one-leaf = λ L. misleads L (computed .rz-read) (computed .one-leaf);
 }

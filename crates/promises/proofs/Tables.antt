@@ -1,7 +1,5 @@
 -- A table's first cause is one only, so an answer that was decided row by row is given exactly then.
-use mathlib.Core.Path.{_∙_, _≡_, ap, refl, sym}
-use mathlib.Core.Logic.{inl, inr}
-use mathlib.Core.List.{[], _∷_}
+use Rattle.model.proofs.Prelude.{[], _∙_, _∷_, _≡_, ap, inl, inr, refl, sym}
 use Rattle.model.specs.declared.Cause.{Cause}
 use Rattle.promises.specs.Demand1.{Exactly, First, Table}
 

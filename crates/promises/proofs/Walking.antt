@@ -1,13 +1,5 @@
 -- The walk of a lookup strays where document 01 says that it does, and arrives elsewhere.
-use mathlib.Core.Path.{_≡_, refl}
-use mathlib.Core.Bool.{Bool, _&&_, cond, false, true}
-use mathlib.Core.Option.{Option, none as nothing, some}
-use Prim.Native.Nat.{_<_, _≤_, suc, zero, ℕ}
-use native.Mathlib.Decide.{decLe, decLt}
-use native.Mathlib.Omega.{arith}
-use borrow.Author.Tests.{le-leb, le-ltb, leb-true, lt-ltb, ltb-true}
-use lib.Dec.{leb, ltb}
-use lib.ListN.{length}
+use Rattle.model.proofs.Prelude.{Bool, Option, _&&_, _<_, _≡_, _≤_, arith, cond, decLe, decLt, false, le-leb, le-ltb, leb, leb-true, length, lt-ltb, ltb, ltb-true, nothing, refl, some, suc, true, zero, ℕ}
 use Rattle.model.specs.declared.Cell.{Cell}
 use Rattle.model.specs.declared.Side.{Side}
 use Rattle.model.specs.declared.Side.the-variants.{Cell as further, Slot as slot}
@@ -16,7 +8,7 @@ use Rattle.model.specs.Order.{Str}
 use Rattle.model.specs.Names.{within}
 use Rattle.model.specs.Tries.{at-cell, cell}
 use Rattle.model.specs.Calls.{arrive}
-use Rattle.model.proofs.Names.{both-true, clash}
+use Rattle.model.proofs.Names.{both-true, never-both}
 use Rattle.promises.specs.Demand1.{Arrives, Strays}
 use Rattle.promises.specs.Demand1 as D
 
@@ -101,7 +93,7 @@ module _ (slots : ℕ) (t : Trie) (n : Str) where
       lost (yes h) (yes j) (no k) e = D.past-23 {m = m} (omega arith)
       lost (yes h) (yes j) (yes k) e =
           let one : test m p ≡ true = rw (lt-ltb m (t .count) h, le-leb (the-cell m .number) (length p) j, le-leb (the-cell m .number) 23 k) in
-          absurd (clash (test m p) one e)
+          absurd (never-both (test m p) one e)
 
       go : (c w : Bool) → test m p ≡ c → within n (string m p) ≡ w → (l r : Option ℕ) → Walked f (string m p) (the-cell m .left) l → Walked f p (the-cell m .right) r
           → Walked (suc f) p (further m) (cond c (cond w l r) nothing)

@@ -8,6 +8,7 @@ use Prim.Native.Nat.{_*_, _<_, _≤_, suc, zero, ℕ}
 use lib.ListN.{getD, length, replicate, take}
 use Rattle.model.specs.declared.Cause.{Cause}
 use Rattle.model.specs.declared.Cause.the-variants.{BadFile as bad-file, CutFile as cut-file, IllegalName as illegal-name, ManyStrings as many-strings, NoFreeSlot as no-free-slot, ShortOutput as short-output, StaleTrie as stale-trie, WrongSize as wrong-size}
+use Rattle.model.specs.declared.Layout.{Layout}
 use Rattle.model.specs.declared.ListAnswer.the-variants.{Refused as ListRefused}
 use Rattle.model.specs.declared.LookUpAnswer.the-variants.{Refused as LookUpRefused}
 use Rattle.model.specs.declared.PutAnswer.the-variants.{Refused as PutRefused}
@@ -23,9 +24,11 @@ use Rattle.model.specs.Entries.{Entry, Row}
 use Rattle.model.specs.Files.{In, Slot, Well, entries-of, head, slot-at, string-count}
 use Rattle.model.specs.Tries.{Agrees, at-cell, cell, root-side}
 use Rattle.model.specs.Changes.{Denied, put}
-use Rattle.model.specs.Format.{BadFile, CutFile, Sizes, SoundFile, entrySize, fileSize, headerBytes, readSlot, slotAt, slotSize, version}
+use Rattle.model.specs.Places.{place-of}
+use Rattle.model.specs.Format.{BadFile, CutFile, Sizes, SoundFile, entrySize, fileSize, headerBytes, layoutOf, readSlot, slotAt, slotSize}
 use Rattle.model.specs.Answers.{number}
-use Rattle.model.specs.Calls.{createOf, listOf, lookUpOf, new-trie, putOf, rebuildOf, recoverOf, removeOf}
+use Rattle.model.specs.Calls.{new-trie}
+use Rattle.promises.specs.Calls.{Calls}
 
 -- A call's causes in their stated order, each with what must be so of the call's inputs for it to hold.
 abbrev pub Table : Type 1
@@ -64,7 +67,7 @@ pub record Stale (xs : List ℕ) (t : Trie) : Type 0 where
 -- 5, "split needed, no free slot", and 6, "the bounds and their beginnings, after the change, exceed 256 strings".
 pub record PutDenied (xs name : List ℕ) (v why : ℕ) : Type 0 where
   pub file : SoundFile xs
-  pub denied : Denied (file .b) (file .slots) (put (filled name) v) why
+  pub denied : Denied (file .layout .b) (place-of (file .layout)) (file .slots) (put (filled name) v) why
 
 -- 6 of rebuild: the strings as they are exceed 256.
 pub record Many (xs : List ℕ) : Type 0 where
@@ -82,25 +85,21 @@ pub record Short (xs low high out : List ℕ) : Type 0 where
   pub file : SoundFile xs
   pub listed : List Entry
   pub listing : Listing (file .slots) (filled low) (filled high) listed
-  pub short : length out < entrySize * length listed
+  pub short : length out < entrySize (file .layout) * length listed
 
 -- 8, "create with b, slots or length not as above".
-pub record Creatable (xs : List ℕ) (v b slots : ℕ) : Type 0 where
-  pub is-version : v ≡ version
-  pub sizes : Sizes b slots
-  pub whole : length xs ≡ fileSize b slots
+pub record Creatable (xs : List ℕ) (y : Layout) (slots : ℕ) : Type 0 where
+  pub sizes : Sizes y slots
+  pub whole : length xs ≡ fileSize y slots
 
--- Look up's own. "2 if length or header is wrong": b is the header's byte 5 and slots its byte 6.
-abbrev pub b-of : List ℕ → ℕ
-b-of xs = getD xs 5 0
-
+-- Look up's own. "2 if length or header is wrong": the layout is the header's bytes 3 to 5, slots its byte 6.
 abbrev pub slots-of : List ℕ → ℕ
 slots-of xs = getD xs 6 0
 
 pub record RightHeader (xs : List ℕ) : Type 0 where
-  pub sizes : Sizes (b-of xs) (slots-of xs)
-  pub whole : length xs ≡ fileSize (b-of xs) (slots-of xs)
-  pub header : take 16 xs ≡ headerBytes (b-of xs) (slots-of xs)
+  pub sizes : Sizes (layoutOf xs) (slots-of xs)
+  pub whole : length xs ≡ fileSize (layoutOf xs) (slots-of xs)
+  pub header : take 16 xs ≡ headerBytes (layoutOf xs) (slots-of xs)
 
 -- The digit number of a trie's cell, and its string at a path.
 abbrev pub number-of : Trie → ℕ → ℕ
@@ -144,21 +143,21 @@ Lost xs t n = (256 < t .count) ⊎ Strays (slots-of xs) t n (t .count) [] (root-
 pub record Ends (xs : List ℕ) (t : Trie) (n : Str) (P : List ℕ → Type 0) : Type 0 where
   pub k : ℕ
   pub arrives : Arrives (slots-of xs) t n (t .count) [] (root-side (t .count) (t .first)) k
-  pub so : P (slotAt (b-of xs) k xs)
+  pub so : P (slotAt (layoutOf xs) k xs)
 
 -- "4 if the slot is free (all zero); 2 if it is not well formed; 4 if its range lacks the name", of the slot's bytes.
-abbrev pub IsZero : ℕ → List ℕ → Type 0
-IsZero b ys = ys ≡ replicate (slotSize b) 0
+abbrev pub IsZero : Layout → List ℕ → Type 0
+IsZero y ys = ys ≡ replicate (slotSize y) 0
 
-abbrev pub IsMalformed : ℕ → List ℕ → Type 0
-IsMalformed b ys = (s : Slot) → readSlot b ys ≡ some s → ¬ Well b s
+abbrev pub IsMalformed : Layout → List ℕ → Type 0
+IsMalformed y ys = (s : Slot) → readSlot y ys ≡ some s → ¬ Well (y .b) s
 
-abbrev pub IsElsewhere : ℕ → Str → List ℕ → Type 0
-IsElsewhere b n ys = (s : Slot) × (readSlot b ys ≡ some s) × (¬ In (head s) n)
+abbrev pub IsElsewhere : Layout → Str → List ℕ → Type 0
+IsElsewhere y n ys = (s : Slot) × (readSlot y ys ≡ some s) × (¬ In (head s) n)
 
 -- The tables.
 abbrev pub create-table : List ℕ → ℕ → ℕ → ℕ → Table
-create-table xs v b slots = (wrong-size, ¬ Creatable xs v b slots) ∷ []
+create-table xs v b slots = (wrong-size, ¬ Creatable xs (record { version = v; b = b }) slots) ∷ []
 
 abbrev pub recover-table : List ℕ → ℕ → Table
 recover-table xs limit = (wrong-size, 2 < limit) ∷ (bad-file, BadFile xs) ∷ []
@@ -169,8 +168,8 @@ rebuild-table xs = (bad-file, BadFile xs) ∷ (cut-file, IsCut xs) ∷ (many-str
 abbrev pub look-up-table : List ℕ → Trie → List ℕ → Table
 look-up-table xs t name =
     (illegal-name, ¬ LegalName name) ∷ (bad-file, ¬ RightHeader xs) ∷ (stale-trie, Lost xs t (filled name))
-    ∷ (stale-trie, Ends xs t (filled name) (IsZero (b-of xs))) ∷ (bad-file, Ends xs t (filled name) (IsMalformed (b-of xs)))
-    ∷ (stale-trie, Ends xs t (filled name) (IsElsewhere (b-of xs) (filled name))) ∷ []
+    ∷ (stale-trie, Ends xs t (filled name) (IsZero (layoutOf xs))) ∷ (bad-file, Ends xs t (filled name) (IsMalformed (layoutOf xs)))
+    ∷ (stale-trie, Ends xs t (filled name) (IsElsewhere (layoutOf xs) (filled name))) ∷ []
 
 abbrev pub put-table : List ℕ → Trie → List ℕ → ℕ → ℕ → Table
 put-table xs t name v limit =
@@ -189,29 +188,29 @@ list-table xs t low high out =
 
 -- Demand 1 of the calls. Check refuses nothing. What a call may only read it cannot change: the file of check, rebuild, look
 -- up and list, and the trie of look up, remove and list.
-pub record Demand1 : Type 0 where
-  pub create : (xs : List ℕ) (v b slots : ℕ) → Exactly TrieRefused (createOf xs v b slots .answer) (create-table xs v b slots)
-  pub recover : (xs : List ℕ) (limit : ℕ) → Exactly RecoverRefused (recoverOf xs limit .answer) (recover-table xs limit)
-  pub rebuild : (xs : List ℕ) → Exactly TrieRefused (rebuildOf xs .answer) (rebuild-table xs)
-  pub look-up : (xs : List ℕ) (t : Trie) (name : List ℕ) → Exactly LookUpRefused (lookUpOf xs t name) (look-up-table xs t name)
+pub record Demand1 (C : Calls) : Type 0 where
+  pub create : (xs : List ℕ) (v b slots : ℕ) → Exactly TrieRefused (C .create xs v b slots .answer) (create-table xs v b slots)
+  pub recover : (xs : List ℕ) (limit : ℕ) → Exactly RecoverRefused (C .recover xs limit .answer) (recover-table xs limit)
+  pub rebuild : (xs : List ℕ) → Exactly TrieRefused (C .rebuild xs .answer) (rebuild-table xs)
+  pub look-up : (xs : List ℕ) (t : Trie) (name : List ℕ) → Exactly LookUpRefused (C .look-up xs t name) (look-up-table xs t name)
   pub put : (xs : List ℕ) (t : Trie) (name : List ℕ) (v limit : ℕ)
-      → Exactly PutRefused (putOf xs t name v limit .answer) (put-table xs t name v limit)
+      → Exactly PutRefused (C .put xs t name v limit .answer) (put-table xs t name v limit)
   pub remove : (xs : List ℕ) (t : Trie) (name : List ℕ) (limit : ℕ)
-      → Exactly RemoveRefused (removeOf xs t name limit .answer) (remove-table xs t name limit)
+      → Exactly RemoveRefused (C .remove xs t name limit .answer) (remove-table xs t name limit)
   pub list : (xs : List ℕ) (t : Trie) (low high out : List ℕ)
-      → Exactly ListRefused (listOf xs t low high out .answer) (list-table xs t low high out)
+      → Exactly ListRefused (C .list xs t low high out .answer) (list-table xs t low high out)
   -- "and changes no file, trie or output"; "rebuild and create, which give a trie, then give beside the number one with
   -- count 0 and first leaf 0"
-  pub create-leaves : (xs : List ℕ) (v b slots : ℕ) (c : Cause) → createOf xs v b slots .answer ≡ TrieRefused c
-      → (createOf xs v b slots .file ≡ xs) × (createOf xs v b slots .trie ≡ new-trie)
-  pub recover-leaves : (xs : List ℕ) (limit : ℕ) (c : Cause) → recoverOf xs limit .answer ≡ RecoverRefused c → recoverOf xs limit .file ≡ xs
-  pub rebuild-leaves : (xs : List ℕ) (c : Cause) → rebuildOf xs .answer ≡ TrieRefused c → rebuildOf xs .trie ≡ new-trie
-  pub put-leaves : (xs : List ℕ) (t : Trie) (name : List ℕ) (v limit : ℕ) (c : Cause) → putOf xs t name v limit .answer ≡ PutRefused c
-      → (putOf xs t name v limit .file ≡ xs) × (putOf xs t name v limit .trie ≡ t)
-  pub remove-leaves : (xs : List ℕ) (t : Trie) (name : List ℕ) (limit : ℕ) (c : Cause) → removeOf xs t name limit .answer ≡ RemoveRefused c
-      → removeOf xs t name limit .file ≡ xs
-  pub list-leaves : (xs : List ℕ) (t : Trie) (low high out : List ℕ) (c : Cause) → listOf xs t low high out .answer ≡ ListRefused c
-      → listOf xs t low high out .output ≡ out
+  pub create-leaves : (xs : List ℕ) (v b slots : ℕ) (c : Cause) → C .create xs v b slots .answer ≡ TrieRefused c
+      → (C .create xs v b slots .file ≡ xs) × (C .create xs v b slots .trie ≡ new-trie)
+  pub recover-leaves : (xs : List ℕ) (limit : ℕ) (c : Cause) → C .recover xs limit .answer ≡ RecoverRefused c → C .recover xs limit .file ≡ xs
+  pub rebuild-leaves : (xs : List ℕ) (c : Cause) → C .rebuild xs .answer ≡ TrieRefused c → C .rebuild xs .trie ≡ new-trie
+  pub put-leaves : (xs : List ℕ) (t : Trie) (name : List ℕ) (v limit : ℕ) (c : Cause) → C .put xs t name v limit .answer ≡ PutRefused c
+      → (C .put xs t name v limit .file ≡ xs) × (C .put xs t name v limit .trie ≡ t)
+  pub remove-leaves : (xs : List ℕ) (t : Trie) (name : List ℕ) (limit : ℕ) (c : Cause) → C .remove xs t name limit .answer ≡ RemoveRefused c
+      → C .remove xs t name limit .file ≡ xs
+  pub list-leaves : (xs : List ℕ) (t : Trie) (low high out : List ℕ) (c : Cause) → C .list xs t low high out .answer ≡ ListRefused c
+      → C .list xs t low high out .output ≡ out
   -- "Order: 8, 1, 2, 3, 4, 5, 6, 7", as far as a call has the causes; look up has its own.
   pub create-order : (xs : List ℕ) (v b slots : ℕ) → numbers (create-table xs v b slots) ≡ 8 ∷ []
   pub recover-order : (xs : List ℕ) (limit : ℕ) → numbers (recover-table xs limit) ≡ 8 ∷ 2 ∷ []

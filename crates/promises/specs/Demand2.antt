@@ -1,25 +1,32 @@
--- Demand 2, in words: with a sound file and any trie at all, a lookup tells the truth or refuses as stale.
+-- Demand 2 (R13.2), in words: the tries that calls give lead every string of digits to its bucket, and a lookup tells the truth.
 use mathlib.Core.Path.{_≡_}
 use mathlib.Core.Option.{none as nothing, some}
 use mathlib.Core.List.{List}
-use Prim.Native.Nat.{ℕ}
+use Prim.Native.Nat.{_<_, _^_, ℕ}
 use Rattle.model.specs.declared.Cause.the-variants.{StaleTrie}
 use Rattle.model.specs.declared.LookUpAnswer.{LookUpAnswer}
 use Rattle.model.specs.declared.LookUpAnswer.the-variants.{Absent, Found, Refused}
 use Rattle.model.specs.declared.PutAnswer.{PutAnswer}
 use Rattle.model.specs.declared.PutAnswer.the-variants.{Added, Refused as PutRefused, Replaced, Stopped}
 use Rattle.model.specs.declared.Trie.{Trie}
+use Rattle.model.specs.declared.TrieAnswer.the-variants.{Given}
 use Rattle.model.specs.Order.{Str}
+use Rattle.model.specs.Names.{filled}
 use Rattle.model.specs.Entries.{find}
 use Rattle.model.specs.Files.{In, Slot, entries-of, head, slot-at}
 use Rattle.model.specs.Tries.{Agrees, walk-trie}
-use Rattle.model.specs.Format.{SoundFile}
+use Rattle.model.specs.Format.{Bytes, SoundFile}
+use Rattle.promises.specs.Calls.{Calls}
+use Rattle.promises.specs.Demand1.{LegalName}
 
--- "a lookup of a legal name gives the file's true entry, says absent truly, or refuses as stale": what the bucket holds
--- whose range holds the name.
+-- "gives the file's true entry, says absent truly": what the bucket holds whose range holds the name.
+pub data Truthful (fs : List Slot) (n : Str) : LookUpAnswer → Type 0 where
+  true-entry : (B : ℕ) {v : ℕ} → In (head (slot-at fs B)) n → find n (entries-of (slot-at fs B)) ≡ some v → Truthful fs n (Found v)
+  truly-absent : (B : ℕ) → In (head (slot-at fs B)) n → find n (entries-of (slot-at fs B)) ≡ nothing → Truthful fs n Absent
+
+-- "or refuses as stale"
 pub data Tells (fs : List Slot) (n : Str) : LookUpAnswer → Type 0 where
-  true-entry : (B : ℕ) {v : ℕ} → In (head (slot-at fs B)) n → find n (entries-of (slot-at fs B)) ≡ some v → Tells fs n (Found v)
-  truly-absent : (B : ℕ) → In (head (slot-at fs B)) n → find n (entries-of (slot-at fs B)) ≡ nothing → Tells fs n Absent
+  told : {a : LookUpAnswer} → Truthful fs n a → Tells fs n a
   stale : Tells fs n (Refused StaleTrie)
 
 -- A put that was made: "added, or replaced".
@@ -29,10 +36,26 @@ Made (Replaced old) = Unit {0}
 Made (Stopped n) = ⊥
 Made (PutRefused c) = ⊥
 
--- "the grown trie and the trie rebuilt from the bucket headers alone lead every possible name to the one bucket whose range
--- holds it": the file is sound, the trie agrees with it, and each string of digits arrives in its range and in no other.
+-- "lead every possible name to the one bucket whose range holds it": the file is sound, the trie agrees with it, and each
+-- string of digits arrives in its range and in no other.
 pub record LeadsRight (xs : List ℕ) (t : Trie) : Type 0 where
   pub file : SoundFile xs
   pub agrees : Agrees (file .slots) t
   pub arrives : (n : Str) → In (head (slot-at (file .slots) (walk-trie t n))) n
   pub alone : (n : Str) (B : ℕ) → In (head (slot-at (file .slots) B)) n → B ≡ walk-trie t n
+
+-- Demand 2 of the calls.
+pub record Demand2 (C : Calls) : Type 0 where
+  -- "With a sound file and any trie at all, a lookup of a legal name gives the file's true entry, says absent truly, or
+  -- refuses as stale."
+  pub tells : (xs : List ℕ) (t : Trie) (name : List ℕ) (S : SoundFile xs) → LegalName name → Tells (S .slots) (filled name) (C .look-up xs t name)
+  -- "the grown trie": the one that create gives, and the one after each put that is made. That the lent file is bytes and
+  -- the value has 64 bits a caller knows by their types.
+  pub created : (xs : List ℕ) (v b slots : ℕ) → C .create xs v b slots .answer ≡ Given
+      → LeadsRight (C .create xs v b slots .file) (C .create xs v b slots .trie)
+  pub grown : (xs : List ℕ) (t : Trie) (name : List ℕ) (v limit : ℕ) → Bytes xs → v < 2 ^ 64 → Made (C .put xs t name v limit .answer)
+      → LeadsRight (C .put xs t name v limit .file) (C .put xs t name v limit .trie)
+  -- "and the trie rebuilt from the bucket headers alone"
+  pub rebuilt : (xs : List ℕ) → C .rebuild xs .answer ≡ Given → LeadsRight xs (C .rebuild xs .trie)
+  -- A lookup goes where such a trie leads: it is not refused.
+  pub led : (xs : List ℕ) (t : Trie) (name : List ℕ) (L : LeadsRight xs t) → LegalName name → Truthful (L .file .slots) (filled name) (C .look-up xs t name)

@@ -1,9 +1,10 @@
--- Demand 3, in words: start from a new file, then any calls in any order, each stopped after any of its stores.
+-- Demand 3 (R13.3), in words: start from a new file, then any calls in any order, each stopped after any of its stores.
 use mathlib.Core.Path.{_≡_}
-use mathlib.Core.Bool.{true}
 use mathlib.Core.Option.{none as nothing}
 use mathlib.Core.List.{List, [], _∷_}
-use Prim.Native.Nat.{_<_, _^_, _≤_, ℕ}
+use Prim.Native.Nat.{_+_, _<_, _^_, _≤_, suc, zero, ℕ}
+use Rattle.model.specs.declared.Cause.{Cause}
+use Rattle.model.specs.declared.Layout.{Layout}
 use Rattle.model.specs.declared.PutAnswer.{PutAnswer}
 use Rattle.model.specs.declared.PutAnswer.the-variants.{Added, Refused as PutRefused, Replaced, Stopped as PutStopped}
 use Rattle.model.specs.declared.RecoverAnswer.{RecoverAnswer}
@@ -13,98 +14,161 @@ use Rattle.model.specs.declared.RemoveAnswer.the-variants.{Absent, Refused as R
 use Rattle.model.specs.declared.Trie.{Trie}
 use Rattle.model.specs.declared.TrieAnswer.{TrieAnswer}
 use Rattle.model.specs.declared.TrieAnswer.the-variants.{Given, Refused as TrieRefused}
-use Rattle.model.specs.Order.{Str}
-use Rattle.model.specs.Names.{filled, legalName}
-use Rattle.model.specs.Files.{string-count}
+use Rattle.model.specs.Order.{Str, str?}
+use Rattle.model.specs.Names.{filled}
+use Rattle.model.specs.Entries.{chosen}
 use Rattle.model.specs.Changes.{Map, Means, meant, put as to-put, remove as to-remove}
-use Rattle.model.specs.Calls.{Created, PutDone, Recovered, RemoveDone, heldAnswer, lookUpOf, putOf, rebuildOf, recoverOf, removeOf}
+use Rattle.model.specs.Format.{layoutOf, slotAt}
+use Rattle.model.specs.Calls.{Created, heldAnswer}
+use Rattle.promises.specs.Calls.{Calls}
+use Rattle.promises.specs.Demand1.{LegalName, slots-of}
 use Rattle.promises.specs.Demand2.{LeadsRight}
 
--- A put of a name with a 64-bit value and a store limit, a remove of a name with one; the trie is lost; a recovery with a
--- store limit, and the rebuilding after it. Names and limits are any, legal or not.
+-- What can happen. A put of a name with a 64-bit value and a store limit, or a remove of a name with one, with the trie in
+-- hand; the same with any other trie at all, such as the old one after a stop; the trie is lost; a recovery with a store
+-- limit, whether there is a trie in hand or not; a rebuilding. Names and limits are any, legal or not.
 pub data Event : Type 0 where
   put : List ℕ → (v : ℕ) → v < 2 ^ 64 → ℕ → Event
   remove : List ℕ → ℕ → Event
+  put-with : Trie → List ℕ → (v : ℕ) → v < 2 ^ 64 → ℕ → Event
+  remove-with : Trie → List ℕ → ℕ → Event
   kill : Event
   recover : ℕ → Event
+  rebuild : Event
 
--- With a trie, or with none: the file's bytes, the trie, and what the calls that count as made have said of each name.
+-- With a trie in hand, or with none: the file's bytes, the trie, and what the calls that count as made have said of each
+-- name.
 pub data State : Type 0 where
   running : List ℕ → Trie → Map → State
   down : List ℕ → Map → State
 
--- "A call stopped short of its last store counts as never made; a call that reached it counts as made." After a stop the
--- trie is discarded. The file and the trie are always those that the call leaves.
-unfoldable pub after-put : Str → ℕ → Map → PutAnswer → List ℕ → Trie → State
-after-put n v m Added xs t = running xs t (meant (to-put n v) m)
-after-put n v m (Replaced old) xs t = running xs t (meant (to-put n v) m)
-after-put n v m (PutStopped made) xs t = down xs m
-after-put n v m (PutRefused c) xs t = running xs t m
+abbrev pub file-of : State → List ℕ
+file-of (running xs t m) = xs
+file-of (down xs m) = xs
 
-unfoldable pub after-remove : Str → Map → RemoveAnswer → List ℕ → Trie → State
-after-remove n m Removed xs t = running xs t (meant (to-remove n) m)
-after-remove n m Absent xs t = running xs t m
-after-remove n m (RemoveStopped made) xs t = down xs m
-after-remove n m (RemoveRefused c) xs t = running xs t m
+abbrev pub said : State → Map
+said (running xs t m) = m
+said (down xs m) = m
 
--- "recover (again, if that was stopped too) and rebuild before the next change"
-unfoldable pub after-rebuild : Map → List ℕ → TrieAnswer → Trie → State
-after-rebuild m xs Given t = running xs t m
-after-rebuild m xs (TrieRefused c) t = down xs m
+-- The file is now this one, and the trie in hand stays, if there is one.
+unfoldable pub now : List ℕ → State → State
+now ys (running xs t m) = running ys t m
+now ys (down xs m) = down ys m
 
-unfoldable pub after-recover : Map → RecoverAnswer → List ℕ → State
-after-recover m (Freed N) xs = after-rebuild m xs (rebuildOf xs .answer) (rebuildOf xs .trie)
-after-recover m Nothing xs = after-rebuild m xs (rebuildOf xs .answer) (rebuildOf xs .trie)
-after-recover m (RecoverStopped made) xs = down xs m
-after-recover m (RecoverRefused c) xs = down xs m
+-- "A call stopped short of its last store counts as never made; a call that reached it counts as made", a remove that says
+-- absent too. After a stop the trie is discarded. The file is always the one that the call leaves; the trie in hand after a
+-- call that counts as made is the one that it gave or was lent.
+unfoldable pub after-put : State → Str → ℕ → PutAnswer → List ℕ → Trie → State
+after-put s n v Added xs t = running xs t (meant (to-put n v) (said s))
+after-put s n v (Replaced old) xs t = running xs t (meant (to-put n v) (said s))
+after-put s n v (PutStopped made) xs t = down xs (said s)
+after-put s n v (PutRefused c) xs t = now xs s
 
-unfoldable pub step : Event → State → State
-step (put name v small limit) (running xs t m) =
-    let d : PutDone = putOf xs t name v limit in
-    after-put (filled name) v m (d .answer) (d .file) (d .trie)
-step (put name v small limit) (down xs m) = down xs m
-step (remove name limit) (running xs t m) =
-    let d : RemoveDone = removeOf xs t name limit in
-    after-remove (filled name) m (d .answer) (d .file) t
-step (remove name limit) (down xs m) = down xs m
-step kill (running xs t m) = down xs m
-step kill (down xs m) = down xs m
-step (recover limit) (running xs t m) = running xs t m
-step (recover limit) (down xs m) = let d : Recovered = recoverOf xs limit in after-recover m (d .answer) (d .file)
+unfoldable pub after-remove : State → Str → RemoveAnswer → List ℕ → Trie → State
+after-remove s n Removed xs t = running xs t (meant (to-remove n) (said s))
+after-remove s n Absent xs t = running xs t (meant (to-remove n) (said s))
+after-remove s n (RemoveStopped made) xs t = down xs (said s)
+after-remove s n (RemoveRefused c) xs t = now xs s
 
--- The events one after another, the first one first.
-unfoldable pub after : List Event → State → State
-after [] s = s
-after (e ∷ es) s = after es (step e s)
+unfoldable pub after-recover : State → RecoverAnswer → List ℕ → State
+after-recover s (Freed N) xs = now xs s
+after-recover s Nothing xs = now xs s
+after-recover s (RecoverStopped made) xs = down xs (said s)
+after-recover s (RecoverRefused c) xs = now xs s
+
+unfoldable pub after-rebuild : State → TrieAnswer → Trie → State
+after-rebuild s Given t = running (file-of s) t (said s)
+after-rebuild s (TrieRefused c) t = s
+
+module _ (C : Calls) where
+  unfoldable pub put-by : State → Trie → List ℕ → ℕ → ℕ → State
+  put-by s t name v limit =
+      let d = C .put (file-of s) t name v limit in
+      after-put s (filled name) v (d .answer) (d .file) (d .trie)
+
+  unfoldable pub remove-by : State → Trie → List ℕ → ℕ → State
+  remove-by s t name limit =
+      let d = C .remove (file-of s) t name limit in
+      after-remove s (filled name) (d .answer) (d .file) t
+
+  unfoldable pub step : Event → State → State
+  step (put name v small limit) (running xs t m) = put-by (running xs t m) t name v limit
+  step (put name v small limit) (down xs m) = down xs m
+  step (remove name limit) (running xs t m) = remove-by (running xs t m) t name limit
+  step (remove name limit) (down xs m) = down xs m
+  step (put-with t name v small limit) s = put-by s t name v limit
+  step (remove-with t name limit) s = remove-by s t name limit
+  step kill s = down (file-of s) (said s)
+  step (recover limit) s =
+      let d = C .recover (file-of s) limit in
+      after-recover s (d .answer) (d .file)
+  step rebuild s =
+      let d = C .rebuild (file-of s) in
+      after-rebuild s (d .answer) (d .trie)
+
+  -- The events one after another, the first one first.
+  unfoldable pub after : List Event → State → State
+  after [] s = s
+  after (e ∷ es) s = after es (step e s)
 
 -- "Start from a new file": what create gave, and no name said.
 abbrev pub start : Created → State
 start c = running (c .file) (c .trie) (λ k. nothing)
 
--- With a trie: the file is sound, the trie leads every name to the one bucket whose range holds it, there are few enough
--- strings for a trie, and each bucket holds of the names in its range what the history says.
-pub record Kept (xs : List ℕ) (t : Trie) (m : Map) : Type 0 where
-  pub leads : LeadsRight xs t
-  pub few : string-count (leads .file .slots) ≤ 256
-  pub means : Means (leads .file .slots) m
-  -- "Every legal name then looks up as that history says."
-  pub looks-up : (name : List ℕ) → legalName name ≡ true → lookUpOf xs t name ≡ heldAnswer (m (filled name))
+-- How many slots two files' bytes differ in, of as many as the first one's header says.
+unfoldable pub differing : ℕ → Layout → List ℕ → List ℕ → ℕ
+differing zero y xs ys = 0
+differing (suc k) y xs ys = chosen (str? (slotAt y k xs) (slotAt y k ys)) 0 1 + differing k y xs ys
 
--- What a recovery said that was not refused and not stopped.
-abbrev pub Whole : RecoverAnswer → Type 0
-Whole (Freed N) = Unit {0}
-Whole Nothing = Unit {0}
-Whole (RecoverStopped made) = ⊥
-Whole (RecoverRefused c) = ⊥
+abbrev pub replaced : List ℕ → List ℕ → ℕ
+replaced xs ys = differing (slots-of xs) (layoutOf xs) xs ys
 
--- "recovery with a legal store limit and rebuilding after it never refuse, where that recovery wasn't itself stopped":
--- it is whole, rebuilding gives a trie, and all is kept; or its limit is 0, it says stopped, and the file is as it was.
-pub data Recovers (xs : List ℕ) (m : Map) (limit : ℕ) : Recovered → Type 0 where
-  whole : {d : Recovered} → Whole (d .answer) → rebuildOf (d .file) .answer ≡ Given → Kept (d .file) (rebuildOf (d .file) .trie) m
-      → Recovers xs m limit d
-  stopped : {d : Recovered} → limit ≡ 0 → d .answer ≡ RecoverStopped 0 → d .file ≡ xs → Recovers xs m limit d
+-- "If nothing is refused and the limit is below the stores needed, they make that many and say stopped, with the number
+-- made": the number said is the limit, and as many slots are others than before.
+pub record StoppedAt (limit made : ℕ) (xs ys : List ℕ) : Type 0 where
+  pub as-limited : made ≡ limit
+  pub as-made : replaced xs ys ≡ made
 
--- What holds after any events.
-abbrev pub Demand3 : State → Type 0
-Demand3 (running xs t m) = Kept xs t m
-Demand3 (down xs m) = (limit : ℕ) → limit ≤ 2 → Recovers xs m limit (recoverOf xs limit)
+module _ (C : Calls) where
+  -- With a trie in hand: the trie leads every name to the one bucket whose range holds it, and each bucket holds of the
+  -- names in its range what the history says.
+  pub record Kept (xs : List ℕ) (t : Trie) (m : Map) : Type 0 where
+    pub leads : LeadsRight xs t
+    pub means : Means (leads .file .slots) m
+    -- "Every legal name then looks up as that history says."
+    pub looks-up : (name : List ℕ) → LegalName name → C .look-up xs t name ≡ heldAnswer (m (filled name))
+
+  abbrev pub InHand : State → Type 0
+  InHand (running xs t m) = Kept xs t m
+  InHand (down xs m) = Unit {0}
+
+  -- "recovery with a legal store limit and rebuilding after it never refuse, where that recovery wasn't itself stopped":
+  -- it is whole, rebuilding gives a trie, and all is kept; or its limit is 0, it says stopped, and the file is as it was.
+  pub data Recovers (xs : List ℕ) (m : Map) (limit : ℕ) : RecoverAnswer → List ℕ → Type 0 where
+    after-freeing : {N : ℕ} {ys : List ℕ} → C .rebuild ys .answer ≡ Given → Kept ys (C .rebuild ys .trie) m → Recovers xs m limit (Freed N) ys
+    nothing-to-do : C .rebuild xs .answer ≡ Given → Kept xs (C .rebuild xs .trie) m → Recovers xs m limit Nothing xs
+    stopped-at-0 : limit ≡ 0 → Recovers xs m limit (RecoverStopped 0) xs
+
+  -- What holds after any events.
+  pub record Holds (s : State) : Type 0 where
+    pub in-hand : InHand s
+    pub recovery : (limit : ℕ) → limit ≤ 2 → Recovers (file-of s) (said s) limit (C .recover (file-of s) limit .answer) (C .recover (file-of s) limit .file)
+    -- "refused calls having changed nothing", whatever the trie
+    pub put-refused : (t : Trie) (name : List ℕ) (v limit : ℕ) (c : Cause) → C .put (file-of s) t name v limit .answer ≡ PutRefused c
+        → (C .put (file-of s) t name v limit .file ≡ file-of s) × (C .put (file-of s) t name v limit .trie ≡ t)
+    pub remove-refused : (t : Trie) (name : List ℕ) (limit : ℕ) (c : Cause) → C .remove (file-of s) t name limit .answer ≡ RemoveRefused c
+        → C .remove (file-of s) t name limit .file ≡ file-of s
+    pub recover-refused : (limit : ℕ) (c : Cause) → C .recover (file-of s) limit .answer ≡ RecoverRefused c
+        → C .recover (file-of s) limit .file ≡ file-of s
+    -- "stop any call after any of its whole-bucket stores"
+    pub put-stopped : (t : Trie) (name : List ℕ) (v limit made : ℕ) → C .put (file-of s) t name v limit .answer ≡ PutStopped made
+        → StoppedAt limit made (file-of s) (C .put (file-of s) t name v limit .file)
+    pub remove-stopped : (t : Trie) (name : List ℕ) (limit made : ℕ) → C .remove (file-of s) t name limit .answer ≡ RemoveStopped made
+        → StoppedAt limit made (file-of s) (C .remove (file-of s) t name limit .file)
+    pub recover-stopped : (limit made : ℕ) → C .recover (file-of s) limit .answer ≡ RecoverStopped made
+        → StoppedAt limit made (file-of s) (C .recover (file-of s) limit .file)
+
+-- Demand 3 of the calls: from every file that create gives, after all events.
+pub record Demand3 (C : Calls) : Type 0 where
+  pub always : (xs : List ℕ) (version b slots : ℕ) → C .create xs version b slots .answer ≡ Given → (es : List Event)
+      → Holds C (after C es (start (C .create xs version b slots)))

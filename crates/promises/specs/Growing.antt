@@ -4,11 +4,14 @@ use Prim.Native.Nat.{_-_, ℕ}
 use Prim.Native.String.{String}
 use lib.ListN.{length, replicate}
 use Rattle.model.specs.declared.Cell.{Cell}
+use Rattle.model.specs.declared.Layout.{Layout}
 use Rattle.model.specs.declared.Trie.{Trie}
 use Rattle.model.specs.Order.{Str}
 use Rattle.model.specs.Files.{Slot}
 use Rattle.model.specs.Tries.{zero-cell}
+use Rattle.model.specs.Format.{version-1}
 use Rattle.model.specs.Changes.{Result, call, put, refuse, stored, stores}
+use Rattle.model.specs.Places.{place-of}
 use Rattle.model.specs.Calls.{trieAfter}
 use Rattle.promises.specs.Texts.{name}
 
@@ -20,11 +23,13 @@ of-cells cs = record { cells = cs ++ replicate (256 - length cs) zero-cell; coun
 abbrev pub Held : Type 0
 Held = List Slot × Trie
 
-unfoldable pub after-put : ℕ → Held → Str → ℕ → Result → Held
-after-put b h n v (refuse r) = h
-after-put b h n v (stores ss) = (stored ss (h .0), trieAfter b (h .0) n v ss (h .1))
+unfoldable pub after-put : Layout → Held → Str → ℕ → Result → Held
+after-put y h n v (refuse r) = h
+after-put y h n v (stores ss) = (stored ss (h .0), trieAfter (y .b) (place-of y) (h .0) n v ss (h .1))
 
--- These texts as names, each with its value, the first one first.
+-- These texts as names, each with its value, the first one first, into a file of version 1.
 unfoldable pub puts : ℕ → List (String × ℕ) → Held → Held
 puts b [] h = h
-puts b (e ∷ es) h = puts b es (after-put b h (name (e .0)) (e .1) (call b (h .0) (put (name (e .0)) (e .1))))
+puts b (e ∷ es) h =
+    let y = version-1 b in
+    puts b es (after-put y h (name (e .0)) (e .1) (call b (place-of y) (h .0) (put (name (e .0)) (e .1))))

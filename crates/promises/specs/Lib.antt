@@ -1,8 +1,11 @@
 pub mod Texts
+pub mod Calls
 pub mod Growing
 pub mod Situations
+pub mod Demand1
 pub mod Demand2
 pub mod Demand3
-pub mod Demand1
+pub mod Meanings
 pub mod Determined
+pub mod WrongCalls
 pub mod Strength

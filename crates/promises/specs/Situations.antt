@@ -16,7 +16,9 @@ use Rattle.model.specs.Entries.{Entry, find}
 use Rattle.model.specs.Files.{Slot, created, entries-of, free, slot-at, used}
 use Rattle.model.specs.Tries.{Agrees, walk-trie}
 use Rattle.model.specs.Rebuilding.{rebuilt-trie}
+use Rattle.model.specs.Format.{version-1}
 use Rattle.model.specs.Changes.{call, put, split-of, stores}
+use Rattle.model.specs.Places.{place-of}
 use Rattle.model.specs.Checks.{check, is-cut, is-sound, isSound}
 use Rattle.model.specs.Agreeing.{isAgreeing}
 use Rattle.model.specs.Histories.{Act, World, ask, down, ready, recover, run}
@@ -67,15 +69,15 @@ pub record Withins : Type 0 where
 -- "b = 4 split strings", and the one for b = 2.
 pub record Splits : Type 0 where
   -- "a and of the to gives "o""
-  pub gives-o : split-of 4 (names ("a" ∷ "and" ∷ "of" ∷ "the" ∷ "to" ∷ [])) ≡ bytes "o"
+  pub gives-o : split-of 4 (place-of (version-1 4)) (names ("a" ∷ "and" ∷ "of" ∷ "the" ∷ "to" ∷ [])) ≡ bytes "o"
   -- "a and in is of gives "i""
-  pub gives-i : split-of 4 (names ("a" ∷ "and" ∷ "in" ∷ "is" ∷ "of" ∷ [])) ≡ bytes "i"
+  pub gives-i : split-of 4 (place-of (version-1 4)) (names ("a" ∷ "and" ∷ "in" ∷ "is" ∷ "of" ∷ [])) ≡ bytes "i"
   -- "a and i in is gives "i ""
-  pub gives-i-blank : split-of 4 (names ("a" ∷ "and" ∷ "i" ∷ "in" ∷ "is" ∷ [])) ≡ bytes "i "
+  pub gives-i-blank : split-of 4 (place-of (version-1 4)) (names ("a" ∷ "and" ∷ "i" ∷ "in" ∷ "is" ∷ [])) ≡ bytes "i "
   -- "b = 2: rate1 rate2 rate3 gives "rate2""
-  pub gives-rate2 : split-of 2 (names ("rate1" ∷ "rate2" ∷ "rate3" ∷ [])) ≡ bytes "rate2"
+  pub gives-rate2 : split-of 2 (place-of (version-1 2)) (names ("rate1" ∷ "rate2" ∷ "rate3" ∷ [])) ≡ bytes "rate2"
   -- "Add razz and rz: "ra""
-  pub gives-ra : split-of 2 (names ("rate3" ∷ "razz" ∷ "rz" ∷ [])) ≡ bytes "ra"
+  pub gives-ra : split-of 2 (place-of (version-1 2)) (names ("rate3" ∷ "razz" ∷ "rz" ∷ [])) ≡ bytes "ra"
 
 -- The files and tries with b = 2. After rate1, rate2, rate3:
 abbrev pub rates : Held
@@ -134,7 +136,7 @@ pub record Rates : Type 0 where
   pub razz-file : with-razz .0 ≡ razz-slots
   pub razz-trie : with-razz .1 ≡ five-cells
   -- "and rz": two stores, the new slot first. "slot 1 keeps rate3, razz; slot 2 has rz."
-  pub rz-stores : call 2 razz-slots (put (name "rz") 5) ≡ stores ((2, rz-slot) ∷ (1, kept-slot) ∷ [])
+  pub rz-stores : call 2 (place-of (version-1 2)) razz-slots (put (name "rz") 5) ≡ stores ((2, rz-slot) ∷ (1, kept-slot) ∷ [])
   pub rz-file : with-rz .0 ≡ rz-slots
   -- ""ra", already a string, no cell added;"
   pub rz-trie : with-rz .1 ≡ rz-cells
@@ -169,14 +171,14 @@ said-of (ready fs m) = m
 said-of (down fs m) = m
 
 abbrev pub stopped-file : List Slot
-stopped-file = file-of (run 2 4 stopped-rz)
+stopped-file = file-of (run 2 4 (place-of (version-1 2)) stopped-rz)
 
 -- Recovered, with one store.
 abbrev pub recovered-file : List Slot
-recovered-file = file-of (run 2 4 (recover 1 ∷ stopped-rz))
+recovered-file = file-of (run 2 4 (place-of (version-1 2)) (recover 1 ∷ stopped-rz))
 
 pub record Stopped : Type 0 where
-  pub before : file-of (run 2 4 before-rz) ≡ razz-slots
+  pub before : file-of (run 2 4 (place-of (version-1 2)) before-rz) ≡ razz-slots
   -- "That last put stopped after one store: slot 1 still unlimited above, slot 2 holds rz;"
   pub stopped : stopped-file ≡ first-slot ∷ full-slot ∷ rz-slot ∷ free ∷ []
   pub cut : check 2 stopped-file ≡ is-cut 2
@@ -185,7 +187,7 @@ pub record Stopped : Type 0 where
   pub sound-again : check 2 recovered-file ≡ is-sound
   -- "rz is absent."
   pub rz-absent : looked-up "rz" (recovered-file, rebuilt-trie recovered-file) ≡ nothing
-  pub rz-not-said : said-of (run 2 4 (recover 1 ∷ stopped-rz)) (name "rz") ≡ nothing
+  pub rz-not-said : said-of (run 2 4 (place-of (version-1 2)) (recover 1 ∷ stopped-rz)) (name "rz") ≡ nothing
   pub razz-found : looked-up "razz" (recovered-file, rebuilt-trie recovered-file) ≡ some 4
 
 -- "The nine words", each with its line number, with b = 4 and 8 slots.

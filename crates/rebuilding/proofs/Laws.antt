@@ -1,13 +1,5 @@
 -- A run is its first number and the rest, and how the definitions over runs go from one number to the next.
-use mathlib.Core.Path.{_≡_}
-use mathlib.Core.Bool.{cond}
-use mathlib.Core.List.{List, [], _∷_}
-use Prim.Native.Nat.{_+_, _-_, _/_, _<_, _≤_, suc, ℕ}
-use native.Mathlib.Numerals.{add-one}
-use native.Mathlib.Omega.{arith}
-use lib.Dec.{eqb, ltb}
-use lib.ListN.{getD}
-use borrow.Author.Tests.{eq-eqb, ne-eqb}
+use Rattle.model.proofs.Prelude.{List, [], _+_, _-_, _/_, _<_, _∷_, _≡_, _≤_, add-one, arith, cond, eq-eqb, eqb, getD, ltb, ne-eqb, suc, ℕ}
 use Rattle.rebuilding.specs.Roots.{least, many, middle, part, place, run}
 
 pub run-cons : (from to : ℕ) (xs : List ℕ) → from < to → run from to xs ≡ getD xs from 0 ∷ run (from + 1) to xs

@@ -1,14 +1,5 @@
 -- The model's root of a run is the middle one of its strings' lengths, from wherever places are counted.
-use mathlib.Core.Path.{_∙_, _≡_, refl, sym}
-use mathlib.Core.Bool.{Bool, cond, false, true}
-use mathlib.Core.List.{List, [], _∷_, map}
-use Prim.Native.Nat.{_+_, _-_, _/_, _≤_, min, suc, zero, ℕ}
-use native.Mathlib.Decide.{ℕ-discrete}
-use native.Mathlib.Nat.{add-suc, add-zero}
-use native.Mathlib.Omega.{arith}
-use lib.Dec.{eqb, ltb}
-use lib.ListN.{getD, length}
-use borrow.Author.Tests.{eq-eqb, ltb-false, ltb-true, ne-eqb}
+use Rattle.model.proofs.Prelude.{Bool, List, [], _+_, _-_, _/_, _∙_, _∷_, _≡_, _≤_, add-suc, add-zero, arith, cond, eq-eqb, eqb, false, getD, length, ltb, ltb-false, ltb-true, map, min, ne-eqb, refl, suc, sym, true, zero, ℕ, ℕ-discrete}
 use Rattle.model.specs.Order.{Str}
 use Rattle.model.specs.Rebuilding.{fewest, kept, pick, places}
 use Rattle.rebuilding.specs.Roots.{least, many, middle, place}

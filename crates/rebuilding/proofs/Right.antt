@@ -1,11 +1,5 @@
 -- The trie that is made of the arrays is document 01's: the tree of a run is the one that rebuild takes of its strings.
-use mathlib.Core.Path.{_∙_, _≡_, ap, refl, sym}
-use mathlib.Core.List.{List, [], _∷_, map}
-use Prim.Native.Nat.{_+_, _-_, _<_, _≤_, suc, zero, ℕ}
-use native.Mathlib.Nat.{add-zero}
-use native.Mathlib.Omega.{arith}
-use lib.ListN.{drop, getD, length, length-drop, length-take, take}
-use lib.Seq.{getD-drop, getD-take}
+use Rattle.model.proofs.Prelude.{List, [], _+_, _-_, _<_, _∙_, _∷_, _≡_, _≤_, add-zero, ap, arith, drop, getD, getD-drop, getD-take, length, length-drop, length-take, map, refl, suc, sym, take, zero, ℕ}
 use Rattle.model.specs.Order.{Low, Str, at, none}
 use Rattle.model.specs.Files.{Slot, Sound, order-of, ranges, strings-of}
 use Rattle.model.specs.Tries.{leaf}

@@ -1,16 +1,5 @@
 -- The stack of runs whose cells are not written yet, the run to write next on top: its cells, its sizes, and a push.
-use mathlib.Core.Path.{_≡_, refl}
-use mathlib.Core.Bool.{Bool, cond, false, true}
-use mathlib.Core.List.{List, [], _++_}
-use Prim.Native.Nat.{_+_, _-_, _<_, _≤_, suc, zero, ℕ}
-use native.Mathlib.Omega.{arith}
-use native.Mathlib.Decide.{decLt}
-use native.Mathlib.Nat.{add-zero}
-use native.Mathlib.Numerals.{add-one}
-use lib.Dec.{ltb}
-use lib.ListN.{getD, length, set, length-append}
-use lib.Seq.{getD-set-other, getD-set-same}
-use borrow.Author.Tests.{le-ltb, lt-ltb}
+use Rattle.model.proofs.Prelude.{Bool, List, [], _++_, _+_, _-_, _<_, _≡_, _≤_, add-one, add-zero, arith, cond, decLt, false, getD, getD-set-other, getD-set-same, le-ltb, length, length-append, lt-ltb, ltb, refl, set, suc, true, zero, ℕ}
 use Rattle.model.specs.declared.Cell.{Cell}
 use Rattle.model.specs.Rebuilding.{lay}
 use Rattle.model.proofs.Cells.{length-lay}

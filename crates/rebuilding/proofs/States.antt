@@ -1,15 +1,5 @@
 -- The loop of rebuild: what holds before each cell is written, at the start, from one cell to the next, and at the end.
-use mathlib.Core.Path.{_∙_, _≡_, refl, subst, sym}
-use mathlib.Core.Bool.{cond}
-use mathlib.Core.List.{List, [], _++_, _∷_, append-assoc, append-nil}
-use Prim.Native.Nat.{_+_, _-_, _<_, _≤_, suc, zero, ℕ}
-use native.Mathlib.Omega.{arith}
-use native.Mathlib.Nat.{sub-zero, zero-add}
-use native.Mathlib.Numerals.{add-one}
-use lib.Dec.{ltb}
-use lib.ListN.{getD, length, length-replicate, length-set, replicate, set}
-use lib.Seq.{getD-set-same, sets, sets-eq}
-use borrow.Author.Tests.{lt-ltb}
+use Rattle.model.proofs.Prelude.{List, [], _++_, _+_, _-_, _<_, _∙_, _∷_, _≡_, _≤_, add-one, append-assoc, append-nil, arith, cond, getD, getD-set-same, length, length-replicate, length-set, lt-ltb, ltb, refl, replicate, set, sets, sets-eq, sub-zero, subst, suc, sym, zero, zero-add, ℕ}
 use Rattle.model.specs.declared.Cell.{Cell}
 use Rattle.model.specs.declared.Side.the-variants.{Cell as further, Slot as slot}
 use Rattle.model.specs.declared.Trie.{Trie}

@@ -1,13 +1,5 @@
 -- The tree of a run: its root lies in the run, it is the same for any fuel that is enough, and it has a cell for each string.
-use mathlib.Core.Path.{_∙_, _≡_, refl, sym}
-use mathlib.Core.Bool.{Bool, cond, false, true}
-use mathlib.Core.List.{List}
-use Prim.Native.Nat.{_+_, _-_, _/_, _<_, _≤_, suc, zero, ℕ}
-use native.Mathlib.Omega.{arith}
-use native.Mathlib.Decide.{decLt}
-use lib.Dec.{eqb, ltb}
-use lib.ListN.{getD}
-use borrow.Author.Tests.{le-ltb, lt-ltb}
+use Rattle.model.proofs.Prelude.{Bool, List, _+_, _-_, _/_, _<_, _∙_, _≡_, _≤_, arith, cond, decLt, eqb, false, getD, le-ltb, lt-ltb, ltb, refl, suc, sym, true, zero, ℕ}
 use Rattle.model.specs.declared.Side.the-variants.{Cell as further, Slot as slot}
 use Rattle.model.specs.Tries.{Tree, leaf, node, size}
 use Rattle.model.specs.Rebuilding.{side-of}

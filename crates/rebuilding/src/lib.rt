@@ -8,12 +8,13 @@ ghost use mathlib.Core.Bool.{cond};
 ghost use lib.Dec.{ltb, eqb};
 ghost use Rattle.rebuilding.specs.Roots.{run, least, many, place, middle};
 ghost use Rattle.rebuilding.specs.Runs.{cell-at, rebuilt-of, side-at};
+use digits::u16_of_u8;
+use digits::u16_of_usize;
+use digits::usize_of_u16;
 use model::Cell;
 use model::Side;
 use model::Trie;
 use trie::Strings;
-use trie::number;
-use trie::short;
 
 // The strings from the first place on and below the second.
 pub struct Run {
@@ -101,21 +102,15 @@ fn root_of(lens: &[u8; 256], from: usize, to: usize) -> usize
     place_of(lens, from, to, digits, (n - 1) / 2)
 }
 
-fn slot_number(x: u8) -> u16
-    ensures { λ r. ⌜ r ≡ x ⌝ }
-{
-    x as u16
-}
-
 // The side that leads to a run: its first cell, or, where it is empty, the slot of the leaf that stands there.
 fn side_of(slots: &[u8; 257], from: usize, to: usize, cell: usize) -> Side
     requires { ⌜ (from ≤ 256) × (cell ≤ 256) ⌝ }
     ensures { λ r. ⌜ r ≡ side-at (now (slots .entry)) from to cell ⌝ }
 {
     if from < to {
-        return Side::Cell(short(cell));
+        return Side::Cell(u16_of_usize(cell));
     }
-    Side::Slot(slot_number(slots[from]))
+    Side::Slot(u16_of_u8(slots[from]))
 }
 
 fn one_less(len: u8) -> u8
@@ -170,13 +165,13 @@ pub fn rebuilt(strings: Strings) -> Trie
     let slots = strings.slots;
     let count = strings.count;
     if count == 0 {
-        return trie::lone(slot_number(slots[0]));
+        return trie::without_cells(u16_of_u8(slots[0]));
     }
-    let mut trie = trie::lone(0);
+    let mut trie = trie::without_cells(0);
     let mut runs = [Run { from: 0, to: 0 }; 512];
     let whole = Run {
         from: 0,
-        to: short(count),
+        to: u16_of_usize(count),
     };
     runs[0] = whole;
     let mut top = 1usize;
@@ -184,26 +179,26 @@ pub fn rebuilt(strings: Strings) -> Trie
     while i < count {
         top -= 1;
         let run = runs[top];
-        let from = number(run.from);
-        let to = number(run.to);
+        let from = usize_of_u16(run.from);
+        let to = usize_of_u16(run.to);
         let root = root_of(&lens, from, to);
         let cell = cell_of(lens[root], digits[root], &slots, from, root, to, i);
         trie.cells[i] = cell;
         i += 1;
         let after = root + 1;
         let right = Run {
-            from: short(after),
+            from: u16_of_usize(after),
             to: run.to,
         };
         let left = Run {
             from: run.from,
-            to: short(root),
+            to: u16_of_usize(root),
         };
         runs[top] = right;
         top = top + kept(after, to);
         runs[top] = left;
         top = top + kept(from, root);
     }
-    trie.count = short(count);
+    trie.count = u16_of_usize(count);
     trie
 }

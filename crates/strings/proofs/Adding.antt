@@ -1,11 +1,5 @@
 -- The beginnings of a bound are added one after the other, each one digit shorter.
-use mathlib.Core.Path.{_∙_, _≡_, ap, refl, sym}
-use mathlib.Core.List.{List, [], _++_, _∷_, append-assoc, append-nil}
-use Prim.Native.Nat.{_+_, _-_, _<_, _≤_, suc, zero, ℕ}
-use native.Mathlib.Numerals.{add-one}
-use native.Mathlib.Omega.{arith}
-use lib.ListN.{drop, getD, length, length-append, length-drop, length-set, set, take}
-use lib.Seq.{drop-cons, drop-length, getD-take, length-take-le, take-suc, take-suc-set}
+use Rattle.model.proofs.Prelude.{List, [], _++_, _+_, _-_, _<_, _∙_, _∷_, _≡_, _≤_, add-one, ap, append-assoc, append-nil, arith, drop, drop-cons, drop-length, getD, getD-take, length, length-append, length-drop, length-set, length-take-le, refl, set, suc, sym, take, take-suc, take-suc-set, zero, ℕ}
 use Rattle.model.specs.Order.{Str}
 use Rattle.model.specs.Files.{longer}
 use Rattle.model.specs.Rebuilding.{last-digit}

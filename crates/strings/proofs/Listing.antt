@@ -1,20 +1,10 @@
 -- The strings of a sound file, bound after bound in range order, and the slots of the leaves left of them.
-use mathlib.Core.Path.{_∙_, _≡_, ap, refl, sym}
-use mathlib.Core.Bool.{false, true}
-use mathlib.Core.Option.{some}
-use mathlib.Core.List.{List, [], _++_, _∷_, append-assoc, append-nil}
-use Prim.Native.Nat.{_*_, _+_, _-_, _<_, _≤_, suc, ℕ}
-use native.Mathlib.Nat.{zero-add}
-use native.Mathlib.Numerals.{add-one}
-use native.Mathlib.Omega.{arith}
-use lib.ListN.{drop, drop-of-length-le, getD, length, length-append, set, take}
-use lib.Seq.{drop-cons, take-suc-set}
-use borrow.Author.Tests.{le-leb, lt-leb}
+use Rattle.model.proofs.Prelude.{List, [], _*_, _++_, _+_, _-_, _<_, _∙_, _∷_, _≡_, _≤_, add-one, ap, append-assoc, append-nil, arith, drop, drop-cons, drop-of-length-le, false, getD, le-leb, length, length-append, lt-leb, refl, set, some, suc, sym, take, take-suc-set, true, zero-add, ℕ}
 use Rattle.model.specs.Order.{Low, Str, _≺_, at, diff, none}
 use Rattle.model.specs.Files.{Chain, IsUsed, Ranges, Slot, Sound, Well, all, bounds, free, fresh, head, last, next, order-of, ranges, slot-at, strings-of, upper-of, used, well-used}
 use Rattle.model.specs.Rebuilding.{label}
 use Rattle.model.specs.Agreeing.{slotsBetween}
-use Rattle.model.specs.Format.{readSlots, slotAt, slotBytes, slotSize}
+use Rattle.model.specs.Format.{entrySize, readSlots, slotAt, slotBytes, slotSize, version-1}
 use Rattle.model.proofs.Lists.{at-taken}
 use Rattle.model.proofs.Order.{diff-lt-left}
 use Rattle.model.proofs.Strings.{mem-at}
@@ -24,7 +14,7 @@ use Rattle.model.proofs.Format.{readSlots-each, slotBytes-readSlot}
 use Rattle.model.proofs.Agreement.{coming, expect-cursor, expect-slots, follow, labels, to-slots, to-slots-append}
 use Rattle.model.proofs.Surveys.{chain-rises}
 use Rattle.bucket.specs.Slots.{upperAt}
-use Rattle.bucket.proofs.Laws.{upperAt-slot}
+use Rattle.bucket.proofs.Parts.{upperAt-slot}
 use Rattle.file.specs.declared.Size.{Size}
 use Rattle.file.specs.Sizes.{Below}
 use Rattle.trie.specs.declared.Strings.{Strings}
@@ -83,19 +73,19 @@ between-labels fs l (x ∷ xs) = ap (λ (ns : List ℕ). label (ranges fs) (orde
 
 module _ {b : ℕ} {fs : List Slot} (S : Sound b fs) where
   -- The upper of a bucket in the order, as it is read from the file's bytes.
-  pub upper-read : (slots : ℕ) (file : List ℕ) → readSlots b slots 0 file ≡ some fs → (i : ℕ) → i < length (order-of fs)
+  pub upper-read : (slots : ℕ) (file : List ℕ) → readSlots (version-1 b) slots 0 file ≡ some fs → (i : ℕ) → i < length (order-of fs)
       → getD (order-of fs) i 0 < slots
       → upperAt (take (64 + 32 * b) (drop (16 + getD (order-of fs) i 0 * (64 + 32 * b)) file)) ≡ ranges fs .upper (getD (order-of fs) i 0)
-  unfolding slotAt slotSize
+  unfolding slotAt slotSize entrySize
   upper-read slots file e i h k = rw bytes (go (slot-at fs B) (S .well B) (chain-used (ranges fs) (chain-right b S) B (mem-at 0 (order-of fs) i h)))
     where
       B : ℕ
       B = getD (order-of fs) i 0
 
-      bytes : slotAt b B file ≡ slotBytes b (slot-at fs B)
-      bytes = slotBytes-readSlot b (slotAt b B file) (rw zero-add at (readSlots-each b slots 0 B file k e))
+      bytes : slotAt (version-1 b) B file ≡ slotBytes (version-1 b) (slot-at fs B)
+      bytes = slotBytes-readSlot (version-1 b) (slotAt (version-1 b) B file) (rw zero-add at (readSlots-each (version-1 b) slots 0 B file k e))
 
-      go : (x : Slot) → Well b x → IsUsed (head x) → upperAt (slotBytes b x) ≡ upper-of (head x)
+      go : (x : Slot) → Well b x → IsUsed (head x) → upperAt (slotBytes (version-1 b) x) ≡ upper-of (head x)
       go free w u = absurd u
       go (used l u es) (well-used g f a r m) v = upperAt-slot b l u es (f .fits)
 
@@ -207,7 +197,7 @@ module _ (fs : List Slot) where
 module _ (file order : List ℕ) (size : Size) (count : ℕ) where
   abbrev Given : List Slot → Type 0
   Given fs =
-      (readSlots (size .b) (size .slots) 0 file ≡ some fs) × Sound (size .b) fs × (count ≡ length (order-of fs)) × (take count order ≡ order-of fs)
+      (readSlots (version-1 (size .b)) (size .slots) 0 file ≡ some fs) × Sound (size .b) fs × (count ≡ length (order-of fs)) × (take count order ≡ order-of fs)
 
   abbrev pub Goes : (lens digits slots : List ℕ) (n j : ℕ) → Type 0
   Goes lens digits slots n j = (fs : List Slot) → Given fs → Going fs lens digits slots n j

@@ -7,8 +7,8 @@ ghost use Prim.Native.Nat.{_≤_, _<_, _+_};
 ghost use lib.ListN.{length};
 ghost use Rattle.file.specs.Sizes.{Sized, Below};
 ghost use Rattle.strings.specs.Arrays.{Added, Listed, Whole, beyond};
-use digits::byte;
-use digits::index;
+use digits::u8_of_usize;
+use digits::usize_of_u8;
 use file::Size;
 use trie::Strings;
 
@@ -33,7 +33,7 @@ fn add(
     let mut len = x.len();
     let mut left = slot;
     while shared < len {
-        lens[n] = byte(len);
+        lens[n] = u8_of_usize(len);
         digits[n] = x[len - 1];
         slots[n] = left;
         left = next;
@@ -56,8 +56,8 @@ pub fn strings_of(file: &[u8], size: Size, order: &[u8; 64], count: usize) -> St
     while j < count {
         let slot = order[j - 1];
         let next = order[j];
-        let x = bucket::upper_of(file::slot_at(file, size, index(slot)));
-        let y = bucket::upper_of(file::slot_at(file, size, index(next)));
+        let x = bucket::upper_bound(file::slot_at(file, size, usize_of_u8(slot)));
+        let y = bucket::upper_bound(file::slot_at(file, size, usize_of_u8(next)));
         let shared = digits::shared(x, y);
         if 256 + shared < n + x.len() {
             return Strings {

@@ -1,13 +1,5 @@
 -- On a trie that agrees with a sound file the walk ends, with the path, the side and the slot that growth speaks of.
-use mathlib.Core.Path.{_∙_, _≡_, refl, sym}
-use mathlib.Core.Option.{some}
-use mathlib.Core.List.{List, List·Memᴰ, List·Memᴰ·head, Memᴰ·append-left, Memᴰ·append-right, List·Memᴰ·tail, [], _∷_}
-use Prim.Native.Nat.{_<_, _≤_, suc, zero, ℕ}
-use native.Mathlib.Decide.{decLt}
-use native.Mathlib.Omega.{arith}
-use borrow.Author.Tests.{le-leb}
-use lib.ListN.{length, length-append, take}
-use lib.Seq.{getD-take, length-take-le}
+use Rattle.model.proofs.Prelude.{List, List·Memᴰ, List·Memᴰ·head, List·Memᴰ·tail, Memᴰ·append-left, Memᴰ·append-right, [], _<_, _∙_, _∷_, _≡_, _≤_, arith, decLt, getD-take, le-leb, length, length-append, length-take-le, refl, some, suc, sym, take, zero, ℕ}
 use Rattle.model.specs.declared.Cell.{Cell}
 use Rattle.model.specs.declared.Side.{Side}
 use Rattle.model.specs.declared.Side.the-variants.{Cell as further, Slot as slot}

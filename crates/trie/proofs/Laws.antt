@@ -1,17 +1,5 @@
 -- The walk cell by cell: the definition, the code's walk of it, and where it arrives.
-use mathlib.Core.Path.{_∙_, _≡_, ap, refl, subst, sym}
-use mathlib.Core.Bool.{Bool, cond, false, true}
-use mathlib.Core.Logic.{_⊎_, inl, inr}
-use mathlib.Core.Option.{Option, none as nothing, some}
-use mathlib.Core.List.{List}
-use Prim.Native.Nat.{_+_, _-_, _<_, _≤_, suc, zero, ℕ}
-use native.Mathlib.Numerals.{add-one}
-use native.Mathlib.Decide.{decLe, ℕ-discrete}
-use native.Mathlib.Omega.{arith}
-use borrow.Author.Tests.{eq-eqb, le-leb, le-ltb, lt-leb, lt-ltb, ne-eqb}
-use lib.Dec.{eqb, leb, ltb}
-use lib.ListN.{length, length-set, set, take}
-use lib.Seq.{length-take-le, take-suc-set, take-take}
+use Rattle.model.proofs.Prelude.{Bool, List, Option, _+_, _-_, _<_, _∙_, _≡_, _≤_, _⊎_, add-one, ap, arith, clash, cond, decLe, eq-eqb, eqb, false, inl, inr, le-leb, le-ltb, leb, length, length-set, length-take-le, lt-leb, lt-ltb, ltb, ne-eqb, nothing, refl, set, some, subst, suc, sym, take, take-suc-set, take-take, true, zero, ℕ, ℕ-discrete}
 use Rattle.model.specs.declared.Cell.{Cell}
 use Rattle.model.specs.declared.Side.{Side}
 use Rattle.model.specs.declared.Side.the-variants.{Cell as further, Slot as slot}
@@ -251,8 +239,7 @@ module _ (slots : ℕ) (w : Walk) where
   pub lands-at : (s : ℕ) → w .place ≡ at-slot s → (o : Option (Str × Spot × ℕ)) → Walks w o → landed slots o ≡ cond (ltb s slots) (some s) nothing
   lands-at s q nothing h =
       let z : at-slot s ≡ stale = sym q ∙ h in
-      let y : _≡_ {A = ℕ} 0 1 = cc in
-      absurd (omega arith)
+      clash cc
   lands-at s q (some (p, k, i)) h =
       let z : at-slot i ≡ at-slot s = sym (h .place) ∙ q in
       let y : i ≡ s = cc in

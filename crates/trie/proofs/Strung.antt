@@ -1,9 +1,5 @@
 -- The strings as the arrays hold them, one by one, and the cells in their order.
-use mathlib.Core.Path.{_≡_, refl}
-use mathlib.Core.List.{List, [], _∷_}
-use Prim.Native.Nat.{suc, zero, ℕ}
-use native.Mathlib.Omega.{arith}
-use lib.ListN.{getD, length, length-append}
+use Rattle.model.proofs.Prelude.{List, [], _∷_, _≡_, arith, getD, length, length-append, refl, suc, zero, ℕ}
 use Rattle.model.specs.declared.Cell.{Cell}
 use Rattle.model.specs.declared.Side.{Side}
 use Rattle.model.specs.Order.{Str}

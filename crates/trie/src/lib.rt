@@ -9,7 +9,8 @@ ghost use mathlib.Core.List.{[]};
 ghost use Rattle.model.specs.Order.{Str};
 ghost use Rattle.model.specs.Tries.{root-side, trie-of};
 ghost use Rattle.trie.specs.Walks.{Steps, Strayed, Underway, Walks, placeOf, walkOf};
-use digits::index;
+use digits::usize_of_u8;
+use digits::usize_of_u16;
 use model::Cell;
 use model::Side;
 use model::Trie;
@@ -44,23 +45,8 @@ pub struct Walk {
     pub more: u16,
 }
 
-// A cell number or a slot number as an index.
-pub fn number(x: u16) -> usize
-    ensures { λ r. ⌜ (r ≡ x) × (r < 65536) ⌝ }
-{
-    x as usize
-}
-
-// And an index as such a number.
-pub fn short(x: usize) -> u16
-    requires { ⌜ x < 65536 ⌝ }
-    ensures { λ r. ⌜ r ≡ x ⌝ }
-{
-    x as u16
-}
-
-// The trie with count 0 that leads every name to one slot.
-pub fn lone(first: u16) -> Trie
+// The trie without cells, which leads every name to one slot.
+pub fn without_cells(first: u16) -> Trie
     ensures { λ r. ⌜ r ≡ trie-of [] (Side.Slot first) ⌝ }
 {
     Trie {
@@ -152,7 +138,7 @@ impl Walk {
         requires { ⌜ (self .len ≤ 24) × (0 < self .more) ⌝ }
         ensures { λ r. ⌜ (r .more < self .more) × Steps (now (name .entry)) self i cell r ⌝ }
     {
-        let at = index(cell.number);
+        let at = usize_of_u8(cell.number);
         if self.len < at {
             return strayed();
         }
@@ -199,7 +185,7 @@ pub fn walk_of(trie: Trie, name: &[u8; 24]) -> Walk
         let Place::Cell(i) = place else {
             return walk;
         };
-        let cell = trie.cells[number(i)];
+        let cell = trie.cells[usize_of_u16(i)];
         walk = walk.step(name, i, cell);
     }
 }

@@ -1,6 +1,5 @@
 -- Every case holds: both sides compute to the same.
-use mathlib.Core.Path.{refl}
-use native.Mathlib.Decide.{decLe, decLt, ℕ-discrete}
+use Rattle.model.proofs.Prelude.{decLe, decLt, refl, ℕ-discrete}
 use Rattle.model.specs.Order.{le?, low?, str?}
 use Rattle.model.specs.Names.{areDigits, atMost, blankEnded, blanks, filled, legalBound, legalFilled, legalName, notGreater, smaller, splitFrom, splitString, within}
 use Rattle.model.specs.Entries.{chosen, find, insert, keep, not?}
@@ -8,7 +7,7 @@ use Rattle.model.specs.Files.{first, low-same?, order-from, starts?, string-cou
 use Rattle.model.specs.Changes.{call, free?, holds?, put-in, remove-in, stores-if}
 use Rattle.model.specs.Checks.{allWell, check, cutBelow, hasTwin, isAbove, isChain, isCopied, isCutBy, isIn, isListed, isRow, isSound, isTwin, isUsed, isWell, legalLow, oneMore, sameEntries, sameLow, sameStr}
 use Rattle.model.specs.Agreeing.{areNumbers, areZeroCells, eachOnce, isAgreeing, isTrieOf, joinTrees, readTree, sameSide, sameStrs, slotsBetween, times}
-use Rattle.model.specs.Format.{checkFile, checkRead, entriesBytes, entriesOf, entryBytes, fileBytes, fileSize, headerBytes, headerOf, joined, legalSizes, littleEndian, lowDigits, lowOf, padded, readBy, readFile, readSlot, readSlots, readUsed, rightHeader, sized, slotAt, slotBytes, slotSize, slotsBytes, storeBytes, usedOf, valueBytes, valueOf}
+use Rattle.model.specs.Format.{checkFile, checkRead, entriesBytes, entriesOf, entryBytes, entrySize, fileBytes, fileSize, headerBytes, headerOf, isOffered, joined, laidOut, layoutOf, legalSizes, littleEndian, lowDigits, lowOf, padded, readBy, readFile, readSlot, readSlots, readUsed, rightHeader, slotAt, slotBytes, slotSize, slotsBytes, storeBytes, usedOf, valueOf}
 use Rattle.model.specs.Calls.{arrive, arrivedAnswer, between, createOf, entriesIn, headedAnswer, listEntries, listLooked, listOf, lookUpOf, lookedBy, lookedOf, putLooked, putMade, putOf, rebuildBy, rebuildOf, recoverBy, recoverOf, refusalOf, removeLooked, removeMade, removeOf, slotAnswer, storesBytes, trieAfter}
 use Rattle.vectors.specs.Vectors.{agreesWith, allBytes, allHold, bytes, codes, holds, isArranged, partBytes, putAll, sameBool, sameCells, sameSaid, sameTrie}
 use Rattle.vectors.specs.Statement.{EveryCase}
@@ -25,9 +24,9 @@ unfolding
     isAbove legalLow sameStr sameLow isRow isWell allWell isUsed isChain isIn isListed isSound sameEntries oneMore
     isCopied isTwin hasTwin isCutBy cutBelow check
     joinTrees readTree sameSide areZeroCells times eachOnce areNumbers sameStrs slotsBetween isTrieOf isAgreeing
-    slotSize fileSize legalSizes headerBytes padded littleEndian valueBytes valueOf entryBytes entriesBytes lowDigits
-    lowOf slotBytes slotsBytes fileBytes entriesOf usedOf readUsed readSlot slotAt joined readSlots rightHeader headerOf
-    sized readBy readFile checkRead checkFile storeBytes
+    isOffered entrySize slotSize fileSize legalSizes headerBytes padded littleEndian valueOf entryBytes entriesBytes lowDigits
+    lowOf slotBytes slotsBytes fileBytes entriesOf usedOf readUsed readSlot slotAt joined readSlots rightHeader layoutOf headerOf
+    laidOut readBy readFile checkRead checkFile storeBytes
     createOf recoverBy recoverOf rebuildBy rebuildOf arrive slotAnswer arrivedAnswer headedAnswer lookUpOf lookedBy
     lookedOf storesBytes trieAfter refusalOf putMade putLooked putOf removeMade removeLooked removeOf entriesIn between
     listEntries listLooked listOf

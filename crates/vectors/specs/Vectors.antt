@@ -8,6 +8,7 @@ use Prim.Native.String.{String}
 use Prim.Native.String as S
 use lib.Dec.{eqb}
 use lib.ListN.{length, replicate}
+use Rattle.model.specs.declared.Layout.{Layout}
 use Rattle.model.specs.declared.Cell.{Cell}
 use Rattle.model.specs.declared.Side.{Side}
 use Rattle.model.specs.declared.Trie.{Trie}
@@ -100,11 +101,11 @@ sameCells (c ∷ cs) (d ∷ ds) =
 unfoldable pub sameTrie : Trie → Trie → Bool
 sameTrie t u = eqb (t .count) (u .count) && eqb (t .first) (u .first) && sameCells (t .cells) (u .cells)
 
-unfoldable pub isArranged : List ℕ → List Str → Option (ℕ × List Slot) → Bool
+unfoldable pub isArranged : List ℕ → List Str → Option (Layout × List Slot) → Bool
 isArranged order xs nothing = false
 isArranged order xs (some f) = sameStr (order-of (f .1)) order && sameStrs (strings-of (f .1)) xs
 
-unfoldable pub agreesWith : Trie → Option (ℕ × List Slot) → Bool
+unfoldable pub agreesWith : Trie → Option (Layout × List Slot) → Bool
 agreesWith t nothing = false
 agreesWith t (some f) = isAgreeing (f .1) t
 

@@ -1,107 +1,47 @@
 -- `agreement_of` meets its contract: each test that fails tells that the trie does not agree, and the pass decides the rest.
-use mathlib.Core.Path.{_≡_, _∙_, sym}
-use native.Mathlib.Omega.{arith}
-use lib.ListN.{length, length-map}
-use borrow.Author.Needs.{needs}
-use borrow.Author.Tests.{not-false, not-true}
+use Rattle.model.proofs.Prelude.{_∙_, _≡_, arith, length, length-map, needs, not-false, not-true, sym}
 use Rattle.agreement.proofs.Answers.{by-leaf, by-pass, not-clear, not-count, not-few, not-first}
-use Rattle.agreement.proofs.agreement_of.Statement.{statement}
 use Rattle.agreement.proofs.agreement_of.Tie as tie
-
-no-requires : tie.Need-no-requires
-no-requires c κs = search needs
 
 returns : tie.Need-returns
 returns c =
     let a = c .before .before .args in
-    not-few (a .trie) (a .t2) (c .no .ensures) (not-true (a .t2 .few) (c .before .if1 .taken))
-
-number-requires : tie.Need-number-requires
-number-requires c κs = search needs
-
-no-requires-2 : tie.Need-no-requires-2
-no-requires-2 c κs = search needs
+    not-few (a .trie) (a .t2) (c .disagreement .ensures) (not-true (a .t2 .few) (c .before .if1 .taken))
 
 returns-2 : tie.Need-returns-2
 returns-2 c =
     let a = c .before .before .before .before .args in
-    not-count (a .trie) (a .t2) (c .no2 .ensures) (λ e. c .before .if2 .taken (c .before .before .number .ensures .0 ∙ e))
-
-is-clear-past-requires : tie.Need-is-clear-past-requires
-is-clear-past-requires c κs = search needs
-
-no-requires-3 : tie.Need-no-requires-3
-no-requires-3 c κs = search needs
+    not-count (a .trie) (a .t2) (c .disagreement2 .ensures) (λ e. c .before .if2 .taken (c .before .before .usize-of-u16 .ensures .0 ∙ e))
 
 returns-3 : tie.Need-returns-3
 returns-3 c =
-    let a = c .before .before .before .before .before .before .args in
-    let x = c .before .before .is-clear-past in
-    not-clear (a .trie) (a .t2) (c .no3 .ensures) (sym (x .ensures) ∙ not-true (x .result) (c .before .if3 .taken))
-
-number-requires-2 : tie.Need-number-requires-2
-number-requires-2 c κs = search needs
-
-element-copy-out-index : tie.Need-element-copy-out-index
-element-copy-out-index c = search needs
-
-index-requires : tie.Need-index-requires
-index-requires c κs = search needs
+    let a = c .before .before .before .before .before .before .args in let x = c .before .before .is-clear-past in
+    not-clear (a .trie) (a .t2) (c .disagreement3 .ensures) (sym (x .ensures) ∙ not-true (x .result) (c .before .if3 .taken))
 
 returns-4 : tie.Need-returns-4
 returns-4 c =
-    let n = c .before .before .before in
-    let x = n .before .before in
-    let m = x .before .before in
-    let f = m .before in
-    let l = f .before in
+    let n = c .before .before .before in let x = n .before .before in let m = x .before .before in let f = m .before in let l = f .before in
     let a = l .args in
     let full : length (a .trie .cells) ≡ 256 = simp length-map at (l .good .0 .1 .1 .0 .1 .0 .1) in
-    by-leaf (a .trie) (a .t2) full (not-false (a .t2 .few) (f .if1 .left)) (search needs) (sym (m .number .ensures .0) ∙ x .before .if2 .left)
-    (sym (x .is-clear-past .ensures) ∙ not-false (x .is-clear-past .result) (n .before .if3 .left)) (c .before .before .if4 .taken) (n .number2 .ensures .0) (c .index .ensures .0)
-
-no-requires-4 : tie.Need-no-requires-4
-no-requires-4 c κs = search needs
+    by-leaf (a .trie) (a .t2) full (not-false (a .t2 .few) (f .if1 .left)) (search needs) (sym (m .usize-of-u16 .ensures .0) ∙ x .before .if2 .left)
+    (sym (x .is-clear-past .ensures) ∙ not-false (x .is-clear-past .result) (n .before .if3 .left)) (c .before .before .if4 .taken) (n .usize-of-u162 .ensures .0) (c .usize-of-u8 .ensures .0)
 
 returns-5 : tie.Need-returns-5
 returns-5 c =
-    let n = c .before .before .before in
-    let a = n .before .before .before .before .before .before .args in
-    not-first (a .trie) (a .t2) (c .no4 .ensures) (omega (arith, c .before .before .if4 .left)) (λ e. c .before .if5 .taken (n .number2 .ensures .0 ∙ e))
-
-pass-requires : tie.Need-pass-requires
-pass-requires c κs = search needs
+    let n = c .before .before .before in let a = n .before .before .before .before .before .before .args in
+    not-first (a .trie) (a .t2) (c .disagreement4 .ensures) (omega (arith, c .before .before .if4 .left)) (λ e. c .before .if5 .taken (n .usize-of-u162 .ensures .0 ∙ e))
 
 returns-6 : tie.Need-returns-6
 returns-6 c =
-    let n = c .before .before .before in
-    let x = n .before .before in
-    let m = x .before .before in
-    let f = m .before in
-    let l = f .before in
+    let n = c .before .before .before in let x = n .before .before in let m = x .before .before in let f = m .before in let l = f .before in
     let a = l .args in
     let full : length (a .trie .cells) ≡ 256 = simp length-map at (l .good .0 .1 .1 .0 .1 .0 .1) in
-    by-pass (a .trie) (a .t2) full (not-false (a .t2 .few) (f .if1 .left)) (search needs) (sym (m .number .ensures .0) ∙ x .before .if2 .left)
+    by-pass (a .trie) (a .t2) full (not-false (a .t2 .few) (f .if1 .left)) (search needs) (sym (m .usize-of-u16 .ensures .0) ∙ x .before .if2 .left)
     (sym (x .is-clear-past .ensures) ∙ not-false (x .is-clear-past .result) (n .before .if3 .left)) (c .before .before .if4 .left)
-    (sym (n .number2 .ensures .0) ∙ c .before .if5 .left) (c .pass .ensures)
+    (sym (n .usize-of-u162 .ensures .0) ∙ c .before .if5 .left) (c .pass .ensures)
 
-pub agreement-of-spec : {M : Type 1} → statement M
+pub agreement-of-spec : {M : Type 1} → Rattle.agreement.proofs.agreement_of.Statement.statement M
 agreement-of-spec =
-    tie.close
-    (tie.spec
-    no-requires
-    returns
-    number-requires
-    no-requires-2
-    returns-2
-    is-clear-past-requires
-    no-requires-3
-    returns-3
-    number-requires-2
-    element-copy-out-index
-    index-requires
-    returns-4
-    no-requires-4
-    returns-5
-    pass-requires
-    returns-6)
+    tie.close (tie.spec (λ c κs. search needs) returns (λ c κs. search needs) (λ c κs. search needs) returns-2 (λ c κs. search needs)
+    (λ c κs. search needs) returns-3 (λ c κs. search needs) (λ c. search needs) (λ c κs. search needs) returns-4 (λ c κs. search needs) returns-5
+    (λ c κs. search needs) returns-6)

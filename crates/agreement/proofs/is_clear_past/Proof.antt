@@ -1,12 +1,7 @@
 -- `is_clear_past` is the model's test: of the cells not passed yet it says what it says of all from the count on.
-use Prim.Native.Nat.{_-_, _≤_}
-use mathlib.Core.Path.{_≡_, _∙_, refl, sym}
-use native.Mathlib.Omega.{arith}
-use lib.ListN.{drop, length, length-map}
-use borrow.Author.Needs.{needs}
+use Rattle.model.proofs.Prelude.{_-_, _∙_, _≡_, _≤_, arith, drop, length, length-map, needs, refl, sym}
 use Rattle.model.specs.Agreeing.{areZeroCells}
 use Rattle.agreement.proofs.Clear.{clear-end, clear-not, clear-on}
-use Rattle.agreement.proofs.is_clear_past.Statement.{statement}
 use Rattle.agreement.proofs.is_clear_past.Tie as tie
 
 abbrev Inv-loop : tie.InvT-loop
@@ -15,35 +10,15 @@ Inv-loop count trie i₀ i = (i ≤ 256) × (areZeroCells (drop count (trie .cel
 abbrev μ-loop : tie.MeasureT-loop
 μ-loop count trie i₀ i = 256 - i
 
-loop-holds : tie.Need-loop-holds Inv-loop μ-loop
-loop-holds c = (search needs, refl)
-
-mul-cell : tie.Need-mul-cell Inv-loop μ-loop
-mul-cell c = search needs
-
-element-copy-out-cell : tie.Need-element-copy-out-cell Inv-loop μ-loop
-element-copy-out-cell c = search needs
-
-is-no-cell-requires : tie.Need-is-no-cell-requires Inv-loop μ-loop
-is-no-cell-requires c κs = search needs
-
 returns : tie.Need-returns Inv-loop μ-loop
 returns c =
-    let l = c .before .before .before .before in
-    let x = c .before .is-no-cell in
+    let l = c .before .before .before .before in let x = c .before .is-no-cell in
     let full : length (l .before .args .t1 .cells) ≡ 256 = simp length-map at (l .before .good .0 .1 .1 .0 .1 .0 .1) in
     sym (l .loop .inv .1 ∙ clear-not (l .before .args .t1 .cells) (l .loop .i) (x .result) (omega arith) (x .ensures) (c .if1 .taken))
 
-add-i : tie.Need-add-i Inv-loop μ-loop
-add-i c = search needs
-
-loop-less : tie.Need-loop-less Inv-loop μ-loop
-loop-less c = search needs
-
 loop-again : tie.Need-loop-again Inv-loop μ-loop
 loop-again c =
-    let l = c .before .before .before .before in
-    let x = c .before .is-no-cell in
+    let l = c .before .before .before .before in let x = c .before .is-no-cell in
     let full : length (l .before .args .t1 .cells) ≡ 256 = simp length-map at (l .before .good .0 .1 .1 .0 .1 .0 .1) in
     (search needs, l .loop .inv .1 ∙ clear-on (l .before .args .t1 .cells) (l .loop .i) (x .result) (omega arith) (x .ensures) (c .if1 .left))
 
@@ -53,18 +28,7 @@ returns-2 c =
     let full : length (l .before .args .t1 .cells) ≡ 256 = simp length-map at (l .before .good .0 .1 .1 .0 .1 .0 .1) in
     sym (l .loop .inv .1 ∙ clear-end (l .before .args .t1 .cells) (l .loop .i) (omega arith))
 
-pub is-clear-past-spec : {M : Type 1} → statement M
+pub is-clear-past-spec : {M : Type 1} → Rattle.agreement.proofs.is_clear_past.Statement.statement M
 is-clear-past-spec =
-    tie.close
-    (tie.spec
-    Inv-loop
-    μ-loop
-    loop-holds
-    mul-cell
-    element-copy-out-cell
-    is-no-cell-requires
-    returns
-    add-i
-    loop-less
-    loop-again
-    returns-2)
+    tie.close (tie.spec Inv-loop μ-loop (λ c. (search needs, refl)) (λ c. search needs) (λ c. search needs) (λ c κs. search needs) returns
+    (λ c. search needs) (λ c. search needs) loop-again returns-2)

@@ -1,26 +1,12 @@
 -- `is_no_cell` is the model's test of one cell.
-use mathlib.Core.Path.{_∙_}
-use borrow.Author.Needs.{needs}
+use Rattle.model.proofs.Prelude.{_∙_, needs}
 use Rattle.agreement.proofs.Clear.{digit-some, left-some, number-some, right-is}
-use Rattle.agreement.proofs.is_no_cell.Statement.{statement}
 use Rattle.agreement.proofs.is_no_cell.Tie as tie
-
-returns : tie.Need-returns
-returns c = digit-some (c .before .before .args .cell) (c .if1 .taken)
-
-returns-2 : tie.Need-returns-2
-returns-2 c = number-some (c .before .before .before .before .args .cell) (search needs) (c .if2 .taken)
-
-is-slot-0-requires : tie.Need-is-slot-0-requires
-is-slot-0-requires c κs = search needs
 
 returns-3 : tie.Need-returns-3
 returns-3 c =
     let x = c .before .is-slot-0 in
     left-some (c .before .before .before .before .before .before .args .cell) (search needs) (search needs) (x .result) (x .ensures) (c .if3 .taken)
-
-is-slot-0-requires-2 : tie.Need-is-slot-0-requires-2
-is-slot-0-requires-2 c κs = search needs
 
 returns-4 : tie.Need-returns-4
 returns-4 c =
@@ -28,7 +14,8 @@ returns-4 c =
     c .is-slot-02 .ensures
     ∙ right-is (c .before .before .before .before .before .before .before .args .cell) (search needs) (search needs) (x .result) (x .ensures) (c .before .if3 .left)
 
-pub is-no-cell-spec : {M : Type 1} → statement M
+pub is-no-cell-spec : {M : Type 1} → Rattle.agreement.proofs.is_no_cell.Statement.statement M
 is-no-cell-spec =
-    tie.close
-    (tie.spec returns returns-2 is-slot-0-requires returns-3 is-slot-0-requires-2 returns-4)
+    tie.close (tie.spec (λ c. digit-some (c .before .before .args .cell) (c .if1 .taken))
+    (λ c. number-some (c .before .before .before .before .args .cell) (search needs) (c .if2 .taken)) (λ c κs. search needs) returns-3
+    (λ c κs. search needs) returns-4)

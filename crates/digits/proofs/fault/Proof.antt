@@ -1,15 +1,6 @@
 -- `digits::fault` meets its contract.
-use borrow.Author.Tests.{le-leb, lt-leb}
-use mathlib.Core.Bool.{and-false}
-use lib.Dec.{leb}
-use Prim.Native.Nat.{_-_}
-use native.Mathlib.Omega.{arith}
-use mathlib.Core.Path.{sym}
-use Rattle.digits.proofs.fault.Statement.{statement}
+use Rattle.model.proofs.Prelude.{and-false, arith, le-leb, leb, lt-leb, sym}
 use Rattle.digits.proofs.fault.Tie as tie
-
-returns : tie.Need-returns
-returns c = rw (lt-leb (c .before .args .least) (c .before .args .x) (omega arith))
 
 returns-2 : tie.Need-returns-2
 returns-2 c = rw (lt-leb (c .before .before .args .x) 0x7D (omega arith)) (sym (and-false (leb (c .before .before .args .least) (c .before .before .args .x))))
@@ -17,5 +8,5 @@ returns-2 c = rw (lt-leb (c .before .before .args .x) 0x7D (omega arith)) (sym (
 returns-3 : tie.Need-returns-3
 returns-3 c = rw (le-leb (c .before .before .args .least) (c .before .before .args .x) (omega arith), le-leb (c .before .before .args .x) 0x7D (omega arith))
 
-pub fault-spec : {M : Type 1} → statement M
-fault-spec = tie.close (tie.spec returns returns-2 returns-3)
+pub fault-spec : {M : Type 1} → Rattle.digits.proofs.fault.Statement.statement M
+fault-spec = tie.close (tie.spec (λ c. rw (lt-leb (c .before .args .least) (c .before .args .x) (omega arith))) returns-2 returns-3)

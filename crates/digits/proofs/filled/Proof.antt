@@ -1,12 +1,6 @@
 -- `digits::filled` meets its contract.
-use Rattle.digits.proofs.Laws.{filled-all, filled-full, filled-next}
-use Rattle.digits.proofs.Laws.{filledTo}
-use Prim.Native.Nat.{_≤_, _-_}
-use native.Mathlib.Omega.{arith}
-use mathlib.Core.Path.{_≡_, refl, _∙_}
-use lib.ListN.{length}
-use borrow.Author.Needs.{needs}
-use Rattle.digits.proofs.filled.Statement.{statement}
+use Rattle.model.proofs.Prelude.{_-_, _∙_, _≡_, _≤_, arith, length, needs, refl}
+use Rattle.digits.proofs.Laws.{filled-all, filled-full, filled-next, filledTo}
 use Rattle.digits.proofs.filled.Tie as tie
 
 abbrev Inv-loop : tie.InvT-loop
@@ -24,18 +18,6 @@ returns c =
     let l = c .before .before in
     l .loop .inv .2 ∙ filled-full (l .before .args .name .now) (l .loop .i) (omega arith) (omega arith)
 
-shared-slice-read-digits : tie.Need-shared-slice-read-digits Inv-loop μ-loop
-shared-slice-read-digits c = search needs
-
-array-write-digits : tie.Need-array-write-digits Inv-loop μ-loop
-array-write-digits c = search needs
-
-add-i : tie.Need-add-i Inv-loop μ-loop
-add-i c = search needs
-
-loop-less : tie.Need-loop-less Inv-loop μ-loop
-loop-less c = search needs
-
 loop-again : tie.Need-loop-again Inv-loop μ-loop
 loop-again c =
     let l = c .before .before .before in
@@ -46,17 +28,7 @@ returns-2 c =
     let l = c .before in
     l .loop .inv .2 ∙ filled-all (l .before .args .name .now) (l .loop .i) (omega arith) (omega arith)
 
-pub filled-spec : {M : Type 1} → statement M
+pub filled-spec : {M : Type 1} → Rattle.digits.proofs.filled.Statement.statement M
 filled-spec =
-    tie.close
-    (tie.spec
-    Inv-loop
-    μ-loop
-    loop-holds
-    returns
-    shared-slice-read-digits
-    array-write-digits
-    add-i
-    loop-less
-    loop-again
+    tie.close (tie.spec Inv-loop μ-loop loop-holds returns (λ c. search needs) (λ c. search needs) (λ c. search needs) (λ c. search needs) loop-again
     returns-2)

@@ -1,23 +1,17 @@
 -- `digits::is_below` meets its contract.
+use Rattle.model.proofs.Prelude.{arith, le-ltb, lt-ltb, sym}
 use Rattle.digits.proofs.Laws.{below-last, lt-first, lt-second}
-use borrow.Author.Tests.{le-ltb, lt-ltb}
 use Rattle.digits.specs.Keys.{keyValue}
-use Prim.Native.Nat.{_-_}
-use native.Mathlib.Omega.{arith}
-use mathlib.Core.Path.{sym}
-use Rattle.digits.proofs.is_below.Statement.{statement}
 use Rattle.digits.proofs.is_below.Tie as tie
 
 returns : tie.Need-returns
 returns c =
-    let x = c .before .before .before .args .x in
-    let y = c .before .before .before .args .y in
+    let x = c .before .before .before .args .x in let y = c .before .before .before .args .y in
     sym (lt-ltb (keyValue x) (keyValue y) (lt-first x y (omega arith) (omega arith) (omega arith)))
 
 returns-2 : tie.Need-returns-2
 returns-2 c =
-    let x = c .before .before .before .before .before .before .args .x in
-    let y = c .before .before .before .before .before .before .args .y in
+    let x = c .before .before .before .before .before .before .args .x in let y = c .before .before .before .before .before .before .args .y in
     let h = lt-first y x (omega arith) (omega arith) (omega arith) in
     sym (le-ltb (keyValue x) (keyValue y) (omega arith))
 
@@ -40,5 +34,5 @@ returns-5 c =
     let y = c .before .before .before .before .before .before .before .before .before .before .before .before .before .before .args .y in
     below-last x y (omega arith) (omega arith)
 
-pub is-below-spec : {M : Type 1} → statement M
+pub is-below-spec : {M : Type 1} → Rattle.digits.proofs.is_below.Statement.statement M
 is-below-spec = tie.close (tie.spec returns returns-2 returns-3 returns-4 returns-5)

@@ -1,18 +1,8 @@
 -- `digits::is_filled` meets its contract: each word follows the last digit of the one before, the first a digit that is no blank.
-use mathlib.Core.Path.{_∙_, refl, sym}
-use mathlib.Core.Bool.{and-false}
-use borrow.Author.Needs.{needs}
-use borrow.Author.Tests.{not-false, not-true}
+use Rattle.model.proofs.Prelude.{_∙_, and-false, needs, not-false, not-true, refl, sym}
 use Rattle.digits.specs.Words.{after}
 use Rattle.digits.proofs.Words.{last-from, marks-last, three-after}
-use Rattle.digits.proofs.is_filled.Statement.{statement}
 use Rattle.digits.proofs.is_filled.Tie as tie
-
-marks-of-requires : tie.Need-marks-of-requires
-marks-of-requires c κs = search needs
-
-follow-requires : tie.Need-follow-requires
-follow-requires c κs = search needs
 
 returns : tie.Need-returns
 returns c x y z X Y Z dx dy dz ex ey ez =
@@ -20,24 +10,12 @@ returns c x y z X Y Z dx dy dz ex ey ez =
     let f = c .before .follow .ensures 0x21 x X refl m in
     sym (three-after 0x21 x y z ∙ rw (← f, not-true (c .before .follow .result) (c .if1 .taken)))
 
-marks-of-requires-2 : tie.Need-marks-of-requires-2
-marks-of-requires-2 c κs = search needs
-
-follow-requires-2 : tie.Need-follow-requires-2
-follow-requires-2 c κs = search needs
-
 returns-2 : tie.Need-returns-2
 returns-2 c x y z X Y Z dx dy dz ex ey ez =
     let m = c .before .before .before .before .before .marks-of .ensures x X dx ex in
     let n = c .before .before .marks-of2 .ensures y Y dy ey in
     let g = c .before .follow2 .ensures (last-from 0x21 x) y Y (marks-last 0x21 x X m) n in
     sym (three-after 0x21 x y z ∙ rw (← g, not-true (c .before .follow2 .result) (c .if2 .taken)) (and-false (after 0x21 x)))
-
-marks-of-requires-3 : tie.Need-marks-of-requires-3
-marks-of-requires-3 c κs = search needs
-
-follow-requires-3 : tie.Need-follow-requires-3
-follow-requires-3 c κs = search needs
 
 returns-3 : tie.Need-returns-3
 returns-3 c x y z X Y Z dx dy dz ex ey ez =
@@ -50,16 +28,7 @@ returns-3 c x y z X Y Z dx dy dz ex ey ez =
     h
     ∙ sym (three-after 0x21 x y z ∙ rw (← f, ← g, not-false (c .before .before .before .before .before .before .follow .result) (c .before .before .before .before .before .if1 .left), not-false (c .before .before .before .follow2 .result) (c .before .before .if2 .left)))
 
-pub is-filled-spec : {M : Type 1} → statement M
+pub is-filled-spec : {M : Type 1} → Rattle.digits.proofs.is_filled.Statement.statement M
 is-filled-spec =
-    tie.close
-    (tie.spec
-    marks-of-requires
-    follow-requires
-    returns
-    marks-of-requires-2
-    follow-requires-2
-    returns-2
-    marks-of-requires-3
-    follow-requires-3
-    returns-3)
+    tie.close (tie.spec (λ c κs. search needs) (λ c κs. search needs) returns (λ c κs. search needs) (λ c κs. search needs) returns-2
+    (λ c κs. search needs) (λ c κs. search needs) returns-3)

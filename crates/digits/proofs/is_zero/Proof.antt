@@ -1,14 +1,7 @@
 -- `digits::is_zero` meets its contract.
-use mathlib.Core.Bool.{_&&_}
-use lib.Dec.{eqb}
+use Rattle.model.proofs.Prelude.{_&&_, _+_, _-_, _≡_, _≤_, arith, drop, eqb, getD, length, needs}
 use Rattle.digits.specs.Keys.{isZero}
 use Rattle.digits.proofs.Laws.{gathered, gathers, larger-zero, zero-end, zero-next}
-use Prim.Native.Nat.{_≤_, _-_, _+_}
-use native.Mathlib.Omega.{arith}
-use mathlib.Core.Path.{_≡_}
-use lib.ListN.{length, drop, getD}
-use borrow.Author.Needs.{needs}
-use Rattle.digits.proofs.is_zero.Statement.{statement}
 use Rattle.digits.proofs.is_zero.Tie as tie
 
 abbrev Inv-loop : tie.InvT-loop
@@ -17,44 +10,17 @@ Inv-loop s most₀ i₀ most i = (i ≤ length s) × (isZero s ≡ (eqb most 0 &
 abbrev μ-loop : tie.MeasureT-loop
 μ-loop s most₀ i₀ most i = length s - i
 
-loop-holds : tie.Need-loop-holds Inv-loop μ-loop
-loop-holds c = search needs
-
-shared-slice-read-larger : tie.Need-shared-slice-read-larger Inv-loop μ-loop
-shared-slice-read-larger c = search needs
-
-larger-requires : tie.Need-larger-requires Inv-loop μ-loop
-larger-requires c κs = search needs
-
-add-i : tie.Need-add-i Inv-loop μ-loop
-add-i c = search needs
-
-loop-less : tie.Need-loop-less Inv-loop μ-loop
-loop-less c = search needs
-
 loop-again : tie.Need-loop-again Inv-loop μ-loop
 loop-again c =
-    let l = c .before .before .before in
-    let s = l .before .before .args .s .now in
-    let g = c .larger .ensures in
+    let l = c .before .before .before in let s = l .before .before .args .s .now in let g = c .larger .ensures in
     (search needs, gathers (isZero s) (eqb (l .loop .most) 0) (isZero (drop (l .loop .i) s)) (eqb (getD s (l .loop .i) 0) 0) (isZero (drop (l .loop .i + 1) s)) (eqb (c .larger .result) 0) (l .loop .inv .1) (zero-next s (l .loop .i) (omega arith)) (larger-zero (l .loop .most) (getD s (l .loop .i) 0) (c .larger .result) (g .0) (g .1) (g .2)))
 
 returns : tie.Need-returns Inv-loop μ-loop
 returns c =
-    let l = c .before in
-    let s = l .before .before .args .s .now in
+    let l = c .before in let s = l .before .before .args .s .now in
     gathered (isZero s) (eqb (l .loop .most) 0) (isZero (drop (l .loop .i) s)) (l .loop .inv .1) (zero-end s (l .loop .i) (omega arith))
 
-pub is-zero-spec : {M : Type 1} → statement M
+pub is-zero-spec : {M : Type 1} → Rattle.digits.proofs.is_zero.Statement.statement M
 is-zero-spec =
-    tie.close
-    (tie.spec
-    Inv-loop
-    μ-loop
-    loop-holds
-    shared-slice-read-larger
-    larger-requires
-    add-i
-    loop-less
-    loop-again
-    returns)
+    tie.close (tie.spec Inv-loop μ-loop (λ c. search needs) (λ c. search needs) (λ c κs. search needs) (λ c. search needs) (λ c. search needs)
+    loop-again returns)

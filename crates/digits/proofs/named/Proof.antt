@@ -1,12 +1,6 @@
 -- `digits::named` meets its contract.
-use borrow.Author.Tests.{not-false, not-true}
-use borrow.Author.Tests.{le-leb, lt-leb}
+use Rattle.model.proofs.Prelude.{arith, le-leb, length, lt-leb, needs, not-false, not-true}
 use Rattle.model.specs.Names.{legalName}
-use Prim.Native.Nat.{_-_}
-use native.Mathlib.Omega.{arith}
-use lib.ListN.{length}
-use borrow.Author.Needs.{needs}
-use Rattle.digits.proofs.named.Statement.{statement}
 use Rattle.digits.proofs.named.Tie as tie
 
 returns : tie.Need-returns
@@ -17,9 +11,6 @@ returns-2 : tie.Need-returns-2
 unfolding legalName
 returns-2 c = rw (le-leb 1 (length (c .before .before .before .args .name .now)) (omega arith), lt-leb (length (c .before .before .before .args .name .now)) 24 (c .if2 .taken))
 
-are-digits-requires : tie.Need-are-digits-requires
-are-digits-requires c κs = search needs
-
 returns-3 : tie.Need-returns-3
 unfolding legalName
 returns-3 c = rw (le-leb 1 (length (c .before .before .before .before .before .args .name .now)) (omega arith), le-leb (length (c .before .before .before .before .before .args .name .now)) 24 (omega arith), ← c .before .are-digits .ensures, not-true (c .before .are-digits .result) (c .if3 .taken))
@@ -28,5 +19,5 @@ returns-4 : tie.Need-returns-4
 unfolding legalName
 returns-4 c = rw (le-leb 1 (length (c .before .before .before .before .before .args .name .now)) (omega arith), le-leb (length (c .before .before .before .before .before .args .name .now)) 24 (omega arith), ← c .before .are-digits .ensures, not-false (c .before .are-digits .result) (c .if3 .left))
 
-pub named-spec : {M : Type 1} → statement M
-named-spec = tie.close (tie.spec returns returns-2 are-digits-requires returns-3 returns-4)
+pub named-spec : {M : Type 1} → Rattle.digits.proofs.named.Statement.statement M
+named-spec = tie.close (tie.spec returns returns-2 (λ c κs. search needs) returns-3 returns-4)

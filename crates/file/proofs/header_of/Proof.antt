@@ -1,56 +1,21 @@
 -- `header_of` meets its contract: the length, the mark and the sizes are those of the header that is right.
-use Prim.Native.Nat.{_-_}
-use native.Mathlib.Omega.{arith}
-use mathlib.Core.Path.{sym, _∙_}
-use borrow.Author.Needs.{needs}
-use borrow.Author.Tests.{not-false, not-true}
+use Rattle.model.proofs.Prelude.{_∙_, arith, needs, not-false, not-true, sym}
 use Rattle.file.proofs.Headers.{ill-marked, told, too-short}
-use Rattle.file.proofs.header_of.Statement.{statement}
 use Rattle.file.proofs.header_of.Tie as tie
-
-returns : tie.Need-returns
-returns c = too-short (c .before .before .args .file .now) (omega arith)
-
-is-marked-requires : tie.Need-is-marked-requires
-is-marked-requires c κs = search needs
 
 returns-2 : tie.Need-returns-2
 returns-2 c =
     let s = c .before .before .before .before in
     ill-marked (s .args .file .now) (sym (c .before .is-marked .ensures) ∙ not-true (c .before .is-marked .result) (c .if2 .taken))
 
-shared-slice-read-index : tie.Need-shared-slice-read-index
-shared-slice-read-index c = search needs
-
-index-requires : tie.Need-index-requires
-index-requires c κs = search needs
-
-shared-slice-read-index-2 : tie.Need-shared-slice-read-index-2
-shared-slice-read-index-2 c = search needs
-
-index-requires-2 : tie.Need-index-requires-2
-index-requires-2 c κs = search needs
-
-sizes-requires : tie.Need-sizes-requires
-sizes-requires c κs = search needs
-
 returns-3 : tie.Need-returns-3
 returns-3 c =
     let m = c .before .before .before .before .before in
     told (m .before .before .before .before .args .file .now) (c .sizes .result) _ _
     (sym (m .before .is-marked .ensures) ∙ not-false (m .before .is-marked .result) (m .if2 .left))
-    (c .before .before .before .index .ensures .0) (c .before .index2 .ensures .0) (c .sizes .ensures)
+    (c .before .before .before .usize-of-u8 .ensures .0) (c .before .usize-of-u82 .ensures .0) (c .sizes .ensures)
 
-pub header-of-spec : {M : Type 1} → statement M
+pub header-of-spec : {M : Type 1} → Rattle.file.proofs.header_of.Statement.statement M
 header-of-spec =
-    tie.close
-    (tie.spec
-    returns
-    is-marked-requires
-    returns-2
-    shared-slice-read-index
-    index-requires
-    shared-slice-read-index-2
-    index-requires-2
-    sizes-requires
-    returns-3)
+    tie.close (tie.spec (λ c. too-short (c .before .before .args .file .now) (omega arith)) (λ c κs. search needs) returns-2 (λ c. search needs)
+    (λ c κs. search needs) (λ c. search needs) (λ c κs. search needs) (λ c κs. search needs) returns-3)

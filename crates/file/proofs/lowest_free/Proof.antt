@@ -1,27 +1,17 @@
 -- `lowest_free` meets its contract: where fewer slots are used than there are, the map's complement begins with the used ones.
-use mathlib.Core.Path.{_≡_, ap}
-use native.Mathlib.Omega.{arith}
+use Rattle.model.proofs.Prelude.{_≡_, ap, arith, needs}
 use lib.Count.{ones}
 use Rattle.model.specs.Files.{first}
 use Rattle.model.specs.Changes.{free?}
 use Rattle.file.proofs.Maps.{all-used, lowest-of, room-none, room-some}
-use borrow.Author.Needs.{needs}
-use Rattle.file.proofs.lowest_free.Statement.{statement}
 use Rattle.file.proofs.lowest_free.Tie as tie
 
-number-requires : tie.Need-number-requires
-number-requires c κs = search needs
-
 returns : tie.Need-returns
-returns c = record { inside = tt; lowest = λ fs e h m. room-none fs (all-used fs (omega (arith, c .before .number .ensures, ap ones m))) }
-
-number-requires-2 : tie.Need-number-requires-2
-number-requires-2 c κs = search needs
+returns c = record { inside = tt; lowest = λ fs e h m. room-none fs (all-used fs (omega (arith, c .before .usize-of-u32 .ensures, ap ones m))) }
 
 returns-2 : tie.Need-returns-2
 returns-2 c =
-    let n = c .before .number2 in
-    let map = c .before .before .before .before .args .used in
+    let n = c .before .usize-of-u322 in let map = c .before .before .before .before .args .used in
     record {
       inside = tt;
       lowest = λ fs e h m. let i : n .result ≡ first free? fs = lowest-of map (n .result) fs (n .ensures) m (omega arith) in room-none fs (omega arith);
@@ -29,13 +19,11 @@ returns-2 c =
 
 returns-3 : tie.Need-returns-3
 returns-3 c =
-    let n = c .before .number2 in
-    let map = c .before .before .before .before .args .used in
+    let n = c .before .usize-of-u322 in let map = c .before .before .before .before .args .used in
     record {
       inside = search needs;
       lowest = λ fs e h m. room-some fs (n .result) (lowest-of map (n .result) fs (n .ensures) m (omega arith)) (omega arith);
     }
 
-pub lowest-free-spec : {M : Type 1} → statement M
-lowest-free-spec =
-    tie.close (tie.spec number-requires returns number-requires-2 returns-2 returns-3)
+pub lowest-free-spec : {M : Type 1} → Rattle.file.proofs.lowest_free.Statement.statement M
+lowest-free-spec = tie.close (tie.spec (λ c κs. search needs) returns (λ c κs. search needs) returns-2 returns-3)

@@ -1,29 +1,8 @@
 -- `sizes` meets its contract: the product of legal sizes fits, and a length that it tells of is whole.
-use Prim.Native.Nat.{_+_, _*_}
-use native.Mathlib.Omega.{arith}
+use Rattle.model.proofs.Prelude.{_*_, _+_, arith, needs}
 use Rattle.file.proofs.Laws.{slots-fit}
 use Rattle.file.proofs.Headers.{illegal}
-use borrow.Author.Needs.{needs}
-use Rattle.file.proofs.sizes.Statement.{statement}
 use Rattle.file.proofs.sizes.Tie as tie
-
-returns : tie.Need-returns
-returns c = illegal _ _ _ (λ p q r s e. absurd (omega arith))
-
-returns-2 : tie.Need-returns-2
-returns-2 c = illegal _ _ _ (λ p q r s e. absurd (omega arith))
-
-returns-3 : tie.Need-returns-3
-returns-3 c = illegal _ _ _ (λ p q r s e. absurd (omega arith))
-
-returns-4 : tie.Need-returns-4
-returns-4 c = illegal _ _ _ (λ p q r s e. absurd (omega arith))
-
-mul-if5 : tie.Need-mul-if5
-mul-if5 c = search needs
-
-add-if5 : tie.Need-add-if5
-add-if5 c = search needs
 
 mul-if5-2 : tie.Need-mul-if5-2
 mul-if5-2 c =
@@ -37,23 +16,8 @@ add-if5-2 c =
     let h = slots-fit (a .slots) (64 + 32 * a .b) (omega arith) (omega arith) in
     omega arith
 
-returns-5 : tie.Need-returns-5
-returns-5 c = illegal _ _ _ (λ p q r s e. absurd (omega arith))
-
-returns-6 : tie.Need-returns-6
-returns-6 c = search needs
-
-pub sizes-spec : {M : Type 1} → statement M
+pub sizes-spec : {M : Type 1} → Rattle.file.proofs.sizes.Statement.statement M
 sizes-spec =
-    tie.close
-    (tie.spec
-    returns
-    returns-2
-    returns-3
-    returns-4
-    mul-if5
-    add-if5
-    mul-if5-2
-    add-if5-2
-    returns-5
-    returns-6)
+    tie.close (tie.spec (λ c. illegal _ _ _ (λ p q r s e. absurd (omega arith))) (λ c. illegal _ _ _ (λ p q r s e. absurd (omega arith)))
+    (λ c. illegal _ _ _ (λ p q r s e. absurd (omega arith))) (λ c. illegal _ _ _ (λ p q r s e. absurd (omega arith))) (λ c. search needs)
+    (λ c. search needs) mul-if5-2 add-if5-2 (λ c. illegal _ _ _ (λ p q r s e. absurd (omega arith))) (λ c. search needs))

@@ -1,10 +1,7 @@
 -- `how_many` meets its contract: the count so far and what is left of the run make the run's count.
-use Prim.Native.Nat.{_≤_, _-_}
-use mathlib.Core.Path.{_≡_, sym, _∙_}
-use borrow.Author.Needs.{needs}
+use Rattle.model.proofs.Prelude.{_-_, _∙_, _≡_, _≤_, needs, sym}
 use Rattle.rebuilding.specs.Roots.{many, run}
 use Rattle.rebuilding.proofs.Laws.{many-end, many-next}
-use Rattle.rebuilding.proofs.how_many.Statement.{statement}
 use Rattle.rebuilding.proofs.how_many.Tie as tie
 
 abbrev Inv-loop : tie.InvT-loop
@@ -12,21 +9,6 @@ Inv-loop lens from to digits n₀ i₀ n i = (i ≤ to) × (n ≤ i) × (many 0 
 
 abbrev μ-loop : tie.MeasureT-loop
 μ-loop lens from to digits n₀ i₀ n i = to - i
-
-loop-holds : tie.Need-loop-holds Inv-loop μ-loop
-loop-holds c = search needs
-
-element-copy-out-counted : tie.Need-element-copy-out-counted Inv-loop μ-loop
-element-copy-out-counted c = search needs
-
-counted-requires : tie.Need-counted-requires Inv-loop μ-loop
-counted-requires c κs = search needs
-
-add-i : tie.Need-add-i Inv-loop μ-loop
-add-i c = search needs
-
-loop-less : tie.Need-loop-less Inv-loop μ-loop
-loop-less c = search needs
 
 loop-again : tie.Need-loop-again Inv-loop μ-loop
 loop-again c =
@@ -39,20 +21,10 @@ loop-again c =
 
 returns : tie.Need-returns Inv-loop μ-loop
 returns c =
-    let l = c .before in
-    let a = l .before .args in
+    let l = c .before in let a = l .before .args in
     (search needs, sym (l .loop .inv .2 ∙ many-end (l .loop .n) (l .loop .i) (a .to) (a .lens .now) (a .digits) (search needs)))
 
-pub how-many-spec : {M : Type 1} → statement M
+pub how-many-spec : {M : Type 1} → Rattle.rebuilding.proofs.how_many.Statement.statement M
 how-many-spec =
-    tie.close
-    (tie.spec
-    Inv-loop
-    μ-loop
-    loop-holds
-    element-copy-out-counted
-    counted-requires
-    add-i
-    loop-less
-    loop-again
-    returns)
+    tie.close (tie.spec Inv-loop μ-loop (λ c. search needs) (λ c. search needs) (λ c κs. search needs) (λ c. search needs) (λ c. search needs)
+    loop-again returns)

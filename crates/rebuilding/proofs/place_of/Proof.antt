@@ -1,11 +1,7 @@
 -- `place_of` meets its contract: the place is the one that what is left of the run has.
-use Prim.Native.Nat.{_≤_, _-_}
-use mathlib.Core.Path.{_≡_, sym, _∙_}
-use borrow.Author.Needs.{needs}
-use mathlib.Core.Logic.{⊎-elim}
+use Rattle.model.proofs.Prelude.{_-_, _∙_, _≡_, _≤_, needs, sym, ⊎-elim}
 use Rattle.rebuilding.specs.Roots.{place, run}
 use Rattle.rebuilding.proofs.Laws.{place-end, place-here, place-later, place-other}
-use Rattle.rebuilding.proofs.place_of.Statement.{statement}
 use Rattle.rebuilding.proofs.place_of.Tie as tie
 
 abbrev Inv-loop : tie.InvT-loop
@@ -14,26 +10,10 @@ Inv-loop lens from to digits before left₀ i₀ left i = (from ≤ i) × (i ≤
 abbrev μ-loop : tie.MeasureT-loop
 μ-loop lens from to digits before left₀ i₀ left i = to - i
 
-loop-holds : tie.Need-loop-holds Inv-loop μ-loop
-loop-holds c = search needs
-
-element-copy-out-if1 : tie.Need-element-copy-out-if1 Inv-loop μ-loop
-element-copy-out-if1 c = search needs
-
 returns : tie.Need-returns Inv-loop μ-loop
 returns c =
-    let l = c .before .before .before .before in
-    let a = l .before .args in
+    let l = c .before .before .before .before in let a = l .before .args in
     (search needs, search needs, sym (l .loop .inv .2 ∙ place-here (a .from) (l .loop .i) (a .digits) (l .loop .left) (l .loop .i) (a .to) (a .lens .now) (search needs) (c .before .if1 .taken) (c .if2 .taken)))
-
-sub-left : tie.Need-sub-left Inv-loop μ-loop
-sub-left c = search needs
-
-add-i : tie.Need-add-i Inv-loop μ-loop
-add-i c = search needs
-
-loop-less : tie.Need-loop-less Inv-loop μ-loop
-loop-less c = search needs
 
 loop-again : tie.Need-loop-again Inv-loop μ-loop
 loop-again c =
@@ -49,21 +29,10 @@ loop-again c =
 
 returns-2 : tie.Need-returns-2 Inv-loop μ-loop
 returns-2 c =
-    let l = c .before in
-    let a = l .before .args in
+    let l = c .before in let a = l .before .args in
     (search needs, search needs, sym (l .loop .inv .2 ∙ place-end (a .from) (l .loop .i) (a .digits) (l .loop .left) (l .loop .i) (a .to) (a .lens .now) (search needs)))
 
-pub place-of-spec : {M : Type 1} → statement M
+pub place-of-spec : {M : Type 1} → Rattle.rebuilding.proofs.place_of.Statement.statement M
 place-of-spec =
-    tie.close
-    (tie.spec
-    Inv-loop
-    μ-loop
-    loop-holds
-    element-copy-out-if1
-    returns
-    sub-left
-    add-i
-    loop-less
-    loop-again
-    returns-2)
+    tie.close (tie.spec Inv-loop μ-loop (λ c. search needs) (λ c. search needs) returns (λ c. search needs) (λ c. search needs) (λ c. search needs)
+    loop-again returns-2)

@@ -1,11 +1,7 @@
 -- `add` meets its contract: at each turn the arrays have the beginnings that are longer than `len` digits (proofs/Adding.antt).
-use Prim.Native.Nat.{_≤_, _-_, _+_}
-use mathlib.Core.Path.{_≡_}
-use lib.ListN.{length}
-use borrow.Author.Needs.{needs}
+use Rattle.model.proofs.Prelude.{_+_, _-_, _≡_, _≤_, length, needs}
 use Rattle.strings.specs.Arrays.{Added, beyond}
 use Rattle.strings.proofs.Adding.{added-start, added-step, left-after, left-start, left-step}
-use Rattle.strings.proofs.add.Statement.{statement}
 use Rattle.strings.proofs.add.Tie as tie
 
 abbrev Inv-loop : tie.InvT-loop
@@ -28,33 +24,6 @@ loop-holds c =
       added-start (a .x .now) (a .slot) (a .next) (a .count) (a .lens .now) (a .digits .now) (a .slots .now) (c .before .pre .3),
     )
 
-byte-requires : tie.Need-byte-requires Inv-loop μ-loop
-byte-requires c κs = search needs
-
-element-write-lens : tie.Need-element-write-lens Inv-loop μ-loop
-element-write-lens c = search needs
-
-sub-digits : tie.Need-sub-digits Inv-loop μ-loop
-sub-digits c = search needs
-
-shared-slice-read-digits : tie.Need-shared-slice-read-digits Inv-loop μ-loop
-shared-slice-read-digits c = search needs
-
-element-write-digits : tie.Need-element-write-digits Inv-loop μ-loop
-element-write-digits c = search needs
-
-element-write-slots : tie.Need-element-write-slots Inv-loop μ-loop
-element-write-slots c = search needs
-
-add-n : tie.Need-add-n Inv-loop μ-loop
-add-n c = search needs
-
-sub-len : tie.Need-sub-len Inv-loop μ-loop
-sub-len c = search needs
-
-loop-less : tie.Need-loop-less Inv-loop μ-loop
-loop-less c = search needs
-
 loop-again : tie.Need-loop-again Inv-loop μ-loop
 loop-again c =
     let a = c .before .before .before .before .before .args in
@@ -65,32 +34,17 @@ loop-again c =
       search needs,
       search needs,
       left-step (a .x .now) (a .slot) (a .next) (a .count) (l .len) (search needs) (search needs),
-      added-step (a .x .now) (a .slot) (a .next) (a .count) (l .len) (l .n) (c .before .byte .result) (l .left) _ _ _ _ _ _ (c .before .byte .ensures)
+      added-step (a .x .now) (a .slot) (a .next) (a .count) (l .len) (l .n) (c .before .u8-of-usize .result) (l .left) _ _ _ _ _ _ (c .before .u8-of-usize .ensures)
           (search needs) (search needs) (search needs) (l .inv .5) (l .inv .6),
     )
 
 returns : tie.Need-returns Inv-loop μ-loop
 returns c =
-    let a = c .before .before .before .args in
-    let l = c .before .loop in
+    let a = c .before .before .before .args in let l = c .before .loop in
     let e : l .len ≡ a .shared = search needs in
     rw e at (l .inv .6)
 
-pub add-spec : {M : Type 1} → statement M
+pub add-spec : {M : Type 1} → Rattle.strings.proofs.add.Statement.statement M
 add-spec =
-    tie.close
-    (tie.spec
-    Inv-loop
-    μ-loop
-    loop-holds
-    byte-requires
-    element-write-lens
-    sub-digits
-    shared-slice-read-digits
-    element-write-digits
-    element-write-slots
-    add-n
-    sub-len
-    loop-less
-    loop-again
-    returns)
+    tie.close (tie.spec Inv-loop μ-loop loop-holds (λ c κs. search needs) (λ c. search needs) (λ c. search needs) (λ c. search needs)
+    (λ c. search needs) (λ c. search needs) (λ c. search needs) (λ c. search needs) (λ c. search needs) loop-again returns)

@@ -1,13 +1,9 @@
 -- `strings_of` meets its contract: at each turn the arrays have the strings that come before a bucket's upper (proofs/Listing.antt).
-use Prim.Native.Nat.{_≤_, _-_}
-use native.Mathlib.Omega.{arith}
-use mathlib.Core.Path.{refl, _∙_, ap}
-use borrow.Author.Needs.{needs}
+use Rattle.model.proofs.Prelude.{_-_, _∙_, _≤_, ap, arith, needs, refl}
 use Rattle.bucket.specs.Slots.{upperAt}
 use Rattle.strings.specs.Arrays.{Whole}
 use Rattle.strings.proofs.Adding.{length-beyond}
 use Rattle.strings.proofs.Listing.{Goes, goes-end, goes-many, goes-none, goes-start, goes-step, upper-in}
-use Rattle.strings.proofs.strings_of.Statement.{statement}
 use Rattle.strings.proofs.strings_of.Tie as tie
 
 abbrev Inv-loop : tie.InvT-loop
@@ -22,29 +18,10 @@ loop-holds c =
     let a = c .before .args in
     (search needs, search needs, record { lens-whole = refl; digits-whole = refl; slots-whole = refl }, goes-start (a .file .now) (a .order .now) (a .size) (a .count) _ _ _)
 
-sub-slot : tie.Need-sub-slot Inv-loop μ-loop
-sub-slot c = search needs
-
-element-copy-out-slot : tie.Need-element-copy-out-slot Inv-loop μ-loop
-element-copy-out-slot c = search needs
-
-element-copy-out-next : tie.Need-element-copy-out-next Inv-loop μ-loop
-element-copy-out-next c = search needs
-
-index-requires : tie.Need-index-requires Inv-loop μ-loop
-index-requires c κs = search needs
-
 slot-at-requires : tie.Need-slot-at-requires Inv-loop μ-loop
 slot-at-requires c κs =
-    let s = c .before .before .before .before .before .before in
-    let l = c .before .before .before .before .loop in
+    let s = c .before .before .before .before .before .before in let l = c .before .before .before .before .loop in
     (s .pre .0, omega (arith, s .pre .1 (l .j - 1)))
-
-upper-of-requires : tie.Need-upper-of-requires Inv-loop μ-loop
-upper-of-requires c κs = search needs
-
-index-requires-2 : tie.Need-index-requires-2 Inv-loop μ-loop
-index-requires-2 c κs = search needs
 
 slot-at-requires-2 : tie.Need-slot-at-requires-2 Inv-loop μ-loop
 slot-at-requires-2 c κs =
@@ -52,54 +29,31 @@ slot-at-requires-2 c κs =
     let l = c .before .before .before .before .before .before .before .loop in
     (s .pre .0, omega (arith, s .pre .1 (l .j)))
 
-upper-of-requires-2 : tie.Need-upper-of-requires-2 Inv-loop μ-loop
-upper-of-requires-2 c κs = search needs
-
-shared-requires : tie.Need-shared-requires Inv-loop μ-loop
-shared-requires c κs = search needs
-
-add-if1 : tie.Need-add-if1 Inv-loop μ-loop
-add-if1 c = search needs
-
-add-if1-2 : tie.Need-add-if1-2 Inv-loop μ-loop
-add-if1-2 c = search needs
-
 returns : tie.Need-returns Inv-loop μ-loop
 returns c =
-    let d = c .before in
-    let s = d .before .before .before .before .before .before .before .before .before .before .before .before in
-    let l = d .before .before .before .before .before .before .before .before .before .before .loop in
-    let f = s .args .file .now in
-    let o = s .args .order .now in
-    let z = s .args .size in
+    let d = c .before in let s = d .before .before .before .before .before .before .before .before .before .before .before .before in
+    let l = d .before .before .before .before .before .before .before .before .before .before .loop in let f = s .args .file .now in
+    let o = s .args .order .now in let z = s .args .size in
     let up = upper-in f o z (s .args .count) in
-    let x-is = d .before .before .before .before .upper-of .ensures .0 ∙ ap upperAt (d .before .before .before .before .before .slot-at .ensures .0) ∙ ap up (d .before .before .before .before .before .before .index .ensures .0) in
-    let y-is = d .before .upper-of2 .ensures .0 ∙ ap upperAt (d .before .before .slot-at2 .ensures .0) ∙ ap up (d .before .before .before .index2 .ensures .0) in
+    let x-is = d .before .before .before .before .upper-bound .ensures .0 ∙ ap upperAt (d .before .before .before .before .before .slot-at .ensures .0) ∙ ap up (d .before .before .before .before .before .before .usize-of-u8 .ensures .0) in
+    let y-is = d .before .upper-bound2 .ensures .0 ∙ ap upperAt (d .before .before .slot-at2 .ensures .0) ∙ ap up (d .before .before .before .usize-of-u82 .ensures .0) in
     goes-many f o z (s .args .count) (s .pre .1) (l .n) (l .j) _ _ (d .shared .result) _ _ (l .inv .1) (d .before .before .before .before .before .before .before .before .before .loop-test .taken)
     refl refl x-is y-is (d .shared .ensures .2) (l .lens) (l .digits) (l .slots) (l .inv .3) _ refl refl (c .if1 .taken)
 
 add-requires : tie.Need-add-requires Inv-loop μ-loop
 add-requires c κs = (search needs, search needs, search needs, c .before .before .before .before .before .before .before .before .before .before .before .before .before .before .loop .inv .2)
 
-add-j : tie.Need-add-j Inv-loop μ-loop
-add-j c = search needs
-
-loop-less : tie.Need-loop-less Inv-loop μ-loop
-loop-less c = search needs
-
 loop-again : tie.Need-loop-again Inv-loop μ-loop
 loop-again c =
     let d = c .before .before .before .before .before in
     let s = d .before .before .before .before .before .before .before .before .before .before .before .before in
-    let l = d .before .before .before .before .before .before .before .before .before .before .loop in
-    let f = s .args .file .now in
-    let o = s .args .order .now in
-    let z = s .args .size in
+    let l = d .before .before .before .before .before .before .before .before .before .before .loop in let f = s .args .file .now in
+    let o = s .args .order .now in let z = s .args .size in
     let up = upper-in f o z (s .args .count) in
-    let x-is = d .before .before .before .before .upper-of .ensures .0 ∙ ap upperAt (d .before .before .before .before .before .slot-at .ensures .0) ∙ ap up (d .before .before .before .before .before .before .index .ensures .0) in
-    let y-is = d .before .upper-of2 .ensures .0 ∙ ap upperAt (d .before .before .slot-at2 .ensures .0) ∙ ap up (d .before .before .before .index2 .ensures .0) in
+    let x-is = d .before .before .before .before .upper-bound .ensures .0 ∙ ap upperAt (d .before .before .before .before .before .slot-at .ensures .0) ∙ ap up (d .before .before .before .before .before .before .usize-of-u8 .ensures .0) in
+    let y-is = d .before .upper-bound2 .ensures .0 ∙ ap upperAt (d .before .before .slot-at2 .ensures .0) ∙ ap up (d .before .before .before .usize-of-u82 .ensures .0) in
     let a = c .add .ensures in
-    let x = d .before .before .before .before .upper-of .result .now in (
+    let x = d .before .before .before .before .upper-bound .result .now in (
       omega (arith, a .count-is, length-beyond (d .shared .result) x, c .before .before .before .before .if1 .left),
       search needs,
       a .whole,
@@ -107,54 +61,20 @@ loop-again c =
           refl refl x-is y-is (d .shared .ensures .2) (l .lens) (l .digits) (l .slots) (l .inv .3) _ _ _ _ a,
     )
 
-sub-slots : tie.Need-sub-slots Inv-loop μ-loop
-sub-slots c = search needs
-
-element-copy-out-slots : tie.Need-element-copy-out-slots Inv-loop μ-loop
-element-copy-out-slots c = search needs
-
-array-write-slots : tie.Need-array-write-slots Inv-loop μ-loop
-array-write-slots c = search needs
-
 returns-2 : tie.Need-returns-2 Inv-loop μ-loop
 returns-2 c =
-    let s = c .before .before .before .before .before in
-    let l = c .before .before .before .loop in
+    let s = c .before .before .before .before .before in let l = c .before .before .before .loop in
     goes-end (s .args .file .now) (s .args .order .now) (s .args .size) (s .args .count) (l .lens) (l .digits) (l .slots) (l .n) (l .j) _
     (l .inv .0) (l .inv .2 .slots-whole) (c .before .before .loop-test .left) (c .before .if2 .taken) refl (l .inv .3) _ (refl, refl, refl, refl, refl)
 
 returns-3 : tie.Need-returns-3 Inv-loop μ-loop
 returns-3 c =
-    let s = c .before .before .before .before in
-    let l = c .before .before .loop in
+    let s = c .before .before .before .before in let l = c .before .before .loop in
     goes-none (s .args .file .now) (s .args .order .now) (s .args .size) (s .args .count) _ (l .inv .0) (c .if2 .left)
 
-pub strings-of-spec : {M : Type 1} → statement M
+pub strings-of-spec : {M : Type 1} → Rattle.strings.proofs.strings_of.Statement.statement M
 strings-of-spec =
-    tie.close
-    (tie.spec
-    Inv-loop
-    μ-loop
-    loop-holds
-    sub-slot
-    element-copy-out-slot
-    element-copy-out-next
-    index-requires
-    slot-at-requires
-    upper-of-requires
-    index-requires-2
-    slot-at-requires-2
-    upper-of-requires-2
-    shared-requires
-    add-if1
-    add-if1-2
-    returns
-    add-requires
-    add-j
-    loop-less
-    loop-again
-    sub-slots
-    element-copy-out-slots
-    array-write-slots
-    returns-2
-    returns-3)
+    tie.close (tie.spec Inv-loop μ-loop loop-holds (λ c. search needs) (λ c. search needs) (λ c. search needs) (λ c κs. search needs) slot-at-requires
+    (λ c κs. search needs) (λ c κs. search needs) slot-at-requires-2 (λ c κs. search needs) (λ c κs. search needs) (λ c. search needs)
+    (λ c. search needs) returns add-requires (λ c. search needs) (λ c. search needs) loop-again (λ c. search needs) (λ c. search needs)
+    (λ c. search needs) returns-2 returns-3)

@@ -1,15 +1,7 @@
 -- `place_of` is its definition, case by case.
-use native.Mathlib.Omega.{arith}
-use borrow.Author.Needs.{needs}
+use Rattle.model.proofs.Prelude.{arith, needs}
 use Rattle.trie.proofs.Laws.{place-cell, place-none, place-past, place-slot}
-use Rattle.trie.proofs.place_of.Statement.{statement}
 use Rattle.trie.proofs.place_of.Tie as tie
-
-enum-known-side : tie.Need-enum-known-side
-enum-known-side c = search needs
-
-enum-known-side-2 : tie.Need-enum-known-side-2
-enum-known-side-2 c = search needs
 
 returns : tie.Need-returns
 returns c =
@@ -31,6 +23,5 @@ returns-4 c =
     let a = c .before .before .before .before .before .args in
     place-cell (a .count) (a .more) (c .before .before .before .side2 .given .1) (c .before .if1 .left) (omega arith)
 
-pub place-of-spec : {M : Type 1} → statement M
-place-of-spec =
-    tie.close (tie.spec enum-known-side enum-known-side-2 returns returns-2 returns-3 returns-4)
+pub place-of-spec : {M : Type 1} → Rattle.trie.proofs.place_of.Statement.statement M
+place-of-spec = tie.close (tie.spec (λ c. search needs) (λ c. search needs) returns returns-2 returns-3 returns-4)

@@ -1,13 +1,8 @@
 -- `insert` meets its contract: those from the place on move up, and what bounds them all still does.
-use Prim.Native.Nat.{ℕ, _≤_, _-_}
-use native.Mathlib.Omega.{arith}
-use mathlib.Core.Path.{_≡_, subst}
-use lib.ListN.{length, length-set}
-use borrow.Author.Needs.{needs}
+use Rattle.model.proofs.Prelude.{_-_, _≡_, _≤_, arith, length, length-set, needs, subst, ℕ}
 use Rattle.file.specs.Sizes.{Below}
 use Rattle.file.proofs.Laws.{below-set}
 use Rattle.file.proofs.Moves.{Raised, raised-end, raised-next, raised-start}
-use Rattle.file.proofs.order.insert.Statement.{statement}
 use Rattle.file.proofs.order.insert.Tie as tie
 
 abbrev Inv-loop : tie.InvT-loop
@@ -21,52 +16,21 @@ loop-holds c =
     let s = c in
     (omega arith, omega arith, λ n. λ h. h, s .pre .2, raised-start (s .args .order .now) (s .args .count))
 
-sub-order : tie.Need-sub-order Inv-loop μ-loop
-sub-order c = search needs
-
-element-copy-out-order : tie.Need-element-copy-out-order Inv-loop μ-loop
-element-copy-out-order c = search needs
-
-element-write-order : tie.Need-element-write-order Inv-loop μ-loop
-element-write-order c = search needs
-
-sub-j : tie.Need-sub-j Inv-loop μ-loop
-sub-j c = search needs
-
-loop-less : tie.Need-loop-less Inv-loop μ-loop
-loop-less c = search needs
-
 loop-again : tie.Need-loop-again Inv-loop μ-loop
 loop-again c =
     let l = c .before .before .loop in
     (omega arith, omega arith, λ n. λ h. below-set (l .order) (l .j) _ n (l .inv .2 n h) (l .inv .2 n h (l .j - 1)), simp length-set (l .inv .3), raised-next _ (l .order) _ (l .j) (l .inv .4) (omega arith) (omega arith))
 
-element-write-order-2 : tie.Need-element-write-order-2 Inv-loop μ-loop
-element-write-order-2 c = search needs
-
 returns : tie.Need-returns Inv-loop μ-loop
 returns c =
-    let l = c .before .loop in
-    let s = c .before .before in
-    let o = s .args .order .now in
+    let s = c .before .before in let l = c .before .loop in let o = s .args .order .now in
     let r : Raised o (l .order) (s .args .count) (s .args .place) = subst (λ (j : ℕ). Raised o (l .order) (s .args .count) j) (omega arith) (l .inv .4) in (
       λ n. λ h. λ p. below-set (l .order) (s .args .place) _ n (l .inv .2 n h) p,
       simp length-set (l .inv .3),
       raised-end o (l .order) (s .args .count) (s .args .place) _ r (s .pre .2) (l .inv .3) (omega arith) (omega arith),
     )
 
-pub insert-spec : {M : Type 1} → statement M
+pub insert-spec : {M : Type 1} → Rattle.file.proofs.order.insert.Statement.statement M
 insert-spec =
-    tie.close
-    (tie.spec
-    Inv-loop
-    μ-loop
-    loop-holds
-    sub-order
-    element-copy-out-order
-    element-write-order
-    sub-j
-    loop-less
-    loop-again
-    element-write-order-2
-    returns)
+    tie.close (tie.spec Inv-loop μ-loop loop-holds (λ c. search needs) (λ c. search needs) (λ c. search needs) (λ c. search needs) (λ c. search needs)
+    loop-again (λ c. search needs) returns)

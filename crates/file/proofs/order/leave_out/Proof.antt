@@ -1,13 +1,8 @@
 -- `leave_out` meets its contract: those behind the place move down, and what bounds them all still does.
-use Prim.Native.Nat.{ℕ, _≤_, _-_, _<_}
-use native.Mathlib.Omega.{arith}
-use mathlib.Core.Path.{_≡_}
-use lib.ListN.{length, length-set}
-use borrow.Author.Needs.{needs}
+use Rattle.model.proofs.Prelude.{_-_, _<_, _≡_, _≤_, arith, length, length-set, needs, ℕ}
 use Rattle.file.specs.Sizes.{Below}
 use Rattle.file.proofs.Laws.{below-set}
 use Rattle.file.proofs.Moves.{Closed, closed-end, closed-next, closed-start}
-use Rattle.file.proofs.order.leave_out.Statement.{statement}
 use Rattle.file.proofs.order.leave_out.Tie as tie
 
 abbrev Inv-loop : tie.InvT-loop
@@ -16,28 +11,10 @@ Inv-loop order₀ count place j₀ order j = (place < j) × (j ≤ count) × ((n
 abbrev μ-loop : tie.MeasureT-loop
 μ-loop order₀ count place j₀ order j = count - j
 
-add-j : tie.Need-add-j Inv-loop μ-loop
-add-j c = search needs
-
 loop-holds : tie.Need-loop-holds Inv-loop μ-loop
 loop-holds c =
     let s = c in
     (omega arith, omega arith, λ n. λ h. h, s .pre .2, closed-start (s .args .order .now) (s .args .place))
-
-element-copy-out-order : tie.Need-element-copy-out-order Inv-loop μ-loop
-element-copy-out-order c = search needs
-
-sub-order : tie.Need-sub-order Inv-loop μ-loop
-sub-order c = search needs
-
-element-write-order : tie.Need-element-write-order Inv-loop μ-loop
-element-write-order c = search needs
-
-add-j-2 : tie.Need-add-j-2 Inv-loop μ-loop
-add-j-2 c = search needs
-
-loop-less : tie.Need-loop-less Inv-loop μ-loop
-loop-less c = search needs
 
 loop-again : tie.Need-loop-again Inv-loop μ-loop
 loop-again c =
@@ -46,22 +23,10 @@ loop-again c =
 
 returns : tie.Need-returns Inv-loop μ-loop
 returns c =
-    let l = c .before .loop in
-    let s = c .before .before in
+    let s = c .before .before in let l = c .before .loop in
     (l .inv .2, l .inv .3, closed-end _ (l .order) (s .args .count) (s .args .place) (l .j) (l .inv .4) (s .pre .2) (l .inv .3) (omega arith) (omega arith) (omega arith))
 
-pub leave-out-spec : {M : Type 1} → statement M
+pub leave-out-spec : {M : Type 1} → Rattle.file.proofs.order.leave_out.Statement.statement M
 leave-out-spec =
-    tie.close
-    (tie.spec
-    Inv-loop
-    μ-loop
-    add-j
-    loop-holds
-    element-copy-out-order
-    sub-order
-    element-write-order
-    add-j-2
-    loop-less
-    loop-again
-    returns)
+    tie.close (tie.spec Inv-loop μ-loop (λ c. search needs) loop-holds (λ c. search needs) (λ c. search needs) (λ c. search needs) (λ c. search needs)
+    (λ c. search needs) loop-again returns)

@@ -1,16 +1,9 @@
 -- `place_of` meets its contract: the halves close in on a place not above the count.
-use Prim.Native.Nat.{_<_, _≤_, _-_, _+_, _/_, suc, ℕ}
-use native.Mathlib.Omega.{arith}
-use mathlib.Core.Path.{_∙_, _≡_, subst, sym}
-use mathlib.Core.Bool.{false, true}
-use mathlib.Core.List.{List}
-use lib.ListN.{getD}
+use Rattle.model.proofs.Prelude.{List, _+_, _-_, _/_, _<_, _∙_, _≡_, _≤_, arith, false, getD, needs, subst, suc, sym, true, ℕ}
 use Rattle.model.specs.Files.{Slot}
 use Rattle.digits.specs.Keys.{keyValue}
 use Rattle.file.specs.Orders.{Known, Listed, placed, stands}
 use Rattle.file.proofs.Comparing.{place-read}
-use borrow.Author.Needs.{needs}
-use Rattle.file.proofs.order.place_of.Statement.{statement}
 use Rattle.file.proofs.order.place_of.Tie as tie
 
 abbrev Inv-loop : tie.InvT-loop
@@ -26,57 +19,30 @@ abbrev μ-loop : tie.MeasureT-loop
 loop-holds : tie.Need-loop-holds Inv-loop μ-loop
 loop-holds c = (omega arith, omega arith, λ fs. λ K. λ L. (λ j. λ e. absurd (omega arith), λ h. absurd (omega arith)))
 
-sub-middle : tie.Need-sub-middle Inv-loop μ-loop
-sub-middle c = search needs
-
-add-middle : tie.Need-add-middle Inv-loop μ-loop
-add-middle c = search needs
-
-element-copy-out-index : tie.Need-element-copy-out-index Inv-loop μ-loop
-element-copy-out-index c = search needs
-
-index-requires : tie.Need-index-requires Inv-loop μ-loop
-index-requires c κs = search needs
-
 slot-at-requires : tie.Need-slot-at-requires Inv-loop μ-loop
 slot-at-requires c κs =
-    let s = c .before .before .before .before .before in
-    let l = c .before .before .before .loop in
+    let s = c .before .before .before .before .before in let l = c .before .before .before .loop in
     (s .pre .0, omega (arith, s .pre .1 (l .least + (l .most - l .least) / 2)))
-
-is-before-requires : tie.Need-is-before-requires Inv-loop μ-loop
-is-before-requires c κs = search needs
-
-loop-less : tie.Need-loop-less Inv-loop μ-loop
-loop-less c = search needs
 
 loop-again : tie.Need-loop-again Inv-loop μ-loop
 loop-again c =
-    let l = c .before .before .before .before .before .before .loop in
-    let s = c .before .before .before .before .before .before .before .before in
+    let s = c .before .before .before .before .before .before .before .before in let l = c .before .before .before .before .before .before .loop in
     let m = l .least + (l .most - l .least) / 2 in
     let told : (fs : List Slot) → Known (s .args .size .b) (s .args .file .now) fs → Listed fs (s .args .order .now) (s .args .count)
     → stands (keyValue (s .args .high)) (keyValue (s .args .low)) (placed fs (s .args .order .now) m) ≡ true =
     λ fs. λ K. λ L.
-    let y = place-read K (s .args .order .now) (s .args .count) L m (omega arith) _ (c .before .before .before .index .ensures .0) _ (c .before .before .slot-at .ensures .0) in
+    let y = place-read K (s .args .order .now) (s .args .count) L m (omega arith) _ (c .before .before .before .usize-of-u8 .ensures .0) _ (c .before .before .slot-at .ensures .0) in
     sym (c .before .is-before .ensures (s .args .size .b) (placed fs (s .args .order .now) m) (L m (omega arith)) y (K .well (getD (s .args .order .now) m 0))) ∙ c .if1 .taken in
     (omega arith, omega arith, λ fs. λ K. λ L. (l .inv .2 fs K L .0, λ h. told fs K L))
 
-add-least : tie.Need-add-least Inv-loop μ-loop
-add-least c = search needs
-
-loop-less-2 : tie.Need-loop-less-2 Inv-loop μ-loop
-loop-less-2 c = search needs
-
 loop-again-2 : tie.Need-loop-again-2 Inv-loop μ-loop
 loop-again-2 c =
-    let l = c .before .before .before .before .before .before .loop in
-    let s = c .before .before .before .before .before .before .before .before in
+    let s = c .before .before .before .before .before .before .before .before in let l = c .before .before .before .before .before .before .loop in
     let m = l .least + (l .most - l .least) / 2 in
     let told : (fs : List Slot) → Known (s .args .size .b) (s .args .file .now) fs → Listed fs (s .args .order .now) (s .args .count)
     → stands (keyValue (s .args .high)) (keyValue (s .args .low)) (placed fs (s .args .order .now) m) ≡ false =
     λ fs. λ K. λ L.
-    let y = place-read K (s .args .order .now) (s .args .count) L m (omega arith) _ (c .before .before .before .index .ensures .0) _ (c .before .before .slot-at .ensures .0) in
+    let y = place-read K (s .args .order .now) (s .args .count) L m (omega arith) _ (c .before .before .before .usize-of-u8 .ensures .0) _ (c .before .before .slot-at .ensures .0) in
     sym (c .before .is-before .ensures (s .args .size .b) (placed fs (s .args .order .now) m) (L m (omega arith)) y (K .well (getD (s .args .order .now) m 0))) ∙ c .if1 .left in
     (omega arith, omega arith, λ fs. λ K. λ L. (λ j. λ e. subst (λ (n : ℕ). stands (keyValue (s .args .high)) (keyValue (s .args .low)) (placed fs (s .args .order .now) n) ≡ false) (omega arith) (told fs K L), l .inv .2 fs K L .1))
 
@@ -91,22 +57,7 @@ returns c =
       },
     )
 
-pub place-of-spec : {M : Type 1} → statement M
+pub place-of-spec : {M : Type 1} → Rattle.file.proofs.order.place_of.Statement.statement M
 place-of-spec =
-    tie.close
-    (tie.spec
-    Inv-loop
-    μ-loop
-    loop-holds
-    sub-middle
-    add-middle
-    element-copy-out-index
-    index-requires
-    slot-at-requires
-    is-before-requires
-    loop-less
-    loop-again
-    add-least
-    loop-less-2
-    loop-again-2
-    returns)
+    tie.close (tie.spec Inv-loop μ-loop loop-holds (λ c. search needs) (λ c. search needs) (λ c. search needs) (λ c κs. search needs) slot-at-requires
+    (λ c κs. search needs) (λ c. search needs) loop-again (λ c. search needs) (λ c. search needs) loop-again-2 returns)

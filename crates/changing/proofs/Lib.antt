@@ -1,0 +1,4 @@
+pub mod Spots
+pub mod Removing
+pub mod Putting
+pub mod Dividing

@@ -1,0 +1,4 @@
+pub mod Outcomes
+pub mod Spots
+pub mod Splits
+pub mod Full

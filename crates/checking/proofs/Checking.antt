@@ -1,0 +1,74 @@
+-- The checks that put, remove and list make alike: what a sound file's survey, strings and agreement say together.
+use Rattle.model.proofs.Prelude.{Bool, List, _∙_, _≡_, _≤_, ap, arith, cond, false, length, some, sym, true, ℕ}
+use Rattle.model.specs.declared.Cause.the-variants.{BadFile, CutFile, StaleTrie}
+use Rattle.model.specs.declared.Trie.{Trie}
+use Rattle.model.specs.Files.{Slot, strings-of}
+use Rattle.model.specs.Checks.{is-bad, is-cut, is-sound}
+use Rattle.model.specs.Agreeing.{isAgreeing}
+use Rattle.model.specs.Format.{checkFile, readFile, version-1}
+use Rattle.model.specs.Calls.{fine, lookedBy, lookedOf, refusing}
+use Rattle.model.proofs.Agreeing.{isAgreeing-agrees}
+use Rattle.file.specs.declared.Size.{Size}
+use Rattle.file.specs.declared.survey.Survey.{Survey}
+use Rattle.file.specs.Sizes.{Said}
+use Rattle.file.specs.Surveys.{Surveyed}
+use Rattle.trie.specs.declared.Strings.{Strings}
+use Rattle.strings.specs.Arrays.{Listed}
+use Rattle.agreement.specs.declared.Agreement.{Agreement}
+use Rattle.agreement.specs.Decides.{Decided, Decides}
+use Rattle.agreement.proofs.Laws.{agreed-count}
+use Rattle.file.proofs.Surveying.{Read, sound-read}
+use Rattle.strings.proofs.Surveyed.{counted, strung}
+use Rattle.checking.specs.declared.Checked.{Checked}
+use Rattle.checking.specs.Ready.{Agreed}
+
+-- What is refused, in the order 2, 3, 4.
+pub looked-bad : (xs : List ℕ) (t : Trie) → checkFile xs ≡ is-bad → lookedOf xs t ≡ refusing BadFile
+unfolding lookedOf lookedBy
+looked-bad xs t e = rw e
+
+pub looked-cut : (xs : List ℕ) (t : Trie) {N : ℕ} → checkFile xs ≡ is-cut N → lookedOf xs t ≡ refusing CutFile
+unfolding lookedOf lookedBy
+looked-cut xs t e = rw e
+
+looked-by : (xs : List ℕ) (t : Trie) {b : ℕ} {fs : List Slot} → checkFile xs ≡ is-sound → readFile xs ≡ some (version-1 b, fs)
+    → lookedOf xs t ≡ cond (isAgreeing fs t) (fine (version-1 b) fs) (refusing StaleTrie)
+unfolding lookedOf lookedBy
+looked-by xs t e f = rw (e, f)
+
+-- The agreement with a sound file.
+module _ (xs : List ℕ) (t : Trie) (s : Size) (v : Survey) (g : Strings) (a : Agreement)
+    (h : Said s xs) (e : checkFile xs ≡ is-sound) (z : Surveyed v xs s) (l : Listed g xs s (v .order) (v .count)) (d : Decides t g a) where
+  R : Read s xs
+  R = sound-read xs s h e
+
+  decided : Decided (R .slots) t a
+  decided = d (s .b) (R .slots) (R .sound) (strung R z l)
+
+  pub agreed-not : a .agrees ≡ false → lookedOf xs t ≡ refusing StaleTrie
+  agreed-not f = looked-by xs t e (R .is) ∙ ap (λ (x : Bool). cond x (fine (version-1 (s .b)) (R .slots)) (refusing StaleTrie)) (sym (decided .agrees-is) ∙ f)
+
+  pub agreed-all : (c : Checked) → a .agrees ≡ true → c .size ≡ s → c .survey ≡ v → c .strings ≡ g → c .places ≡ a .places → Agreed c xs t
+  agreed-all c f p q r u =
+      let y : isAgreeing (R .slots) t ≡ true = sym (decided .agrees-is) ∙ f in
+      let A = isAgreeing-agrees (s .b) (R .sound) t y in
+      let few : length (strings-of (R .slots)) ≤ 256 = omega (arith, agreed-count (s .b) (R .sound) t A, A .few) in
+      record {
+        ready = record {
+          said = rw p h;
+          slots = R .slots;
+          is = rw p (R .is);
+          sound = rw p (R .sound);
+          slots-inside = rw (p, q) (z .slots-inside);
+          count-most = rw q (z .count-most);
+          count-is = rw q (counted R z .0);
+          order-is = rw q (counted R z .1);
+          used-is = rw q (z .used-is (R .listed) (R .sound));
+          strings-most = rw r (l .count-most);
+          few = few;
+          strings-held = rw r (strung R z l .holds few);
+        };
+        agrees = A;
+        placed = rw u (decided .placed f);
+        looked = rw p (looked-by xs t e (R .is) ∙ ap (λ (x : Bool). cond x (fine (version-1 (s .b)) (R .slots)) (refusing StaleTrie)) y);
+      }

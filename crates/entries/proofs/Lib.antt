@@ -1,0 +1,4 @@
+pub mod Steps
+pub mod Rows
+pub mod Places
+pub mod Copies

@@ -1,0 +1,69 @@
+-- What a look at the whole file says, once it is known what was found.
+use Rattle.model.proofs.Prelude.{List, Option, _∙_, _≡_, ap, clash, length, nothing, refl, some, subst, sym, ℕ}
+use Rattle.model.specs.declared.Layout.{Layout}
+use Rattle.model.specs.Checks.{is-bad, is-sound}
+use Rattle.model.specs.Format.{SoundFile, checkFile, checkRead, headerOf, laidOut, readBy, readFile, readSlots, version-1}
+use Rattle.model.specs.Files.{Slot, Sound}
+use Rattle.model.proofs.CheckedFiles.{checkFile-right}
+use Rattle.file.specs.declared.Size.{Size}
+use Rattle.file.specs.declared.survey.Kind.{Kind as Found}
+use Rattle.file.specs.declared.survey.Survey.{Survey}
+use Rattle.file.specs.Sizes.{Said, Sized, Told}
+use Rattle.file.specs.Surveys.{Surveyed, checkSlots, verdict}
+use Rattle.file.specs.declared.Header.{Header}
+use Rattle.file.specs.declared.Header.the-variants.{Right, Wrong}
+
+-- A header that is right says the file's sizes.
+pub right-said : {h : Header} {s : Size} {xs : List ℕ} → h ≡ Right s → Told h xs → Said s xs
+right-said {h} {s} {xs} e t = subst (λ (x : Header). Told x xs) e t
+
+pub wrong-said : {h : Header} (xs : List ℕ) → h ≡ Wrong → Told h xs → headerOf xs ≡ nothing
+wrong-said {h} xs e t = subst (λ (x : Header). Told x xs) e t
+
+pub right-sized : {h : Header} {s : Size} (xs : List ℕ) → h ≡ Right s → Told h xs → Sized (length xs) s
+right-sized xs e t = right-said e t .sized
+
+-- A file without a header that is right is bad.
+pub no-header-bad : (xs : List ℕ) → headerOf xs ≡ nothing → checkFile xs ≡ is-bad
+unfolding checkFile readFile readBy checkRead
+no-header-bad xs e = rw e
+
+-- The survey's verdict is check's.
+pub said-read : (xs : List ℕ) (s : Size) → Said s xs → readFile xs ≡ laidOut (version-1 (s .b)) (readSlots (version-1 (s .b)) (s .slots) 0 xs)
+unfolding readFile readBy
+said-read xs s h = rw (h .header)
+
+pub surveyed-check : {xs : List ℕ} {s : Size} (v : Survey) → Said s xs → Surveyed v xs s → checkFile xs ≡ verdict (v .kind) (v .inner)
+unfolding checkFile checkSlots
+surveyed-check {xs} {s} v h z = ap checkRead (said-read xs s h) ∙ sym (z .kind-is)
+
+-- What was found, once it is known which it is.
+pub surveyed-is : {xs : List ℕ} {s : Size} (v : Survey) {k : Found} → Said s xs → Surveyed v xs s → v .kind ≡ k → checkFile xs ≡ verdict k (v .inner)
+surveyed-is v h z e = surveyed-check v h z ∙ ap (λ (k : Found). verdict k (v .inner)) e
+
+-- A sound file, as it is read with its sizes.
+pub record Read (s : Size) (xs : List ℕ) : Type 0 where
+  pub slots : List Slot
+  pub listed : readSlots (version-1 (s .b)) (s .slots) 0 xs ≡ some slots
+  pub is : readFile xs ≡ some (version-1 (s .b), slots)
+  pub sound : Sound (s .b) slots
+
+pub sound-read : (xs : List ℕ) (s : Size) → Said s xs → checkFile xs ≡ is-sound → Read s xs
+unfolding laidOut
+sound-read xs s h e = go (readSlots (version-1 (s .b)) (s .slots) 0 xs) refl
+  where
+    file : SoundFile xs
+    file = rw e at (checkFile-right xs)
+
+    go : (o : Option (List Slot)) → readSlots (version-1 (s .b)) (s .slots) 0 xs ≡ o → Read s xs
+    go nothing f =
+        let p : readFile xs ≡ nothing = said-read xs s h ∙ ap (laidOut (version-1 (s .b))) f in
+        let q : readFile xs ≡ some (file .layout, file .slots) = file .is in
+        clash cc
+    go (some fs) f =
+        let p : readFile xs ≡ some (version-1 (s .b), fs) = said-read xs s h ∙ ap (laidOut (version-1 (s .b))) f in
+        let q : readFile xs ≡ some (file .layout, file .slots) = file .is in
+        let r : _≡_ {A = Layout × List Slot} (version-1 (s .b), fs) (file .layout, file .slots) = cc in
+        let i : s .b ≡ file .layout .b = ap (λ (x : Layout × List Slot). x .0 .b) r in
+        let j : fs ≡ file .slots = ap (λ (x : Layout × List Slot). x .1) r in
+        record { slots = fs; listed = f; is = p; sound = rw (i, j) (file .sound) }

@@ -1,0 +1,3 @@
+pub mod Coding
+pub mod Images
+pub mod Agreeing

@@ -1,0 +1,143 @@
+// The trie image: 1,540 bytes that are some trie, whatever they hold.
+//
+// The count (2 bytes, little-endian), the first leaf (2), then 256 cells of 6 bytes: digit, digit number, left side, right
+// side. A side is a signed 16-bit little-endian number: 0 and above is that slot, below 0 is the cell of that number's
+// negative.
+ghost use mathlib.Core.Path.{_≡_};
+ghost use Prim.Native.Nat.{_<_, _+_, _*_, _%_, _/_};
+ghost use lib.ListN.{length};
+ghost use lib.Seq.{sets};
+ghost use Rattle.trie.specs.Walks.{Walks, walkOf};
+ghost use Rattle.image.specs.Images.{cellBytes, cellFrom, imageOf, imageSize, pairOf, sideNumber, sideOf, trieOf};
+use digits::u16_of_u8;
+use digits::usize_of_u16;
+use model::Cell;
+use model::Side;
+use model::Trie;
+use trie::Place;
+use trie::Walk;
+
+pub const BYTES: usize = 1540;
+
+// Two bytes, little-endian.
+fn pair(low: u8, high: u8) -> u16
+    ensures { λ r. ⌜ r ≡ pairOf low high ⌝ }
+{
+    u16_of_u8(low) + 256 * u16_of_u8(high)
+}
+
+fn side_of(x: u16) -> Side
+    ensures { λ r. ⌜ r ≡ sideOf x ⌝ }
+{
+    if x < 32768 {
+        return Side::Slot(x);
+    }
+    Side::Cell(65535 - x + 1)
+}
+
+fn cell_at(image: &[u8], i: usize) -> Cell
+    requires { ⌜ (i < 256) × (length (now image) ≡ imageSize) ⌝ }
+    ensures { λ r. ⌜ r ≡ cellFrom (now (image .entry)) (4 + 6 * i) ⌝ }
+{
+    let at = 4 + 6 * i;
+    Cell {
+        digit: image[at],
+        number: image[at + 1],
+        left: side_of(pair(image[at + 2], image[at + 3])),
+        right: side_of(pair(image[at + 4], image[at + 5])),
+    }
+}
+
+// The trie of an image.
+pub fn decoded(image: &[u8]) -> Trie
+    requires { ⌜ length (now image) ≡ imageSize ⌝ }
+    ensures { λ r. ⌜ r ≡ trieOf (now (image .entry)) ⌝ }
+{
+    let mut trie = trie::without_cells(pair(image[2], image[3]));
+    trie.count = pair(image[0], image[1]);
+    let mut i = 0usize;
+    while i < 256 {
+        let cell = cell_at(image, i);
+        trie.cells[i] = cell;
+        i += 1;
+    }
+    trie
+}
+
+// The walk of a filled name over the trie of an image. It reads the cells that it meets, and no others.
+pub fn walk_in(image: &[u8], name: &[u8; 24]) -> Walk
+    requires { ⌜ length (now image) ≡ imageSize ⌝ }
+    ensures { λ r. ⌜ Walks r (walkOf (trieOf (now (image .entry))) (now (name .entry))) ⌝ }
+{
+    let count = pair(image[0], image[1]);
+    let first = pair(image[2], image[3]);
+    let mut walk = Walk::begin(count, first);
+    loop {
+        let place = walk.place;
+        let Place::Cell(i) = place else {
+            return walk;
+        };
+        let cell = cell_at(image, usize_of_u16(i));
+        walk = walk.step(name, i, cell);
+    }
+}
+
+fn low(x: u16) -> u8
+    ensures { λ r. ⌜ r ≡ x % 256 ⌝ }
+{
+    (x % 256) as u8
+}
+
+fn high(x: u16) -> u8
+    ensures { λ r. ⌜ r ≡ x / 256 ⌝ }
+{
+    (x / 256) as u8
+}
+
+fn number_of(side: Side) -> u16
+    ensures { λ r. ⌜ r ≡ sideNumber side ⌝ }
+{
+    match side {
+        Side::Slot(s) => s,
+        Side::Cell(i) => {
+            if i == 0 {
+                return 0;
+            }
+            65535 - (i - 1)
+        }
+    }
+}
+
+fn write_cell(image: &mut [u8], i: usize, cell: Cell)
+    requires { ⌜ (i < 256) × (length (now image) ≡ imageSize) ⌝ }
+    ensures { λ _. ⌜ now (image .exit) ≡ sets (now (image .entry)) (4 + 6 * i) (cellBytes cell) ⌝ }
+{
+    let left = cell.left;
+    let right = cell.right;
+    let l = number_of(left);
+    let r = number_of(right);
+    let at = 4 + 6 * i;
+    image[at] = cell.digit;
+    image[at + 1] = cell.number;
+    image[at + 2] = low(l);
+    image[at + 3] = high(l);
+    image[at + 4] = low(r);
+    image[at + 5] = high(r);
+}
+
+// Writes the image of a trie.
+pub fn encode(image: &mut [u8], trie: Trie)
+    requires { ⌜ length (now image) ≡ imageSize ⌝ }
+    ensures { λ _. ⌜ now (image .exit) ≡ imageOf trie ⌝ }
+{
+    image[0] = low(trie.count);
+    image[1] = high(trie.count);
+    image[2] = low(trie.first);
+    image[3] = high(trie.first);
+    let mut i = 0usize;
+    while i < 256 {
+        let cell = trie.cells[i];
+        write_cell(image, i, cell);
+        i += 1;
+    }
+}

@@ -1,0 +1,278 @@
+// Puts each line of standard input, with its number as value, into a new file and prints the buckets in range order.
+//
+// At the first refused name it prints only the line `refused`, the refusal number and the line number, and stops.
+ghost use mathlib.Core.Path.{_≡_};
+ghost use Prim.Native.Nat.{_≤_, _<_, _+_, _*_};
+ghost use lib.ListN.{length};
+ghost use Rattle.file.specs.Sizes.{Sized, Below};
+use digits::usize_of_u8;
+use file::Header;
+use file::Size;
+use libc::STDIN_FILENO;
+use libc::STDOUT_FILENO;
+use model::PutAnswer;
+use model::Trie;
+use model::cause_number;
+
+// The line that is being read. A name has at most 24 bytes, so a 25th is kept and no further one.
+struct Line {
+    bytes: [u8; 25],
+    len: usize,
+}
+
+impl Line {
+    fn new() -> Line
+        ensures { λ r. ⌜ r .len ≤ 25 ⌝ }
+    {
+        Line {
+            bytes: [0u8; 25],
+            len: 0,
+        }
+    }
+
+    fn with(mut self, byte: u8) -> Line
+        ensures { λ r. ⌜ r .len ≤ 25 ⌝ }
+    {
+        let at = self.len;
+        if 25 <= at {
+            self.len = 25;
+            return self;
+        }
+        self.bytes[at] = byte;
+        self.len = at + 1;
+        self
+    }
+}
+
+// The trie, the line under way and its number, and the number of the refusal, if there was one.
+struct State {
+    trie: Trie,
+    line: Line,
+    number: u64,
+    refused: u64,
+}
+
+fn refusal_of(answer: PutAnswer) -> u64 {
+    match answer {
+        PutAnswer::Refused(cause) => cause_number(cause),
+        PutAnswer::Added => 0,
+        PutAnswer::Replaced(_) => 0,
+        PutAnswer::Stopped(_) => 0,
+    }
+}
+
+// Puts a line's name with the line's number.
+fn put_name(
+    file: &mut [u8],
+    trie: Trie,
+    bytes: &[u8; 25],
+    len: usize,
+    number: u64,
+) -> model::PutGiven
+    requires { ⌜ len ≤ 25 ⌝ }
+{
+    let whole = &bytes[..];
+    changing::put(file, trie, &whole[0..len], number, 2)
+}
+
+// The line under way has ended.
+fn line_ended(file: &mut [u8], state: State) -> State
+    requires { ⌜ state .line .len ≤ 25 ⌝ }
+    ensures { λ r. ⌜ r .line .len ≤ 25 ⌝ }
+{
+    let line = state.line;
+    let bytes = line.bytes;
+    let trie = state.trie;
+    let given = put_name(file, trie, &bytes, line.len, state.number);
+    let answer = given.answer;
+    let refused = refusal_of(answer);
+    let after = given.trie;
+    if refused != 0 {
+        return State {
+            trie: after,
+            line: Line::new(),
+            number: state.number,
+            refused,
+        };
+    }
+    State {
+        trie: after,
+        line: Line::new(),
+        number: std::num::wrapping_add_u64(state.number, 1),
+        refused,
+    }
+}
+
+// One byte more was read.
+fn byte_read(file: &mut [u8], state: State, byte: u8) -> State
+    requires { ⌜ state .line .len ≤ 25 ⌝ }
+    ensures { λ r. ⌜ r .line .len ≤ 25 ⌝ }
+{
+    if byte == b'\n' {
+        return line_ended(file, state);
+    }
+    let line = state.line;
+    let trie = state.trie;
+    State {
+        trie,
+        line: line.with(byte),
+        number: state.number,
+        refused: state.refused,
+    }
+}
+
+// Some bytes more were read. After a refusal nothing is put any more.
+fn bytes_read(file: &mut [u8], state: State, bytes: &[u8]) -> State
+    requires { ⌜ state .line .len ≤ 25 ⌝ }
+    ensures { λ r. ⌜ r .line .len ≤ 25 ⌝ }
+{
+    let mut s = state;
+    let mut i = 0;
+    while i < bytes.len() {
+        if s.refused != 0 {
+            return s;
+        }
+        s = byte_read(file, s, bytes[i]);
+        i += 1;
+    }
+    s
+}
+
+// The last input line may lack its line feed.
+fn input_ended(file: &mut [u8], state: State) -> State
+    requires { ⌜ state .line .len ≤ 25 ⌝ }
+{
+    let line = state.line;
+    if line.len == 0 {
+        return state;
+    }
+    line_ended(file, state)
+}
+
+fn say(text: &[u8]) {
+    io::write_all(STDOUT_FILENO, text);
+}
+
+// Bounds stand in brackets, `-` is no limit.
+fn print_bound(bound: &[u8]) {
+    if bound.len() == 0 {
+        say(b" -");
+        return;
+    }
+    say(b" [");
+    say(bound);
+    say(b"]");
+}
+
+// A filled name without what it is filled with.
+fn print_name(entries: &[u8], at: usize)
+    requires { ⌜ at + 24 ≤ length (now entries) ⌝ }
+{
+    let mut n = 0usize;
+    while n < 24 {
+        if entries[at + n] == 0x20 {
+            break;
+        }
+        n += 1;
+    }
+    let end = at + n;
+    say(b" ");
+    say(&entries[at..end]);
+}
+
+fn print_bucket(slot: &[u8], b: usize, number: u64)
+    requires { ⌜ (length (now slot) ≡ 64 + 32 * b) × (b ≤ 16) ⌝ }
+{
+    io::print_decimal(STDOUT_FILENO, number);
+    print_bound(bucket::lower_bound(slot));
+    print_bound(bucket::upper_bound(slot));
+    let count = bucket::count_of(slot, b);
+    let mut i = 0;
+    while i < count {
+        print_name(slot, 64 + 32 * i);
+        i += 1;
+    }
+    say(b"\n");
+}
+
+// A line a bucket in range order.
+fn print_buckets(file: &[u8], size: Size, order: &[u8; 64], count: usize)
+    requires { ⌜ (Sized (length (now file)) size) × (Below (now order) (size .slots)) × (count ≤ 64) ⌝ }
+{
+    say(b"slot lower upper entries\n");
+    let mut j = 0;
+    while j < count {
+        let k = order[j];
+        print_bucket(
+            file::slot_at(file, size, usize_of_u8(k)),
+            size.b,
+            digits::u64_of_u8(k),
+        );
+        j += 1;
+    }
+}
+
+fn print_file(file: &[u8]) {
+    let Header::Right(size) = file::header_of(file) else {
+        return;
+    };
+    let survey = file::survey_of(file, size);
+    let order = survey.order;
+    print_buckets(file, size, &order, survey.count);
+}
+
+fn print_refusal(refused: u64, number: u64) {
+    say(b"refused ");
+    io::print_decimal(STDOUT_FILENO, refused);
+    say(b" ");
+    io::print_decimal(STDOUT_FILENO, number);
+    say(b"\n");
+}
+
+// Reads all input. A proved loop has to end, and nothing says that an input does: so it counts its turns down, from a
+// number that no run uses up.
+fn read_all(file: &mut [u8], state: State) -> State
+    requires { ⌜ state .line .len ≤ 25 ⌝ }
+    ensures { λ r. ⌜ r .line .len ≤ 25 ⌝ }
+{
+    let mut s = state;
+    let mut turns = u64::MAX;
+    while 0 < turns {
+        turns -= 1;
+        let mut buffer = io::buffer();
+        let got = libc::read(STDIN_FILENO, &mut buffer);
+        if got <= 0 {
+            return s;
+        }
+        let n = io::count(got, &buffer);
+        s = bytes_read(file, s, &buffer[..n]);
+        if s.refused != 0 {
+            return s;
+        }
+    }
+    s
+}
+
+fn main() {
+    // b = 4 and 8 slots: 16 + 8 × (64 + 32 × 4) bytes.
+    let mut file = [0u8; 1552];
+    let created = whole::create(&mut file, 1, 4, 8);
+    let empty = created.trie;
+    let first = State {
+        trie: empty,
+        line: Line::new(),
+        number: 1,
+        refused: 0,
+    };
+    let read = read_all(&mut file, first);
+    if read.refused != 0 {
+        print_refusal(read.refused, read.number);
+        return;
+    }
+    let ended = input_ended(&mut file, read);
+    if ended.refused != 0 {
+        print_refusal(ended.refused, ended.number);
+        return;
+    }
+    print_file(&file);
+}

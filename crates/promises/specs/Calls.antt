@@ -1,0 +1,33 @@
+-- The eight calls as one value, so that a demand can be put to any calls, right or wrong.
+use mathlib.Core.List.{List}
+use Prim.Native.Nat.{ℕ}
+use Rattle.model.specs.declared.LookUpAnswer.{LookUpAnswer}
+use Rattle.model.specs.declared.Trie.{Trie}
+use Rattle.model.specs.Checks.{Kind}
+use Rattle.model.specs.Format.{checkFile}
+use Rattle.model.specs.Calls.{Created, ListDone, PutDone, Rebuilt, Recovered, RemoveDone, createOf, listOf, lookUpOf, putOf, rebuildOf, recoverOf, removeOf}
+
+-- "Calls: create, check, recover, rebuild, look up, put, remove, list a range." Each takes what it is lent and gives the
+-- answer, the trie that it gives and the lent bytes that it may change.
+pub record Calls : Type 0 where
+  pub create : List ℕ → ℕ → ℕ → ℕ → Created
+  pub check : List ℕ → Kind
+  pub recover : List ℕ → ℕ → Recovered
+  pub rebuild : List ℕ → Rebuilt
+  pub look-up : List ℕ → Trie → List ℕ → LookUpAnswer
+  pub put : List ℕ → Trie → List ℕ → ℕ → ℕ → PutDone
+  pub remove : List ℕ → Trie → List ℕ → ℕ → RemoveDone
+  pub list : List ℕ → Trie → List ℕ → List ℕ → List ℕ → ListDone
+
+-- Ours: what the contracts of the code equate with what the code does.
+abbrev pub our-calls : Calls
+our-calls = record {
+  create = createOf;
+  check = checkFile;
+  recover = recoverOf;
+  rebuild = rebuildOf;
+  look-up = lookUpOf;
+  put = putOf;
+  remove = removeOf;
+  list = listOf;
+}

@@ -1,0 +1,95 @@
+-- What check, recover and list mean, and what the tests in the definitions mean, in the relations of document 01. Whoever reads
+-- this need not read the tests in the model's `Checks.antt` and `Agreeing.antt`.
+use mathlib.Core.Path.{_≡_}
+use mathlib.Core.Logic.{_↔_}
+use mathlib.Core.Bool.{true}
+use mathlib.Core.Option.{some}
+use mathlib.Core.List.{List, List·Memᴰ, [], _++_, _∷_}
+use Prim.Native.Nat.{_*_, _+_, _<_, _≤_, ℕ}
+use lib.ListN.{drop, length, replicate, set, take}
+use Rattle.model.specs.declared.Layout.{Layout}
+use Rattle.model.specs.declared.ListAnswer.the-variants.{Listed}
+use Rattle.model.specs.declared.RecoverAnswer.the-variants.{Freed, Nothing}
+use Rattle.model.specs.declared.Trie.{Trie}
+use Rattle.model.specs.Order.{Low, Str, _⊑_, _◁_}
+use Rattle.model.specs.Names.{Legal, atMost, filled, legalFilled, legalName}
+use Rattle.model.specs.Entries.{Entry, insert}
+use Rattle.model.specs.Files.{Bad, Cut, IsString, Slot, Sound, Well, free, slot-at, string-count, used}
+use Rattle.model.specs.Tries.{Agrees}
+use Rattle.model.specs.Changes.{Lowest, halves, stored}
+use Rattle.model.specs.Places.{place-of}
+use Rattle.model.specs.Checks.{check, is-bad, is-cut, is-sound, isAbove, isWell, sameStr}
+use Rattle.model.specs.Agreeing.{isAgreeing}
+use Rattle.model.specs.Format.{BadFile, Bytes, CutFile, SoundFile, entriesBytes, entrySize, layoutOf, readFile, slotSize}
+use Rattle.model.specs.Calls.{fine, lookedOf}
+use Rattle.promises.specs.Calls.{Calls}
+use Rattle.promises.specs.Demand1.{LegalName, Listing, slots-of}
+
+-- "Recover frees slot N": one of the file's slots is all zero then, and every other byte is as it was.
+pub record OneFreed (xs : List ℕ) (N : ℕ) (ys : List ℕ) : Type 0 where
+  pub inside : N < slots-of xs
+  pub is : ys ≡ take (16 + N * slotSize (layoutOf xs)) xs ++ replicate (slotSize (layoutOf xs)) 0 ++ drop (16 + N * slotSize (layoutOf xs) + slotSize (layoutOf xs)) xs
+
+-- "List writes entries, ascending, whose names lie from the first to the second name, both included, and nothing behind
+-- them, and gives their number."
+pub record Wrote (xs low high out : List ℕ) (count : ℕ) (ys : List ℕ) : Type 0 where
+  pub file : SoundFile xs
+  pub listed : List Entry
+  pub listing : Listing (file .slots) (filled low) (filled high) listed
+  pub number : count ≡ length listed
+  pub fits : entrySize (file .layout) * count ≤ length out
+  pub written : ys ≡ entriesBytes (entrySize (file .layout)) listed ++ drop (entrySize (file .layout) * count) out
+
+-- "the non-empty bounds of the file and all their non-empty beginnings", each once (R5.7).
+abbrev pub Distinct : List Str → Type 0
+Distinct [] = Unit {0}
+Distinct (x ∷ xs) = (¬ List·Memᴰ x xs) × Distinct xs
+
+pub record AllStrings (fs : List Slot) (ss : List Str) : Type 0 where
+  pub once : Distinct ss
+  pub only : (x : Str) → List·Memᴰ x ss → IsString fs x
+  pub every : (x : Str) → IsString fs x → List·Memᴰ x ss
+
+-- What the calls mean.
+pub record Meanings (C : Calls) : Type 0 where
+  -- R9.2: "Check gives sound, cut or bad as a result."
+  pub says-sound : (xs : List ℕ) → (C .check xs ≡ is-sound) ↔ SoundFile xs
+  pub says-cut : (xs : List ℕ) (N : ℕ) → (C .check xs ≡ is-cut N) ↔ CutFile xs N
+  pub says-bad : (xs : List ℕ) → (C .check xs ≡ is-bad) ↔ BadFile xs
+  -- R9.3: "Recover frees slot N of a cut file in one store and names it;"
+  pub says-freed : (xs : List ℕ) (limit N : ℕ) → (C .recover xs limit .answer ≡ Freed N) ↔ ((1 ≤ limit) × (limit ≤ 2) × CutFile xs N)
+  pub frees : (xs : List ℕ) (limit N : ℕ) → C .recover xs limit .answer ≡ Freed N → OneFreed xs N (C .recover xs limit .file)
+  pub frees-slot : (xs : List ℕ) (limit N : ℕ) → Bytes xs → C .recover xs limit .answer ≡ Freed N → (K : CutFile xs N)
+      → readFile (C .recover xs limit .file) ≡ some (K .layout, set (K .slots) N free)
+  -- "on a sound file it says nothing to do."
+  pub says-nothing : (xs : List ℕ) (limit : ℕ) → (C .recover xs limit .answer ≡ Nothing) ↔ ((limit ≤ 2) × SoundFile xs)
+  pub leaves : (xs : List ℕ) (limit : ℕ) → C .recover xs limit .answer ≡ Nothing → C .recover xs limit .file ≡ xs
+  -- R9.8
+  pub writes : (xs : List ℕ) (t : Trie) (low high out : List ℕ) (count : ℕ) → C .list xs t low high out .answer ≡ Listed count
+      → Wrote xs low high out count (C .list xs t low high out .output)
+
+-- What the definitions' tests mean.
+pub record Tests : Type 0 where
+  -- Names and strings.
+  pub legal : (name : List ℕ) → (legalName name ≡ true) ↔ LegalName name
+  pub legal-filled : (n : Str) → (legalFilled n ≡ true) ↔ Legal n
+  pub at-most : (x y : Str) → (atMost x y ≡ true) ↔ (x ⊑ y)
+  pub above : (l : Low) (x : Str) → (isAbove l x ≡ true) ↔ (l ◁ x)
+  pub same : (x y : Str) → (sameStr x y ≡ true) ↔ (x ≡ y)
+  -- Slots and files.
+  pub well : (b : ℕ) (x : Slot) → (isWell b x ≡ true) ↔ Well b x
+  pub sound : (b : ℕ) (fs : List Slot) → (check b fs ≡ is-sound) ↔ Sound b fs
+  pub cut : (b : ℕ) (fs : List Slot) (N : ℕ) → (check b fs ≡ is-cut N) ↔ Cut b fs N
+  pub bad : (b : ℕ) (fs : List Slot) → (check b fs ≡ is-bad) ↔ Bad b fs
+  -- Tries.
+  pub agreeing : (b : ℕ) (fs : List Slot) (t : Trie) → Sound b fs → (isAgreeing fs t ≡ true) ↔ Agrees fs t
+  -- R9.10: "Put, remove and list check the whole file and full agreement."
+  pub passes : (xs : List ℕ) (t : Trie) (y : Layout) (fs : List Slot)
+      → (lookedOf xs t ≡ fine y fs) ↔ ((readFile xs ≡ some (y, fs)) × Sound (y .b) fs × Agrees fs t)
+  -- R10.6: "the bounds and their beginnings": a sound file's strings can be listed, and what is counted is how many there are,
+  -- however they are listed. The file after a split, whose strings put counts, is sound.
+  pub listable : (b : ℕ) (fs : List Slot) → Sound b fs → (ss : List Str) × AllStrings fs ss
+  pub counted : (b : ℕ) (fs : List Slot) → Sound b fs → (ss : List Str) → AllStrings fs ss → string-count fs ≡ length ss
+  pub after-split : (y : Layout) (fs : List Slot) (A N : ℕ) (l : Low) (u : Str) (es : List Entry) (n : Str) (v : ℕ) → 2 ≤ y .b → Sound (y .b) fs
+      → slot-at fs A ≡ used l u es → Legal n → l ◁ n → n ⊑ u → y .b < length (insert n v es) → Lowest fs N
+      → Sound (y .b) (stored (halves (y .b) (place-of y) N A l u (insert n v es)) fs)

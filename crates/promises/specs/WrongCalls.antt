@@ -1,0 +1,172 @@
+-- Wrong versions of the calls (section 15 of the rules): each is ours but for one thing.
+use mathlib.Core.Path.{_≡_}
+use mathlib.Core.Bool.{cond}
+use mathlib.Core.Option.{Option, none as nothing, some}
+use mathlib.Core.List.{List, [], _∷_}
+use Prim.Native.Nat.{suc, zero, ℕ}
+use native.Mathlib.Omega.{arith}
+use lib.Dec.{ltb}
+use lib.ListN.{length, replicate, set, take}
+use Rattle.model.specs.declared.Cause.{Cause}
+use Rattle.model.specs.declared.Cause.the-variants.{IllegalName, WrongSize}
+use Rattle.model.specs.declared.Layout.{Layout}
+use Rattle.model.specs.declared.ListAnswer.the-variants.{Refused as ListRefused}
+use Rattle.model.specs.declared.LookUpAnswer.the-variants.{Refused as LookUpRefused}
+use Rattle.model.specs.declared.PutAnswer.the-variants.{Refused as PutRefused, Stopped as PutStopped}
+use Rattle.model.specs.declared.RecoverAnswer.{RecoverAnswer}
+use Rattle.model.specs.declared.RecoverAnswer.the-variants.{Freed, Nothing, Refused as RecoverRefused, Stopped as RecoverStopped}
+use Rattle.model.specs.declared.RemoveAnswer.{RemoveAnswer}
+use Rattle.model.specs.declared.RemoveAnswer.the-variants.{Absent as NotHeld, Refused as RemoveRefused, Removed, Stopped as RemoveStopped}
+use Rattle.model.specs.declared.Trie.{Trie}
+use Rattle.model.specs.declared.TrieAnswer.the-variants.{Refused as TrieRefused}
+use Rattle.model.specs.Order.{Str, str?}
+use Rattle.model.specs.Names.{filled, legalName}
+use Rattle.model.specs.Entries.{find}
+use Rattle.model.specs.Files.{IsUsed, Slot, entries-of, first, free, head, slot-at, upper-of, used}
+use Rattle.model.specs.Changes.{Result, Store, call, holds?, put as to-put, refuse, stores}
+use Rattle.model.specs.Places.{place-of}
+use Rattle.model.specs.Format.{checkFile, layoutOf, readFile, storeBytes}
+use Rattle.model.specs.Calls.{Looked, PutDone, Recovered, RemoveDone, createOf, fine, listOf, lookUpOf, lookedOf, putAnswer, putOf, rebuildOf, recoverOf, refusalOf, refusing, removeOf, storesBytes, trieAfter}
+use Rattle.promises.specs.Calls.{Calls}
+use Rattle.promises.specs.Demand3.{Event, put, remove}
+use Rattle.promises.specs.Texts.{bytes}
+
+-- R15.1: one of the calls refuses everything.
+abbrev pub IsRefused : {A : Type 0} → (Cause → A) → A → Type 0
+IsRefused Refused a = (c : Cause) × (a ≡ Refused c)
+
+pub data RefusesAll (C : Calls) : Type 0 where
+  by-create : ((xs : List ℕ) (v b slots : ℕ) → IsRefused TrieRefused (C .create xs v b slots .answer)) → RefusesAll C
+  by-recover : ((xs : List ℕ) (limit : ℕ) → IsRefused RecoverRefused (C .recover xs limit .answer)) → RefusesAll C
+  by-rebuild : ((xs : List ℕ) → IsRefused TrieRefused (C .rebuild xs .answer)) → RefusesAll C
+  by-look-up : ((xs : List ℕ) (t : Trie) (name : List ℕ) → IsRefused LookUpRefused (C .look-up xs t name)) → RefusesAll C
+  by-put : ((xs : List ℕ) (t : Trie) (name : List ℕ) (v limit : ℕ) → IsRefused PutRefused (C .put xs t name v limit .answer)) → RefusesAll C
+  by-remove : ((xs : List ℕ) (t : Trie) (name : List ℕ) (limit : ℕ) → IsRefused RemoveRefused (C .remove xs t name limit .answer)) → RefusesAll C
+  by-list : ((xs : List ℕ) (t : Trie) (low high out : List ℕ) → IsRefused ListRefused (C .list xs t low high out .answer)) → RefusesAll C
+
+-- R15.2: one lookup result for all.
+abbrev pub OneResult : Calls → Type 0
+OneResult C = (xs ys : List ℕ) (t u : Trie) (m n : List ℕ) → C .look-up xs t m ≡ C .look-up ys u n
+
+-- Our put, with another way to make its stores: which are made where it is stopped, what number it says then, and which are
+-- made where it is not stopped.
+module _ (stopped : ℕ → List Store → List Store) (says : ℕ → ℕ) (whole : List Store → List Store) where
+  unfoldable pub make : List ℕ → Trie → Layout → List Slot → Str → ℕ → ℕ → Result → PutDone
+  make xs t y fs n v limit (refuse r) = record { answer = PutRefused (refusalOf r); file = xs; trie = t }
+  make xs t y fs n v limit (stores ss) =
+      cond (ltb limit (length ss))
+      (record { answer = PutStopped (says limit); file = storesBytes y (stopped limit ss) xs; trie = t })
+      (record {
+        answer = putAnswer (find n (entries-of (slot-at fs (first (holds? n) fs))));
+        file = storesBytes y (whole ss) xs;
+        trie = trieAfter (y .b) (place-of y) fs n v ss t;
+      })
+
+  unfoldable pub make-looked : List ℕ → Trie → Str → ℕ → ℕ → Looked → PutDone
+  make-looked xs t n v limit (refusing c) = record { answer = PutRefused c; file = xs; trie = t }
+  make-looked xs t n v limit (fine y fs) = make xs t y fs n v limit (call (y .b) (place-of y) fs (to-put n v))
+
+  unfoldable pub make-put : List ℕ → Trie → List ℕ → ℕ → ℕ → PutDone
+  make-put xs t name v limit =
+      let d = make-looked xs t (filled name) v limit (lookedOf xs t) in
+      cond (ltb 2 limit) (record { answer = PutRefused WrongSize; file = xs; trie = t })
+      (cond (legalName name) d (record { answer = PutRefused IllegalName; file = xs; trie = t }))
+
+-- Our calls, with another recover, put and remove.
+abbrev pub instead : (List ℕ → ℕ → Recovered) → (List ℕ → Trie → List ℕ → ℕ → ℕ → PutDone) → (List ℕ → Trie → List ℕ → ℕ → RemoveDone) → Calls
+instead f g h = record {
+  create = createOf;
+  check = checkFile;
+  recover = f;
+  rebuild = rebuildOf;
+  look-up = lookUpOf;
+  put = g;
+  remove = h;
+  list = listOf;
+}
+
+abbrev pub with-put : (List ℕ → Trie → List ℕ → ℕ → ℕ → PutDone) → Calls
+with-put g = instead recoverOf g removeOf
+
+-- R15.3: a put that stores nothing and yet says that it is done.
+abbrev pub stores-nothing : Calls
+stores-nothing = with-put (make-put take (λ made. made) (λ ss. []))
+
+-- The same of remove: it stores nothing, and says of every name that it is absent.
+unfoldable pub absent-instead : List ℕ → RemoveAnswer → RemoveDone
+absent-instead xs Removed = record { answer = NotHeld; file = xs }
+absent-instead xs NotHeld = record { answer = NotHeld; file = xs }
+absent-instead xs (RemoveStopped made) = record { answer = RemoveStopped made; file = xs }
+absent-instead xs (RemoveRefused c) = record { answer = RemoveRefused c; file = xs }
+
+abbrev pub removes-nothing : Calls
+removes-nothing = instead recoverOf putOf (λ xs t name limit. absent-instead xs (removeOf xs t name limit .answer))
+
+-- R15.4: a split that replaces two slots in its first store.
+unfoldable pub both : ℕ → List Store → List Store
+both zero ss = []
+both (suc limit) ss = ss
+
+abbrev pub both-at-once : Calls
+both-at-once = with-put (make-put both (λ made. made) (λ ss. ss))
+
+-- R15.5: a stopped put that says one store more than it made, and one that says what it was to make and has made none.
+abbrev pub miscounts : Calls
+miscounts = with-put (make-put take suc (λ ss. ss))
+
+abbrev pub idles : Calls
+idles = with-put (make-put (λ limit ss. []) (λ made. made) (λ ss. ss))
+
+-- R15.6: a split with its two stores exchanged, A cut down before the new slot is stored.
+unfoldable pub exchanged : List Store → List Store
+exchanged [] = []
+exchanged (x ∷ []) = x ∷ []
+exchanged (x ∷ y ∷ ss) = y ∷ x ∷ ss
+
+abbrev pub cuts-first : Calls
+cuts-first = with-put (make-put (λ limit ss. take limit (exchanged ss)) (λ made. made) exchanged)
+
+-- R15.9: a recovery that frees A and keeps N, the inner one of the two. A is the other slot with N's upper bound.
+unfoldable pub ends? : (u : Str) (x : Slot) → Dec (IsUsed (head x) × (upper-of (head x) ≡ u))
+ends? u free = no (λ h. h .0)
+ends? u (used l w es) = elim (str? w u) [ yes e ↦ yes (tt, e) | no n ↦ no (λ h. n (h .1)) ]
+
+abbrev pub outer : List Slot → ℕ → ℕ
+outer fs N = first (ends? (upper-of (head (slot-at fs N)))) (set fs N free)
+
+unfoldable pub free-outer : List ℕ → Recovered → RecoverAnswer → Option (Layout × List Slot) → Recovered
+free-outer xs d (Freed N) nothing = d
+free-outer xs d (Freed N) (some f) =
+    record { answer = Freed (outer (f .1) N); file = storeBytes (layoutOf xs) (outer (f .1) N) free xs }
+free-outer xs d Nothing f = d
+free-outer xs d (RecoverStopped made) f = d
+free-outer xs d (RecoverRefused c) f = d
+
+unfoldable pub inner-kept : List ℕ → ℕ → Recovered
+inner-kept xs limit = let d = recoverOf xs limit in free-outer xs d (d .answer) (readFile xs)
+
+abbrev pub keeps-inner : Calls
+keeps-inner = instead inner-kept putOf removeOf
+
+-- What happens in the histories that they are put to, in a file with b = 2 and two slots. Any two of the three names fill the
+-- first bucket, so the third is a split; its put may be stopped after its first store.
+abbrev pub buffer : List ℕ
+buffer = replicate 272 0
+
+abbrev pub put-a : Event
+put-a = put (bytes "a") 1 (omega arith) 2
+
+abbrev pub put-b : Event
+put-b = put (bytes "b") 2 (omega arith) 2
+
+abbrev pub put-c : Event
+put-c = put (bytes "c") 3 (omega arith) 2
+
+abbrev pub remove-a : Event
+remove-a = remove (bytes "a") 2
+
+abbrev pub put-b-stopped : Event
+put-b-stopped = put (bytes "b") 2 (omega arith) 1
+
+abbrev pub put-c-stopped : Event
+put-c-stopped = put (bytes "c") 3 (omega arith) 1

@@ -1,0 +1,3 @@
+pub mod LookingUp
+pub mod Writing
+pub mod Listing

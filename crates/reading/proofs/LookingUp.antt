@@ -1,0 +1,142 @@
+-- Look up, put together from its stages: each refusal, and what one slot answers to a name.
+use Rattle.model.proofs.Prelude.{Bool, List, Option, [], _&&_, _*_, _+_, _<_, _∙_, _≡_, _≤_, _⊎_, ap, arith, clash, cond, drop, false, getD, inl, inr, le-ltb, leb, length, lt-ltb, ltb, not, nothing, refl, some, subst, sym, take, true, ℕ}
+use Rattle.model.specs.declared.Cause.the-variants.{BadFile, IllegalName, StaleTrie}
+use Rattle.model.specs.declared.LookUpAnswer.{LookUpAnswer}
+use Rattle.model.specs.declared.LookUpAnswer.the-variants.{Absent as NotFound, Found, Refused}
+use Rattle.model.specs.declared.Trie.{Trie}
+use Rattle.model.specs.Order.{Str}
+use Rattle.model.specs.Names.{Legal, filled, legalName}
+use Rattle.model.specs.Entries.{find}
+use Rattle.model.specs.Files.{Slot, free, used}
+use Rattle.model.specs.Tries.{root-side}
+use Rattle.model.specs.Growth.{Spot, root}
+use Rattle.model.specs.Format.{entrySize, headerOf, readSlot, slotAt, slotSize, version-1}
+use Rattle.model.specs.Calls.{arrivedAnswer, headedAnswer, heldAnswer, lookUpOf, slotAnswer}
+use Rattle.digits.specs.Keys.{isZero, keyValue, value}
+use Rattle.bucket.specs.declared.Bucket.{Bucket}
+use Rattle.bucket.specs.declared.Form.{Form}
+use Rattle.bucket.specs.declared.Form.the-variants.{Ill, Well}
+use Rattle.entries.specs.declared.Held.{Held}
+use Rattle.entries.specs.declared.Held.the-variants.{Absent, Value}
+use Rattle.bucket.specs.declared.Range.the-variants.{Holds, Lacks}
+use Rattle.bucket.specs.Forms.{Formed, WellRead, holding}
+use Rattle.entries.specs.Rows.{heldUnder}
+use Rattle.bucket.specs.Slots.{countAt}
+use Rattle.bucket.proofs.Slots.{count-is, free-zero, ill-read, range-holds, read-used, read-values, well-reads, zero-free}
+use Rattle.entries.proofs.Places.{held}
+use Rattle.writing.proofs.Finding.{held-find}
+use Rattle.trie.specs.declared.Place.the-variants.{Slot as at-slot}
+use Rattle.trie.specs.declared.Walk.{Walk}
+use Rattle.trie.specs.Walks.{Walks, walkOf}
+use Rattle.trie.proofs.Laws.{arrive-run, landed, lands-at}
+
+-- Which way a test went, by the answer that it gave.
+pub holding-holds : (t : Bool) → Holds ≡ holding t → t ≡ true
+holding-holds true e = refl
+holding-holds false e = clash cc
+
+pub holding-lacks : (t : Bool) → Lacks ≡ holding t → t ≡ false
+holding-lacks true e = clash cc
+holding-lacks false e = refl
+
+-- A slot that is well formed is read, and one that is not is none that is.
+pub well-formed : {f : Form} {k : Bucket} (b : ℕ) (xs : List ℕ) → f ≡ Well k → Formed b xs f → WellRead b xs k
+well-formed {f} {k} b xs e t = subst (λ (x : Form). Formed b xs x) e t
+
+pub ill-formed : {f : Form} (b : ℕ) (xs : List ℕ) → f ≡ Ill → Formed b xs f → Formed b xs Ill
+ill-formed {f} b xs e t = subst (λ (x : Form). Formed b xs x) e t
+
+-- Of a place's three cases, the second is neither of the others.
+pub no-slot : _≡_ {A = ℕ} 1 0 ⊎ _≡_ {A = ℕ} 1 2 → ⊥
+no-slot (inl e) = absurd (omega arith)
+no-slot (inr e) = absurd (omega arith)
+
+-- "4 if the slot is free (all zero); 2 if it is not well formed; 4 if its range lacks the name. Only then found with value,
+-- or absent."
+module _ (b : ℕ) (xs : List ℕ) (n : Str) where
+  pub answer-free : length xs ≡ 64 + 32 * b → isZero xs ≡ true → Refused StaleTrie ≡ slotAnswer b n (readSlot (version-1 b) xs)
+  unfolding slotAnswer slotSize entrySize
+  answer-free h e = rw (zero-free b xs h e)
+
+  pub answer-ill : length xs ≡ 64 + 32 * b → isZero xs ≡ false → Formed b xs Ill → Refused BadFile ≡ slotAnswer b n (readSlot (version-1 b) xs)
+  unfolding slotAnswer slotSize entrySize
+  answer-ill h e f = go (readSlot (version-1 b) xs) refl
+    where
+      go : (o : Option Slot) → readSlot (version-1 b) xs ≡ o → Refused BadFile ≡ slotAnswer b n o
+      go nothing r = refl
+      go (some free) r =
+          let y : true ≡ false = sym (free-zero b xs r) ∙ e in
+          clash cc
+      go (some (used l u es)) r = rw (ill-read b xs h e f (used l u es) r)
+
+  module _ {k : Bucket} (W : WellRead b xs k) (v : ℕ) (g : Legal n) (e : v ≡ value n) where
+    abbrev ranged : Bool
+    ranged = ltb (keyValue (k .low)) v && not (ltb (keyValue (k .high)) v)
+
+    pub answer-lacks : ranged ≡ false → Refused StaleTrie ≡ slotAnswer b n (readSlot (version-1 b) xs)
+    unfolding slotAnswer
+    answer-lacks h = rw (read-used b xs (W .is), W .well, sym (range-holds W (W .is) n v g e) ∙ h)
+
+    answer-held : (h : Held) (a : LookUpAnswer) → ((i : ℕ) → getD xs i 0 < 256) → ranged ≡ true → h ≡ heldUnder (drop 64 xs) (countAt b xs) v
+        → ((o : Option ℕ) → h ≡ held o → a ≡ heldAnswer o) → a ≡ slotAnswer b n (readSlot (version-1 b) xs)
+    unfolding slotAnswer
+    answer-held h a bytes r f go =
+        let R = well-reads W in
+        let w = f ∙ ap (λ (c : ℕ). heldUnder (drop 64 xs) c v) (count-is R) ∙ held-find R n v g e (read-values b xs bytes (W .is)) in
+        rw (read-used b xs (W .is), W .well, sym (range-holds W (W .is) n v g e) ∙ r) (go (find n (W .entries)) w)
+
+    pub answer-absent : {h : Held} → ((i : ℕ) → getD xs i 0 < 256) → ranged ≡ true → h ≡ heldUnder (drop 64 xs) (countAt b xs) v → h ≡ Absent
+        → NotFound ≡ slotAnswer b n (readSlot (version-1 b) xs)
+    answer-absent {h} bytes r f s = answer-held h NotFound bytes r f go
+      where
+        go : (o : Option ℕ) → h ≡ held o → NotFound ≡ heldAnswer o
+        go nothing q = refl
+        go (some x) q = clash cc
+
+    pub answer-found : {h : Held} {x : ℕ} → ((i : ℕ) → getD xs i 0 < 256) → ranged ≡ true → h ≡ heldUnder (drop 64 xs) (countAt b xs) v → h ≡ Value x
+        → Found x ≡ slotAnswer b n (readSlot (version-1 b) xs)
+    answer-found {h} {x} bytes r f s = answer-held h (Found x) bytes r f go
+      where
+        go : (o : Option ℕ) → h ≡ held o → Found x ≡ heldAnswer o
+        go nothing q = clash cc
+        go (some y) q = cc
+
+-- "1; 2 if length or header is wrong; 4 if .. the walk ..": then what the slot answers.
+module _ (xs : List ℕ) (t : Trie) (name : List ℕ) where
+  pub illegal-looked : legalName name ≡ false → Refused IllegalName ≡ lookUpOf xs t name
+  unfolding lookUpOf
+  illegal-looked e = rw e
+
+  pub headless-looked : legalName name ≡ true → headerOf xs ≡ nothing → Refused BadFile ≡ lookUpOf xs t name
+  unfolding lookUpOf headedAnswer
+  headless-looked e h = rw (e, h)
+
+  module _ {b slots : ℕ} (e : legalName name ≡ true) (h : headerOf xs ≡ some (version-1 b, slots)) where
+    -- Where the walk lands, and what is answered there.
+    landed-looked : lookUpOf xs t name ≡ arrivedAnswer xs (version-1 b) (filled name) (landed slots (walkOf t (filled name)))
+    unfolding lookUpOf headedAnswer walkOf arrivedAnswer
+    landed-looked =
+        rw (e, h, arrive-run (t .count) slots (t .count) (t .cells) (filled name) [] root (root-side (t .count) (t .first))) (go (leb (t .count) 256) _)
+      where
+        go : (c : Bool) (o : Option (Str × Spot × ℕ)) → cond c (arrivedAnswer xs (version-1 b) (filled name) (landed slots o)) (Refused StaleTrie)
+            ≡ arrivedAnswer xs (version-1 b) (filled name) (landed slots (cond c o nothing))
+        go false o = refl
+        go true o = refl
+
+    module _ (w : Walk) (W : Walks w (walkOf t (filled name))) where
+      pub stray-looked : ((s : ℕ) → w .place ≡ at-slot s → ⊥) → Refused StaleTrie ≡ lookUpOf xs t name
+      unfolding arrivedAnswer
+      stray-looked apart = sym (landed-looked ∙ go (walkOf t (filled name)) W)
+        where
+          go : (o : Option (Str × Spot × ℕ)) → Walks w o → arrivedAnswer xs (version-1 b) (filled name) (landed slots o) ≡ Refused StaleTrie
+          go nothing W = refl
+          go (some (p, k, s)) W = absurd (apart s (W .place))
+
+      pub past-looked : {s : ℕ} → w .place ≡ at-slot s → slots ≤ s → Refused StaleTrie ≡ lookUpOf xs t name
+      unfolding arrivedAnswer
+      past-looked {s} q i = sym (landed-looked ∙ rw (lands-at slots w s q (walkOf t (filled name)) W, le-ltb s slots i))
+
+      pub arrived-looked : {s k : ℕ} {ys : List ℕ} (r : LookUpAnswer) → w .place ≡ at-slot s → k ≡ s → k < slots
+          → ys ≡ take (64 + 32 * b) (drop (16 + k * (64 + 32 * b)) xs) → r ≡ slotAnswer b (filled name) (readSlot (version-1 b) ys) → r ≡ lookUpOf xs t name
+      unfolding arrivedAnswer slotAt slotSize entrySize
+      arrived-looked {s} {k} r q l i y a = a ∙ rw (y, l) (sym (landed-looked ∙ rw (lands-at slots w s q (walkOf t (filled name)) W, lt-ltb s slots (omega arith))))

@@ -1,0 +1,12 @@
+-- `look_up` meets its contract: the walk is the trie's own.
+use Rattle.model.proofs.Prelude.{List, needs, subst, ℕ}
+use Rattle.trie.specs.Walks.{Walks, walkOf}
+use Rattle.reading.proofs.look_up.Tie as tie
+
+returns : tie.Need-returns
+returns c =
+    let a = c .before .before .before .before .before .before .args in let w = c .before .walk-of in
+    c .look-up-from .ensures (a .trie) (subst (λ (n : List ℕ). Walks (w .result) (walkOf (a .trie) n)) (c .before .before .before .filled .ensures) (w .ensures .1))
+
+pub look-up-spec : {M : Type 1} → Rattle.reading.proofs.look_up.Statement.statement M
+look-up-spec = tie.close (tie.spec (λ c κs. search needs) (λ c κs. search needs) (λ c κs. search needs) returns)

@@ -1,0 +1,196 @@
+// The calls that change nothing: look up and list. Neither has a `requires`: each checks for itself, in document 01's order
+// of refusals.
+ghost use mathlib.Core.Path.{_≡_};
+ghost use Prim.Native.Nat.{_≤_, _<_, _+_, _-_, _*_};
+ghost use lib.ListN.{length};
+ghost use Rattle.model.specs.Order.{Str};
+ghost use Rattle.model.specs.Names.{Legal, filled};
+ghost use Rattle.model.specs.Format.{readSlot, version-1};
+ghost use Rattle.model.specs.Files.{order-of};
+ghost use Rattle.model.specs.Calls.{between, entriesIn, listEntries, listOf, lookUpOf, slotAnswer};
+ghost use Rattle.trie.specs.Walks.{Walks, walkOf};
+ghost use Rattle.digits.specs.Keys.{keyValue, value};
+ghost use Rattle.file.specs.Sizes.{Sized, Below};
+ghost use Rattle.checking.specs.Ready.{Ready};
+ghost use Rattle.reading.specs.Outcomes.{listed};
+ghost use Rattle.reading.specs.Listings.{Written, parts};
+use bucket::Form;
+use bucket::Range;
+use bucket::Vacancy;
+use checking::Checked;
+use checking::Verdict;
+use checking::checks_of;
+use digits::Key;
+use digits::Naming;
+use digits::usize_of_u8;
+use entries::Held;
+use file::Header;
+use file::Size;
+use model::Cause;
+use model::ListAnswer;
+use model::LookUpAnswer;
+use model::Trie;
+use trie::Place;
+use trie::Walk;
+
+// What one slot answers to a name.
+fn answer_of(slot: &[u8], b: usize, name: Key) -> LookUpAnswer
+    requires { ⌜ (length (now slot) ≡ 64 + 32 * b) × (b ≤ 16) ⌝ }
+    ensures { λ r. ⌜ ((n : Str) → Legal n → keyValue name ≡ value n → r ≡ slotAnswer b n (readSlot (version-1 b) (now (slot .entry)))) ⌝ }
+{
+    let Vacancy::Taken = bucket::vacancy_of(slot) else {
+        return LookUpAnswer::Refused(Cause::StaleTrie);
+    };
+    let Form::Well(bucket) = bucket::form_of(slot, b) else {
+        return LookUpAnswer::Refused(Cause::BadFile);
+    };
+    let Range::Holds = bucket::range_of(bucket, name) else {
+        return LookUpAnswer::Refused(Cause::StaleTrie);
+    };
+    let Held::Value(value) = entries::held_under(&slot[64..], bucket::count_of(slot, b), name)
+    else {
+        return LookUpAnswer::Absent;
+    };
+    LookUpAnswer::Found(value)
+}
+
+// Look up where a trie's walk of the filled name is known: it reads one bucket and has its own order of refusals.
+pub fn look_up_from(file: &[u8], walk: Walk, name: &[u8]) -> LookUpAnswer
+    ensures { λ r. ⌜ ((t : Trie) → Walks walk (walkOf t (filled (now (name .entry)))) → r ≡ lookUpOf (now (file .entry)) t (now (name .entry))) ⌝ }
+{
+    let Naming::Legal = digits::named(name) else {
+        return LookUpAnswer::Refused(Cause::IllegalName);
+    };
+    let Header::Right(size) = file::header_of(file) else {
+        return LookUpAnswer::Refused(Cause::BadFile);
+    };
+    let place = walk.place;
+    let Place::Slot(s) = place else {
+        return LookUpAnswer::Refused(Cause::StaleTrie);
+    };
+    let k = digits::usize_of_u16(s);
+    if size.slots <= k {
+        return LookUpAnswer::Refused(Cause::StaleTrie);
+    }
+    let filled = digits::filled(name);
+    answer_of(
+        file::slot_at(file, size, k),
+        size.b,
+        digits::key_at(&filled, 0),
+    )
+}
+
+// Looks up a name. Whatever the name is, it can be walked with.
+pub fn look_up(file: &[u8], trie: Trie, name: &[u8]) -> LookUpAnswer
+    ensures { λ r. ⌜ r ≡ lookUpOf (now (file .entry)) trie (now (name .entry)) ⌝ }
+{
+    let filled = digits::filled(name);
+    look_up_from(file, trie::walk_of(trie, &filled), name)
+}
+
+// How many bytes the entries take that are to be listed, from the bucket at the place `from` to that at `to`.
+fn bytes_between(
+    file: &[u8],
+    size: Size,
+    order: &[u8; 64],
+    from: usize,
+    to: usize,
+    first: Key,
+    second: Key,
+) -> usize
+    requires { ⌜ (Sized (length (now file)) size) × (Below (now order) (size .slots)) × (to < 64) ⌝ }
+    ensures { λ r. ⌜ (r ≤ 32768)
+        × (r ≡ length (parts (to + 1 - from) (now (file .entry)) size (now (order .entry)) (keyValue first) (keyValue second) from)) ⌝ }
+{
+    let mut bytes = 0usize;
+    let mut j = from;
+    while j <= to {
+        let slot = file::slot_at(file, size, usize_of_u8(order[j]));
+        let part = writing::part_between(slot, size.b, first, second);
+        bytes += part.len();
+        j += 1;
+    }
+    bytes
+}
+
+// Writes them, one after another.
+fn write_between(
+    file: &[u8],
+    size: Size,
+    order: &[u8; 64],
+    from: usize,
+    to: usize,
+    first: Key,
+    second: Key,
+    output: &mut [u8],
+)
+    requires { ⌜ (Sized (length (now file)) size) × (Below (now order) (size .slots)) × (to < 64)
+        × (length (parts (to + 1 - from) (now file) size (now order) (keyValue first) (keyValue second) from) ≤ length (now output)) ⌝ }
+    ensures { λ _. ⌜ Written (parts (to + 1 - from) (now (file .entry)) size (now (order .entry)) (keyValue first) (keyValue second) from)
+        (now (output .entry)) (now (output .exit)) ⌝ }
+{
+    let mut at = 0usize;
+    let mut j = from;
+    while j <= to {
+        let slot = file::slot_at(file, size, usize_of_u8(order[j]));
+        let part = writing::part_between(slot, size.b, first, second);
+        entries::copy(output, at, part);
+        at += part.len();
+        j += 1;
+    }
+}
+
+// Lists the entries of a file that passed the checks.
+fn list_checked(
+    file: &[u8],
+    checked: Checked,
+    first: Key,
+    second: Key,
+    output: &mut [u8],
+) -> ListAnswer
+    requires { ⌜ Ready checked (now file) ⌝ }
+    ensures { λ r. ⌜ ((R : Ready checked (now (file .entry))) → (n m : Str) → Legal n → Legal m → keyValue first ≡ value n → keyValue second ≡ value m
+        → listed r (now (output .exit)) ≡ listEntries 32 (between n m (entriesIn (R .slots) (order-of (R .slots)))) (now (output .entry))) ⌝ }
+{
+    let size = checked.size;
+    let survey = checked.survey;
+    let order = survey.order;
+    let from = file::holder(file, size, &order, survey.count, first);
+    let to = file::holder(file, size, &order, survey.count, second);
+    let bytes = bytes_between(file, size, &order, from, to, first, second);
+    if output.len() < bytes {
+        return ListAnswer::Refused(Cause::ShortOutput);
+    }
+    write_between(file, size, &order, from, to, first, second, output);
+    ListAnswer::Listed((bytes / 32) as u64)
+}
+
+// Writes the entries, ascending, whose names lie from the first to the second name, both included, and nothing behind
+// them, and gives their number.
+pub fn list(file: &[u8], trie: Trie, first: &[u8], second: &[u8], output: &mut [u8]) -> ListAnswer
+    ensures { λ r.
+        ⌜ listed r (now (output .exit)) ≡ listOf (now (file .entry)) trie (now (first .entry)) (now (second .entry)) (now (output .entry)) ⌝ }
+{
+    let Naming::Legal = digits::named(first) else {
+        return ListAnswer::Refused(Cause::IllegalName);
+    };
+    let Naming::Legal = digits::named(second) else {
+        return ListAnswer::Refused(Cause::IllegalName);
+    };
+    let checked = checks_of(file, trie);
+    let verdict = checked.verdict;
+    match verdict {
+        Verdict::Refused(cause) => ListAnswer::Refused(cause),
+        Verdict::Fine => {
+            let low = digits::filled(first);
+            let high = digits::filled(second);
+            list_checked(
+                file,
+                checked,
+                digits::key_at(&low, 0),
+                digits::key_at(&high, 0),
+                output,
+            )
+        }
+    }
+}

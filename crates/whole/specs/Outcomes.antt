@@ -1,0 +1,24 @@
+-- A call's outcome put together from what the code gives: the answer, the trie, and the bytes lent as they are left.
+use mathlib.Core.List.{List}
+use Prim.Native.Nat.{ℕ}
+use Rattle.model.specs.declared.RecoverAnswer.{RecoverAnswer}
+use Rattle.model.specs.declared.TrieGiven.{TrieGiven}
+use Rattle.model.specs.Calls.{Created, Rebuilt, Recovered}
+use Rattle.model.specs.Checks.{Kind, is-bad, is-cut, is-sound}
+use Rattle.file.specs.declared.survey.Kind.{Kind as Found}
+use Rattle.file.specs.declared.survey.Kind.the-variants.{Bad, Cut, Sound}
+
+abbrev pub created : TrieGiven → List ℕ → Created
+created r xs = record { answer = r .answer; file = xs; trie = r .trie }
+
+-- "Check gives sound, cut or bad as a result."
+abbrev pub found : Kind → Found
+found is-sound = Sound
+found (is-cut N) = Cut
+found is-bad = Bad
+
+abbrev pub recovered : RecoverAnswer → List ℕ → Recovered
+recovered r xs = record { answer = r; file = xs }
+
+abbrev pub rebuilt : TrieGiven → Rebuilt
+rebuilt r = record { answer = r .answer; trie = r .trie }

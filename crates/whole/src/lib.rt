@@ -1,0 +1,115 @@
+// The calls on a whole file: create, check, recover, rebuild. None has a `requires`: each checks for itself, in document
+// 01's order of refusals.
+ghost use mathlib.Core.Path.{_≡_};
+ghost use Prim.Native.Nat.{_<_};
+ghost use Rattle.model.specs.Calls.{createOf, new-trie, rebuildOf, recoverOf};
+ghost use Rattle.model.specs.Format.{checkFile};
+ghost use Rattle.whole.specs.Outcomes.{created, found, rebuilt, recovered};
+ghost use Rattle.whole.specs.Small.{Small};
+use file::Header;
+use file::Kind;
+use model::Cause;
+use model::RecoverAnswer;
+use model::TrieAnswer;
+use model::TrieGiven;
+
+fn refused(cause: Cause) -> TrieGiven
+    ensures { λ r. ⌜ (r .answer ≡ TrieAnswer.Refused cause) × (r .trie ≡ new-trie) ⌝ }
+{
+    TrieGiven {
+        answer: TrieAnswer::Refused(cause),
+        trie: trie::without_cells(0),
+    }
+}
+
+// A number that is no size of a file stays none.
+fn small(x: u64) -> usize
+    ensures { λ r. ⌜ Small r x ⌝ }
+{
+    if 255 < x {
+        return 255;
+    }
+    x as usize
+}
+
+// Writes the whole buffer: a file with one empty bucket without limits, in slot 0.
+pub fn create(file: &mut [u8], version: u64, b: u64, slots: u64) -> TrieGiven
+    ensures { λ r. ⌜ created r (now (file .exit)) ≡ createOf (now (file .entry)) version b slots ⌝ }
+{
+    if version != 1 {
+        return refused(Cause::WrongSize);
+    }
+    let Header::Right(size) = file::sizes(file.len(), small(b), small(slots)) else {
+        return refused(Cause::WrongSize);
+    };
+    file::create(file, size);
+    TrieGiven {
+        answer: TrieAnswer::Given,
+        trie: trie::without_cells(0),
+    }
+}
+
+// Whether a file is sound, cut or bad.
+pub fn check(file: &[u8]) -> Kind
+    ensures { λ r. ⌜ r ≡ found (checkFile (now (file .entry))) ⌝ }
+{
+    let Header::Right(size) = file::header_of(file) else {
+        return Kind::Bad;
+    };
+    let survey = file::survey_of(file, size);
+    let kind = survey.kind;
+    kind
+}
+
+// Frees slot N of a cut file in one store and names it.
+pub fn recover(file: &mut [u8], limit: u64) -> RecoverAnswer
+    ensures { λ r. ⌜ recovered r (now (file .exit)) ≡ recoverOf (now (file .entry)) limit ⌝ }
+{
+    if 2 < limit {
+        return RecoverAnswer::Refused(Cause::WrongSize);
+    }
+    let Header::Right(size) = file::header_of(file) else {
+        return RecoverAnswer::Refused(Cause::BadFile);
+    };
+    let survey = file::survey_of(file, size);
+    let kind = survey.kind;
+    match kind {
+        Kind::Bad => RecoverAnswer::Refused(Cause::BadFile),
+        Kind::Sound => RecoverAnswer::Nothing,
+        Kind::Cut => {
+            if limit < 1 {
+                return RecoverAnswer::Stopped(0);
+            }
+            let free = [0u8; 576];
+            let n = file::slot_size(size);
+            file::store(file, size, survey.inner, &free[0..n]);
+            RecoverAnswer::Freed(survey.inner)
+        }
+    }
+}
+
+// The trie of the bucket headers alone.
+pub fn rebuild(file: &[u8]) -> TrieGiven
+    ensures { λ r. ⌜ rebuilt r ≡ rebuildOf (now (file .entry)) ⌝ }
+{
+    let Header::Right(size) = file::header_of(file) else {
+        return refused(Cause::BadFile);
+    };
+    let survey = file::survey_of(file, size);
+    let kind = survey.kind;
+    match kind {
+        Kind::Bad => refused(Cause::BadFile),
+        Kind::Cut => refused(Cause::CutFile),
+        Kind::Sound => {
+            let order = survey.order;
+            let strings = strings::strings_of(file, size, &order, survey.count);
+            if !strings.few {
+                return refused(Cause::ManyStrings);
+            }
+            TrieGiven {
+                answer: TrieAnswer::Given,
+                trie: rebuilding::rebuilt(strings),
+            }
+        }
+    }
+}
