@@ -148,7 +148,7 @@ def _create(target: str, content: bytes, listing: int) -> None:
     try:
         new = _opened(".", os.O_WRONLY | os.O_TMPFILE, folder=listing)
     except OSError as error:
-        if error.errno not in (errno.EOPNOTSUPP, errno.EISDIR):
+        if error.errno not in (errno.EOPNOTSUPP, errno.EISDIR, errno.EINVAL):
             raise
         # A file system without files that have no name.
         new, beside = _beside(listing)
@@ -404,6 +404,7 @@ class Disk:
                 if finished.content != content:
                     _log.warning("%s: its last writer was stopped in a store; finished by its journal", self.path)
             os.unlink(self._beside, dir_fd=self._folder)
+            self._sync_folder()
         except OSError as error:
             raise self._failed(error, "what its last writer has left in its journal stays there") from None
         finally:
@@ -432,13 +433,15 @@ class Disk:
             # Whoever may read the store may read its journal.
             os.fchmod(file, stat.S_IMODE(own.st_mode) & 0o666)
             journal = Journal.begun(file, content)
+            # Others may have written the file without waiting for the disk, and removed their journal.
+            self._make_safe(content)
             if self._sync:
-                # Others may have written the file without waiting for the disk, and removed their journal.
-                os.fdatasync(self._file)
                 self._sync_folder()
         except BaseException:
             os.close(file)
-            os.unlink(self._beside, dir_fd=self._folder)
+            # If this fails too, nothing is said in it.
+            with contextlib.suppress(OSError):
+                os.unlink(self._beside, dir_fd=self._folder)
             raise
         return journal
 
@@ -485,7 +488,6 @@ class Disk:
         journal = self._journal
         if journal and os.fstat(journal.file).st_nlink == 0:
             # Somebody has removed it.
-            self._make_safe(content)
             os.close(journal.file)
             journal = self._journal = None
         if journal is None:
@@ -601,9 +603,10 @@ class Disk:
             there = os.stat(self._beside, dir_fd=self._folder, follow_symlinks=False)
             if os.path.samestat(there, os.fstat(self._journal.file)):
                 os.unlink(self._beside, dir_fd=self._folder)
-        # If it came back after a power loss, it would not fit what others have made of the file meanwhile.
+        # If it came back after a power loss, it would not fit what others have made of the file meanwhile. But nothing is lost.
         if self._sync:
-            self._sync_folder()
+            with contextlib.suppress(OSError):
+                self._sync_folder()
 
     def _let_go(self) -> None:
         """End the locks and close what is open."""

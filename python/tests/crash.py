@@ -1,6 +1,7 @@
 """A machine in memory that fails at any moment, to see what its disk then makes of a store.
 
     python3 python/tests/crash.py 1000000        # so many crash states; `make crash STATES=1000000`
+    python3 python/tests/crash.py 1000000 5000   # others: the histories from number 5000 on
 
 The package's own `disk.py` and `journal.py` run over it, with another `os` and `fcntl` under them. Every write, sync, new
 name and removed name of a random history is kept. Then crash states are made. After a power loss, each sector (512 bytes)
@@ -472,10 +473,10 @@ class Trial:
         self.counts["worlds"] += 1
 
 
-def main(states: int) -> int:
+def main(states: int, seed: int = 0) -> int:
     """Make so many states and tell what was seen, now and then."""
     logging.disable(logging.WARNING)
-    trial, started, told, seed = Trial(), time.monotonic(), 0.0, 0
+    trial, started, told = Trial(), time.monotonic(), 0.0
     while trial.counts["states"] < states:
         trial.world(seed, states=300)
         seed += 1
@@ -487,4 +488,4 @@ def main(states: int) -> int:
 
 
 if __name__ == "__main__":
-    sys.exit(main(int(sys.argv[1])))
+    sys.exit(main(*map(int, sys.argv[1:])))
