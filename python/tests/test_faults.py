@@ -14,7 +14,7 @@ import subprocess
 import sys
 import time
 import unittest
-from collections.abc import Callable, Iterator
+from collections.abc import Iterator
 from pathlib import Path
 from unittest import mock
 
@@ -22,7 +22,7 @@ from support import InFolder, sound_file
 from test_processes import forked
 
 import palhavento
-from palhavento import disk, errors, journal, library
+from palhavento import disk, errors, journal
 
 
 class Faults(InFolder):

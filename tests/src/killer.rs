@@ -21,8 +21,8 @@ use std::time::{Duration, Instant};
 
 use crate::chance::Chance;
 use crate::door::{by_model, Call, Outcome, CALLS, IMAGE};
-use crate::library::{by_library, Grounds};
 use crate::journal;
+use crate::library::{by_library, Grounds};
 use crate::lives::{self, call_for, Said, World, ABOUT_TO, SIGKILL, SIZES, STOPPED};
 use crate::model::file::file_length;
 
