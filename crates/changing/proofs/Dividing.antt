@@ -49,7 +49,7 @@ use Rattle.changing.proofs.Spots.{NoStore, slot-reads}
 use Rattle.splitting.proofs.Counting.{split-count}
 
 -- What the plan of two stores ensures; its slots are the file's.
-abbrev pub TwoStores : Plan → ℕ → List ℕ → ℕ → List ℕ → Type 0
+abbrev TwoStores : Plan → ℕ → List ℕ → ℕ → List ℕ → Type 0
 TwoStores p k bytes l others = (p .stores ≡ 2) × (p .first ≡ k) × (p .one ≡ bytes) × (p .second ≡ l) × (p .two ≡ others)
 
 pub fits-two : (r p : Plan) (k l : ℕ) (bytes others : List ℕ) (size : Size) → r ≡ p → TwoStores p k bytes l others → k < size .slots → l < size .slots → Fits r size
@@ -96,7 +96,7 @@ module _ (b : ℕ) (two : 2 ≤ b) (few : b ≤ 16) (xs : List ℕ) {fs : List S
   length-all = omega (arith, length-new n v es (F .new), F .counted)
 
   -- The stores of a split, planned.
-  pub both-planned : {s : Split} → Divides s b t ws → (N : ℕ) (r : PutPlan) (p : Plan) (slot new old : List ℕ) → slot ≡ take (64 + 32 * b) (drop (16 + A * (64 + 32 * b)) xs)
+  both-planned : {s : Split} → Divides s b t ws → (N : ℕ) (r : PutPlan) (p : Plan) (slot new old : List ℕ) → slot ≡ take (64 + 32 * b) (drop (16 + A * (64 + 32 * b)) xs)
       → new ≡ writtenBytes (take (s .len) (s .string)) (upperAt slot) (take (32 * (b + 1) - 32 * s .stay) (drop (32 * s .stay) entries))
       → old ≡ writtenBytes (lowerAt slot) (take (s .len) (s .string)) (take (32 * s .stay) entries) → TwoStores p N new A old
       → (r .plan ≡ p) × (r .answer ≡ Added) × (r .trie ≡ grown-trie t (name-at ws (b / 2)) (split-of b (place-of (version-1 b)) ws) A N)

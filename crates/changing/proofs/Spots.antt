@@ -1,12 +1,12 @@
 -- The spot of a name in a file that is read and sound, the bytes that its slot is to have, and a plan of one store.
-use Rattle.model.proofs.Prelude.{Bool, List, Option, [], _*_, _+_, _-_, _<_, _∙_, _≡_, _≤_, ap, arith, clash, drop, drop-drop, eq-eqb, eqb, eqb-true, false, getD, getD-take, le-ltb, length, lt-ltb, ltb, ltb-true, nothing, paste, refl, some, subst, suc, sym, take, take-all, true, zero, ℕ}
+use Rattle.model.proofs.Prelude.{Bool, List, Option, [], _*_, _+_, _-_, _<_, _∙_, _≡_, _≤_, ap, arith, clash, drop, drop-drop, eq-eqb, eqb, eqb-true, false, getD, getD-take, le-ltb, length, lt-ltb, ltb, ltb-true, nothing, refl, some, subst, suc, sym, take, take-all, true, zero, ℕ}
 use Rattle.model.specs.declared.Layout.{Layout}
 use Rattle.model.specs.Order.{Low, Str}
 use Rattle.model.specs.Names.{Legal}
 use Rattle.model.specs.Entries.{Entry, find, insert, without}
 use Rattle.model.specs.Files.{In, Slot, Sound, free, head, order-of, slot-at, used}
 use Rattle.model.specs.Changes.{holds?}
-use Rattle.model.specs.Format.{entriesBytes, entriesOf, entrySize, padded, readFile, readUsed, slotAt, slotBytes, slotSize, storeBytes, usedOf, valueOf, version-1}
+use Rattle.model.specs.Format.{entriesBytes, entriesOf, entrySize, padded, readFile, readUsed, slotAt, slotBytes, slotSize, usedOf, valueOf, version-1}
 use Rattle.model.proofs.Names.{both-true, legal-length}
 use Rattle.model.proofs.Entries.{row-insert}
 use Rattle.model.proofs.Files.{first-right, one-range, used-inside}

@@ -1,10 +1,10 @@
 -- A plan committed: what each way out of `commit` leaves.
-use Rattle.model.proofs.Prelude.{List, [], _*_, _+_, _<_, _∙_, _∷_, _≡_, _≤_, arith, false, le-ltb, length, lt-ltb, paste, refl, suc, take, take-all, take-nil, true, zero, ℕ}
+use Rattle.model.proofs.Prelude.{List, [], _*_, _+_, _<_, _∷_, _≡_, _≤_, arith, false, le-ltb, length, lt-ltb, paste, refl, take, take-all, take-nil, true, ℕ}
 use Rattle.model.specs.Changes.{Store}
-use Rattle.model.specs.Format.{entrySize, slotBytes, slotSize, storeBytes, version-1}
+use Rattle.model.specs.Format.{entrySize, slotSize, storeBytes, version-1}
 use Rattle.model.specs.Calls.{storesBytes}
 use Rattle.file.specs.declared.Plan.{Plan}
-use Rattle.file.specs.Plans.{Committed, Holds, Planned}
+use Rattle.file.specs.Plans.{Committed, Holds}
 
 -- The bytes of one store.
 store-is : (b k : ℕ) (bytes xs ys : List ℕ) (s : Store) → Holds (version-1 b) k bytes s

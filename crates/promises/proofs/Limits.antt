@@ -9,7 +9,7 @@ use Rattle.model.specs.Changes.{Result, Store, call, put, refuse, remove, store
 use Rattle.model.specs.Places.{place-of}
 use Rattle.model.specs.Checks.{Kind, is-bad, is-cut, is-sound}
 use Rattle.model.specs.Format.{checkFile, layoutOf, storeBytes}
-use Rattle.model.specs.Calls.{Looked, PutDone, Recovered, RemoveDone, fine, lookedOf, putLooked, putMade, putOf, recoverBy, recoverOf, refusing, removeLooked, removeMade, removeOf, storesBytes}
+use Rattle.model.specs.Calls.{Looked, PutDone, RemoveDone, fine, lookedOf, putLooked, putMade, putOf, recoverBy, recoverOf, refusing, removeLooked, removeMade, removeOf, storesBytes}
 use Rattle.model.proofs.Format.{headed-layout, readFile-read}
 use Rattle.promises.specs.Calls.{our-calls}
 use Rattle.promises.specs.Limits.{Further, InOrder, Limits, no-store, one-store}

@@ -9,12 +9,11 @@ returns : tie.Need-returns
 returns c =
     let at-is-held = c .before .before in let s = at-is-held .before .before .before .before .before in let xs = s .args .file .now in
     let ys = at-is-held .before .slot-at .result .now in
-    let t = sym (at-is-held .is-held .ensures) ∙ not-true (at-is-held .is-held .result) (c .before .if1 .taken) in
-    (
+    let t = sym (at-is-held .is-held .ensures) ∙ not-true (at-is-held .is-held .result) (c .before .if1 .taken) in (
       fits-none (c .no-store .result) (c .no-store .result) (s .args .checked .size) refl (c .no-store .ensures) (s .pre .said .sized .legal),
       (λ fs e n g q.
-      let p = at-is-held .before .before .spot-of .ensures .right fs e n g q in
-      remove-absent (s .args .checked .size .b) p (c .no-store .result) (test-lost xs e (ready-sound (s .pre) e) p ys (at-is-held .before .slot-at .ensures .0) (keyValue (s .args .name)) g q t) (c .no-store .ensures .0)),
+          let p = at-is-held .before .before .spot-of .ensures .right fs e n g q in
+          remove-absent (s .args .checked .size .b) p (c .no-store .result) (test-lost xs e (ready-sound (s .pre) e) p ys (at-is-held .before .slot-at .ensures .0) (keyValue (s .args .name)) g q t) (c .no-store .ensures .0)),
     )
 
 lessened-requires : tie.Need-lessened-requires
@@ -29,15 +28,14 @@ returns-2 c =
     let at-is-held = c .before .before .before .before in let s = at-is-held .before .before .before .before .before in let xs = s .args .file .now in
     let ys = at-is-held .before .slot-at .result .now in let zs = c .before .before .lessened .result in
     let i = at-is-held .before .slot-at .ensures .0 in let r = at-is-held .before .before .spot-of .result in
-    let t = sym (at-is-held .is-held .ensures) ∙ not-false (at-is-held .is-held .result) (c .before .before .before .if1 .left) in
-    (
+    let t = sym (at-is-held .is-held .ensures) ∙ not-false (at-is-held .is-held .result) (c .before .before .before .if1 .left) in (
       fits-one (c .one-store .result) (c .one-store .result) (r .slot) zs (s .args .checked .size) refl (c .one-store .ensures) (at-is-held .before .before .spot-of .ensures .inside .slot-inside) (s .pre .said .sized .legal),
       (λ fs e n g q.
-      let p = at-is-held .before .before .spot-of .ensures .right fs e n g q in
-      let S = ready-sound (s .pre) e in
-      let h = test-held xs e S p ys i (keyValue (s .args .name)) g q t in
-      let z = lessened-is xs e S p ys i (s .pre .said .sized .legal .b-most) zs (h .1 .0) (h .1 .1) (c .before .before .lessened .ensures) in
-      remove-held (s .args .checked .size .b) p (c .one-store .result) zs (h .1 .0) (h .1 .1) z (c .one-store .ensures)),
+          let p = at-is-held .before .before .spot-of .ensures .right fs e n g q in
+          let S = ready-sound (s .pre) e in
+          let h = test-held xs e S p ys i (keyValue (s .args .name)) g q t in
+          let z = lessened-is xs e S p ys i (s .pre .said .sized .legal .b-most) zs (h .1 .0) (h .1 .1) (c .before .before .lessened .ensures) in
+          remove-held (s .args .checked .size .b) p (c .one-store .result) zs (h .1 .0) (h .1 .1) z (c .one-store .ensures)),
     )
 
 pub remove-plan-spec : {M : Type 1} → Rattle.changing.proofs.remove_plan.Statement.statement M
