@@ -17,4 +17,5 @@ determined-c = record {
   put = λ xs image name v limit out. by-equation (palPutOf xs image name v limit out);
   remove = λ xs image name limit out. by-equation (palRemoveOf xs image name limit out);
   list = λ xs image low high output out. by-equation (palListOf xs image low high output out);
+  look-up-from = λ xs p name o q x y. x ∙ sym y;
 }
