@@ -1,5 +1,5 @@
 -- Demand 1 of the C interface follows from demand 1 of the calls.
-use Rattle.model.proofs.Prelude.{List, List·Memᴰ, List·Memᴰ·head, List·Memᴰ·tail, [], _∙_, _∷_, _≡_, ap, arith, inl, inr, refl, sym, ℕ}
+use Rattle.model.proofs.Prelude.{List, List·Memᴰ, List·Memᴰ·head, List·Memᴰ·tail, [], _∙_, _∷_, _≡_, ap, inl, inr, refl, ℕ}
 use Rattle.model.specs.declared.Cause.{Cause}
 use Rattle.model.specs.declared.ListAnswer.{ListAnswer}
 use Rattle.model.specs.declared.ListAnswer.the-variants.{Listed, Refused as ListRefused}
@@ -19,7 +19,6 @@ use Rattle.model.specs.Checks.{Kind, is-bad, is-cut, is-sound}
 use Rattle.model.specs.Format.{checkFile}
 use Rattle.promises.specs.Demand1.{Exactly, Table, create-table, list-table, look-up-table, put-table, rebuild-table, recover-table, remove-table}
 use Rattle.promises.proofs.Demand1.{demand-1}
-use Rattle.promises.proofs.Meanings.{meanings}
 use Rattle.image.specs.Images.{cellsBytes, imageOf, sideNumber, trieOf}
 use Rattle.capi.specs.Doors.{palCheckOf}
 use Rattle.capi.proofs.Doors.{create-malformed, list-malformed, lookUp-malformed, put-malformed, rebuild-malformed, remove-malformed}
@@ -81,27 +80,9 @@ check-answers is-sound = List·Memᴰ·head refl
 check-answers (is-cut N) = List·Memᴰ·tail (List·Memᴰ·head refl)
 check-answers is-bad = List·Memᴰ·tail (List·Memᴰ·tail (List·Memᴰ·head refl))
 
-sound-said : (k : Kind) → checkSays k .0 ≡ 140 → k ≡ is-sound
-sound-said is-sound e = refl
-sound-said (is-cut N) e = absurd (omega arith)
-sound-said is-bad e = absurd (omega arith)
-
-cut-said : (k : Kind) → checkSays k .0 ≡ 141 → (N : ℕ) × (k ≡ is-cut N)
-cut-said is-sound e = absurd (omega arith)
-cut-said (is-cut N) e = (N, refl)
-cut-said is-bad e = absurd (omega arith)
-
-bad-said : (k : Kind) → checkSays k .0 ≡ 142 → k ≡ is-bad
-bad-said is-sound e = absurd (omega arith)
-bad-said (is-cut N) e = absurd (omega arith)
-bad-said is-bad e = refl
-
-check-number : (xs : List ℕ) → palCheckOf xs ≡ checkSays (checkFile xs) .0
+pub check-number : (xs : List ℕ) → palCheckOf xs ≡ checkSays (checkFile xs) .0
 unfolding palCheckOf
 check-number xs = refl
-
-abbrev says : Kind → ℕ
-says k = checkSays k .0
 
 -- The image of the empty trie.
 empty-image : imageOf new-trie ≡ zero-image
@@ -132,14 +113,6 @@ demand-1-c = record {
   remove-says = λ xs image name limit out w. rw (remove-is image w xs name limit out) (remove-answers (removeOf xs (trieOf image) name limit .answer));
   list-says = λ xs image low high output out w. rw (list-is image w xs low high output out) (list-answers (listOf xs (trieOf image) low high output .answer));
   check-says = λ xs. rw (check-number xs) (check-answers (checkFile xs));
-  says-sound = λ xs.
-      (λ e. meanings .says-sound xs .0 (sound-said (checkFile xs) (sym (check-number xs) ∙ e)), λ S. check-number xs ∙ ap says (meanings .says-sound xs .1 S));
-  says-cut = λ xs. (
-    λ e. let c = cut-said (checkFile xs) (sym (check-number xs) ∙ e) in (c .0, meanings .says-cut xs (c .0) .0 (c .1)),
-    λ K. check-number xs ∙ ap says (meanings .says-cut xs (K .0) .1 (K .1)),
-  );
-  says-bad = λ xs.
-      (λ e. meanings .says-bad xs .0 (bad-said (checkFile xs) (sym (check-number xs) ∙ e)), λ B. check-number xs ∙ ap says (meanings .says-bad xs .1 B));
   create-leaves = λ xs v b slots image c w e.
       let a = create-cause (createOf xs v b slots .answer) c (rw (create-is image w xs v b slots) at e) in
       let l = demand-1 .create-leaves xs v b slots c a in

@@ -1,13 +1,12 @@
 -- Demand 1 (R13.1) of the C interface: the number says the first cause that holds, and then every byte and word is as it was.
 use mathlib.Core.Path.{_≡_}
-use mathlib.Core.Logic.{_↔_, _⊎_}
+use mathlib.Core.Logic.{_⊎_}
 use mathlib.Core.List.{List, List·Memᴰ, [], _∷_}
 use Prim.Native.Nat.{ℕ}
 use lib.ListN.{replicate}
 use Rattle.model.specs.declared.Cause.{Cause}
 use Rattle.model.specs.Answers.{number}
-use Rattle.model.specs.Format.{BadFile, SoundFile}
-use Rattle.promises.specs.Demand1.{First, IsCut, Table, create-table, list-table, look-up-table, put-table, rebuild-table, recover-table, remove-table}
+use Rattle.promises.specs.Demand1.{First, Table, create-table, list-table, look-up-table, put-table, rebuild-table, recover-table, remove-table}
 use Rattle.image.specs.Images.{imageSize, trieOf}
 use Rattle.capi.specs.Doors.{malformed}
 use Rattle.interface.specs.Calls.{CCalls, IsImage}
@@ -46,9 +45,6 @@ pub record Demand1C (C : CCalls) : Type 0 where
   pub list-says : (xs image low high output out : List ℕ) → IsImage image → Answers (152 ∷ []) (C .list xs image low high output out .0)
   -- Check refuses nothing.
   pub check-says : (xs : List ℕ) → List·Memᴰ (C .check xs) (140 ∷ 141 ∷ 142 ∷ [])
-  pub says-sound : (xs : List ℕ) → (C .check xs ≡ 140) ↔ SoundFile xs
-  pub says-cut : (xs : List ℕ) → (C .check xs ≡ 141) ↔ IsCut xs
-  pub says-bad : (xs : List ℕ) → (C .check xs ≡ 142) ↔ BadFile xs
   -- R10.11: a refusal changes no byte and no word; R10.12: create and rebuild then write the empty trie's image.
   pub create-leaves : (xs : List ℕ) (v b slots : ℕ) (image : List ℕ) (c : Cause) → IsImage image → C .create xs v b slots image .0 ≡ number c
       → C .create xs v b slots image ≡ (number c, xs, zero-image)
