@@ -1,5 +1,6 @@
-# The two commands of README, the libraries and their installation, the longer trial of kills, the notebook, the benchmark.
-.PHONY: run test kill library python install notebook bench clean
+# The two commands of README, the libraries and their installation, the longer trials of kills and of crashes, the notebook, the
+# benchmark.
+.PHONY: run test kill crash library python install notebook bench clean
 
 # The main job: prove, build, and run the program on the names of NAMES, one a line.
 NAMES ?= crates/overview/stdin
@@ -15,6 +16,11 @@ test:
 SECONDS ?= 60
 kill: python
 	@cd tests && PALHAVENTO_SECONDS=$(SECONDS) cargo test --release --offline --test killed -- --nocapture
+
+# So many crash states of a disk in memory, over which the Python package runs.
+STATES ?= 100000
+crash: python
+	@python3 python/tests/crash.py $(STATES)
 
 # The static library for C, Rust and whoever links it, in target/staticlib. The crates below it are checked first, because
 # `rt check` proves side by side what `rt staticlib` would prove one after the other.

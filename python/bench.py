@@ -8,7 +8,7 @@ its write-ahead log; and in memory, where nothing is kept. `dbm` never waits for
 Python was built, and is told. A get is made by the writer, and then by a reader beside it, where the store lets one read: in
 the same process, with a second connection. LMDB has no such reader, and needs none: whoever reads does it by a transaction.
 
-The stores take turns in each of several rounds. Figures are the median over all rounds, in microseconds a call.
+The stores take turns, 25 calls each, in each of several rounds. Figures are the median over all, in microseconds a call.
 """
 
 from __future__ import annotations
@@ -34,6 +34,7 @@ except ImportError:
 
 NAMES = random.Random(0).sample([f"series.{number:04}" for number in range(5000)], 500)
 ROUNDS = 5
+TURN = 25
 Get = Callable[[str], int]
 Put = Callable[[str, int], object]
 Calls = contextlib.AbstractContextManager[tuple[Put, Get, Get | None]]
@@ -43,7 +44,7 @@ Calls = contextlib.AbstractContextManager[tuple[Put, Get, Get | None]]
 def of_palhavento(folder: Path, sync: bool) -> Iterator[tuple[Put, Get, Get | None]]:
     with palhavento.open(folder / "store.tkf", sync=sync) as store:
         with palhavento.open(folder / "store.tkf", readonly=True) as reader:
-            yield store.__setitem__, store.__getitem__, reader.__getitem__
+            yield lambda name, value: store.__setitem__(name, value), store.__getitem__, reader.__getitem__
 
 
 @contextlib.contextmanager
@@ -107,15 +108,21 @@ def times(calls: Iterable[Callable[[], object]]) -> list[float]:
     return taken
 
 
-def one_round(store: Callable[[Path, bool], Calls], sync: bool) -> list[list[float]]:
-    """The times of a put of each name, of a put again, of a get, and of a get by a reader."""
-    with tempfile.TemporaryDirectory() as name, store(Path(name), sync) as (put, get, get_beside):
-        return [
-            times(partial(put, at, 1) for at in NAMES),
-            times(partial(put, at, 2) for at in NAMES),
-            times(partial(get, at) for at in NAMES),
-            times(partial(get_beside, at) for at in NAMES) if get_beside else [],
-        ]
+def one_round(names: list[str], sync: bool) -> dict[str, list[list[float]]]:
+    """Of each store the times of a put of each name, of a put again, of a get, and of a get by a reader."""
+    taken: dict[str, list[list[float]]] = {name: [[], [], [], []] for name in names}
+    with contextlib.ExitStack() as stack:
+        stores = {
+            name: stack.enter_context(STORES[name](Path(stack.enter_context(tempfile.TemporaryDirectory())), sync))
+            for name in names
+        }
+        for kind in range(4):
+            # Short turns, for the machine is not as fast at every moment.
+            for at in range(0, len(NAMES), TURN):
+                for name, (put, get, get_beside) in stores.items():
+                    call = (partial(put, value=1), partial(put, value=2), get, get_beside)[kind]
+                    taken[name][kind] += times(partial(call, key) for key in NAMES[at : at + TURN]) if call else []
+    return taken
 
 
 def main() -> None:
@@ -125,15 +132,12 @@ def main() -> None:
         kind = dbm.whichdb(f"{folder}/store")
     print(f"palhavento by {'ctypes' if calls.used is calls.ByCtypes else 'its extension'}, dbm by {kind}")
     for sync, names in ((True, list(STORES)[:-2]), (False, list(STORES))):
-        taken: dict[str, list[list[float]]] = {name: [[], [], [], []] for name in names}
-        for _ in range(ROUNDS):
-            for name in names:
-                for all_rounds, this_round in zip(taken[name], one_round(STORES[name], sync)):
-                    all_rounds += this_round
+        rounds = [one_round(names, sync) for _ in range(ROUNDS)]
         title = "each put waits for the disk" if sync else "no put waits for the disk"
         print(f"{title:30}{'put':>10}{'put again':>12}{'get':>8}{'get beside':>12}")
         for name in names:
-            figures = [f"{statistics.median(call):.1f}" if call else "-" for call in taken[name]]
+            all_rounds = [sum((taken[name][at] for taken in rounds), []) for at in range(4)]
+            figures = [f"{statistics.median(call):.1f}" if call else "-" for call in all_rounds]
             print(f"{name:30}{figures[0]:>10}{figures[1]:>12}{figures[2]:>8}{figures[3]:>12}")
 
 

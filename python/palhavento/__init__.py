@@ -1,4 +1,4 @@
-"""Palhavento: an ordered file of names on disk, each with a 64-bit integer, believed after a kill between any two stores.
+"""Palhavento: an ordered file of names on disk, each with a 64-bit integer, believed after a kill at any moment.
 
     >>> import palhavento
     >>> store = palhavento.open("gdp.tkf")

@@ -10,17 +10,20 @@
 
 #include <errno.h>
 #include <fcntl.h>
+#include <math.h>
 #include <string.h>
 #include <sys/stat.h>
+#include <time.h>
 #include <unistd.h>
 
 /* More than a file's name can have, with whatever its journal's adds. */
 enum { LONGEST = 512 };
 
-/* What is asked for at each reading, prepared once. */
+/* What is asked for at each reading, prepared once; and how long the file was, and when, when last looked at. */
 struct request {
     int file, folder;
-    Py_ssize_t most;
+    Py_ssize_t most, length;
+    double again, looked;
     struct flock lock, at_work, unlock;
     dev_t device;
     ino_t inode;
@@ -50,7 +53,11 @@ static int copy_name(char name[LONGEST], const char *given)
     return 1;
 }
 
-/* prepare(file, most, lock, at_work, unlock, folder, name, device, inode, journal), the locks as `fcntl` takes them. */
+/*
+ * prepare(file, most, lock, at_work, unlock, folder, name, device, inode, journal, again)
+ *
+ * The locks are given as `fcntl` takes them; `again` is after how many seconds to look again whether the file is in its place.
+ */
 static PyObject *prepare(PyObject *self, PyObject *given)
 {
     struct request *made;
@@ -58,8 +65,9 @@ static PyObject *prepare(PyObject *self, PyObject *given)
     Py_ssize_t lengths[3], most;
     int file, folder;
     unsigned long long device, inode;
-    if (!PyArg_ParseTuple(given, "iny#y#y#iyKKy", &file, &most, &locks[0], &lengths[0], &locks[1], &lengths[1], &locks[2],
-                          &lengths[2], &folder, &name, &device, &inode, &journal))
+    double again;
+    if (!PyArg_ParseTuple(given, "iny#y#y#iyKKyd", &file, &most, &locks[0], &lengths[0], &locks[1], &lengths[1], &locks[2],
+                          &lengths[2], &folder, &name, &device, &inode, &journal, &again))
         return NULL;
     made = PyMem_Malloc(sizeof *made);
     if (!made)
@@ -67,6 +75,8 @@ static PyObject *prepare(PyObject *self, PyObject *given)
     made->file = file;
     made->folder = folder;
     made->most = most;
+    made->again = again;
+    made->looked = -INFINITY;
     made->device = device;
     made->inode = inode;
     if (most < 0 || !copy_lock(&made->lock, locks[0], lengths[0]) || !copy_lock(&made->at_work, locks[1], lengths[1])
@@ -95,6 +105,23 @@ static int read_into(char *into, Py_ssize_t length, const struct request *of)
     return !fcntl(of->file, F_OFD_SETLK, &unlock) && usual;
 }
 
+/* Whether the file is in its place, by a look that is not too old. */
+static int is_there(struct request *of)
+{
+    struct timespec time;
+    struct stat found;
+    clock_gettime(CLOCK_MONOTONIC_COARSE, &time);
+    double now = time.tv_sec + time.tv_nsec / 1e9;
+    if (now - of->looked < of->again)
+        return 1;
+    if (fstatat(of->folder, of->name, &found, AT_SYMLINK_NOFOLLOW) || found.st_dev != of->device
+        || found.st_ino != of->inode)
+        return 0;
+    of->length = found.st_size < of->most ? found.st_size : of->most;
+    of->looked = now;
+    return 1;
+}
+
 /*
  * read_locked(request)
  *
@@ -103,15 +130,13 @@ static int read_into(char *into, Py_ssize_t length, const struct request *of)
  */
 static PyObject *read_locked(PyObject *self, PyObject *prepared)
 {
-    const struct request *of = PyCapsule_GetPointer(prepared, KIND);
-    struct stat found;
+    struct request *of = PyCapsule_GetPointer(prepared, KIND);
     int usual;
     if (!of)
         return NULL;
-    if (fstatat(of->folder, of->name, &found, AT_SYMLINK_NOFOLLOW) || found.st_dev != of->device
-        || found.st_ino != of->inode)
+    if (!is_there(of))
         Py_RETURN_NONE;
-    Py_ssize_t length = found.st_size < of->most ? found.st_size : of->most;
+    Py_ssize_t length = of->length;
     PyObject *content = PyBytes_FromStringAndSize(NULL, length);
     if (!content)
         return NULL;
@@ -121,6 +146,7 @@ static PyObject *read_locked(PyObject *self, PyObject *prepared)
     Py_END_ALLOW_THREADS
     if (usual)
         return content;
+    of->looked = -INFINITY;
     Py_DecRef(content);
     Py_RETURN_NONE;
 }

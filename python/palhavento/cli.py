@@ -48,7 +48,7 @@ exit status:
 What is refused has changed nothing; an import says how far it came.
 docs/OPERATIONS.md says what to do for each."""
 
-PURPOSE = "An ordered file of names, each with a 64-bit value, which a kill between two stores never spoils."
+PURPOSE = "An ordered file of names, each with a 64-bit value, which no kill and no power loss spoils."
 
 EXAMPLES = """\
 examples:

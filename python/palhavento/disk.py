@@ -35,7 +35,7 @@ Path = Union[str, bytes, "os.PathLike[str]", "os.PathLike[bytes]"]
 # its holder is stopped.
 PATIENCE = 5.0
 
-# How often a writer that only reads looks whether its file is still in its place. Each store looks by itself.
+# How often who only reads looks whether the file is still in its place. Each store looks by itself.
 LOOK_AGAIN = 0.1
 
 # What is said of a store that failed.
@@ -148,7 +148,7 @@ def _create(target: str, content: bytes, listing: int) -> None:
     try:
         new = _opened(".", os.O_WRONLY | os.O_TMPFILE, folder=listing)
     except OSError as error:
-        if error.errno not in (errno.EOPNOTSUPP, errno.EISDIR):
+        if error.errno not in (errno.EOPNOTSUPP, errno.EISDIR, errno.EINVAL):
             raise
         # A file system without files that have no name.
         new, beside = _beside(listing)
@@ -226,7 +226,7 @@ class Disk:
                 raise IsADirectoryError(errno.EISDIR, os.strerror(errno.EISDIR), self.path)
             if not stat.S_ISREG(own.st_mode):
                 raise OSError(errno.EINVAL, "is no regular file", self.path)
-            self._identity = own.st_dev, own.st_ino
+            self.identity = own.st_dev, own.st_ino
             # The file's own place, past all links, and as it stays if a folder above is renamed.
             folder, self._name = os.path.split(os.path.realpath(self.path))
             self._beside = journal_name(self._name)
@@ -303,12 +303,12 @@ class Disk:
             own = os.stat(self._name, dir_fd=self._folder, follow_symlinks=False)
         except FileNotFoundError:
             own = None
-        if own is None or (own.st_dev, own.st_ino) != self._identity:
+        if own is None or (own.st_dev, own.st_ino) != self.identity:
             raise FileNotFoundError(errno.ENOENT, "removed, renamed or replaced since it was opened", self.path)
         # Nobody else writes. If somebody does all the same, without our locks, the bytes are read again.
         if (own.st_size, own.st_mtime_ns) != self._stamp and self._content is not None:
             self._content, self._renew = None, True
-        self._looked = time.monotonic()
+        self.looked = time.monotonic()
 
     def _seen(self) -> None:
         """The file is now as we know it."""
@@ -324,7 +324,7 @@ class Disk:
         if self.readonly:
             self._look()
             return self._read_beside()
-        if anew or time.monotonic() - self._looked > LOOK_AGAIN:
+        if anew or time.monotonic() - self.looked > LOOK_AGAIN:
             self._look()
         if anew or self._content is None:
             self._find()
@@ -334,7 +334,7 @@ class Disk:
         """What a reader asks of the system for one reading while nothing is unusual, as `_system.c` takes it."""
         locks = _CONTENT[fcntl.F_RDLCK], _AT_WORK[fcntl.F_WRLCK], _CONTENT[fcntl.F_UNLCK]
         name, journal = os.fsencode(self._name), os.fsencode(self._beside)
-        return self._file, LARGEST_FILE + 1, *locks, self._folder, name, *self._identity, journal
+        return self._file, LARGEST_FILE + 1, *locks, self._folder, name, *self.identity, journal, LOOK_AGAIN
 
     def _bytes(self) -> bytes:
         return os.pread(self._file, LARGEST_FILE + 1, 0)
@@ -404,6 +404,7 @@ class Disk:
                 if finished.content != content:
                     _log.warning("%s: its last writer was stopped in a store; finished by its journal", self.path)
             os.unlink(self._beside, dir_fd=self._folder)
+            self._sync_folder()
         except OSError as error:
             raise self._failed(error, "what its last writer has left in its journal stays there") from None
         finally:
@@ -432,11 +433,15 @@ class Disk:
             # Whoever may read the store may read its journal.
             os.fchmod(file, stat.S_IMODE(own.st_mode) & 0o666)
             journal = Journal.begun(file, content)
+            # Others may have written the file without waiting for the disk, and removed their journal.
+            self._make_safe(content)
             if self._sync:
                 self._sync_folder()
         except BaseException:
             os.close(file)
-            os.unlink(self._beside, dir_fd=self._folder)
+            # If this fails too, nothing is said in it.
+            with contextlib.suppress(OSError):
+                os.unlink(self._beside, dir_fd=self._folder)
             raise
         return journal
 
@@ -483,7 +488,6 @@ class Disk:
         journal = self._journal
         if journal and os.fstat(journal.file).st_nlink == 0:
             # Somebody has removed it.
-            self._make_safe(content)
             os.close(journal.file)
             journal = self._journal = None
         if journal is None:
@@ -567,6 +571,7 @@ class Disk:
             self._sync = self._renew = True
             try:
                 self._turn(self._journal, content)
+                self._sync_folder()
             finally:
                 self._sync = False
 
@@ -598,6 +603,10 @@ class Disk:
             there = os.stat(self._beside, dir_fd=self._folder, follow_symlinks=False)
             if os.path.samestat(there, os.fstat(self._journal.file)):
                 os.unlink(self._beside, dir_fd=self._folder)
+        # If it came back after a power loss, it would not fit what others have made of the file meanwhile. But nothing is lost.
+        if self._sync:
+            with contextlib.suppress(OSError):
+                self._sync_folder()
 
     def _let_go(self) -> None:
         """End the locks and close what is open."""

@@ -64,15 +64,16 @@ class Opened:
         # What a writer knows, file and trie, and until when it need not look whether the file is in its place.
         self._now: tuple[bytes, bytes, float] | None = None
         self._forked = False
-        self.disk = disk.Disk(path, readonly, sync, timeout)
         # A reader's short cut, for where the extension was compiled.
-        self._request = _system.prepare(*self.disk.request()) if readonly and _system else None
+        self._request: object = None
+        self.disk = disk.Disk(path, readonly, sync, timeout)
         self.path = self.disk.path
         try:
+            if readonly and _system:
+                self._request = _system.prepare(*self.disk.request())
             file = self._settled()
             self.trie = self._rebuilt(file)
         except BaseException:
-            self._request = None
             self.disk.close()
             raise
         self.b, self.slots = layout.sizes(file)
@@ -170,7 +171,9 @@ class Opened:
     def ask(self, call: Callable[..., Given], *given: object) -> Given:
         """What a call gives for the file as it is now and its trie."""
         with self.alone:
-            file = self.read()
+            now = self._now
+            known = now is not None and time.monotonic() < now[2]
+            file = now[0] if known else self.read()
             try:
                 answer = call(file, self.trie, *given)
             except BadFile:
@@ -180,14 +183,18 @@ class Opened:
             except (CutFile, StaleTrie):
                 pass
             else:
-                if not self.readonly:
-                    self._now = file, self.trie, time.monotonic() + disk.LOOK_AGAIN
+                if not (known or self.readonly):
+                    self._know(file)
                 return answer
             self._now = None
             file = self._settled()
             self.trie = self._rebuilt(file)
             _log.info("%s: the trie was stale and is rebuilt", self.path)
             return call(file, self.trie, *given)
+
+    def _know(self, file: bytes) -> None:
+        """Remember, in a writer, what the file and its trie are."""
+        self._now = file, self.trie, self.disk.looked + disk.LOOK_AGAIN
 
     def look_up(self, name: calls.Name) -> int | None:
         """The value of a name, or None where it is absent. A writer looks in what it knows, and waits for nobody."""
@@ -217,21 +224,21 @@ class Opened:
             if stopped:
                 # Called with what it was called with before, since a stop leaves the old trie.
                 answer, last, trie = call(before, self.trie, *given, 2)
-            # Until all is on disk the file may be any of them.
-            self._now = None
             self.told.pop(threading.get_ident(), None)
             self._store(before, file)
             if stopped:
                 self._store(file, last)
                 file = last
             self.trie = trie
-            self._now = file, trie, time.monotonic() + disk.LOOK_AGAIN
+            self._know(file)
             return answer
 
     def _store(self, before: bytes, after: bytes) -> None:
         """Make on disk the one store between two states. A slot that stays as it was has nothing to be written."""
         change = calls.changed(before, after)
         if change is not None:
+            # Until it is made, the file may be either.
+            self._now = None
             self.disk.store(*change, before, after)
 
 
@@ -266,7 +273,7 @@ def of(path: disk.Path, readonly: bool, sync: bool, timeout: float) -> Opened:
         shared = _WRITERS.get((found.st_dev, found.st_ino))
         if shared is None or shared.is_closed():
             new = Opened(path, readonly, sync, timeout)
-            _WRITERS[new.disk._identity] = new
+            _WRITERS[new.disk.identity] = new
             return new
         if shared.sync != sync:
             said = f"{shared.path}: It is open in this process with sync={shared.sync}: open it so, or close it first."

@@ -1,6 +1,7 @@
 """A machine in memory that fails at any moment, to see what its disk then makes of a store.
 
     python3 python/tests/crash.py 1000000        # so many crash states; `make crash STATES=1000000`
+    python3 python/tests/crash.py 1000000 5000   # others: the histories from number 5000 on
 
 The package's own `disk.py` and `journal.py` run over it, with another `os` and `fcntl` under them. Every write, sync, new
 name and removed name of a random history is kept. Then crash states are made. After a power loss, each sector (512 bytes)
@@ -160,6 +161,10 @@ class Machine:
 
     def urandom(self, count: int) -> bytes:
         return random.randbytes(count)
+
+    def allow(self, contents: list[bytes]) -> None:
+        """From now on one of these must be found; if there is none, nothing is promised."""
+        self.log.append(("allowed", contents))
 
     @contextlib.contextmanager
     def runs(self) -> Iterator[None]:
@@ -385,11 +390,27 @@ class Trial:
             return self.judge(left, [content], chance, depth + 1)
         return content
 
+    def hasty(self, machine: Machine, letters: str, chance: random.Random) -> bool:
+        """A process that does not wait for the disk; unless it does at its end, and says so."""
+        machine.allow([])
+        with contextlib.closing(disk.Disk(PATH, False, False)) as writer:
+            for _ in range(chance.randint(1, 5)):
+                for after in a_call(writer.read(), letters, chance)[0]:
+                    if after != writer.read():
+                        writer.store(*changed(writer.read(), after))
+            flushes = chance.random() < 0.5
+            if flushes:
+                writer.flush()
+                machine.allow([writer.read()])
+        return flushes
+
     def life(self, files: Files, chance: random.Random, states: int, faults: Faults | None) -> Files | None:
         """One process with its stores, and crash states of its disk; one of these is for the next life."""
         machine = Machine(files)
         letters = chance.choice(("abcdefg}", "xy", "!abcdefghijklmnopqrstuvwxyz0123456789}"))
         with machine.runs():
+            # Perhaps somebody was here who did not wait for the disk. Then nothing is promised before a store is that does.
+            promised = self.kind is not disk.Disk or chance.random() < 0.8 or self.hasty(machine, letters, chance)
             writer = self.kind(PATH, False, True)
             machine.faults = faults
             allowed = [writer.read()]
@@ -399,19 +420,19 @@ class Trial:
                 for after in a_call(content, letters, chance)[0]:
                     if after == content:
                         continue
-                    machine.log.append(("allowed", [*allowed, after]))
+                    machine.allow([*allowed, after] if promised else [])
                     try:
                         writer.store(*changed(content, after))
-                        allowed, content = [after], after
+                        allowed, content, promised = [after], after, True
                     except OSError as error:
                         self.counts["stores that failed"] += 1
                         # If it is not known whether it was made, that is so until a further store is made.
                         if disk.UNKNOWN in str(error):
                             allowed = [*allowed, after]
-                        machine.log.append(("allowed", allowed))
+                        machine.allow(allowed if promised else [])
                         break
                     self.counts["stores"] += 1
-                    machine.log.append(("allowed", allowed))
+                    machine.allow(allowed)
                     assert writer.read() == after
             try:
                 if chance.random() < 0.3:
@@ -452,10 +473,10 @@ class Trial:
         self.counts["worlds"] += 1
 
 
-def main(states: int) -> int:
+def main(states: int, seed: int = 0) -> int:
     """Make so many states and tell what was seen, now and then."""
     logging.disable(logging.WARNING)
-    trial, started, told, seed = Trial(), time.monotonic(), 0.0, 0
+    trial, started, told = Trial(), time.monotonic(), 0.0
     while trial.counts["states"] < states:
         trial.world(seed, states=300)
         seed += 1
@@ -467,4 +488,4 @@ def main(states: int) -> int:
 
 
 if __name__ == "__main__":
-    sys.exit(main(int(sys.argv[1])))
+    sys.exit(main(*map(int, sys.argv[1:])))

@@ -8,6 +8,7 @@ into the pipe `.said`. The package is used as its users do: the mapping, its exc
 
 from __future__ import annotations
 
+import contextlib
 import ctypes
 import fcntl
 import logging
@@ -235,8 +236,10 @@ def live(path: str, first: int, end: int, moment: int, inside: int) -> None:
 def bear(path: str, numbers: list[int]) -> int:
     """A process that lives so."""
     pipe = f"{path}.said"
-    if not os.path.exists(pipe):
-        os.mkfifo(pipe)
+    # A new one each time: of the last one another process, itself just being forked, may still have a copy to read from.
+    with contextlib.suppress(FileNotFoundError):
+        os.unlink(pipe)
+    os.mkfifo(pipe)
     child = os.fork()
     if child:
         return child

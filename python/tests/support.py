@@ -2,6 +2,7 @@
 
 from __future__ import annotations
 
+import logging
 import sys
 import tempfile
 import unittest
@@ -10,6 +11,9 @@ from pathlib import Path
 sys.path.insert(0, str(Path(__file__).resolve().parent.parent))
 
 from palhavento import library  # noqa: E402  (the path above comes first)
+
+# Warnings are for `assertLogs`, and not for the log of the tests.
+logging.getLogger("palhavento").addHandler(logging.NullHandler())
 
 WORDS = "the of and to a in that is i".split()
 

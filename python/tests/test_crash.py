@@ -34,7 +34,7 @@ class Crashes(unittest.TestCase):
         return trial.counts
 
     def test_nothing_is_lost(self) -> None:
-        counts = self.counted(20_000, faulty=True)
+        counts = self.counted(15_000, faulty=True)
         self.assertEqual(losses(counts), 0, counts)
         for seen in ("journals finished", "store under way is made", "openings that failed", "stores that failed"):
             self.assertGreater(counts[seen], 500, counts)

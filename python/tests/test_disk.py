@@ -43,7 +43,7 @@ class Stores(InFolder):
         with palhavento.open(self.path) as store:
             self.assertEqual(
                 self.asked_by(store, "rate2", 5),
-                [("tkf.journal", 0, 73_728), ("tkf.journal", 4096, 160), "tkf.journal synced", ("tkf", 16, 128)],
+                [("tkf.journal", 0, 73_728), "tkf synced", ("tkf.journal", 4096, 160), "tkf.journal synced", ("tkf", 16, 128)],
             )
             # A split is two stores, the new slot's first.
             self.assertEqual(
@@ -61,7 +61,7 @@ class Stores(InFolder):
         with palhavento.open(self.path) as store:
             asked = [self.asked_by(store, "rate2", value) for value in range(5, 200)]
             turns = [place for place, calls in enumerate(asked) if "tkf synced" in calls]
-            self.assertEqual(turns, [64, 128, 192])
+            self.assertEqual(turns, [0, 64, 128, 192])
             half = 4096 + 64 * 512
             self.assertEqual(
                 asked[64],
@@ -99,10 +99,11 @@ class Stores(InFolder):
         self.assertEqual(os.listdir(self.folder), [self.path.name])
 
     def test_the_file_after_each_store_is_the_one_a_stop_leaves(self) -> None:
-        before = self.path.read_bytes()
-        states = [library.put(before, library.rebuild(before), b"rate3", 3, limit).file for limit in (0, 1)]
         seen = []
         with palhavento.open(self.path) as store:
+            store["rate2"] = 7
+            before = self.path.read_bytes()
+            states = [library.put(before, library.rebuild(before), b"rate3", 3, limit).file for limit in (0, 1)]
             with mock.patch("os.fdatasync", lambda file: seen.append(self.path.read_bytes())):
                 store["rate3"] = 3
                 self.assertEqual(seen, states)

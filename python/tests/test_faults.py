@@ -14,7 +14,7 @@ import subprocess
 import sys
 import time
 import unittest
-from collections.abc import Callable, Iterator
+from collections.abc import Iterator
 from pathlib import Path
 from unittest import mock
 
@@ -22,7 +22,7 @@ from support import InFolder, sound_file
 from test_processes import forked
 
 import palhavento
-from palhavento import disk, errors, journal, library
+from palhavento import disk, errors, journal
 
 
 class Faults(InFolder):
@@ -124,16 +124,17 @@ class Faults(InFolder):
                 self.assertEqual(os.listdir(self.folder), ["store.tkf"])
 
     def test_a_sync_of_the_file_that_fails_is_made_up_for(self) -> None:
-        """Linux forgets what it could not write, so all of it is written again before the journal is forgotten."""
+        """Linux forgets what it could not write, so all of it is written again before the journal is relied on or forgotten."""
         with mock.patch.object(journal, "PLACES", 1), palhavento.open(self.path) as store:
-            store["rate1"] = 7
-            with self.failing("fdatasync", errno.EIO, "store"), self.assertRaisesRegex(OSError, disk.NOT_MADE):
-                store["rate2"] = 5
-            written = []
-            pwrite = os.pwrite
-            with mock.patch("os.pwrite", lambda *words: written.append(len(words[1])) or pwrite(*words)):
-                store["rate2"] = 5
-            self.assertIn(len(self.path.read_bytes()), written)
+            # Before the journal begins, and when its half is full.
+            for name, value in (("rate1", 7), ("rate2", 5)):
+                with self.failing("fdatasync", errno.EIO, "store"), self.assertRaisesRegex(OSError, disk.NOT_MADE):
+                    store[name] = value
+                written = []
+                pwrite = os.pwrite
+                with mock.patch("os.pwrite", lambda *words: written.append(len(words[1])) or pwrite(*words)):
+                    store[name] = value
+                self.assertIn(len(self.path.read_bytes()), written)
         self.assertEqual(dict(palhavento.open(self.path)), {"rate1": 7, "rate2": 5})
 
     def test_a_store_that_cannot_be_closed_keeps_its_journal(self) -> None:

@@ -161,8 +161,7 @@ class OneReading(InFolder):
         want = {"a": 1, "b": 2, "c": 3}
         ways: list[Callable[[palhavento.Store], object]] = [
             dict, palhavento.Store.snapshot, lambda store: {**store}, lambda store: dict(**store),
-            lambda store: dict(store.items()), lambda store: dict(zip(store, store.snapshot().values())),
-            lambda store: {"z": 0, **store}, self.updated,
+            lambda store: dict(store.items()), lambda store: {"z": 0, **store}, self.updated,
             list, tuple, sorted, set, len, lambda store: list(store.keys()), lambda store: list(store.items()),
             lambda store: list(store.values()), lambda store: sum(store.values()), lambda store: len(store.keys()),
             lambda store: store == want, lambda store: store.prefix("a"), lambda store: store.range("a", "b"),
@@ -184,7 +183,7 @@ class OneReading(InFolder):
                 store._opened._now = None
                 with mock.patch.object(store._opened, "read", counted):
                     given = way(store)
-                self.assertEqual(readings, 2 if way is ways[5] else 1, way)
+                self.assertEqual(readings, 1, way)
                 if plain is not None:
                     self.assertEqual(given, plain)
         self.assertEqual([ways[at](self.reader) for at in range(5)], [want] * 5)

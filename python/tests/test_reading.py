@@ -4,6 +4,7 @@ from __future__ import annotations
 
 import fcntl
 import os
+import time
 import unittest
 from unittest import mock
 
@@ -39,9 +40,17 @@ class ShortCut(InFolder):
             self.path.write_bytes(sound_file(WORDS, b=4, slots=8))
             with palhavento.open(self.path, readonly=True) as reader:
                 away(self.path)
+                time.sleep(disk.LOOK_AGAIN + 0.02)
                 self.assertIsNone(_system.read_locked(reader._opened._request))
                 with self.assertRaisesRegex(FileNotFoundError, "removed, renamed or replaced"):
                     reader["the"]
+
+    def test_a_file_that_is_cut_short_is_not_read_by_an_old_look(self) -> None:
+        request = _system.prepare(*self.disk.request())
+        self.assertEqual(_system.read_locked(request), self.path.read_bytes())
+        os.truncate(self.path, 100)
+        self.assertIsNone(_system.read_locked(request))
+        self.assertEqual(_system.read_locked(request), self.path.read_bytes())
 
     def replace(self, path: os.PathLike[str]) -> None:
         (self.folder / "other").write_bytes(sound_file(["b"], b=2, slots=2))
@@ -105,7 +114,7 @@ class ShortCut(InFolder):
                 with self.assertRaises(ValueError):
                     _system.prepare(*request[:at], other, *request[at + 1 :])
         for at in range(len(request)):
-            for other in (None, "a", 1.5):
+            for other in (None, "a", [1]):
                 with self.assertRaises(TypeError):
                     _system.prepare(*request[:at], other, *request[at + 1 :])
         for count in range(len(request)):

@@ -42,7 +42,8 @@ pub fn finished(file: &[u8], journal: &[u8]) -> Vec<u8> {
         let whole = &record[..4] == b"TKJR" && sum(&record[8..]) == number(record, 4, 4);
         (whole && &record[8..16] == identity).then_some(record)
     };
-    let places = [records, half + records].into_iter().flat_map(|from| (0..PLACES).map(move |place| from + place * stride));
+    let places =
+        [records, half + records].into_iter().flat_map(|from| (0..PLACES).map(move |place| from + place * stride));
     let records: Vec<&[u8]> = places.filter_map(record).collect();
     while let Some(record) = records.iter().find(|record| number(record, 16, 8) == next) {
         let at = 16 + number(record, 24, 4) as usize * slot;

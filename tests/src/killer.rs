@@ -21,8 +21,8 @@ use std::time::{Duration, Instant};
 
 use crate::chance::Chance;
 use crate::door::{by_model, Call, Outcome, CALLS, IMAGE};
-use crate::library::{by_library, Grounds};
 use crate::journal;
+use crate::library::{by_library, Grounds};
 use crate::lives::{self, call_for, Said, World, ABOUT_TO, SIGKILL, SIZES, STOPPED};
 use crate::model::file::file_length;
 
@@ -390,17 +390,22 @@ impl<'a> Trial<'a> {
         }
     }
 
-    /// Kills inside the `pwrite` of a record or of a slot, until the file is full or the time is over.
+    /// Kills inside the `pwrite` of a record or of a slot.
     fn inside(&mut self, chance: &mut Chance, end: Instant) {
-        while self.refused < 5 && Instant::now() < end {
+        while self.goes_on(end) {
             // Mostly of a slot: an odd number.
             self.life(Kill::Inside(2 * chance.between(0, 12) as u64 + chance.percent(85) as u64));
         }
     }
 
-    /// Kills at random moments, from microseconds to milliseconds, until the file is full or the time is over.
+    /// Until the file is full, or the time or the requests are over.
+    fn goes_on(&self, end: Instant) -> bool {
+        self.refused < 5 && self.next + 200 < REQUESTS && Instant::now() < end
+    }
+
+    /// Kills at random moments, from microseconds to milliseconds.
     fn at_random(&mut self, chance: &mut Chance, end: Instant) {
-        while self.refused < 5 && Instant::now() < end {
+        while self.goes_on(end) {
             let (shortest, longest) = if self.victim.package { (6, 16) } else { (0, 14) };
             let most = 1 << chance.between(shortest, longest);
             let after = Duration::from_micros(chance.between(0, most) as u64);

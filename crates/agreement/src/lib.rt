@@ -53,7 +53,7 @@ fn is_slot_0(side: Side) -> bool
     }
 }
 
-// Cells past the count are zero with both sides leading to slot 0.
+// R5.3: all cells past the count are zero.
 fn is_no_cell(cell: Cell) -> bool
     ensures { λ r. ⌜ r ≡ areZeroCells (cell ∷ []) ⌝ }
 {

@@ -29,7 +29,7 @@ abbrev pub holding : Bool → Range
 holding true = Holds
 holding false = Lacks
 
--- "4 to 7 zero"; "56 to 63 zero"; "unused entries are zero".
+-- R3.6, R3.11 and R3.17: what is always zero.
 unfoldable pub isClear : List ℕ → ℕ → Bool
 isClear xs count = isZero (take 4 (drop 4 xs)) && isZero (take 8 (drop 56 xs)) && isZero (drop (64 + 32 * count) xs)
 

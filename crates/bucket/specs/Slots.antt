@@ -9,13 +9,13 @@ use lib.ListN.{drop, getD, take}
 unfoldable pub boundAt : ℕ → ℕ → List ℕ → List ℕ
 boundAt k at xs = cond (ltb 24 (getD xs k 0)) [] (take (getD xs k 0) (drop at xs))
 
--- "2 lower length; 8 to 31 lower", "3 upper length; 32 to 55 upper".
+-- R3.4 and R3.7: the lower bound; R3.5 and R3.9: the upper.
 abbrev pub lowerAt : List ℕ → List ℕ
 lowerAt xs = boundAt 2 8 xs
 
 abbrev pub upperAt : List ℕ → List ℕ
 upperAt xs = boundAt 3 32 xs
 
--- "1 the entry count, 0 to b".
+-- R3.3: the number of entries.
 unfoldable pub countAt : ℕ → List ℕ → ℕ
 countAt b xs = cond (ltb b (getD xs 1 0)) b (getD xs 1 0)

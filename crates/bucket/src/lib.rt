@@ -1,7 +1,7 @@
 // One slot's bytes as they are read: its parts, free, well formed, its entries in order, its range.
 //
-// Slot: byte 0 is 1 when used; 1 the entry count; 2 lower length; 3 upper length; 4 to 7 zero; 8 to 31 lower; 32 to 55
-// upper; 56 to 63 zero; then b entries of 32 bytes, a filled name (24) and a value (8, little-endian).
+// R3.2 to R3.17 of docs/RULES.md have the bytes: numbers and lengths first, then the two bounds, then b entries of 32
+// bytes, each a filled name and a value.
 ghost use mathlib.Core.Bool.{_&&_, not, true};
 ghost use mathlib.Core.Path.{_≡_};
 ghost use Prim.Native.Nat.{_≤_, _<_, _+_, _-_, _*_};
@@ -36,7 +36,7 @@ pub enum Range {
     Lacks,
 }
 
-// A free slot is all zero.
+// R3.1: all zero.
 pub fn vacancy_of(slot: &[u8]) -> Vacancy
     ensures { λ r. ⌜ r ≡ vacant (isZero (now (slot .entry))) ⌝ }
 {
@@ -51,7 +51,7 @@ pub fn vacancy_of(slot: &[u8]) -> Vacancy
     Vacancy::Taken
 }
 
-// The lower end of a slot's range. An empty lower bound means no lower limit.
+// The lower end of a slot's range; an empty lower bound is no limit (R1.8).
 pub fn low_key(slot: &[u8]) -> Key
     requires { ⌜ 64 ≤ length (now slot) ⌝ }
     ensures { λ r.
@@ -66,7 +66,7 @@ pub fn low_key(slot: &[u8]) -> Key
     digits::bound_key_at(slot, 8, lower)
 }
 
-// The upper end of a slot's range. An empty upper bound is above all.
+// The upper end of a slot's range; an empty upper bound is above all (R1.7).
 pub fn high_key(slot: &[u8]) -> Key
     requires { ⌜ 64 ≤ length (now slot) ⌝ }
     ensures { λ r.
@@ -187,7 +187,7 @@ pub fn form_of(slot: &[u8], b: usize) -> Form
     Form::Well(Bucket { low, high })
 }
 
-// A bucket's range is the names within its upper bound and not within its lower.
+// R1.8: whether the name is in the bucket's range.
 pub fn range_of(bucket: Bucket, name: Key) -> Range
     ensures { λ r.
         ⌜ r ≡ holding (ltb (keyValue (bucket .low)) (keyValue name) && not (ltb (keyValue (bucket .high)) (keyValue name))) ⌝ }

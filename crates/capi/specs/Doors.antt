@@ -13,15 +13,15 @@ use Rattle.model.specs.Calls.{createOf, listOf, lookUpOf, putOf, rebuildOf, rec
 use Rattle.model.specs.Format.{checkFile}
 use Rattle.image.specs.Images.{imageOf, imageSize, trieOf}
 
--- "the call itself is malformed, because a trie image has not exactly 1,540 bytes. It comes before every refusal and changes
--- nothing": then the second, else the first.
+-- An image that is not exactly 1,540 bytes long is a malformed call, which comes before every refusal and changes
+-- nothing: then the second, else the first.
 abbrev pub whole : {A : Type 0} → List ℕ → A → A → A
 whole image a b = cond (eqb (length image) imageSize) a b
 
 abbrev pub malformed : ℕ
 malformed = 255
 
--- "Words of `out` that the table does not name for an answer are left as they were."
+-- The words of `out` that an answer does not name stay as they were.
 abbrev pub outAfter : Said → List ℕ → List ℕ
 outAfter s out = sets out 0 (s .1)
 
@@ -54,7 +54,7 @@ palLookUpOf file image name out =
     let s = lookUpSays (lookUpOf file (trieOf image) name) in
     whole image (s .0, outAfter s out) (malformed, out)
 
--- "A refused or stopped call leaves the image as it was, byte for byte"; a replaced value leaves the trie.
+-- A refused or stopped call leaves every byte of the image; a replaced value leaves the trie.
 abbrev pub imageAfter : PutAnswer → Trie → List ℕ → List ℕ
 imageAfter Added t image = imageOf t
 imageAfter (Replaced v) t image = image

@@ -1,6 +1,7 @@
 // The C interface: the eight calls over a trie image, their answers as numbers. It decides nothing.
 //
-// 1 to 99 is a refusal with document 01's number; 100 and up says what was done; 255 is an image that has not 1,540 bytes.
+// 1 to 99 is a refusal with its number (docs/RULES.md, section 10); 100 and up says what was done; 255 is an image that
+// is not 1,540 bytes long.
 ghost use mathlib.Core.Path.{_≡_};
 ghost use Rattle.capi.specs.Doors.{palCheckOf, palCreateOf, palListOf, palLookUpOf, palPutOf, palRebuildOf, palRecoverOf, palRemoveOf};
 use digits::u64_of_usize;

@@ -30,7 +30,7 @@ pub record Full (b : ℕ) (fs : List Slot) (A : ℕ) (n : Str) (v : ℕ) (l : Lo
   pub counted : length es ≡ b
   pub entries-are : entries ≡ padded 544 (entriesBytes 32 (insert n v es))
 
--- "Two stores, in this order: the new slot; then A", the new slot being N.
+-- R7.8: two stores, first the new slot, N, then A.
 abbrev pub DivideTold : Checked → List ℕ → List ℕ → Trie → ℕ → ℕ → List ℕ → Split → ℕ → PutGiven → Type 0
 DivideTold c xs ys t A N entries s limit r =
     (fs : List Slot) → readFile xs ≡ some (version-1 (c .size .b), fs) → (n : Str) (v : ℕ) (l : Low) (u : Str) (es : List Entry)

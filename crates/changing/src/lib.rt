@@ -1,5 +1,5 @@
-// The calls that change a file: put and remove. Neither has a `requires`: each checks for itself, in document 01's order of
-// refusals.
+// The calls that change a file: put and remove. Neither has a `requires`: each checks for itself, in the order of
+// refusals R10.9.
 ghost use mathlib.Core.Path.{_≡_};
 ghost use Prim.Native.Nat.{_≤_, _<_, _+_, _-_, _*_};
 ghost use lib.ListN.{drop, length, take};
@@ -107,7 +107,7 @@ fn replaced(slot: &[u8], b: usize, spot: Spot, value: u64) -> [u8; 576]
     writing::rewritten(slot, &entries[0..end])
 }
 
-// Put on a held name replaces the value, one store.
+// R7.9: a new value for a name that is held, in one store.
 fn replace(file: &mut [u8], size: Size, spot: Spot, value: u64, limit: u64, trie: Trie) -> PutGiven
     requires { ⌜ (Sized (length (now file)) size) × (Spotted spot size) × (spot .place < spot .count) ⌝ }
     ensures { λ r. ⌜ ReplaceTold (now (file .entry)) (now (file .exit)) trie size spot value limit r ⌝ }
@@ -168,7 +168,7 @@ fn grown(checked: Checked, trie: Trie, split: Split, a: usize, n: usize) -> Trie
     )
 }
 
-// Two stores, in this order: the new slot; then A, cut down. The trie grows with the last.
+// R7.8: two stores, first the new slot, then A, cut down. The trie grows with the last (R8.1).
 fn divide(
     file: &mut [u8],
     checked: Checked,
@@ -282,7 +282,7 @@ fn lessened(slot: &[u8], b: usize, spot: Spot) -> [u8; 576]
     writing::rewritten(slot, &entries[0..end])
 }
 
-// Remove from a file that passed the checks. An emptied bucket keeps its range.
+// R7.10: remove from a file that passed the checks. A bucket that becomes empty keeps its range.
 fn remove_checked(file: &mut [u8], checked: Checked, name: Key, limit: u64) -> RemoveAnswer
     requires { ⌜ Ready checked (now file) ⌝ }
     ensures { λ r. ⌜ RemoveTold (now (file .entry)) (now (file .exit)) (checked .size) name limit r ⌝ }

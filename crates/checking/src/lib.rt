@@ -1,4 +1,4 @@
-// What put, remove and list check alike: the whole file and full agreement.
+// R9.10: what put, remove and list look at alike, the whole file and full agreement.
 ghost use mathlib.Core.Path.{_≡_};
 ghost use Rattle.model.specs.Checks.{is-sound};
 ghost use Rattle.model.specs.Format.{checkFile};

@@ -251,7 +251,7 @@ fn are_digits(s: &[u8], least: u8) -> bool
     most == 0
 }
 
-// A name has 1 to 24 bytes, each 0x21 to 0x7D.
+// R1.2 and R1.3: a legal name.
 pub fn named(name: &[u8]) -> Naming
     ensures { λ r. ⌜ r ≡ naming (names.legalName (now (name .entry))) ⌝ }
 {
@@ -267,7 +267,7 @@ pub fn named(name: &[u8]) -> Naming
     Naming::Legal
 }
 
-// The name filled to 24 digits with 0x20.
+// R1.4: the name, filled with blanks to 24 digits.
 pub fn filled(name: &[u8]) -> [u8; 24]
     ensures { λ r. ⌜ r ≡ names.filled (now (name .entry)) ⌝ }
 {
@@ -370,7 +370,7 @@ pub fn is_bound(s: &[u8], len: usize) -> bool
     is_zero(&s[len..])
 }
 
-// Whether the name's first digits, as many as p has, are not greater than p.
+// R1.6: whether the name is within p.
 pub fn within(name: &[u8], p: &[u8]) -> bool
     ensures { λ r. ⌜ r ≡ names.within (now (name .entry)) (now (p .entry)) ⌝ }
 {

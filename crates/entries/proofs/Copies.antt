@@ -117,7 +117,7 @@ among-without (entry {e = e} {es = es} g a c r) (suc i) h =
     let k = among-without r i (omega arith) in
     rw (without-tail e r i (omega arith), sameStr-self (entryBytes 32 e)) (k .0, ap suc (k .1))
 
--- "exactly A's entries in N's range, or those and one more"
+-- R4.13: exactly A's entries in N's range, or these and one more.
 abbrev pub met : List Entry → List Entry → Bool
 met es ns = areAmong (each ns) (each es) && leb (length ns) (length es + 1)
 

@@ -1,12 +1,12 @@
 -- What the survey says of slots that are laid out in order is what check says, and of a sound file its order and its map.
 use Rattle.model.proofs.Prelude.{Bool, List, List·Memᴰ, [], _++_, _-_, _<_, _∙_, _∷_, _≡_, _≤_, ap, append-snoc, arith, decLe, drop, drop-cons, false, getD, getD-take, length, length-take-le, nothing, refl, some, split-at, subst, suc, sym, take, take-suc, take-take, true, zero-add, ℕ}
 use Rattle.model.specs.Order.{at, none}
-use Rattle.model.specs.Files.{Bad, Chain, Cut, IsUsed, Slot, Sound, free, head, order-of, ranges, slot-at, upper-of, used}
+use Rattle.model.specs.Files.{Chain, IsUsed, Slot, Sound, free, head, order-of, ranges, slot-at, upper-of, used}
 use Rattle.model.specs.Checks.{Kind, check, is-bad, is-cut, is-sound}
 use Rattle.model.specs.Format.{checkRead, laidOut, readSlots, readUsed, slotAt, version-1}
 use Rattle.model.proofs.Lists.{mem-insert}
-use Rattle.model.proofs.Files.{cut-not-sound, cut-unique, order-right, used-inside}
-use Rattle.model.proofs.Checks.{Checked, check-right}
+use Rattle.model.proofs.Files.{order-right, used-inside}
+use Rattle.model.proofs.Checks.{check-bad, check-cut, check-sound}
 use Rattle.model.proofs.Surveys.{Apart, Before, Copy, Differ, Lists, Sorted, Twins, apart-bad, chain-follows, chain-sound, copy-cut, follows-chain, sound-sorted, twin-bad}
 use Rattle.file.specs.declared.Size.{Size}
 use Rattle.file.specs.declared.survey.Kind.{Kind as Found}
@@ -18,32 +18,6 @@ use Rattle.file.specs.Sizes.{Below}
 use Rattle.file.specs.Surveys.{Surveyed, checkSlots, verdict}
 use Rattle.file.proofs.Chains.{listed-mem, neighbours-places}
 use Rattle.file.proofs.Readings.{each-readSlots, used-read}
-
--- Check, of slots of which the truth is known.
-module _ (b : ℕ) (fs : List Slot) where
-  check-sound : Sound b fs → check b fs ≡ is-sound
-  check-sound S = go (check b fs) (check-right b fs)
-    where
-      go : (k : Kind) → Checked b fs k → k ≡ is-sound
-      go is-sound c = refl
-      go (is-cut N) C = absurd (cut-not-sound b C S)
-      go is-bad B = absurd (B .0 S)
-
-  check-cut : {N : ℕ} → Cut b fs N → check b fs ≡ is-cut N
-  check-cut {N} C = go (check b fs) (check-right b fs)
-    where
-      go : (k : Kind) → Checked b fs k → k ≡ is-cut N
-      go is-sound S = absurd (cut-not-sound b C S)
-      go (is-cut M) D = ap is-cut (cut-unique b D C)
-      go is-bad B = absurd (B .1 N C)
-
-  pub check-bad : Bad b fs → check b fs ≡ is-bad
-  check-bad B = go (check b fs) (check-right b fs)
-    where
-      go : (k : Kind) → Checked b fs k → k ≡ is-bad
-      go is-sound S = absurd (B .0 S)
-      go (is-cut M) D = absurd (B .1 M D)
-      go is-bad c = refl
 
 pub check-slots : (b slots : ℕ) (xs : List ℕ) (fs : List Slot) → readSlots (version-1 b) slots 0 xs ≡ some fs → checkSlots b slots xs ≡ check b fs
 unfolding checkSlots checkRead laidOut

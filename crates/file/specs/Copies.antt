@@ -10,8 +10,7 @@ use Rattle.model.specs.Entries.{Entry, move}
 use Rattle.model.specs.Files.{Copied, Well, used}
 use Rattle.model.specs.Format.{readUsed, version-1}
 
--- "a slot A has N's upper, a lower below N's (or none), and b entries; N's lower is not empty; and N's entries are exactly
--- A's entries in N's range, or those and one more": n and a are the bytes of two slots that are used and well formed.
+-- R4.9 to R4.13, of A and N: n and a are the bytes of two slots that are used and well formed.
 pub record CopyTold (b : ℕ) (n a : List ℕ) (r : Bool) : Type 0 where
   pub copied : r ≡ true → {ln la : Low} {un ua : Str} {en ea : List Entry}
       → readUsed (version-1 b) n ≡ some (used ln un en) → Well b (used ln un en) → readUsed (version-1 b) a ≡ some (used la ua ea) → Well b (used la ua ea)

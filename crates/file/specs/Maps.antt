@@ -19,7 +19,7 @@ unfoldable pub map-of : List Slot → ℕ
 map-of [] = 0
 map-of (x ∷ xs) = 2 * map-of xs + bit-of x
 
--- "a new bucket always takes the lowest free slot"
+-- R7.6: the lowest free slot.
 unfoldable pub room-of : List Slot → Room
 room-of fs = cond (ltb (first free? fs) (length fs)) (At (first free? fs)) Full
 

@@ -13,14 +13,14 @@ use Rattle.file.specs.declared.Header.the-variants.{Right, Wrong}
 use Rattle.file.specs.declared.Room.{Room}
 use Rattle.file.specs.declared.Room.the-variants.{At, Full}
 
--- b is 2 to 16, slots is 1 to 64
+-- R2.4 and R2.5: b and slots
 pub record Legal (s : Size) : Type 0 where
   pub b-least : 2 ≤ s .b
   pub b-most : s .b ≤ 16
   pub slots-least : 1 ≤ s .slots
   pub slots-most : s .slots ≤ 64
 
--- file length is exactly 16 + slots × (64 + 32 × b)
+-- R2.7: the length
 pub record Sized (n : ℕ) (s : Size) : Type 0 where
   pub legal : Legal s
   pub whole : n ≡ 16 + s .slots * (64 + 32 * s .b)

@@ -1,7 +1,6 @@
 // The file: its header and sizes, its slots, the one function that stores, and create.
 //
-// File length is exactly 16 + slots × (64 + 32 × b). Header: 0 to 2 `TKF`; 3 and 4 version 1, little-endian; 5 b; 6 slots;
-// 7 to 15 zero.
+// R2.1 to R2.7 of docs/RULES.md have the header and the length: 16 bytes, then slots of 64 + 32 × b bytes each.
 ghost use mathlib.Core.Path.{_≡_};
 ghost use Prim.Native.Nat.{_≤_, _<_, _+_, _*_};
 ghost use lib.ListN.{length, take, drop, getD, replicate};
@@ -48,7 +47,7 @@ pub fn slot_size(size: Size) -> usize
     64 + 32 * size.b
 }
 
-// b is 2 to 16, slots is 1 to 64, and the length fits them.
+// R2.4, R2.5 and R2.7: b and slots are in range, and the length fits them.
 pub fn sizes(length: usize, b: usize, slots: usize) -> Header
     ensures { λ r. ⌜ Fitting r length b slots ⌝ }
 {
@@ -118,7 +117,7 @@ pub fn slot_at(file: &[u8], size: Size, k: usize) -> &[u8]
     &file[at..end]
 }
 
-// A store replaces one slot whole. Nothing else writes to a lent file, create aside.
+// R7.1: a store replaces one whole slot. Nothing else writes to a lent file, create aside.
 pub fn store(file: &mut [u8], size: Size, k: usize, slot: &[u8])
     requires { ⌜ (Sized (length (now file)) size) × (k < size .slots) × (length (now slot) ≡ 64 + 32 * size .b) ⌝ }
     ensures { λ _. ⌜ now (file .exit) ≡ paste (now (file .entry)) (16 + k * (64 + 32 * size .b)) (now (slot .entry)) (64 + 32 * size .b) ⌝ }
@@ -137,7 +136,7 @@ fn clear(file: &mut [u8])
     }
 }
 
-// Writes the whole buffer: slot 0 used, no limits, no entries.
+// R9.1: a new file over the whole buffer.
 pub fn create(file: &mut [u8], size: Size)
     requires { ⌜ Sized (length (now file)) size ⌝ }
     ensures { λ _. ⌜ now (file .exit) ≡ fileBytes (version-1 (size .b)) (created (size .slots)) ⌝ }
@@ -152,7 +151,7 @@ pub fn create(file: &mut [u8], size: Size)
     file[16] = 1;
 }
 
-// A new bucket always takes the lowest free slot.
+// R7.6: the lowest free slot.
 pub fn lowest_free(used: u64, slots: usize) -> Room
     ensures { λ r. ⌜ RoomTold used slots r ⌝ }
 {

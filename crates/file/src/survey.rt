@@ -50,7 +50,7 @@ fn with_next(used: u64, next: u64) -> u64
     std::num::wrapping_add_u64(std::num::wrapping_add_u64(used, used), next)
 }
 
-// Whether the first has no lower limit, the last no upper, and each lower equals the upper before it.
+// R4.4 to R4.6: whether the chain of bounds is closed, from no lower limit to no upper limit.
 fn is_chain(file: &[u8], size: Size, order: &[u8; 64], count: usize) -> bool
     requires { ⌜ (Sized (length (now file)) size) × (Below (now order) (size .slots)) × (count ≤ 64) × (length (now order) ≡ 64) ⌝ }
     ensures { λ r. ⌜ ((fs : List Slot) → Known (size .b) (now (file .entry)) fs → Listed fs (now (order .entry)) count
@@ -88,8 +88,7 @@ fn repeated_upper(file: &[u8], size: Size, order: &[u8; 64], count: usize) -> us
     count
 }
 
-// Whether N is a copy, not yet cut out, of the upper part of A: A has b entries and a lower below N's, and N's entries are
-// exactly A's entries in N's range, or those and one more.
+// R4.10, R4.11 and R4.13: whether N is a copy, not yet cut out, of the upper part of A.
 fn is_copy_of(n: &[u8], a: &[u8], b: usize) -> bool
     requires { ⌜ (length (now n) ≡ 64 + 32 * b) × (length (now a) ≡ 64 + 32 * b) × (b ≤ 16) ⌝ }
     ensures { λ r. ⌜ CopyTold b (now (n .entry)) (now (a .entry)) r ⌝ }

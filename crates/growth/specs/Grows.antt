@@ -36,6 +36,6 @@ pub record Asked (t : Trie) (places lens : List ℕ) (w : Walk) (c s : Str) (sha
   pub shares : shared ≡ diff s (path-cells (live-cells t) c (suc (length (live-cells t))) [] (top-side t))
   pub slot-is : a ≡ walk-cells (live-cells t) c (suc (length (live-cells t))) [] (top-side t)
 
--- It is then document 01's grown trie, n being the new slot.
+-- It is then the grown trie of the rules' section 8, n being the new slot.
 abbrev pub Grows : Trie → List ℕ → List ℕ → Walk → Str → ℕ → ℕ → ℕ → Trie → Type 0
 Grows t places lens w s shared a n r = (c : Str) → Asked t places lens w c s shared a → r ≡ grown-trie t c s a n

@@ -96,7 +96,7 @@ fn turned_cell(cell: Cell, place: usize, last: usize, a: u16, n: u16) -> Cell
     }
 }
 
-// Each leaf that led to A and whose path is above s leads to N: those that stand past the place `last`.
+// R8.5: A's leaves with a path above s, which are those past the place `last`, lead to N.
 fn redirected(trie: Trie, places: &[u16; 256], count: usize, last: usize, a: u16, n: u16) -> Trie
     requires { ⌜ count ≤ 256 ⌝ }
     ensures { λ r. ⌜ Redirected trie (now (places .entry)) count last a n r ⌝ }
@@ -145,8 +145,8 @@ fn next_of(i: usize, end: usize, a: u16) -> Side
     Side::Slot(a)
 }
 
-// One cell for each digit of s past the shared ones, first digit first, each the left side of the one before, the last
-// one's left leading to A and all right sides to N.
+// R8.4: one cell for each digit of s past the shared ones, each left of the one before; the last one's left side leads
+// to A, and all right sides to N.
 fn appended(trie: Trie, count: usize, s: &[u8], shared: usize, a: u16, n: u16) -> Trie
     requires { ⌜ (count + length (now s) ≤ 256 + shared) × (shared ≤ length (now s)) × (length (now s) ≤ 24) ⌝ }
     ensures { λ r. ⌜ Appended trie count (now (s .entry)) shared a n r ⌝ }

@@ -10,20 +10,20 @@ use Rattle.model.specs.declared.Side.the-variants.{Cell as further, Slot as slo
 use Rattle.model.specs.declared.Trie.{Trie}
 use Rattle.model.specs.Tries.{at-cell}
 
--- "1,540 bytes"
+-- How long an image is.
 abbrev pub imageSize : ℕ
 imageSize = 1540
 
--- "2 bytes, little-endian"
+-- A number of two bytes, little-endian.
 abbrev pub pairBytes : ℕ → List ℕ
 pairBytes x = x % 256 ∷ x / 256 ∷ []
 
 abbrev pub pairOf : ℕ → ℕ → ℕ
 pairOf low high = low + 256 * high
 
--- "A side is a signed 16-bit little-endian number: 0 and above is that slot, below 0 is the cell of that number's
--- negative." Here the number is the unsigned one of the same two bytes: -i is 65536 - i. No cell's side leads to cell 0, the
--- root, and none could: the negative of 0 is 0, which is slot 0.
+-- A side is a signed number of 16 bits: from 0 on it is that slot, below 0 the cell with that number's negative. Here
+-- the number is the unsigned one of the same two bytes: -i is 65536 - i. No cell's side leads to cell 0, the root, and
+-- none could: the negative of 0 is 0, which is slot 0.
 unfoldable pub sideNumber : Side → ℕ
 sideNumber (slot s) = s
 sideNumber (further zero) = 0
@@ -32,7 +32,7 @@ sideNumber (further (suc i)) = 65535 - i
 unfoldable pub sideOf : ℕ → Side
 sideOf x = cond (ltb x 32768) (slot x) (further (65536 - x))
 
--- "digit, digit number, left side, right side"
+-- A cell: its digit, its digit number, its left side, its right side.
 abbrev pub cellBytes : Cell → List ℕ
 cellBytes c = c .digit ∷ c .number ∷ (pairBytes (sideNumber (c .left)) ++ pairBytes (sideNumber (c .right)))
 
@@ -41,7 +41,7 @@ unfoldable pub cellsBytes : ℕ → List Cell → List ℕ
 cellsBytes zero cs = []
 cellsBytes (suc n) cs = cellsBytes n cs ++ cellBytes (at-cell cs n)
 
--- "the count (2 bytes, little-endian), the first leaf (2), then 256 cells of 6 bytes"
+-- An image: the count, the first leaf, then 256 cells of 6 bytes each.
 abbrev pub headBytes : Trie → List ℕ
 headBytes t = pairBytes (t .count) ++ pairBytes (t .first)
 
@@ -62,6 +62,6 @@ unfoldable pub cellsOf : ℕ → List ℕ → List Cell
 cellsOf zero xs = []
 cellsOf (suc n) xs = cellsOf n xs ++ (cellFrom xs (4 + 6 * n) ∷ [])
 
--- "So every 1,540 bytes are some trie."
+-- Every image is some trie.
 abbrev pub trieOf : List ℕ → Trie
 trieOf xs = record { cells = cellsOf 256 xs; count = pairOf (getD xs 0 0) (getD xs 1 0); first = pairOf (getD xs 2 0) (getD xs 3 0) }

@@ -1,7 +1,7 @@
 // The trie image: 1,540 bytes that are some trie, whatever they hold.
 //
-// The count (2 bytes, little-endian), the first leaf (2), then 256 cells of 6 bytes: digit, digit number, left side, right
-// side. A side is a signed 16-bit little-endian number: 0 and above is that slot, below 0 is the cell of that number's
+// The count and the first leaf, two bytes each, then 256 cells of six bytes: digit, digit number, left side, right
+// side. Numbers are little-endian. A side is signed: from 0 on it is that slot, below 0 the cell with that number's
 // negative.
 ghost use mathlib.Core.Path.{_≡_};
 ghost use Prim.Native.Nat.{_<_, _+_, _*_, _%_, _/_};

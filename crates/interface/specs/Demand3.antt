@@ -132,14 +132,14 @@ module _ (C : CCalls) where
   pub record HoldsC (s : StateC) : Type 0 where
     pub in-hand : InHandC s
     pub recovery : (limit : ℕ) (out : List ℕ) → limit ≤ 2 → RecoversC (file-of s) (said s) limit out (C .recover (file-of s) limit out)
-    -- "refused calls having changed nothing", whatever the image
+    -- R13.3: a refused call changes nothing, whatever the image.
     pub put-refused : (image name : List ℕ) (v limit : ℕ) (out : List ℕ) (c : Cause) → C .put (file-of s) image name v limit out .0 ≡ number c
         → C .put (file-of s) image name v limit out ≡ (number c, file-of s, image, out)
     pub remove-refused : (image name : List ℕ) (limit : ℕ) (out : List ℕ) (c : Cause) → C .remove (file-of s) image name limit out .0 ≡ number c
         → C .remove (file-of s) image name limit out ≡ (number c, file-of s, image, out)
     pub recover-refused : (limit : ℕ) (out : List ℕ) (c : Cause) → C .recover (file-of s) limit out .0 ≡ number c
         → C .recover (file-of s) limit out ≡ (number c, file-of s, out)
-    -- "stop any call after any of its whole-bucket stores": the image is as it was, byte for byte.
+    -- R13.3: a call stopped after any of its stores; the image is as it was, byte for byte.
     pub put-stopped : (image name : List ℕ) (v limit : ℕ) (out : List ℕ) → C .put (file-of s) image name v limit out .0 ≡ 112
         → StoppedC limit (file-of s) (C .put (file-of s) image name v limit out .1) out (C .put (file-of s) image name v limit out .3)
     pub put-image : (image name : List ℕ) (v limit : ℕ) (out : List ℕ) → C .put (file-of s) image name v limit out .0 ≡ 112

@@ -1,4 +1,4 @@
--- What check, recover and list of the C interface mean, in the relations of document 01.
+-- What check, recover and list of the C interface mean, in the relations of the rules.
 use mathlib.Core.Path.{_≡_}
 use mathlib.Core.Logic.{_↔_}
 use mathlib.Core.List.{List, [], _∷_}

@@ -147,7 +147,7 @@ module _ {fs : List Slot} {t : Trie} (A : Agrees fs t) where
   pub whole-walk : (n : Str) → walk-trie t n ≡ walk n [] (A .tree)
   whole-walk n = walk-reads n (suc (t .count)) [] whole-reads (omega (arith, visit-count))
 
--- Document 01's agreement of a trie with a sound file is the cells' agreement with its ranges.
+-- Agreement of a trie with a sound file (section 5 of the rules) is the cells' agreement with its ranges.
 module _ (b : ℕ) {fs : List Slot} (S : Sound b fs) where
   pub agrees-cells : {t : Trie} → Agrees fs t → CellsAgree (ranges fs) (S .order) (take (t .count) (t .cells)) (root-side (t .count) (t .first))
   agrees-cells {t} A = record {
@@ -231,7 +231,7 @@ module _ (b : ℕ) {fs : List Slot} (S : Sound b fs) where
       T : Spans (Leads (ranges fs)) none [] (rebuilt (ranges fs) (S .order)) (all (bounds (ranges fs) (S .order)))
       T = rebuilt-agrees (ranges fs) (S .order) (S .chain)
 
-  -- "So each name arrives at the bucket whose range holds it."
+  -- R5.13: each name arrives at the bucket whose range holds it.
   pub agrees-walk : {t : Trie} → Agrees fs t → (n : Str) → In (head (slot-at fs (walk-trie t n))) n
   unfolding agrees-cells
   agrees-walk A n = rw (whole-walk A n) (walk-right (ranges fs) (agrees-cells A .trie) n)

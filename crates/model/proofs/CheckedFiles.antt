@@ -1,4 +1,5 @@
--- Of the bytes of a file, check says sound, cut or bad exactly where document 01 does, and it says one of them only.
+-- Of the bytes of a file, check says sound, cut or bad exactly where section 4 of the rules does, and it says one of
+-- them only.
 use Rattle.model.proofs.Prelude.{List, Option, _≡_, ap, clash, nothing, refl, some, ℕ}
 use Rattle.model.specs.declared.Layout.{Layout}
 use Rattle.model.specs.Files.{Cut, Slot, Sound}
@@ -31,7 +32,7 @@ same-cut {y} {z} {fs} {gs} N e C =
     let q : fs ≡ gs = ap (λ (f : Layout × List Slot). f .1) e in
     rw (p, q) C
 
--- "Check gives sound, cut or bad as a result."
+-- R9.2: sound, cut or bad.
 pub checkFile-right : (xs : List ℕ) → CheckedFile xs (checkFile xs)
 unfolding checkFile checkRead
 checkFile-right xs = go (readFile xs) refl

@@ -7,7 +7,7 @@ use Rattle.model.specs.Files.{Bad, Chain, Copied, Cut, IsUsed, Slot, Sou
 use Rattle.model.specs.Checks.{Kind, allWell, check, cutBelow, hasTwin, is-bad, is-cut, is-sound, isAbove, isChain, isCopied, isCutBy, isIn, isListed, isRow, isSound, isTwin, isUsed, isWell, legalLow, oneMore, sameEntries, sameLow, sameStr}
 use Rattle.model.proofs.Names.{atMost-le, atMost-lt, both-true, bound-legalBound, le-atMost, legal-legalFilled, legalBound-bound, legalFilled-legal, lt-atMost, never-both}
 use Rattle.model.proofs.Ranges.{chain-some}
-use Rattle.model.proofs.Files.{order-right, used-inside}
+use Rattle.model.proofs.Files.{cut-not-sound, cut-unique, order-right, used-inside}
 
 pub either-true : (a b : Bool) → (a || b) ≡ true → (a ≡ true) ⊎ (b ≡ true)
 either-true true b e = inl refl
@@ -352,3 +352,29 @@ module _ (b : ℕ) where
         where
           inside : (N : ℕ) → length fs ≤ N → Cut b fs N → ⊥
           inside N h C = omega (arith, used-inside fs N (rw (C .n-is) tt))
+
+-- Check, of slots of which the truth is known.
+module _ (b : ℕ) (fs : List Slot) where
+  pub check-sound : Sound b fs → check b fs ≡ is-sound
+  check-sound S = go (check b fs) (check-right b fs)
+    where
+      go : (k : Kind) → Checked b fs k → k ≡ is-sound
+      go is-sound c = refl
+      go (is-cut N) C = absurd (cut-not-sound b C S)
+      go is-bad B = absurd (B .0 S)
+
+  pub check-cut : {N : ℕ} → Cut b fs N → check b fs ≡ is-cut N
+  check-cut {N} C = go (check b fs) (check-right b fs)
+    where
+      go : (k : Kind) → Checked b fs k → k ≡ is-cut N
+      go is-sound S = absurd (cut-not-sound b C S)
+      go (is-cut M) D = ap is-cut (cut-unique b D C)
+      go is-bad B = absurd (B .1 N C)
+
+  pub check-bad : Bad b fs → check b fs ≡ is-bad
+  check-bad B = go (check b fs) (check-right b fs)
+    where
+      go : (k : Kind) → Checked b fs k → k ≡ is-bad
+      go is-sound S = absurd (B .0 S)
+      go (is-cut M) D = absurd (B .1 M D)
+      go is-bad c = refl

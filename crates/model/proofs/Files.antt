@@ -183,7 +183,7 @@ module _ (b : ℕ) where
     unfolding string-count
     count-right = ap length strings-right
 
-    -- The strings are ascending, and exactly document 01's.
+    -- The strings are ascending, and exactly those of R5.7.
     pub strings-asc : Asc none (strings-of fs) []
     strings-asc = rw strings-right (all-asc (bounds (ranges fs) (S .order)) none (bounds-asc (ranges fs) (S .order) none (S .chain)))
 

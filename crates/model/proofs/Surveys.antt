@@ -38,7 +38,7 @@ Differ F B C = F .upper B ≢ F .upper C
 abbrev pub Apart : List Slot → List ℕ → Type 0
 Apart fs Bs = Neighbours (Differ (ranges fs)) Bs
 
--- Each lower equals the upper before it, from a lower limit on, and the last upper is empty.
+-- R4.5 and R4.6: the chain of bounds, from a lower limit on.
 abbrev pub Follows : Ranges → Low → List ℕ → Type 0
 Follows F l [] = l ≡ at []
 Follows F l (B ∷ Bs) = (F .lower B ≡ l) × Follows F (at (F .upper B)) Bs

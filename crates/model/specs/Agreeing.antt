@@ -36,7 +36,7 @@ sameSide (slot s) (further n) = false
 sameSide (further m) (slot r) = false
 sameSide (further m) (further n) = eqb m n
 
--- "Cells past the count are zero with both sides leading to slot 0."
+-- R5.3: a cell past the count.
 unfoldable pub areZeroCells : List Cell → Bool
 areZeroCells [] = true
 areZeroCells (c ∷ cs) =
@@ -47,12 +47,12 @@ unfoldable pub times : ℕ → List ℕ → ℕ
 times m [] = 0
 times m (n ∷ ns) = let r = times m ns in cond (eqb m n) (suc r) r
 
--- "every cell below the count is reached once"
+-- R5.9: each cell below the count is reached exactly once.
 unfoldable pub eachOnce : ℕ → List ℕ → Bool
 eachOnce zero vs = true
 eachOnce (suc n) vs = eqb (times n vs) 1 && eachOnce n vs
 
--- "no number exceeds the path's length"
+-- R5.10: no number is greater than the length of its path.
 unfoldable pub areNumbers : Str → Tree → Bool
 areNumbers p (leaf s) = true
 areNumbers p (node d i l r) = leb i (length p) && areNumbers (cell d i p) l && areNumbers p r
@@ -74,7 +74,7 @@ isTrieOf fs count (some t) =
     eachOnce count (t .1) && areNumbers [] (t .0) && sameStrs (strings [] (t .0)) (strings-of fs)
     && sameStr (leaves (t .0)) (slotsBetween fs none (strings-of fs))
 
--- "A trie agrees with a sound file": the test.
+-- Whether a trie agrees with a sound file (section 5 of the rules).
 unfoldable pub isAgreeing : List Slot → Trie → Bool
 isAgreeing fs t =
     let cs = take (t .count) (t .cells) in

@@ -1,4 +1,5 @@
--- What the calls say: document 01's refusal numbers, and for each answer its number and values in the C interface.
+-- What the calls say: the refusal numbers (R10.1 to R10.8), and for each answer its number and values in the C
+-- interface.
 use mathlib.Core.List.{List, [], _∷_}
 use Prim.Native.Nat.{ℕ}
 use Rattle.model.specs.declared.Cause.{Cause}
@@ -17,7 +18,7 @@ use Rattle.model.specs.declared.TrieAnswer.{TrieAnswer}
 use Rattle.model.specs.declared.TrieAnswer.the-variants.{Given, Refused as TrieRefused}
 use Rattle.model.specs.Checks.{Kind, is-bad, is-cut, is-sound}
 
--- "Refusal numbers"
+-- R10.1 to R10.8
 abbrev pub number : Cause → ℕ
 number IllegalName = 1
 number BadFile = 2
@@ -32,38 +33,38 @@ number WrongSize = 8
 abbrev pub Said : Type 0
 Said = ℕ × List ℕ
 
--- "A refusal returns its number alone."
+-- R10.11: a refusal is its number and nothing else.
 abbrev pub refusedWith : Cause → Said
 refusedWith c = (number c, [])
 
--- "Only then found with value, or absent."
+-- R11.11: found with the value, or absent.
 abbrev pub lookUpSays : LookUpAnswer → Said
 lookUpSays (Found v) = (100, v ∷ 0 ∷ [])
 lookUpSays NotFound = (101, [])
 lookUpSays (LookUpRefused c) = refusedWith c
 
--- "Put of a new name says added. Put on a held name .. says replaced with the old value." "stopped, with the number made"
+-- R7.2 and R7.8: added; R7.9: replaced, with the old value; R7.12: stopped, with the number of stores made.
 abbrev pub putSays : PutAnswer → Said
 putSays Added = (110, [])
 putSays (Replaced v) = (111, v ∷ 0 ∷ [])
 putSays (PutStopped n) = (112, n ∷ [])
 putSays (PutRefused c) = refusedWith c
 
--- "Remove .. says removed, with no value." "Removing an absent name .. says absent."
+-- R7.10: removed, without a value; R7.11: absent.
 abbrev pub removeSays : RemoveAnswer → Said
 removeSays Removed = (120, [])
 removeSays NotHeld = (101, [])
 removeSays (RemoveStopped n) = (112, n ∷ [])
 removeSays (RemoveRefused c) = refusedWith c
 
--- "Recover frees slot N of a cut file in one store and names it; on a sound file it says nothing to do."
+-- R9.3: recover frees N and names it; on a sound file there is nothing to do.
 abbrev pub recoverSays : RecoverAnswer → Said
 recoverSays (Freed k) = (130, k ∷ [])
 recoverSays Nothing = (131, [])
 recoverSays (RecoverStopped n) = (112, n ∷ [])
 recoverSays (RecoverRefused c) = refusedWith c
 
--- "Check gives sound, cut or bad as a result."
+-- R9.2: sound, cut or bad.
 abbrev pub checkSays : Kind → Said
 checkSays is-sound = (140, [])
 checkSays (is-cut N) = (141, [])
@@ -78,7 +79,7 @@ abbrev pub rebuildSays : TrieAnswer → Said
 rebuildSays Given = (151, [])
 rebuildSays (TrieRefused c) = refusedWith c
 
--- "List writes entries .. and gives their number."
+-- R9.8: list answers how many entries it wrote.
 abbrev pub listSays : ListAnswer → Said
 listSays (Listed n) = (152, n ∷ [])
 listSays (ListRefused c) = refusedWith c

@@ -37,12 +37,11 @@ use Rattle.model.specs.Checks.{Kind, is-bad, is-cut, is-sound, isAbove, 
 use Rattle.model.specs.Agreeing.{isAgreeing}
 use Rattle.model.specs.Format.{checkFile, entriesBytes, entrySize, fileBytes, fileSize, headerOf, layoutOf, legalSizes, readFile, readSlot, slotAt, storeBytes}
 
--- "one with count 0 and first leaf 0"
+-- R9.1: a new file's trie.
 abbrev pub new-trie : Trie
 new-trie = record { cells = replicate 256 zero-cell; count = 0; first = 0 }
 
--- What create leaves, and what rebuild does. "rebuild and create, which give a trie, then give beside the number one with
--- count 0 and first leaf 0"
+-- What create leaves, and what rebuild does. Refused, they give the empty trie too (R10.12).
 pub record Created : Type 0 where
   pub answer : TrieAnswer
   pub file : List ℕ
@@ -52,8 +51,7 @@ pub record Rebuilt : Type 0 where
   pub answer : TrieAnswer
   pub trie : Trie
 
--- "Create writes the whole buffer: slot 0 used, no limits, no entries; it gives the trie with count 0 and first leaf 0."
--- Refused 8: "create with b, slots or length not as above".
+-- R9.1: a new file in the whole buffer, and its trie; or refused by R10.8.
 unfoldable pub createOf : List ℕ → ℕ → ℕ → ℕ → Created
 createOf xs v b slots =
     let y : Layout = record { version = v; b = b } in
@@ -61,14 +59,14 @@ createOf xs v b slots =
     (record { answer = Given; file = fileBytes y (created slots); trie = new-trie })
     (record { answer = TrieRefused WrongSize; file = xs; trie = new-trie })
 
--- "Check gives sound, cut or bad as a result." It is `checkFile`.
+-- R9.2: check is `checkFile`.
 
 -- What recover leaves.
 pub record Recovered : Type 0 where
   pub answer : RecoverAnswer
   pub file : List ℕ
 
--- "Recover frees slot N of a cut file in one store and names it; on a sound file it says nothing to do."
+-- R9.3: recover frees N and names it; on a sound file there is nothing to do.
 unfoldable pub recoverBy : List ℕ → ℕ → Kind → Recovered
 recoverBy xs limit is-bad = record { answer = RecoverRefused BadFile; file = xs }
 recoverBy xs limit is-sound = record { answer = Nothing; file = xs }
@@ -95,9 +93,8 @@ rebuildBy is-sound (some f) =
 unfoldable pub rebuildOf : List ℕ → Rebuilt
 rebuildOf xs = rebuildBy (checkFile xs) (readFile xs)
 
--- The walk over any trie. "4 if .. the walk meets a cell number not below the count, more cells than the count, a digit
--- number above the path's length or 23, or a slot number not below slots": nothing then. The first number is how many
--- cells may still be met.
+-- The walk over any trie. Where one of R11.4 to R11.7 refuses it: nothing. The first number is how many cells may still
+-- be met.
 unfoldable pub arrive : ℕ → ℕ → ℕ → List Cell → Str → Str → Side → Option ℕ
 arrive zero slots count cs n p (slot s) = cond (ltb s slots) (some s) nothing
 arrive zero slots count cs n p (further m) = nothing
@@ -110,12 +107,12 @@ arrive (suc f) slots count cs n p (further m) =
     let w = cond (within n q) l r in
     cond (ltb m count && leb (c .number) (length p) && leb (c .number) 23) w nothing
 
--- "Only then found with value, or absent."
+-- R11.11: found with the value, or absent.
 abbrev pub heldAnswer : Option ℕ → LookUpAnswer
 heldAnswer nothing = NotFound
 heldAnswer (some v) = Found v
 
--- "4 if the slot is free (all zero); 2 if it is not well formed; 4 if its range lacks the name."
+-- R11.8 to R11.10, in this order.
 unfoldable pub slotAnswer : ℕ → Str → Option Slot → LookUpAnswer
 slotAnswer b n nothing = LookUpRefused BadFile
 slotAnswer b n (some free) = LookUpRefused StaleTrie
@@ -133,13 +130,13 @@ headedAnswer xs t n (some h) =
     let a = arrivedAnswer xs (h .0) n (arrive (t .count) (h .1) (t .count) (t .cells) n [] (root-side (t .count) (t .first))) in
     cond (leb (t .count) 256) a (LookUpRefused StaleTrie)
 
--- "Look up reads one bucket and has its own order: 1; 2 if length or header is wrong; 4 ..; 4 ..; 2 ..; 4 .."
+-- Look up, by section 11 of the rules from the top.
 unfoldable pub lookUpOf : List ℕ → Trie → List ℕ → LookUpAnswer
 lookUpOf xs t name =
     let a = headedAnswer xs t (filled name) (headerOf xs) in
     cond (legalName name) a (LookUpRefused IllegalName)
 
--- "Put, remove and list check the whole file and full agreement": refused 2, 3 or 4, or the file.
+-- R9.10: the whole file and full agreement: refused 2, 3 or 4, or the file.
 pub data Looked : Type 0 where
   refusing : Cause → Looked
   fine : Layout → List Slot → Looked
@@ -158,7 +155,7 @@ unfoldable pub storesBytes : Layout → List Store → List ℕ → List ℕ
 storesBytes y [] xs = xs
 storesBytes y (s ∷ ss) xs = storesBytes y ss (storeBytes y (s .0) (s .1) xs)
 
--- "The trie grows with the last store": two stores are a split, the new slot first and then A.
+-- R8.1: the trie changes with the last store of a split, which is two stores, the new slot first and then A.
 unfoldable pub trieAfter : ℕ → (List Entry → ℕ) → List Slot → Str → ℕ → List Store → Trie → Trie
 trieAfter b place fs n v [] t = t
 trieAfter b place fs n v (x ∷ []) t = t
@@ -172,7 +169,7 @@ pub record PutDone : Type 0 where
   pub file : List ℕ
   pub trie : Trie
 
--- "Put of a new name says added. Put on a held name replaces the value .. and says replaced with the old value."
+-- R7.2 and R7.8: added; R7.9: replaced, with the old value.
 abbrev pub putAnswer : Option ℕ → PutAnswer
 putAnswer nothing = Added
 putAnswer (some old) = Replaced old
@@ -181,8 +178,7 @@ putAnswer (some old) = Replaced old
 unfoldable pub refusalOf : ℕ → Cause
 refusalOf r = cond (eqb r 5) NoFreeSlot ManyStrings
 
--- "If nothing is refused and the limit is below the stores needed, they make that many and say stopped, with the number
--- made; the trie is unchanged."
+-- R7.12: with a limit below the stores needed, as many as the limit says; the trie stays as it is.
 unfoldable pub putMade : List ℕ → Trie → Layout → List Slot → Str → ℕ → ℕ → Result → PutDone
 putMade xs t y fs n v limit (refuse r) = record { answer = PutRefused (refusalOf r); file = xs; trie = t }
 putMade xs t y fs n v limit (stores ss) =
@@ -198,7 +194,7 @@ unfoldable pub putLooked : List ℕ → Trie → Str → ℕ → ℕ → Looked 
 putLooked xs t n v limit (refusing c) = record { answer = PutRefused c; file = xs; trie = t }
 putLooked xs t n v limit (fine y fs) = putMade xs t y fs n v limit (call (y .b) (place-of y) fs (put n v))
 
--- Put, in the order 8, 1, 2, 3, 4, 5, 6.
+-- Put, in the order 8, 1, 2, 3, 4, 5, 6 (R10.9).
 unfoldable pub putOf : List ℕ → Trie → List ℕ → ℕ → ℕ → PutDone
 putOf xs t name v limit =
     let d = putLooked xs t (filled name) v limit (lookedOf xs t) in
@@ -210,7 +206,7 @@ pub record RemoveDone : Type 0 where
   pub answer : RemoveAnswer
   pub file : List ℕ
 
--- "Remove is one store and says removed, with no value." "Removing an absent name needs no store and says absent."
+-- R7.10: removed, in one store; R7.11: absent, without a store.
 abbrev pub removeAnswer : List Store → RemoveAnswer
 removeAnswer [] = NotHeld
 removeAnswer (s ∷ ss) = Removed
@@ -225,7 +221,7 @@ unfoldable pub removeLooked : List ℕ → Str → ℕ → Looked → RemoveDone
 removeLooked xs n limit (refusing c) = record { answer = RemoveRefused c; file = xs }
 removeLooked xs n limit (fine y fs) = removeMade xs y limit (call (y .b) (place-of y) fs (remove n))
 
--- Remove, in the order 8, 1, 2, 3, 4.
+-- Remove, in the order 8, 1, 2, 3, 4 (R10.9).
 unfoldable pub removeOf : List ℕ → Trie → List ℕ → ℕ → RemoveDone
 removeOf xs t name limit =
     let d = removeLooked xs (filled name) limit (lookedOf xs t) in
@@ -242,15 +238,14 @@ unfoldable pub entriesIn : List Slot → List ℕ → List Entry
 entriesIn fs [] = []
 entriesIn fs (B ∷ Bs) = entries-of (slot-at fs B) ++ entriesIn fs Bs
 
--- "whose names lie from the first to the second name, both included"
+-- R9.8: from the first name to the second, both included.
 unfoldable pub between : Str → Str → List Entry → List Entry
 between low high [] = []
 between low high (e ∷ es) =
     let r = between low high es in
     cond (atMost low (e .0) && atMost (e .0) high) (e ∷ r) r
 
--- "List writes entries, ascending, .. and nothing behind them, and gives their number." Refused 7: "list output shorter
--- than 32 bytes times the entries to be listed".
+-- R9.8: the entries over the beginning of the output, and their number; or refused by R10.7.
 unfoldable pub listEntries : ℕ → List Entry → List ℕ → ListDone
 listEntries e es out =
     cond (ltb (length out) (e * length es)) (record { answer = ListRefused ShortOutput; output = out })

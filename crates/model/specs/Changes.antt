@@ -19,7 +19,7 @@ pub data Request : Type 0 where
   put : Str → ℕ → Request
   remove : Str → Request
 
--- "A store replaces one slot whole." Stores are made in order.
+-- R7.1: a store replaces one slot. Stores are made in order.
 abbrev pub Store : Type 0
 Store = ℕ × Slot
 
@@ -27,7 +27,7 @@ abbrev pub stored : List Store → List Slot → List Slot
 stored [] fs = fs
 stored (p ∷ ps) fs = stored ps (set fs (p .0) (p .1))
 
--- "a new bucket always takes the lowest free slot"
+-- R7.6: the lowest free slot.
 pub record Lowest (fs : List Slot) (N : ℕ) : Type 0 where
   pub inside : N < length fs
   pub is-free : slot-at fs N ≡ free
@@ -43,19 +43,19 @@ module _ (b : ℕ) (place : List Entry → ℕ) where
   abbrev pub split-of : List Entry → Str
   split-of ws = split-string (place ws) b ws
 
-  -- "the new slot, bounds s and A's upper; then A, upper now s"
+  -- R7.7: the bounds of the new slot and of A.
   abbrev pub new-half : List Entry → Str → Slot
   new-half ws u = used (at (split-of ws)) u (move (split-of ws) ws)
 
   abbrev pub old-half : List Entry → Low → Slot
   old-half ws l = used l (split-of ws) (stay (split-of ws) ws)
 
-  -- "Two stores, in this order."
+  -- R7.8: two stores, the new slot first.
   abbrev pub halves : ℕ → ℕ → Low → Str → List Entry → List Store
   halves N A l u ws = (N, new-half ws u) ∷ (A, old-half ws l) ∷ []
 
-  -- Where nothing is refused: what is asked, and the stores that it takes. "With b or fewer entries then, that is one
-  -- store." "Remove is one store." "Removing an absent name needs no store."
+  -- Where nothing is refused: what is asked, and the stores that it takes. One for a name that finds room (R7.2), two
+  -- for a split (R7.8), one to replace or to remove (R7.9, R7.10), none to remove an absent name (R7.11).
   pub data Change (fs : List Slot) : Request → List Store → Type 0 where
     fits : {A : ℕ} {l : Low} {u : Str} {es : List Entry} {n : Str} {v : ℕ} → slot-at fs A ≡ used l u es → Legal n → l ◁ n → n ⊑ u
         → length (insert n v es) ≤ b → Change fs (put n v) ((A, used l u (insert n v es)) ∷ [])
@@ -67,7 +67,7 @@ module _ (b : ℕ) (place : List Entry → ℕ) where
     absent : (A : ℕ) {l : Low} {u : Str} {es : List Entry} {n : Str} → slot-at fs A ≡ used l u es → l ◁ n → n ⊑ u
         → find n es ≡ nothing → Change fs (remove n) []
 
-  -- "The trie grows with the last store."
+  -- R8.1: the trie changes with the last store of a split.
   unfoldable pub trie-after : {fs : List Slot} {q : Request} {ss : List Store} → Change fs q ss → Trie → Trie
   trie-after (fits is g lo up k) t = t
   trie-after (splits {A = A} {N = N} {es = es} {n = n} {v = v} is g lo up k f c) t =
@@ -75,7 +75,7 @@ module _ (b : ℕ) (place : List Entry → ℕ) where
   trie-after (removes is lo up e) t = t
   trie-after (absent A is lo up e) t = t
 
-  -- "5: split needed, no free slot"; "6: the bounds and their beginnings, after the change, exceed 256 strings".
+  -- R10.5 and R10.6.
   pub data Denied (fs : List Slot) : Request → ℕ → Type 0 where
     no-room : (A : ℕ) {l : Low} {u : Str} (es : List Entry) {n : Str} {v : ℕ} → slot-at fs A ≡ used l u es → l ◁ n → n ⊑ u
         → b < length (insert n v es) → ((B : ℕ) → B < length fs → slot-at fs B ≢ free) → Denied fs (put n v) 5

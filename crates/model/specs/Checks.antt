@@ -30,12 +30,12 @@ sameLow none (at y) = false
 sameLow (at x) none = false
 sameLow (at x) (at y) = sameStr x y
 
--- "names are legal and strictly ascending, and every name is in the range"
+-- R3.13 to R3.16: legal names, ascending, each in the range.
 unfoldable pub isRow : Low → List Entry → Str → Bool
 isRow l [] u = true
 isRow l (e ∷ es) u = legalFilled (e .0) && isAbove l (e .0) && atMost (e .0) u && isRow (at (e .0)) es u
 
--- "each slot is free or well formed"
+-- R4.2: each slot is free or well formed.
 unfoldable pub isWell : ℕ → Slot → Bool
 isWell b free = true
 isWell b (used l u es) = legalLow l && legalBound u && isAbove l u && isRow l es u && leb (length es) b
@@ -70,7 +70,7 @@ isListed i Bs (x ∷ xs) = (not (isUsed x) || isIn i Bs) && isListed (suc i) Bs 
 unfoldable pub isSound : ℕ → List Slot → Bool
 isSound b fs = allWell b fs && isChain fs none (order-of fs) && isListed 0 (order-of fs) fs
 
--- "exactly A's entries in N's range, or those and one more": the one at a place below i.
+-- R4.13: exactly A's entries in N's range, or these and the one at a place below i.
 unfoldable pub sameEntries : List Entry → List Entry → Bool
 sameEntries [] [] = true
 sameEntries [] (f ∷ fs) = false
@@ -84,7 +84,7 @@ oneMore (suc i) es ns = sameEntries (without (name-at ns i) ns) es || oneMore i 
 unfoldable pub isCopied : List Entry → List Entry → Bool
 isCopied es ns = sameEntries ns es || oneMore (length ns) es ns
 
--- "a slot A has N's upper, a lower below N's (or none), and b entries"
+-- R4.9 to R4.11: A beside N.
 unfoldable pub isTwin : ℕ → Str → Str → List Entry → Slot → Bool
 isTwin b low up ns free = false
 isTwin b low up ns (used l u es) = sameStr u up && isAbove l low && eqb (length es) b && isCopied (move low es) ns
@@ -93,14 +93,14 @@ unfoldable pub hasTwin : ℕ → Str → Str → List Entry → List Slot → Bo
 hasTwin b low up ns [] = false
 hasTwin b low up ns (x ∷ xs) = isTwin b low up ns x || hasTwin b low up ns xs
 
--- "freeing one well-formed slot N leaves a sound file"; the slot is x.
+-- R4.8: without N the file is sound; the slot is x.
 unfoldable pub isCutBy : ℕ → List Slot → ℕ → Slot → Bool
 isCutBy b fs N free = false
 isCutBy b fs N (used none up ns) = false
 isCutBy b fs N (used (at low) up ns) =
     isWell b (used (at low) up ns) && hasTwin b low up ns (set fs N free) && isSound b (set fs N free)
 
--- "Check gives sound, cut or bad as a result." Only one slot can be the one to free.
+-- R9.2: sound, cut or bad. Only one slot can be the one to free (R4.15).
 pub data Kind : Type 0 where
   is-sound : Kind
   is-cut : ℕ → Kind

@@ -6,7 +6,7 @@ use lib.ListN.{getD}
 use Rattle.model.specs.Order.{Low, Str, _⊑_, _◁_, at, le?, str?}
 use Rattle.model.specs.Names.{Legal}
 
--- "An entry is the filled name (24) and the value."
+-- R3.13: an entry is the filled name and the value.
 abbrev pub Entry : Type 0
 Entry = Str × ℕ
 
@@ -22,12 +22,12 @@ unfoldable pub not? : {X : Type 0} → Dec X → Dec (¬ X)
 not? (yes h) = no (λ n. n h)
 not? (no h) = yes h
 
--- "found with value, or absent"
+-- R11.11: the value, or none.
 unfoldable pub find : Str → List Entry → Option ℕ
 find n [] = nothing
 find n (e ∷ es) = chosen (str? n (e .0)) (some (e .1)) (find n es)
 
--- "The new name goes into its bucket", in order; "on a held name replaces the value".
+-- R7.2: a new name in its place; R7.9: a new value for a name that is held.
 unfoldable pub insert : Str → ℕ → List Entry → List Entry
 insert n v [] = (n, v) ∷ []
 insert n v (e ∷ es) =
@@ -42,14 +42,14 @@ keep t (e ∷ es) = chosen (t (e .0)) (e ∷ keep t es) (keep t es)
 abbrev pub without : Str → List Entry → List Entry
 without n es = keep (λ k. not? (str? k n)) es
 
--- "Names within s stay, the others move."
+-- R7.5: names within s stay, the others move.
 abbrev pub stay : Str → List Entry → List Entry
 stay s es = keep (λ k. le? k s) es
 
 abbrev pub move : Str → List Entry → List Entry
 move s es = keep (λ k. not? (le? k s)) es
 
--- "names are legal and strictly ascending, and every name is in the range", above l and within u.
+-- R3.13 to R3.16: legal names, ascending, each above l and within u.
 pub data Row : Low → List Entry → Str → Type 0 where
   no-entries : {l : Low} {u : Str} → Row l [] u
   entry : {l : Low} {u : Str} {e : Entry} {es : List Entry}

@@ -42,7 +42,7 @@ abbrev pub upper-of : Head → Str
 upper-of no-range = []
 upper-of (range l u) = u
 
--- "A bucket's range is the names within its upper bound and not within its lower."
+-- R1.8: within the upper bound and not within the lower.
 abbrev pub In : Head → Str → Type 0
 In h n = IsUsed h × (lower-of h ◁ n) × (n ⊑ upper-of h)
 
@@ -59,8 +59,7 @@ abbrev pub ranges : List Slot → Ranges
 ranges fs = by-heads (λ B. head (slot-at fs B))
 
 module _ (F : Ranges) where
-  -- "the used slots can be ordered so that the first has no lower limit, the last no upper, each lower equals the upper
-  -- before it and is not empty, and bounds strictly ascend": such an order, from a lower limit on.
+  -- R4.4 to R4.7: used slots in range order, from a lower limit on.
   pub data Chain : Low → List ℕ → Type 0 where
     last : {l : Low} {B : ℕ} → F .Used B → F .lower B ≡ l → F .upper B ≡ [] → Chain l (B ∷ [])
     next : {l : Low} {B : ℕ} {Bs : List ℕ} → F .Used B → F .lower B ≡ l → l ◁ F .upper B → F .upper B ≺ []
@@ -72,29 +71,26 @@ module _ (F : Ranges) where
   bounds (B ∷ []) = []
   bounds (B ∷ C ∷ Bs) = F .upper B ∷ bounds (C ∷ Bs)
 
--- "N's entries are exactly A's entries in N's range, or those and one more."
+-- R4.13: exactly A's entries in N's range, or these and one more.
 pub data Copied (es : List Entry) : List Entry → Type 0 where
   exactly : Copied es es
   one-more : (i : ℕ) {ns : List Entry} → i < length ns → without (name-at ns i) ns ≡ es → Copied es ns
 
 module _ (b : ℕ) where
-  -- "A used slot is well formed when this holds, lower is below upper where both are non-empty, names are legal and
-  -- strictly ascending, and every name is in the range." b is the bucket capacity.
+  -- R3.18: well formed, as far as bounds and entries go. b is the bucket capacity.
   pub data Well : Slot → Type 0 where
     well-free : Well free
     well-used : {l : Low} {u : Str} {es : List Entry} → BoundLow l → Bound u → l ◁ u → Row l es u → length es ≤ b
         → Well (used l u es)
 
-  -- "A file is sound when .. each slot is free or well formed, at least one is used, and the used slots can be ordered."
+  -- R4.2 to R4.7: sound.
   pub record Sound (fs : List Slot) : Type 0 where
     pub order : List ℕ
     pub chain : Chain (ranges fs) none order
     pub listed : (B : ℕ) → IsUsed (head (slot-at fs B)) → List·Memᴰ B order
     pub well : (B : ℕ) → Well (slot-at fs B)
 
-  -- "A file is cut when freeing one well-formed slot N leaves a sound file in which a slot A has N's upper, a lower below
-  -- N's (or none), and b entries; N's lower is not empty; and N's entries are exactly A's entries in N's range, or those
-  -- and one more."
+  -- R4.8 to R4.13: cut. N's lower is not empty (R4.12), since no slot with an empty lower string is well formed.
   pub record Cut (fs : List Slot) (N : ℕ) : Type 0 where
     pub low : Str
     pub up : Str
@@ -110,11 +106,11 @@ module _ (b : ℕ) where
     pub full : length old ≡ b
     pub copied : Copied (move low old) new
 
-  -- "Each other file is bad."
+  -- R4.14: neither sound nor cut.
   abbrev pub Bad : List Slot → Type 0
   Bad fs = (¬ Sound fs) × ((N : ℕ) → ¬ Cut fs N)
 
--- "slot 0 used, no limits, no entries", and the other slots free.
+-- R9.1: slot 0 without limits and entries, and the other slots free.
 abbrev pub created : ℕ → List Slot
 created slots = used none [] [] ∷ replicate (slots - 1) free
 
@@ -155,7 +151,7 @@ pub record Begins (s x : Str) : Type 0 where
   pub fits : count ≤ length s
   pub is : x ≡ take count s
 
--- "the non-empty bounds of the file and all their non-empty beginnings"
+-- R5.7: the strings of a file.
 pub data BoundOf : Head → Str → Type 0 where
   lower-bound : {l u : Str} → BoundOf (range (at l) u) l
   upper-bound : {l : Low} {u : Str} → BoundOf (range l u) u

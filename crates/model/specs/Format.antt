@@ -17,12 +17,12 @@ use Rattle.model.specs.Checks.{Kind, check, is-bad, sameStr}
 abbrev pub version-1 : ℕ → Layout
 version-1 b = record { version = 1; b = b }
 
--- "version 1": the versions that are offered.
+-- R2.3: the versions that are offered.
 unfoldable pub isOffered : ℕ → Bool
 isOffered v = eqb v 1
 
--- "An entry is the filled name (24) and the value (8 ..)." The size follows from the version. Laws ask no more of it than
--- that it is 32 or 40 (`EntrySize`).
+-- The bytes of an entry follow from the version (section 3). Laws ask no more of their number than that it is 32 or 40
+-- (`EntrySize`).
 unfoldable pub entrySize : Layout → ℕ
 entrySize y = 32
 
@@ -31,14 +31,14 @@ pub record EntrySize (e : ℕ) : Type 0 where
   pub most : e ≤ 40
   pub eights : e % 8 ≡ 0
 
--- "File length is exactly 16 + slots × (64 + 32 × b)."
+-- R2.7: the length of a file.
 unfoldable pub slotSize : Layout → ℕ
 slotSize y = 64 + entrySize y * y .b
 
 unfoldable pub fileSize : Layout → ℕ → ℕ
 fileSize y slots = 16 + slots * slotSize y
 
--- "b, the bucket capacity, is 2 to 16; slots is 1 to 64", in a version that is offered.
+-- R2.3, R2.4, R2.5: a version that is offered, b from 2 to 16, slots from 1 to 64.
 pub record Sizes (y : Layout) (slots : ℕ) : Type 0 where
   pub offered : isOffered (y .version) ≡ true
   pub b-least : 2 ≤ y .b
@@ -49,16 +49,16 @@ pub record Sizes (y : Layout) (slots : ℕ) : Type 0 where
 unfoldable pub legalSizes : Layout → ℕ → Bool
 legalSizes y slots = isOffered (y .version) && leb 2 (y .b) && leb (y .b) 16 && leb 1 slots && leb slots 64
 
--- "Header: 0 to 2 `TKF`; 3 and 4 version 1, little-endian; 5 b; 6 slots; 7 to 15 zero."
+-- R2.2 to R2.6: the header.
 unfoldable pub headerBytes : Layout → ℕ → List ℕ
 headerBytes y slots =
     0x54 ∷ 0x4B ∷ 0x46 ∷ y .version % 256 ∷ y .version / 256 ∷ y .b ∷ slots ∷ replicate 9 0
 
--- "Unused bytes of bounds and unused entries are zero": k bytes, those behind the string zero.
+-- R3.8, R3.10 and R3.17: k bytes, those behind the string zero.
 unfoldable pub padded : ℕ → List ℕ → List ℕ
 padded k xs = take k (xs ++ replicate k 0)
 
--- "the value (8, little-endian, any value, zero too)"
+-- R3.13: the value, eight bytes, little-endian.
 unfoldable pub littleEndian : ℕ → ℕ → List ℕ
 littleEndian zero v = []
 littleEndian (suc n) v = v % 256 ∷ littleEndian n (v / 256)
@@ -77,7 +77,7 @@ abbrev pub Bytes : List ℕ → Type 0
 Bytes [] = Unit {0}
 Bytes (x ∷ xs) = (x < 256) × Bytes xs
 
--- "An entry is the filled name (24) and the value": e bytes.
+-- An entry of e bytes: the filled name and, behind it, the content.
 unfoldable pub entryBytes : ℕ → Entry → List ℕ
 entryBytes e x = x .0 ++ littleEndian (e - 24) (x .1)
 
@@ -85,7 +85,7 @@ unfoldable pub entriesBytes : ℕ → List Entry → List ℕ
 entriesBytes e [] = []
 entriesBytes e (x ∷ es) = entryBytes e x ++ entriesBytes e es
 
--- "An empty lower bound means no lower limit."
+-- R1.8: an empty lower bound is no lower limit.
 unfoldable pub lowDigits : Low → Str
 lowDigits none = []
 lowDigits (at x) = x
@@ -94,8 +94,7 @@ unfoldable pub lowOf : Str → Low
 lowOf [] = none
 lowOf (d ∷ x) = at (d ∷ x)
 
--- "Slot: byte 0 is 1 when used; 1 the entry count, 0 to b; 2 lower length; 3 upper length; 4 to 7 zero; 8 to 31 lower;
--- 32 to 55 upper; 56 to 63 zero; then b entries." "A free slot is all zero."
+-- R3.1 to R3.17: the bytes of a slot, free or used.
 unfoldable pub slotBytes : Layout → Slot → List ℕ
 slotBytes y free = replicate (slotSize y) 0
 slotBytes y (used l u es) =
@@ -140,7 +139,8 @@ unfoldable pub readSlots : Layout → ℕ → ℕ → List ℕ → Option (List 
 readSlots y zero k xs = some []
 readSlots y (suc n) k xs = joined (readSlot y (slotAt y k xs)) (readSlots y n (suc k) xs)
 
--- "length and header are right": then the layout and slots. Bytes 3 and 4 are the version, byte 5 is b, byte 6 slots.
+-- R2.1 to R2.7: the length and the header are right. Then the layout and slots: bytes 3 and 4 are the version, byte 5
+-- is b, byte 6 slots.
 unfoldable pub rightHeader : Layout → ℕ → List ℕ → Bool
 rightHeader y slots xs =
     legalSizes y slots && eqb (length xs) (fileSize y slots) && sameStr (take 16 xs) (headerBytes y slots)
@@ -163,8 +163,7 @@ readBy (some h) xs = laidOut (h .0) (readSlots (h .0) (h .1) 0 xs)
 unfoldable pub readFile : List ℕ → Option (Layout × List Slot)
 readFile xs = readBy (headerOf xs) xs
 
--- "A file is sound when length and header are right, each slot is free or well formed, .."; "A file is cut when .."; "Each
--- other file is bad."
+-- Section 4 of the rules, of bytes: sound, cut, bad.
 pub record SoundFile (xs : List ℕ) : Type 0 where
   pub layout : Layout
   pub slots : List Slot
@@ -180,7 +179,7 @@ pub record CutFile (xs : List ℕ) (N : ℕ) : Type 0 where
 abbrev pub BadFile : List ℕ → Type 0
 BadFile xs = (¬ SoundFile xs) × ((N : ℕ) → ¬ CutFile xs N)
 
--- "Check gives sound, cut or bad as a result." What no writer wrote is bad.
+-- R9.2: sound, cut or bad. What no writer wrote is bad.
 unfoldable pub checkRead : Option (Layout × List Slot) → Kind
 checkRead nothing = is-bad
 checkRead (some f) = check (f .0 .b) (f .1)
@@ -188,6 +187,6 @@ checkRead (some f) = check (f .0 .b) (f .1)
 unfoldable pub checkFile : List ℕ → Kind
 checkFile xs = checkRead (readFile xs)
 
--- "A store replaces one slot whole."
+-- R7.1: a store replaces one whole slot.
 unfoldable pub storeBytes : Layout → ℕ → Slot → List ℕ → List ℕ
 storeBytes y k s xs = paste xs (16 + k * slotSize y) (slotBytes y s) (slotSize y)

@@ -13,17 +13,17 @@ use Rattle.model.specs.Order.{Str, diff, le?, str?}
 use Rattle.model.specs.Tries.{Tree, at-cell, cell, leaf, node, root-side, trie-of, walk-cells}
 use Rattle.model.specs.Rebuilding.{lay, side-of}
 
--- "one cell for each later digit of s, first digit first, each the left side of the one before", from digit number i on.
+-- R8.3 and R8.4: one cell for each later digit of s, from digit number i on, each the left side of the one before.
 -- Every new leaf leads to A until leaves are redirected.
 abbrev pub chain-of : ℕ → Str → ℕ → Tree
 chain-of i [] A = leaf A
 chain-of i (d ∷ ds) A = node d i (chain-of (suc i) ds A) (leaf A)
 
--- "take the longest beginning shared by s and C": what stands at the old leaf, whose path is p and slot A.
+-- R8.3: what stands at the old leaf, whose path is p and slot A, for the digits of s past those shared with p.
 abbrev pub grown : Str → Str → ℕ → Tree
 grown s p A = chain-of (diff s p) (drop (diff s p) s) A
 
--- "walk with the split key to a leaf", and put that there.
+-- R8.3: walk with the split key, and put that at the leaf.
 abbrev pub graft : Str → Str → Str → Tree → Tree
 graft c s p (leaf A) = grown s p A
 graft c s p (node d i L R) =
@@ -34,8 +34,8 @@ abbrev pub relabel : (Str → ℕ → ℕ) → Str → Tree → Tree
 relabel f p (leaf B) = leaf (f p B)
 relabel f p (node d i L R) = node d i (relabel f (cell d i p) L) (relabel f p R)
 
--- "each leaf that led to A and whose path is above s leads to the new slot, and so do all the new cells' right sides":
--- their paths are above s too.
+-- R8.5: A's leaves whose paths are above s lead to the new slot. The right sides of the new cells are among them: their
+-- paths are above s too.
 abbrev pub turned : {X Y : Type 0} → Dec X → Dec Y → ℕ → ℕ → ℕ
 turned (no h) y B N = B
 turned (yes h) (yes k) B N = B
@@ -53,7 +53,7 @@ string? x (y ∷ ys) = go (str? x y) (string? x ys)
     go (no n) (yes m) = yes (List·Memᴰ·tail m)
     go (no n) (no k) = no (λ m. elim (List·Memᴰ·cases-cons m) [ inl e ↦ n e | inr m ↦ k m ])
 
--- "If s is already a cell's string, no cell is added."
+-- R8.2: where s is a cell's string already, no cell is added.
 abbrev pub grow : {X : Type 0} → Dec X → Str → Str → ℕ → ℕ → Tree → Tree
 grow (yes m) c s A N t = relabel (turn s A N) [] t
 grow (no n) c s A N t = relabel (turn s A N) [] (graft c s [] t)

@@ -27,13 +27,13 @@ abbrev pub asked-name : Request → Str
 asked-name (put n v) = n
 asked-name (remove n) = n
 
--- "A call stopped short of its last store counts as never made; a call that reached it counts as made." A stopped call
--- makes as many stores as its limit says, and the trie is lost then.
+-- R13.3: a call stopped before its last store counts as never made, any other as made. A stopped call makes the stores
+-- that its limit allows, and the trie is lost then.
 unfoldable pub answered : Request → ℕ → List Slot → Map → Result → World
 answered q j fs m (refuse r) = ready fs m
 answered q j fs m (stores ss) = cond (ltb j (length ss)) (down (stored (take j ss) fs) m) (ready (stored ss fs) (meant q m))
 
--- "Recover frees slot N of a cut file in one store and names it; on a sound file it says nothing to do."
+-- R9.3: recover frees N and names it; on a sound file there is nothing to do.
 unfoldable pub recovered : List Slot → Map → ℕ → Kind → World
 recovered fs m j is-sound = ready fs m
 recovered fs m zero (is-cut N) = down fs m
@@ -52,7 +52,7 @@ module _ (b slots : ℕ) (place : List Entry → ℕ) where
   act (recover j) (ready fs m) = ready fs m
   act (recover j) (down fs m) = let w = recovered fs m j (check b fs) in cond (leb j 2) w (down fs m)
 
-  -- Acts, the latest first. "Start from a new file."
+  -- Acts, the latest first, from a new file on.
   unfoldable pub run : List Act → World
   run [] = ready (created slots) (λ k. nothing)
   run (a ∷ acts) = act a (run acts)

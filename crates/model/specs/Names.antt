@@ -1,4 +1,4 @@
--- Names and bounds, as document 01's first section has them.
+-- Names and bounds: section 1 of the rules.
 use mathlib.Core.Path.{_≡_}
 use mathlib.Core.Bool.{Bool, _&&_, cond, false, true}
 use mathlib.Core.List.{List, [], _++_, _∷_}
@@ -7,7 +7,7 @@ use lib.Dec.{eqb, leb, ltb}
 use lib.ListN.{length, replicate, take}
 use Rattle.model.specs.Order.{Low, Str, at, none}
 
--- "each 0x21 to 0x7D", "each 0x20 to 0x7D": digits from the lowest one given on.
+-- R1.3 and R1.5: digits from the lowest one given on.
 abbrev pub Digits : ℕ → Str → Type 0
 Digits lo [] = Unit {0}
 Digits lo (d ∷ x) = (lo ≤ d) × (d ≤ 0x7D) × Digits lo x
@@ -16,11 +16,11 @@ unfoldable pub areDigits : ℕ → List ℕ → Bool
 areDigits lo [] = true
 areDigits lo (d ∷ x) = leb lo d && leb d 0x7D && areDigits lo x
 
--- "A name has 1 to 24 bytes, each 0x21 to 0x7D."
+-- R1.2 and R1.3: a legal name.
 unfoldable pub legalName : List ℕ → Bool
 legalName n = leb 1 (length n) && leb (length n) 24 && areDigits 0x21 n
 
--- "For comparison it is filled to 24 digits with 0x20, the smallest digit."
+-- R1.4: filled with blanks to 24 digits.
 unfoldable pub filled : List ℕ → List ℕ
 filled n = take 24 (n ++ replicate 24 0x20)
 
@@ -45,7 +45,7 @@ unfoldable pub legalFilled : List ℕ → Bool
 legalFilled [] = false
 legalFilled (d ∷ n) = eqb (length n) 23 && leb 0x21 d && leb d 0x7D && blankEnded n
 
--- "A bound has 0 to 24 digits, each 0x20 to 0x7D."
+-- R1.5: a bound.
 pub record Bound (x : Str) : Type 0 where
   pub fits : length x ≤ 24
   pub digits : Digits 0x20 x
@@ -64,7 +64,7 @@ notGreater [] y = true
 notGreater (a ∷ x) [] = true
 notGreater (a ∷ x) (b ∷ y) = cond (ltb a b) true (cond (eqb a b) (notGreater x y) false)
 
--- "A name is within a bound p when its first digits, as many as p has, are not greater than p."
+-- R1.6: a name within a bound p.
 unfoldable pub within : List ℕ → List ℕ → Bool
 within n p = notGreater (take (length p) n) p
 
@@ -80,8 +80,8 @@ smaller [] y = false
 smaller (a ∷ x) [] = false
 smaller (a ∷ x) (b ∷ y) = cond (ltb a b) true (cond (eqb a b) (smaller x y) false)
 
--- "the split string s is its shortest beginning, filled with 0x20 as needed, that is smaller than as many digits of the
--- last name": c is the split key, filled, and z the last name, filled; beginnings are tried from i digits on.
+-- R7.4: the split string. c is the split key, filled, and z the last name, filled; beginnings are tried from i digits
+-- on.
 unfoldable pub splitFrom : ℕ → ℕ → List ℕ → List ℕ → List ℕ
 splitFrom zero i c z = take i c
 splitFrom (suc f) i c z =

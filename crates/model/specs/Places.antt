@@ -4,6 +4,6 @@ use Prim.Native.Nat.{_/_, ℕ}
 use Rattle.model.specs.declared.Layout.{Layout}
 use Rattle.model.specs.Entries.{Entry}
 
--- "With b + 1, sorted: the split key is at position m = b/2 + 1 (.. positions from 1)": its place, from 0, is one less.
+-- R7.3: the split key is at position b/2 + 1, counted from 1; its place, counted from 0, is one less.
 abbrev pub place-of : Layout → List Entry → ℕ
 place-of y ws = y .b / 2

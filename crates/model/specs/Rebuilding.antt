@@ -11,7 +11,7 @@ use Rattle.model.specs.Order.{Low, Str, at, low?, none}
 use Rattle.model.specs.Files.{Ranges, Slot, all, bounds, order-of, ranges}
 use Rattle.model.specs.Tries.{Tree, leaf, node, size, trie-of}
 
--- "the strings with fewest digits": how many digits they have,
+-- R6.2: how many digits the strings with fewest digits have,
 abbrev pub fewest : Str → List Str → ℕ
 fewest x [] = length x
 fewest x (y ∷ ys) = min (length x) (fewest y ys)
@@ -25,11 +25,11 @@ abbrev pub places : ℕ → ℕ → List Str → List ℕ
 places n i [] = []
 places n i (x ∷ xs) = kept (ℕ-discrete (length x) n) i (places n (suc i) xs)
 
--- "the middle one .. (of an even number, the lower middle)"
+-- R6.2: the middle one, or the lower of two middle ones.
 abbrev pub middle : List ℕ → ℕ
 middle ps = getD ps ((length ps - 1) / 2) 0
 
--- "Of a run, the root is the middle one of the strings with fewest digits."
+-- R6.2: the root of a run.
 abbrev pub pick : List Str → ℕ
 pick [] = 0
 pick (x ∷ xs) = middle (places (fewest x xs) 0 (x ∷ xs))
@@ -37,8 +37,8 @@ pick (x ∷ xs) = middle (places (fewest x xs) 0 (x ∷ xs))
 abbrev pub last-digit : Str → ℕ
 last-digit r = getD r (length r - 1) 0
 
--- "The strings before it form the left run, those after it the right." The run lies between l and u; label gives the slot
--- of a leaf with these neighbours; n is at least the number of strings.
+-- R6.3: the runs left and right of the root. The run lies between l and u; label gives the slot of a leaf with these
+-- neighbours; n is at least the number of strings.
 abbrev pub build : (List Str → ℕ) → (Low → Str → ℕ) → ℕ → Low → Str → List Str → Tree
 build pick label zero l u ss = leaf (label l u)
 build pick label (suc n) l u [] = leaf (label l u)
@@ -55,11 +55,11 @@ module _ (F : Ranges) where
   label (B ∷ []) l = B
   label (B ∷ C ∷ Bs) l = elim (low? l (F .upper B)) [ yes h ↦ B | no h ↦ label (C ∷ Bs) l ]
 
-  -- "Rebuild takes that set of strings, in order."
+  -- R6.1: the first run is all strings.
   abbrev pub rebuilt : List ℕ → Tree
   rebuilt Bs = build pick (λ l u. label Bs l) (length (all (bounds F Bs))) none [] (all (bounds F Bs))
 
--- "Cells are numbered root, left part, right part", here from k on.
+-- R6.5: the root's number, then those of the left part, then those of the right; here from k on.
 abbrev pub side-of : ℕ → Tree → Side
 side-of k (leaf s) = slot s
 side-of k (node d i L R) = further k

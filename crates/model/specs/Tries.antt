@@ -16,16 +16,16 @@ pub data Tree : Type 0 where
   leaf : ℕ → Tree
   node : (digit number : ℕ) → Tree → Tree → Tree
 
--- "At a cell with digit d and number i, the cell's string is the first i digits of the path, then d."
+-- R5.4: the string of a cell with digit d and number i, where the path is p.
 abbrev pub cell : ℕ → ℕ → Str → Str
 cell d i p = take i p ++ (d ∷ [])
 
--- "A name within that string goes left and the path becomes that string; otherwise it goes right with the path unchanged."
+-- R5.5: a name within the cell's string goes left, with that string as its path; any other goes right.
 abbrev pub walk : Str → Str → Tree → ℕ
 walk n p (leaf s) = s
 walk n p (node d i l r) = elim (le? n (cell d i p)) [ yes h ↦ walk n (cell d i p) l | no h ↦ walk n p r ]
 
--- "the cells' strings, left to right", below a path
+-- The cells' strings, from left to right, below a path.
 abbrev pub strings : Str → Tree → List Str
 strings p (leaf s) = []
 strings p (node d i l r) = strings (cell d i p) l ++ (cell d i p ∷ strings p r)
@@ -39,7 +39,7 @@ abbrev pub size : Tree → ℕ
 size (leaf s) = 0
 size (node d i L R) = suc (size L + size R)
 
--- "no number exceeds the path's length"
+-- R5.10: no number is greater than the length of its path.
 abbrev pub Numbers : Str → Tree → Type 0
 Numbers p (leaf s) = Unit {0}
 Numbers p (node d i L R) = (i ≤ length p) × Numbers (cell d i p) L × Numbers p R
@@ -58,14 +58,13 @@ module _ (P : Low → Str → ℕ → Type 0) where
     cut : {l : Low} {u : Str} {d i : ℕ} {L R : Tree} {xs ys : List Str} → i ≤ length u → l ◁ cell d i u → cell d i u ≺ u
         → Spans l (cell d i u) L xs → Spans (at (cell d i u)) u R ys → Spans l u (node d i L R) (xs ++ (cell d i u ∷ ys))
 
--- "every leaf leads to the one bucket whose lower bound is not above the string just left of the leaf and whose upper is
--- not below the string just right of it"
+-- R5.12: the one bucket that a leaf may lead to, between the string just left of it and the string just right of it.
 pub record Leads (F : Ranges) (l : Low) (u : Str) (B : ℕ) : Type 0 where
   pub used : F .Used B
   pub under : F .lower B ⊴ l
   pub within : u ⊑ F .upper B
 
--- "Cells past the count are zero with both sides leading to slot 0."
+-- R5.3: a cell past the count.
 abbrev pub zero-cell : Cell
 zero-cell = record { digit = 0; number = 0; left = slot 0; right = slot 0 }
 
@@ -98,7 +97,7 @@ walk-cells cs n (suc fuel) p (further m) =
       | no h ↦ walk-cells cs n fuel p (at-cell cs m .right)
     ]
 
--- "Cell 0 is the root." "With count 0 the walk ends at the first leaf at once."
+-- R5.1: cell 0 is the root; R5.6: with count 0 the walk ends at the first leaf.
 abbrev pub root-side : ℕ → ℕ → Side
 root-side zero f = slot f
 root-side (suc n) f = further 0
@@ -115,23 +114,22 @@ trie-of cs a = record { cells = cs ++ replicate (256 - length cs) zero-cell; cou
 abbrev pub walk-trie : Trie → Str → ℕ
 walk-trie t n = walk-cells (t .cells) n (suc (t .count)) [] (root-side (t .count) (t .first))
 
--- "A trie agrees with a sound file when .."
+-- Section 5 of the rules: a trie agrees with a sound file.
 pub record Agrees (fs : List Slot) (t : Trie) : Type 0 where
-  -- "its count is at most 256 and what lies past the count, and the first leaf, are as said above"
+  -- R5.8, R5.3 and R5.2: the count, what lies past it, and the first leaf.
   pub whole : length (t .cells) ≡ 256
   pub few : t .count ≤ 256
   pub past : (i : ℕ) → t .count ≤ i → at-cell (t .cells) i ≡ zero-cell
   pub first-leaf : 0 < t .count → t .first ≡ 0
-  -- "every cell below the count is reached once from the root"
+  -- R5.9: each cell below the count is reached exactly once.
   pub tree : Tree
   pub visits : List ℕ
   pub reads : Reads (take (t .count) (t .cells)) (root-side (t .count) (t .first)) tree visits
   pub once : (i : ℕ) → i < t .count → occ i visits ≡ 1
-  -- "no number exceeds the path's length"
+  -- R5.10: no number is greater than the length of its path.
   pub numbers : Numbers [] tree
-  -- "the cells' strings, left to right, are in ascending bound order exactly the non-empty bounds of the file and all
-  -- their non-empty beginnings"
+  -- R5.11: the cells' strings are the strings of the file, in ascending order.
   pub only : (x : Str) → List·Memᴰ x (strings [] tree) → IsString fs x
   pub every : (x : Str) → IsString fs x → List·Memᴰ x (strings [] tree)
-  -- "and every leaf leads to the one bucket .." (the order is here, too)
+  -- R5.12: where each leaf leads. (The order of R5.11 is here, too.)
   pub leading : Leaves (Leads (ranges fs)) none (strings [] tree) [] (leaves tree)

@@ -1,8 +1,8 @@
-// Document 01's types: the trie, and what the calls answer.
+// The types of the rules (docs/RULES.md): the trie, and what the calls answer.
 ghost use mathlib.Core.Path.{_≡_};
 ghost use Rattle.model.specs.Answers.{number};
 
-// Each side leads either to a slot or to a further cell.
+// R5.1: where a side leads.
 pub enum Side {
     Slot(u16),
     Cell(u16),
@@ -15,7 +15,7 @@ pub struct Cell {
     pub right: Side,
 }
 
-// Up to 256 cells, held together with their count and a first leaf that is used only when the count is 0.
+// R5.1 and R5.2: the cells with their count, and the first leaf.
 pub struct Trie {
     pub cells: [Cell; 256],
     pub count: u16,
@@ -40,7 +40,7 @@ pub enum Cause {
     WrongSize,
 }
 
-// Document 01's number of each refusal.
+// The number of each refusal (R10.1 to R10.8).
 pub fn cause_number(cause: Cause) -> u64
     ensures { λ r. ⌜ r ≡ number cause ⌝ }
 {
@@ -94,7 +94,7 @@ pub enum ListAnswer {
     Refused(Cause),
 }
 
-// What create and rebuild answer. Beside a refusal they give the trie with count 0 and first leaf 0.
+// What create and rebuild answer. Beside a refusal they give the empty trie (R10.12).
 pub enum TrieAnswer {
     Given,
     Refused(Cause),

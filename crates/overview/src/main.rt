@@ -1,6 +1,6 @@
 // Puts each line of standard input, with its number as value, into a new file and prints the buckets in range order.
 //
-// At the first refused name it prints only the line `refused`, the refusal number and the line number, and stops.
+// The rules are section 12 of docs/RULES.md. At the first refused name it prints that refusal and nothing else.
 ghost use mathlib.Core.Path.{_≡_};
 ghost use Prim.Native.Nat.{_≤_, _<_, _+_, _*_};
 ghost use lib.ListN.{length};
@@ -138,7 +138,7 @@ fn bytes_read(file: &mut [u8], state: State, bytes: &[u8]) -> State
     s
 }
 
-// The last input line may lack its line feed.
+// R12.1: the last line may end without a line feed.
 fn input_ended(file: &mut [u8], state: State) -> State
     requires { ⌜ state .line .len ≤ 25 ⌝ }
 {
@@ -153,7 +153,7 @@ fn say(text: &[u8]) {
     io::write_all(STDOUT_FILENO, text);
 }
 
-// Bounds stand in brackets, `-` is no limit.
+// R12.4: a bound in brackets, or `-` for no limit.
 fn print_bound(bound: &[u8]) {
     if bound.len() == 0 {
         say(b" -");
@@ -195,7 +195,7 @@ fn print_bucket(slot: &[u8], b: usize, number: u64)
     say(b"\n");
 }
 
-// A line a bucket in range order.
+// R12.3: one line for each bucket, in range order.
 fn print_buckets(file: &[u8], size: Size, order: &[u8; 64], count: usize)
     requires { ⌜ (Sized (length (now file)) size) × (Below (now order) (size .slots)) × (count ≤ 64) ⌝ }
 {

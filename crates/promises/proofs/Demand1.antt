@@ -425,8 +425,8 @@ module _ (xs : List ℕ) (t : Trie) (name : List ℕ) where
       go true true d e =
           skip (λ n. n (legal-name name d)) (skip (λ n. n (right-header xs e)) (headed-verdict (leb (t .count) 256) refl))
 
--- "A refusal carries the number of the first cause that holds in the table's stated order (look up has its own), is given
--- exactly then, and changes no file, trie or output."
+-- R13.1: each call is refused exactly when one of its causes holds, with the first in its order, and then changes
+-- nothing.
 pub demand-1 : Demand1 our-calls
 demand-1 = record {
   create = λ xs v b slots. exactly (λ c d e. cc) (create-table xs v b slots) (create-verdict xs v b slots);

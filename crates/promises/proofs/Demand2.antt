@@ -1,4 +1,4 @@
--- Demand 2: with a sound file and any trie at all, a lookup of a legal name tells the truth or refuses as stale.
+-- Demand 2 (R13.2): with a sound file, whatever the trie, a lookup of a legal name tells the truth or refuses as stale.
 use Rattle.model.proofs.Prelude.{Bool, List, Option, [], _&&_, _<_, _≡_, arith, clash, cond, false, leb, length, ltb, ltb-true, nothing, refl, some, suc, true, zero, ℕ}
 use Rattle.model.specs.declared.Cell.{Cell}
 use Rattle.model.specs.declared.Side.{Side}
@@ -68,8 +68,7 @@ slot-tells y fs S n k (used l u es) e = rw well (go (isAbove l n) (atMost n u) r
     go true false p q = stale
     go false c p q = stale
 
--- "With a sound file and any trie at all, a lookup of a legal name gives the file's true entry, says absent truly, or
--- refuses as stale."
+-- R13.2: with a sound file, whatever the trie, a lookup tells the truth or refuses as stale.
 lookup-tells : (xs : List ℕ) (t : Trie) (name : List ℕ) (S : SoundFile xs) → legalName name ≡ true
     → Tells (S .slots) (filled name) (lookUpOf xs t name)
 unfolding lookUpOf headedAnswer arrivedAnswer

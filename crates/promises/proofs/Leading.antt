@@ -1,4 +1,4 @@
--- Demand 2: grown and rebuilt tries lead every possible name to the one bucket whose range holds it.
+-- Demand 2 (R13.2): grown and rebuilt tries lead every possible name to its bucket.
 use Rattle.model.proofs.Prelude.{Bool, List, Option, _&&_, _<_, _^_, _∙_, _≡_, _≤_, ap, clash, cond, eqb, false, leb, leb-true, length, ltb, nothing, refl, some, sym, take, true, ℕ}
 use Rattle.model.specs.declared.Trie.{Trie}
 use Rattle.model.specs.declared.Layout.{Layout}
@@ -68,7 +68,7 @@ created-leads xs v b slots = go (legalSizes y slots && eqb (length xs) (fileSize
         leads (fileBytes y (created slots)) new-trie S (created-agrees b slots)
     go false e h = clash cc
 
--- "the trie rebuilt from the bucket headers alone"
+-- R13.2, of the rebuilt trie.
 pub rebuilt-leads : (xs : List ℕ) → rebuildOf xs .answer ≡ Given → LeadsRight xs (rebuildOf xs .trie)
 unfolding rebuildOf rebuildBy
 rebuilt-leads xs = go (checkFile xs) (checkFile-right xs) (readFile xs) refl
@@ -161,7 +161,7 @@ module _ (xs : List ℕ) (t : Trie) (name : List ℕ) (v limit : ℕ) (bytes : B
   looked (refusing c) e g h = absurd h
   looked (fine y fs) e g h = let p = looked-passed xs t y fs e in made y fs p (put-right (y .b) (place-of y) fs (p .sound) n v g) h
 
-  -- "the grown trie": after every put that is made, from whatever agreeing trie.
+  -- R13.2, of the grown trie: after every put that is made, from whatever agreeing trie.
   pub put-leads : Made (putOf xs t name v limit .answer) → LeadsRight (putOf xs t name v limit .file) (putOf xs t name v limit .trie)
   unfolding putOf
   put-leads h = limited (ltb 2 limit) h

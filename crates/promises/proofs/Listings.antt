@@ -125,7 +125,7 @@ module _ (fs : List Slot) where
     chain-row (last {B = B} h e f) = rw e at (bucket-row B h no-entries)
     chain-row (next {B = B} h e a f c) = rw e at (bucket-row B h (chain-row c))
 
--- "List writes entries, ascending, whose names lie from the first to the second name, both included."
+-- R9.8: list writes the entries in the range, ascending.
 module _ (b : ℕ) {fs : List Slot} (S : Sound b fs) (low high : Str) where
   pub listed-right : Listing fs low high (between low high (entriesIn fs (order-of fs)))
   listed-right = rw (order-right b S) (record {

@@ -1,4 +1,4 @@
--- Check, recover, list and the tests mean what document 01 says.
+-- Check, recover, list and the tests mean what the rules say.
 use Rattle.model.proofs.Prelude.{Bool, List, List·Memᴰ, List·Memᴰ·cases-cons, List·Memᴰ·head, List·Memᴰ·not-nil, List·Memᴰ·tail, [], _&&_, _*_, _++_, _<_, _∙_, _∷_, _≡_, _≤_, _⊎_, ap, arith, clash, cond, drop, false, inl, inr, length, length-replicate, ltb, ltb-false, ltb-true, refl, replicate, set, some, suc, sym, take, take-all, true, ℕ}
 use Rattle.model.specs.declared.Cause.the-variants.{BadFile as is-a-bad-file, IllegalName, ShortOutput, WrongSize}
 use Rattle.model.specs.declared.Layout.{Layout}
@@ -8,17 +8,17 @@ use Rattle.model.specs.declared.Trie.{Trie}
 use Rattle.model.specs.Order.{Asc, Low, Str, at, end, over, step}
 use Rattle.model.specs.Names.{filled, legalName}
 use Rattle.model.specs.Entries.{Entry, insert}
-use Rattle.model.specs.Files.{Cut, Slot, Sound, free, order-of, string-count, strings-of}
+use Rattle.model.specs.Files.{Slot, Sound, free, order-of, string-count, strings-of}
 use Rattle.model.specs.Tries.{Agrees}
 use Rattle.model.specs.Places.{place-of}
-use Rattle.model.specs.Checks.{Kind, check, is-bad, is-cut, is-sound}
+use Rattle.model.specs.Checks.{Kind, is-bad, is-cut, is-sound}
 use Rattle.model.specs.Format.{BadFile, Bytes, CutFile, SoundFile, checkFile, entriesBytes, entrySize, layoutOf, readFile, slotBytes, slotSize, storeBytes}
 use Rattle.model.specs.Calls.{ListDone, Looked, Recovered, between, entriesIn, fine, listEntries, listLooked, listOf, lookedBy, lookedOf, recoverBy, recoverOf, refusing}
 use Rattle.model.proofs.Order.{le-refl}
 use Rattle.model.proofs.Names.{atMost-le, le-atMost, legal-legalFilled, legalFilled-legal}
 use Rattle.model.proofs.Strings.{asc-mem}
-use Rattle.model.proofs.Files.{cut-inside, cut-not-sound, cut-unique, strings-asc, strings-every, strings-only}
-use Rattle.model.proofs.Checks.{Checked, above-isAbove, check-right, isAbove-above, isWell-well, sameStr-equal, sameStr-self, well-isWell}
+use Rattle.model.proofs.Files.{cut-inside, strings-asc, strings-every, strings-only}
+use Rattle.model.proofs.Checks.{above-isAbove, check-bad, check-cut, check-right, check-sound, isAbove-above, isWell-well, sameStr-equal, sameStr-self, well-isWell}
 use Rattle.model.proofs.Agreeing.{agrees-isAgreeing, isAgreeing-agrees}
 use Rattle.model.proofs.CheckedFiles.{CheckedFile, checkFile-cut, checkFile-right, checkFile-sound, one-cut, sound-not-cut}
 use Rattle.model.proofs.Changes.{second-sound}
@@ -39,31 +39,6 @@ bad-file xs B = go (checkFile xs) (checkFile-right xs)
     go is-sound S = absurd (B .0 S)
     go (is-cut N) C = absurd (B .1 N C)
     go is-bad c = refl
-
-module _ (b : ℕ) (fs : List Slot) where
-  check-sound : Sound b fs → check b fs ≡ is-sound
-  check-sound S = go (check b fs) (check-right b fs)
-    where
-      go : (k : Kind) → Checked b fs k → k ≡ is-sound
-      go is-sound c = refl
-      go (is-cut N) C = absurd (cut-not-sound b C S)
-      go is-bad B = absurd (B .0 S)
-
-  check-cut : {N : ℕ} → Cut b fs N → check b fs ≡ is-cut N
-  check-cut {N} C = go (check b fs) (check-right b fs)
-    where
-      go : (k : Kind) → Checked b fs k → k ≡ is-cut N
-      go is-sound S = absurd (cut-not-sound b C S)
-      go (is-cut M) D = ap is-cut (cut-unique b D C)
-      go is-bad B = absurd (B .1 N C)
-
-  check-bad : Checked b fs is-bad → check b fs ≡ is-bad
-  check-bad B = go (check b fs) (check-right b fs)
-    where
-      go : (k : Kind) → Checked b fs k → k ≡ is-bad
-      go is-sound S = absurd (B .0 S)
-      go (is-cut N) C = absurd (B .1 N C)
-      go is-bad c = refl
 
 -- Recover.
 module _ (xs : List ℕ) (limit : ℕ) where

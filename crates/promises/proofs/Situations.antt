@@ -1,4 +1,4 @@
--- Document 01's situations hold: both sides compute to the same.
+-- The situations of section 14 of the rules hold: both sides compute to the same.
 use Rattle.model.proofs.Prelude.{List, _≡_, decLe, decLt, refl, true, ℕ, ℕ-discrete}
 use Rattle.model.specs.declared.Trie.{Trie}
 use Rattle.model.specs.Order.{le?, low?, str?}

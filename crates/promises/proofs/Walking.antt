@@ -1,4 +1,4 @@
--- The walk of a lookup strays where document 01 says that it does, and arrives elsewhere.
+-- The walk of a lookup strays where R11.4 to R11.7 say that it does, and arrives elsewhere.
 use Rattle.model.proofs.Prelude.{Bool, Option, _&&_, _<_, _≡_, _≤_, arith, cond, decLe, decLt, false, le-leb, le-ltb, leb, leb-true, length, lt-ltb, ltb, ltb-true, nothing, refl, some, suc, true, zero, ℕ}
 use Rattle.model.specs.declared.Cell.{Cell}
 use Rattle.model.specs.declared.Side.{Side}

@@ -7,8 +7,8 @@ use Rattle.model.specs.Checks.{Kind}
 use Rattle.model.specs.Format.{checkFile}
 use Rattle.model.specs.Calls.{Created, ListDone, PutDone, Rebuilt, Recovered, RemoveDone, createOf, listOf, lookUpOf, putOf, rebuildOf, recoverOf, removeOf}
 
--- "Calls: create, check, recover, rebuild, look up, put, remove, list a range." Each takes what it is lent and gives the
--- answer, the trie that it gives and the lent bytes that it may change.
+-- The calls of section 9. Each takes what it is lent and gives the answer, the trie that it gives and the lent bytes
+-- that it may change.
 pub record Calls : Type 0 where
   pub create : List ℕ → ℕ → ℕ → ℕ → Created
   pub check : List ℕ → Kind

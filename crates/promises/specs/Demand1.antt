@@ -1,4 +1,5 @@
--- Demand 1, in words: for each public call the causes that refuse it, in document 01's order, and what a refusal leaves.
+-- Demand 1 (R13.1), in words: for each public call the causes that refuse it, in their order, and what a refusal
+-- leaves.
 use mathlib.Core.Path.{_≡_}
 use mathlib.Core.Logic.{_⊎_}
 use mathlib.Core.Bool.{false, true}
@@ -34,13 +35,13 @@ use Rattle.promises.specs.Calls.{Calls}
 abbrev pub Table : Type 1
 Table = List (Cause × Type 0)
 
--- "the number of the first cause that holds in the table's stated order"
+-- R10.9: the first cause that holds, in the order given.
 abbrev pub First : Cause → Table → Type 0
 First c [] = ⊥
 First c (r ∷ rs) = ((r .0 ≡ c) × r .1) ⊎ ((¬ r .1) × First c rs)
 
--- "A refusal carries the number of the first cause that holds .., is given exactly then": the answer is a refusal with that
--- cause where some cause holds, and no refusal where none does.
+-- R10.9 and R10.10: the answer is a refusal with the first cause that holds where some cause holds, and no refusal
+-- where none does.
 abbrev pub Exactly : {A : Type 0} → (Cause → A) → A → Table → Type 0
 Exactly Refused a table = (c : Cause) → (a ≡ Refused c → First c table) × (First c table → a ≡ Refused c)
 
@@ -49,7 +50,7 @@ abbrev pub numbers : Table → List ℕ
 numbers [] = []
 numbers (r ∷ rs) = number (r .0) ∷ numbers rs
 
--- 1, illegal name. "A name has 1 to 24 bytes, each 0x21 to 0x7D."
+-- R10.1, by R1.2 and R1.3.
 pub record LegalName (name : List ℕ) : Type 0 where
   pub least : 1 ≤ length name
   pub most : length name ≤ 24
@@ -64,7 +65,7 @@ pub record Stale (xs : List ℕ) (t : Trie) : Type 0 where
   pub file : SoundFile xs
   pub differs : ¬ Agrees (file .slots) t
 
--- 5, "split needed, no free slot", and 6, "the bounds and their beginnings, after the change, exceed 256 strings".
+-- R10.5 and R10.6.
 pub record PutDenied (xs name : List ℕ) (v why : ℕ) : Type 0 where
   pub file : SoundFile xs
   pub denied : Denied (file .layout .b) (place-of (file .layout)) (file .slots) (put (filled name) v) why
@@ -74,8 +75,7 @@ pub record Many (xs : List ℕ) : Type 0 where
   pub file : SoundFile xs
   pub many : 256 < string-count (file .slots)
 
--- 7, "list output shorter than 32 bytes times the entries to be listed": the "entries, ascending, whose names lie from the
--- first to the second name, both included".
+-- R10.7, of the entries that R9.8 would write.
 pub record Listing (fs : List Slot) (low high : Str) (es : List Entry) : Type 0 where
   pub ascending : Row none es []
   pub only : (e : Entry) → List·Memᴰ e es → ((B : ℕ) × List·Memᴰ e (entries-of (slot-at fs B))) × (low ⊑ e .0) × (e .0 ⊑ high)
@@ -87,12 +87,12 @@ pub record Short (xs low high out : List ℕ) : Type 0 where
   pub listing : Listing (file .slots) (filled low) (filled high) listed
   pub short : length out < entrySize (file .layout) * length listed
 
--- 8, "create with b, slots or length not as above".
+-- R10.8, of create.
 pub record Creatable (xs : List ℕ) (y : Layout) (slots : ℕ) : Type 0 where
   pub sizes : Sizes y slots
   pub whole : length xs ≡ fileSize y slots
 
--- Look up's own. "2 if length or header is wrong": the layout is the header's bytes 3 to 5, slots its byte 6.
+-- Look up's own. R11.2: the length or the header is wrong. The layout is the header's bytes 3 to 5, slots its byte 6.
 abbrev pub slots-of : List ℕ → ℕ
 slots-of xs = getD xs 6 0
 
@@ -109,9 +109,7 @@ abbrev pub string-of : Trie → ℕ → Str → Str
 string-of t m p = cell (at-cell (t .cells) m .digit) (number-of t m) p
 
 module _ (slots : ℕ) (t : Trie) (n : Str) where
-  -- "4 if .. the walk meets a cell number not below the count, more cells than the count, a digit number above the path's
-  -- length or 23, or a slot number not below slots": the walk stands at a side, with a path; the first number is how many
-  -- cells it may still meet.
+  -- R11.4 to R11.7: the walk stands at a side, with a path; the first number is how many cells it may still meet.
   pub data Strays : ℕ → Str → Side → Type 0 where
     no-cell : {f m : ℕ} {p : Str} → t .count ≤ m → Strays f p (further m)
     more-cells : {m : ℕ} {p : Str} → Strays zero p (further m)
@@ -135,7 +133,7 @@ module _ (slots : ℕ) (t : Trie) (n : Str) where
         → within n (string-of t m p) ≡ false
         → Arrives f p (at-cell (t .cells) m .right) k → Arrives (suc f) p (further m) k
 
--- "4 if the count is above 256, or the walk meets .."
+-- R11.3 to R11.7.
 abbrev pub Lost : List ℕ → Trie → Str → Type 0
 Lost xs t n = (256 < t .count) ⊎ Strays (slots-of xs) t n (t .count) [] (root-side (t .count) (t .first))
 
@@ -145,7 +143,7 @@ pub record Ends (xs : List ℕ) (t : Trie) (n : Str) (P : List ℕ → Type 0) :
   pub arrives : Arrives (slots-of xs) t n (t .count) [] (root-side (t .count) (t .first)) k
   pub so : P (slotAt (layoutOf xs) k xs)
 
--- "4 if the slot is free (all zero); 2 if it is not well formed; 4 if its range lacks the name", of the slot's bytes.
+-- R11.8, R11.9 and R11.10, of the slot's bytes.
 abbrev pub IsZero : Layout → List ℕ → Type 0
 IsZero y ys = ys ≡ replicate (slotSize y) 0
 
@@ -199,8 +197,7 @@ pub record Demand1 (C : Calls) : Type 0 where
       → Exactly RemoveRefused (C .remove xs t name limit .answer) (remove-table xs t name limit)
   pub list : (xs : List ℕ) (t : Trie) (low high out : List ℕ)
       → Exactly ListRefused (C .list xs t low high out .answer) (list-table xs t low high out)
-  -- "and changes no file, trie or output"; "rebuild and create, which give a trie, then give beside the number one with
-  -- count 0 and first leaf 0"
+  -- R10.11: nothing is changed; R10.12: create and rebuild give the empty trie.
   pub create-leaves : (xs : List ℕ) (v b slots : ℕ) (c : Cause) → C .create xs v b slots .answer ≡ TrieRefused c
       → (C .create xs v b slots .file ≡ xs) × (C .create xs v b slots .trie ≡ new-trie)
   pub recover-leaves : (xs : List ℕ) (limit : ℕ) (c : Cause) → C .recover xs limit .answer ≡ RecoverRefused c → C .recover xs limit .file ≡ xs
@@ -211,7 +208,7 @@ pub record Demand1 (C : Calls) : Type 0 where
       → C .remove xs t name limit .file ≡ xs
   pub list-leaves : (xs : List ℕ) (t : Trie) (low high out : List ℕ) (c : Cause) → C .list xs t low high out .answer ≡ ListRefused c
       → C .list xs t low high out .output ≡ out
-  -- "Order: 8, 1, 2, 3, 4, 5, 6, 7", as far as a call has the causes; look up has its own.
+  -- R10.9, as far as a call has the causes; look up has its own order.
   pub create-order : (xs : List ℕ) (v b slots : ℕ) → numbers (create-table xs v b slots) ≡ 8 ∷ []
   pub recover-order : (xs : List ℕ) (limit : ℕ) → numbers (recover-table xs limit) ≡ 8 ∷ 2 ∷ []
   pub rebuild-order : (xs : List ℕ) → numbers (rebuild-table xs) ≡ 2 ∷ 3 ∷ 6 ∷ []

@@ -19,24 +19,24 @@ use Rattle.model.specs.Format.{Bytes, SoundFile}
 use Rattle.promises.specs.Calls.{Calls}
 use Rattle.promises.specs.Demand1.{LegalName}
 
--- "gives the file's true entry, says absent truly": what the bucket holds whose range holds the name.
+-- R13.2: the true entry, or absent and truly so: what the bucket holds whose range holds the name.
 pub data Truthful (fs : List Slot) (n : Str) : LookUpAnswer → Type 0 where
   true-entry : (B : ℕ) {v : ℕ} → In (head (slot-at fs B)) n → find n (entries-of (slot-at fs B)) ≡ some v → Truthful fs n (Found v)
   truly-absent : (B : ℕ) → In (head (slot-at fs B)) n → find n (entries-of (slot-at fs B)) ≡ nothing → Truthful fs n Absent
 
--- "or refuses as stale"
+-- Or it is refused as stale.
 pub data Tells (fs : List Slot) (n : Str) : LookUpAnswer → Type 0 where
   told : {a : LookUpAnswer} → Truthful fs n a → Tells fs n a
   stale : Tells fs n (Refused StaleTrie)
 
--- A put that was made: "added, or replaced".
+-- A put that was made: added or replaced.
 abbrev pub Made : PutAnswer → Type 0
 Made Added = Unit {0}
 Made (Replaced old) = Unit {0}
 Made (Stopped n) = ⊥
 Made (PutRefused c) = ⊥
 
--- "lead every possible name to the one bucket whose range holds it": the file is sound, the trie agrees with it, and each
+-- R13.2: every name is led to the one bucket whose range holds it. The file is sound, the trie agrees with it, and each
 -- string of digits arrives in its range and in no other.
 pub record LeadsRight (xs : List ℕ) (t : Trie) : Type 0 where
   pub file : SoundFile xs
@@ -46,16 +46,15 @@ pub record LeadsRight (xs : List ℕ) (t : Trie) : Type 0 where
 
 -- Demand 2 of the calls.
 pub record Demand2 (C : Calls) : Type 0 where
-  -- "With a sound file and any trie at all, a lookup of a legal name gives the file's true entry, says absent truly, or
-  -- refuses as stale."
+  -- R13.2: with a sound file, whatever the trie, a lookup tells the truth or refuses as stale.
   pub tells : (xs : List ℕ) (t : Trie) (name : List ℕ) (S : SoundFile xs) → LegalName name → Tells (S .slots) (filled name) (C .look-up xs t name)
-  -- "the grown trie": the one that create gives, and the one after each put that is made. That the lent file is bytes and
-  -- the value has 64 bits a caller knows by their types.
+  -- The grown trie is the one that create gives, and the one after each put that is made. That the lent file is bytes
+  -- and the value has 64 bits a caller knows by their types.
   pub created : (xs : List ℕ) (v b slots : ℕ) → C .create xs v b slots .answer ≡ Given
       → LeadsRight (C .create xs v b slots .file) (C .create xs v b slots .trie)
   pub grown : (xs : List ℕ) (t : Trie) (name : List ℕ) (v limit : ℕ) → Bytes xs → v < 2 ^ 64 → Made (C .put xs t name v limit .answer)
       → LeadsRight (C .put xs t name v limit .file) (C .put xs t name v limit .trie)
-  -- "and the trie rebuilt from the bucket headers alone"
+  -- The trie that rebuild makes from the bounds alone.
   pub rebuilt : (xs : List ℕ) → C .rebuild xs .answer ≡ Given → LeadsRight xs (C .rebuild xs .trie)
   -- A lookup goes where such a trie leads: it is not refused.
   pub led : (xs : List ℕ) (t : Trie) (name : List ℕ) (L : LeadsRight xs t) → LegalName name → Truthful (L .file .slots) (filled name) (C .look-up xs t name)

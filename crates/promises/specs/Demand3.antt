@@ -55,9 +55,9 @@ unfoldable pub now : List ℕ → State → State
 now ys (running xs t m) = running ys t m
 now ys (down xs m) = down ys m
 
--- "A call stopped short of its last store counts as never made; a call that reached it counts as made", a remove that says
--- absent too. After a stop the trie is discarded. The file is always the one that the call leaves; the trie in hand after a
--- call that counts as made is the one that it gave or was lent.
+-- R13.3: a call counts as made exactly when it was not stopped short of its last store; a remove that says absent
+-- counts as made too. After a stop the trie is discarded. The file is always the one that the call leaves; the trie in
+-- hand after a call that counts as made is the one that it gave or was lent.
 unfoldable pub after-put : State → Str → ℕ → PutAnswer → List ℕ → Trie → State
 after-put s n v Added xs t = running xs t (meant (to-put n v) (said s))
 after-put s n v (Replaced old) xs t = running xs t (meant (to-put n v) (said s))
@@ -111,7 +111,7 @@ module _ (C : Calls) where
   after [] s = s
   after (e ∷ es) s = after es (step e s)
 
--- "Start from a new file": what create gave, and no name said.
+-- R13.3: at first, what create gave, and no name said.
 abbrev pub start : Created → State
 start c = running (c .file) (c .trie) (λ k. nothing)
 
@@ -123,8 +123,7 @@ differing (suc k) y xs ys = chosen (str? (slotAt y k xs) (slotAt y k ys)) 0 1 + 
 abbrev pub replaced : List ℕ → List ℕ → ℕ
 replaced xs ys = differing (slots-of xs) (layoutOf xs) xs ys
 
--- "If nothing is refused and the limit is below the stores needed, they make that many and say stopped, with the number
--- made": the number said is the limit, and as many slots are others than before.
+-- R7.12: a call that is stopped says its limit, and as many slots are others than before.
 pub record StoppedAt (limit made : ℕ) (xs ys : List ℕ) : Type 0 where
   pub as-limited : made ≡ limit
   pub as-made : replaced xs ys ≡ made
@@ -135,15 +134,15 @@ module _ (C : Calls) where
   pub record Kept (xs : List ℕ) (t : Trie) (m : Map) : Type 0 where
     pub leads : LeadsRight xs t
     pub means : Means (leads .file .slots) m
-    -- "Every legal name then looks up as that history says."
+    -- R13.3: every legal name looks up as the history says.
     pub looks-up : (name : List ℕ) → LegalName name → C .look-up xs t name ≡ heldAnswer (m (filled name))
 
   abbrev pub InHand : State → Type 0
   InHand (running xs t m) = Kept xs t m
   InHand (down xs m) = Unit {0}
 
-  -- "recovery with a legal store limit and rebuilding after it never refuse, where that recovery wasn't itself stopped":
-  -- it is whole, rebuilding gives a trie, and all is kept; or its limit is 0, it says stopped, and the file is as it was.
+  -- R13.3: a recovery with a legal limit is never refused. It is whole, rebuilding gives a trie, and all is kept; or
+  -- its limit is 0, it says stopped, and the file is as it was.
   pub data Recovers (xs : List ℕ) (m : Map) (limit : ℕ) : RecoverAnswer → List ℕ → Type 0 where
     after-freeing : {N : ℕ} {ys : List ℕ} → C .rebuild ys .answer ≡ Given → Kept ys (C .rebuild ys .trie) m → Recovers xs m limit (Freed N) ys
     nothing-to-do : C .rebuild xs .answer ≡ Given → Kept xs (C .rebuild xs .trie) m → Recovers xs m limit Nothing xs
@@ -153,14 +152,14 @@ module _ (C : Calls) where
   pub record Holds (s : State) : Type 0 where
     pub in-hand : InHand s
     pub recovery : (limit : ℕ) → limit ≤ 2 → Recovers (file-of s) (said s) limit (C .recover (file-of s) limit .answer) (C .recover (file-of s) limit .file)
-    -- "refused calls having changed nothing", whatever the trie
+    -- R13.3: a refused call has changed nothing, whatever the trie.
     pub put-refused : (t : Trie) (name : List ℕ) (v limit : ℕ) (c : Cause) → C .put (file-of s) t name v limit .answer ≡ PutRefused c
         → (C .put (file-of s) t name v limit .file ≡ file-of s) × (C .put (file-of s) t name v limit .trie ≡ t)
     pub remove-refused : (t : Trie) (name : List ℕ) (limit : ℕ) (c : Cause) → C .remove (file-of s) t name limit .answer ≡ RemoveRefused c
         → C .remove (file-of s) t name limit .file ≡ file-of s
     pub recover-refused : (limit : ℕ) (c : Cause) → C .recover (file-of s) limit .answer ≡ RecoverRefused c
         → C .recover (file-of s) limit .file ≡ file-of s
-    -- "stop any call after any of its whole-bucket stores"
+    -- R13.3: any call may be stopped after any of its stores.
     pub put-stopped : (t : Trie) (name : List ℕ) (v limit made : ℕ) → C .put (file-of s) t name v limit .answer ≡ PutStopped made
         → StoppedAt limit made (file-of s) (C .put (file-of s) t name v limit .file)
     pub remove-stopped : (t : Trie) (name : List ℕ) (limit made : ℕ) → C .remove (file-of s) t name limit .answer ≡ RemoveStopped made

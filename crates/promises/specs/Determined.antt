@@ -11,8 +11,8 @@ use Rattle.model.specs.Calls.{Created, ListDone, PutDone, Rebuilt, Recovered, R
 abbrev pub Determines : {O : Type 0} → (O → Type 0) → Type 0
 Determines {O} Allowed = (o p : O) → Allowed o → Allowed p → o ≡ p
 
--- "Each statement determines the answer, the trie and all bytes lent, for every input, refused ones too." An outcome holds
--- the answer, the trie that is given and the lent bytes that may change; the statement of a call is an equation for it.
+-- R13.4: each statement determines its outcome. An outcome holds the answer, the trie that is given and the lent bytes
+-- that may change; the statement of a call is an equation for it.
 pub record Determined : Type 0 where
   pub create : (xs : List ℕ) (v b slots : ℕ) → Determines (λ (o : Created). o ≡ createOf xs v b slots)
   pub check : (xs : List ℕ) → Determines (λ (o : Kind). o ≡ checkFile xs)

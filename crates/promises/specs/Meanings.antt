@@ -1,5 +1,5 @@
--- What check, recover and list mean, and what the tests in the definitions mean, in the relations of document 01. Whoever reads
--- this need not read the tests in the model's `Checks.antt` and `Agreeing.antt`.
+-- What check, recover and list mean, and what the tests in the definitions mean, in the relations that render the
+-- rules. Whoever reads this need not read the tests in the model's `Checks.antt` and `Agreeing.antt`.
 use mathlib.Core.Path.{_≡_}
 use mathlib.Core.Logic.{_↔_}
 use mathlib.Core.Bool.{true}
@@ -25,13 +25,13 @@ use Rattle.model.specs.Calls.{fine, lookedOf}
 use Rattle.promises.specs.Calls.{Calls}
 use Rattle.promises.specs.Demand1.{LegalName, Listing, slots-of}
 
--- "Recover frees slot N": one of the file's slots is all zero then, and every other byte is as it was.
+-- R9.3: slot N is all zero then, and every other byte is as it was.
 pub record OneFreed (xs : List ℕ) (N : ℕ) (ys : List ℕ) : Type 0 where
   pub inside : N < slots-of xs
   pub is : ys ≡ take (16 + N * slotSize (layoutOf xs)) xs ++ replicate (slotSize (layoutOf xs)) 0 ++ drop (16 + N * slotSize (layoutOf xs) + slotSize (layoutOf xs)) xs
 
--- "List writes entries, ascending, whose names lie from the first to the second name, both included, and nothing behind
--- them, and gives their number."
+-- R9.8: the entries between the two names, both included, in ascending order, with nothing written behind them, and
+-- their number.
 pub record Wrote (xs low high out : List ℕ) (count : ℕ) (ys : List ℕ) : Type 0 where
   pub file : SoundFile xs
   pub listed : List Entry
@@ -40,7 +40,7 @@ pub record Wrote (xs low high out : List ℕ) (count : ℕ) (ys : List ℕ) : Ty
   pub fits : entrySize (file .layout) * count ≤ length out
   pub written : ys ≡ entriesBytes (entrySize (file .layout)) listed ++ drop (entrySize (file .layout) * count) out
 
--- "the non-empty bounds of the file and all their non-empty beginnings", each once (R5.7).
+-- R5.7: the file's strings, each once.
 abbrev pub Distinct : List Str → Type 0
 Distinct [] = Unit {0}
 Distinct (x ∷ xs) = (¬ List·Memᴰ x xs) × Distinct xs
@@ -52,16 +52,16 @@ pub record AllStrings (fs : List Slot) (ss : List Str) : Type 0 where
 
 -- What the calls mean.
 pub record Meanings (C : Calls) : Type 0 where
-  -- R9.2: "Check gives sound, cut or bad as a result."
+  -- R9.2: what check answers.
   pub says-sound : (xs : List ℕ) → (C .check xs ≡ is-sound) ↔ SoundFile xs
   pub says-cut : (xs : List ℕ) (N : ℕ) → (C .check xs ≡ is-cut N) ↔ CutFile xs N
   pub says-bad : (xs : List ℕ) → (C .check xs ≡ is-bad) ↔ BadFile xs
-  -- R9.3: "Recover frees slot N of a cut file in one store and names it;"
+  -- R9.3: of a cut file recover frees slot N and says which it is.
   pub says-freed : (xs : List ℕ) (limit N : ℕ) → (C .recover xs limit .answer ≡ Freed N) ↔ ((1 ≤ limit) × (limit ≤ 2) × CutFile xs N)
   pub frees : (xs : List ℕ) (limit N : ℕ) → C .recover xs limit .answer ≡ Freed N → OneFreed xs N (C .recover xs limit .file)
   pub frees-slot : (xs : List ℕ) (limit N : ℕ) → Bytes xs → C .recover xs limit .answer ≡ Freed N → (K : CutFile xs N)
       → readFile (C .recover xs limit .file) ≡ some (K .layout, set (K .slots) N free)
-  -- "on a sound file it says nothing to do."
+  -- Of a sound file it says that there is nothing to do.
   pub says-nothing : (xs : List ℕ) (limit : ℕ) → (C .recover xs limit .answer ≡ Nothing) ↔ ((limit ≤ 2) × SoundFile xs)
   pub leaves : (xs : List ℕ) (limit : ℕ) → C .recover xs limit .answer ≡ Nothing → C .recover xs limit .file ≡ xs
   -- R9.8
@@ -83,11 +83,11 @@ pub record Tests : Type 0 where
   pub bad : (b : ℕ) (fs : List Slot) → (check b fs ≡ is-bad) ↔ Bad b fs
   -- Tries.
   pub agreeing : (b : ℕ) (fs : List Slot) (t : Trie) → Sound b fs → (isAgreeing fs t ≡ true) ↔ Agrees fs t
-  -- R9.10: "Put, remove and list check the whole file and full agreement."
+  -- R9.10: put, remove and list look at the whole file and at the whole trie.
   pub passes : (xs : List ℕ) (t : Trie) (y : Layout) (fs : List Slot)
       → (lookedOf xs t ≡ fine y fs) ↔ ((readFile xs ≡ some (y, fs)) × Sound (y .b) fs × Agrees fs t)
-  -- R10.6: "the bounds and their beginnings": a sound file's strings can be listed, and what is counted is how many there are,
-  -- however they are listed. The file after a split, whose strings put counts, is sound.
+  -- R10.6: a sound file's strings can be listed, and what is counted is how many there are, however they are listed.
+  -- The file after a split, whose strings put counts, is sound.
   pub listable : (b : ℕ) (fs : List Slot) → Sound b fs → (ss : List Str) × AllStrings fs ss
   pub counted : (b : ℕ) (fs : List Slot) → Sound b fs → (ss : List Str) → AllStrings fs ss → string-count fs ≡ length ss
   pub after-split : (y : Layout) (fs : List Slot) (A N : ℕ) (l : Low) (u : Str) (es : List Entry) (n : Str) (v : ℕ) → 2 ≤ y .b → Sound (y .b) fs

@@ -1,4 +1,4 @@
--- Document 01's situations: one table, one statement.
+-- The situations of section 14 of the rules: one table, one statement.
 use mathlib.Core.Path.{_≡_}
 use mathlib.Core.Bool.{false, true}
 use mathlib.Core.Option.{Option, none as nothing, some}
@@ -45,38 +45,38 @@ abbrev pub looked-up : String → Held → Option ℕ
 looked-up w h = find (name w) (entries-of (slot-at (h .0) (walk-trie (h .1) (name w))))
 
 pub record Legals : Type 0 where
-  -- "24 bytes legal;"
+  -- R14.1: 24 bytes are legal,
   pub longest : legalName (replicate 24 0x61) ≡ true
-  -- "0 and 25 refused;"
+  -- 0 and 25 are not.
   pub empty : legalName [] ≡ false
   pub too-long : legalName (replicate 25 0x61) ≡ false
-  -- "0x7D legal,"
+  -- R14.2: 0x7D is legal,
   pub highest : legalName (0x7D ∷ []) ≡ true
-  -- "0x7E and 0x20 refused,"
+  -- 0x7E and 0x20 are not,
   pub too-high : legalName (0x7E ∷ []) ≡ false
   pub blank : legalName (0x20 ∷ []) ≡ false
-  -- "so "a b" is refused."
+  -- so "a b" is not.
   pub blank-inside : legalName (bytes "a b") ≡ false
 
 pub record Withins : Type 0 where
-  -- ""i" is within "i ";"
+  -- R14.3: "i" is within "i ",
   pub i-in-i-blank : within (name "i") (bytes "i ") ≡ true
-  -- ""in" is not,"
+  -- "in" is not,
   pub in-not-in-i-blank : within (name "in") (bytes "i ") ≡ false
-  -- "and is within "i"."
+  -- but is within "i".
   pub in-in-i : within (name "in") (bytes "i") ≡ true
 
--- "b = 4 split strings", and the one for b = 2.
+-- The split strings for b = 4, and those for b = 2.
 pub record Splits : Type 0 where
-  -- "a and of the to gives "o""
+  -- R14.4: a and of the to
   pub gives-o : split-of 4 (place-of (version-1 4)) (names ("a" ∷ "and" ∷ "of" ∷ "the" ∷ "to" ∷ [])) ≡ bytes "o"
-  -- "a and in is of gives "i""
+  -- R14.5: a and in is of
   pub gives-i : split-of 4 (place-of (version-1 4)) (names ("a" ∷ "and" ∷ "in" ∷ "is" ∷ "of" ∷ [])) ≡ bytes "i"
-  -- "a and i in is gives "i ""
+  -- R14.6: a and i in is
   pub gives-i-blank : split-of 4 (place-of (version-1 4)) (names ("a" ∷ "and" ∷ "i" ∷ "in" ∷ "is" ∷ [])) ≡ bytes "i "
-  -- "b = 2: rate1 rate2 rate3 gives "rate2""
+  -- R14.7: rate1 rate2 rate3
   pub gives-rate2 : split-of 2 (place-of (version-1 2)) (names ("rate1" ∷ "rate2" ∷ "rate3" ∷ [])) ≡ bytes "rate2"
-  -- "Add razz and rz: "ra""
+  -- R14.8: rate3 razz rz
   pub gives-ra : split-of 2 (place-of (version-1 2)) (names ("rate3" ∷ "razz" ∷ "rz" ∷ [])) ≡ bytes "ra"
 
 -- The files and tries with b = 2. After rate1, rate2, rate3:
@@ -126,19 +126,19 @@ abbrev pub with-rz : Held
 with-rz = puts 2 (("rz", 5) ∷ []) (razz-slots, five-cells)
 
 pub record Rates : Type 0 where
-  -- "rate1 rate2 rate3 gives "rate2", five cells: (r, 0), (a, 1), (t, 2), (e, 3), (2, 4)."
+  -- R14.7: five cells.
   pub rates-file : rates .0 ≡ rates-slots
   pub rates-trie : rates .1 ≡ five-cells
-  -- "The absent name rb then leads to slot 1."
+  -- The absent name rb leads to slot 1.
   pub rb-leads : walk-trie (rates .1) (name "rb") ≡ 1
   pub rb-absent : looked-up "rb" rates ≡ nothing
-  -- "Add razz": it fits, and the cells stay.
+  -- R14.8: razz fits, and the cells stay;
   pub razz-file : with-razz .0 ≡ razz-slots
   pub razz-trie : with-razz .1 ≡ five-cells
-  -- "and rz": two stores, the new slot first. "slot 1 keeps rate3, razz; slot 2 has rz."
+  -- rz takes two stores, the new slot first. Slot 1 keeps rate3 and razz, slot 2 gets rz.
   pub rz-stores : call 2 (place-of (version-1 2)) razz-slots (put (name "rz") 5) ≡ stores ((2, rz-slot) ∷ (1, kept-slot) ∷ [])
   pub rz-file : with-rz .0 ≡ rz-slots
-  -- ""ra", already a string, no cell added;"
+  -- "ra" is a string already, so no cell is added.
   pub rz-trie : with-rz .1 ≡ rz-cells
   pub rz-found : looked-up "rz" with-rz ≡ some 5
   pub razz-found : looked-up "razz" with-rz ≡ some 4
@@ -153,7 +153,7 @@ pub record Rates : Type 0 where
   pub razz-agrees : Agrees (with-razz .0) (with-razz .1)
   pub rz-agrees : Agrees (with-rz .0) (with-rz .1)
 
--- The same puts as a history, the latest first, and the last one "stopped after one store".
+-- The same puts as a history, the latest first, and the last one stopped after one store.
 abbrev pub before-rz : List Act
 before-rz =
     ask (put (name "razz") 4) 2 ∷ ask (put (name "rate3") 3) 2 ∷ ask (put (name "rate2") 2) 2
@@ -179,18 +179,18 @@ recovered-file = file-of (run 2 4 (place-of (version-1 2)) (recover 1 ∷ stoppe
 
 pub record Stopped : Type 0 where
   pub before : file-of (run 2 4 (place-of (version-1 2)) before-rz) ≡ razz-slots
-  -- "That last put stopped after one store: slot 1 still unlimited above, slot 2 holds rz;"
+  -- R14.9: stopped after one store, slot 1 has no upper limit yet, and slot 2 holds rz.
   pub stopped : stopped-file ≡ first-slot ∷ full-slot ∷ rz-slot ∷ free ∷ []
   pub cut : check 2 stopped-file ≡ is-cut 2
-  -- "recover frees slot 2,"
+  -- Recover frees slot 2.
   pub recovered : recovered-file ≡ razz-slots
   pub sound-again : check 2 recovered-file ≡ is-sound
-  -- "rz is absent."
+  -- Then rz is absent.
   pub rz-absent : looked-up "rz" (recovered-file, rebuilt-trie recovered-file) ≡ nothing
   pub rz-not-said : said-of (run 2 4 (place-of (version-1 2)) (recover 1 ∷ stopped-rz)) (name "rz") ≡ nothing
   pub razz-found : looked-up "razz" (recovered-file, rebuilt-trie recovered-file) ≡ some 4
 
--- "The nine words", each with its line number, with b = 4 and 8 slots.
+-- The nine words of R14.11, each with its line number, with b = 4 and 8 slots.
 abbrev pub words : Held
 words =
     puts 4
@@ -215,10 +215,10 @@ rebuilt-cells =
     of-cells (a-cell "i" 0 (further 1) (further 2) ∷ a-cell " " 1 (slot 0) (slot 3) ∷ a-cell "o" 0 (slot 2) (slot 1) ∷ [])
 
 pub record Words : Type 0 where
-  -- "The nine words below"
+  -- R14.10: the file of the nine words,
   pub words-file : words .0 ≡ words-slots
   pub words-trie : words .1 ≡ words-cells
-  -- "rebuilt: cell 0 (i, 0); cell 1 (space, 1) slots 0 and 3; cell 2 (o, 0) slots 2 and 1."
+  -- and its trie, rebuilt.
   pub words-rebuilt : rebuilt-trie (words .0) ≡ rebuilt-cells
   -- The file is sound, and both tries agree with it; the tests say so.
   pub words-sound : isSound 4 (words .0) ≡ true
@@ -227,7 +227,7 @@ pub record Words : Type 0 where
   pub words-agree : Agrees (words .0) (words .1)
   pub rebuilt-agrees : Agrees (words .0) (rebuilt-trie (words .0))
 
--- All of document 01's situations that are marked (P).
+-- All situations of the rules' section 14 that are marked proved.
 pub record Situations : Type 0 where
   pub legals : Legals
   pub withins : Withins

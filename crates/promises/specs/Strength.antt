@@ -51,8 +51,8 @@ stopped-file = fileBytes (version-1 2) (full-slot ∷ c-slot ∷ [])
 abbrev pub split-file : List ℕ
 split-file = fileBytes (version-1 2) (cut-down ∷ c-slot ∷ [])
 
--- "a stopped count not equal to slots replaced": a stopped put has made as many stores as it says, the first ones of those
--- that it takes, and each replaces one slot.
+-- R15.5, a wrong number of stores made: a stopped put has made as many stores as it says, the first ones of those that
+-- it takes, and each replaces one slot.
 pub record StoppedAfter (xs name : List ℕ) (v made : ℕ) (ys : List ℕ) : Type 0 where
   pub layout : Layout
   pub slots : List Slot
@@ -62,42 +62,41 @@ pub record StoppedAfter (xs name : List ℕ) (v made : ℕ) (ys : List ℕ) : Ty
   pub short : made < length needed
   pub left : ys ≡ storesBytes layout (take made needed) xs
 
--- "Comparing the split key with its neighbour instead of the last name": b = 4, and the key is ra.
+-- R15.7, the split key compared with the next name: b = 4, and the key is ra.
 abbrev pub five : List Entry
 five = names ("a" ∷ "b" ∷ "ra" ∷ "rate" ∷ "z" ∷ [])
 
--- "Rebuilding from bounds without their beginnings": one cell for "rate2".
+-- R15.8, bounds without their beginnings: one cell for "rate2".
 abbrev pub bare-cells : Trie
 bare-cells = of-cells (a-cell "2" 4 (slot 0) (slot 1) ∷ [])
 
--- "Redirecting only the leaf reached, where several leaves led to A": razz reached the leaf right of "rat".
+-- R15.10, only one leaf redirected: razz reached the leaf right of "rat".
 abbrev pub one-turned : Trie
 one-turned =
     of-cells (a-cell "r" 0 (further 1) (slot 1) ∷ a-cell "a" 1 (further 2) (slot 1) ∷ a-cell "t" 2 (further 3) (slot 2)
     ∷ a-cell "e" 3 (further 4) (slot 1) ∷ a-cell "2" 4 (slot 0) (slot 1) ∷ [])
 
 pub record Strength : Type 0 where
-  -- The wrong versions fail the demand that document 01 names for each. "a version that refuses everything (demand 2 with the
-  -- exact causes of demand 1)": no call does, whatever the others do.
+  -- The wrong versions of section 15 fail the demand that each is about. R15.1: no call refuses everything, whatever
+  -- the others do.
   pub refuses-all : (C : Calls) → RefusesAll C → ¬ Demand1 C
   pub refuses-lookups : (C : Calls) → ((xs : List ℕ) (t : Trie) (name : List ℕ) → IsRefused LookUpRefused (C .look-up xs t name)) → ¬ Demand2 C
-  -- "one lookup result for all (2)"
+  -- R15.2, against demand 2.
   pub one-result : (C : Calls) → OneResult C → ¬ Demand2 C
   -- The wrong puts are ours but for the stores that they make: with our stores, such a put is ours.
   pub ours-but-for : (xs : List ℕ) (t : Trie) (name : List ℕ) (v limit : ℕ)
       → make-put take (λ made. made) (λ ss. ss) xs t name v limit ≡ putOf xs t name v limit
-  -- "a put that stores nothing yet says done (3)"
+  -- R15.3, against demand 3.
   pub not-nothing : ¬ Demand3 stores-nothing
   pub not-absent : ¬ Demand3 removes-nothing
-  -- "a split that writes both slots in its first store (3: stopped after one would count as made)"
+  -- R15.4, against demand 3.
   pub not-both : ¬ Demand3 both-at-once
-  -- "a stopped count not equal to slots replaced (3, read with the rule that a stopped call makes as many stores as its limit
-  -- says)"
+  -- R15.5, against demand 3.
   pub not-miscounted : ¬ Demand3 miscounts
   pub not-idle : ¬ Demand3 idles
-  -- "Cutting A down before storing the new slot: a stop between loses the moved names."
+  -- R15.6, against demand 3.
   pub not-cut-first : ¬ Demand3 cuts-first
-  -- "Recovering by keeping the inner bucket."
+  -- R15.9, against demand 3.
   pub not-inner : ¬ Demand3 keeps-inner
   -- A put that says stopped made the first of its stores, as many as it says.
   pub stopped-after : (xs : List ℕ) (t : Trie) (name : List ℕ) (v limit made : ℕ)

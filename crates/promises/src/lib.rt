@@ -1,1 +1,1 @@
-// Document 01's situations and the maintainer's demands, proved of the definitions.
+// The situations and the maintainer's demands (docs/RULES.md, sections 14 and 13), proved of the definitions.

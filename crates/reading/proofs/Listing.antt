@@ -165,8 +165,7 @@ module _ {xs : List ℕ} {s : Size} {order : List ℕ} {count : ℕ} {fs : List 
 pub ready-ordered : {c : Checked} {xs : List ℕ} (R : Ready c xs) → Ordered xs (c .size) (c .survey .order) (c .survey .count) (R .slots)
 ready-ordered R = record { is = R .is; sound = R .sound; order-is = R .order-is; count-is = R .count-is }
 
--- "list output shorter than 32 bytes times the entries to be listed"; else the entries are written, "and nothing behind
--- them", and their number given.
+-- R10.7; else the entries are written over the beginning of the output, and their number is given (R9.8).
 module _ {xs : List ℕ} {s : Size} {order : List ℕ} {count : ℕ} {fs : List Slot} (O : Ordered xs s order count fs) (n m : Str) (f : Legal n) (g : Legal m)
     {from to : ℕ} (P : Holder fs n from) (Q : Holder fs m to) {v w : ℕ} (p : v ≡ value n) (q : w ≡ value m) (out : List ℕ) {bytes : ℕ}
     (e : bytes ≡ length (parts (to + 1 - from) xs s order v w from)) where
@@ -188,7 +187,7 @@ module _ {xs : List ℕ} {s : Size} {order : List ℕ} {count : ℕ} {fs : List 
       u ∙ ap₂ (λ (x : List ℕ) (k : ℕ). x ++ drop k out) (parts-are O n m f g from to P Q v w p q) (sym e ∙ bytes-are) in
       rw (le-ltb (length out) (32 * length all) (omega (arith, bytes-are)), a, i)
 
--- List, "in the order 1, 2, 3, 4, 7".
+-- List, in the order 1, 2, 3, 4, 7 (R10.9).
 module _ (xs : List ℕ) (t : Trie) (low high out : List ℕ) where
   pub first-illegal : legalName low ≡ false → listed (Refused IllegalName) out ≡ listOf xs t low high out
   unfolding listOf

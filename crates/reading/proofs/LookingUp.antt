@@ -54,8 +54,7 @@ pub no-slot : _≡_ {A = ℕ} 1 0 ⊎ _≡_ {A = ℕ} 1 2 → ⊥
 no-slot (inl e) = absurd (omega arith)
 no-slot (inr e) = absurd (omega arith)
 
--- "4 if the slot is free (all zero); 2 if it is not well formed; 4 if its range lacks the name. Only then found with value,
--- or absent."
+-- R11.8 to R11.11, in this order.
 module _ (b : ℕ) (xs : List ℕ) (n : Str) where
   pub answer-free : length xs ≡ 64 + 32 * b → isZero xs ≡ true → Refused StaleTrie ≡ slotAnswer b n (readSlot (version-1 b) xs)
   unfolding slotAnswer slotSize entrySize
@@ -104,7 +103,7 @@ module _ (b : ℕ) (xs : List ℕ) (n : Str) where
         go nothing q = clash cc
         go (some y) q = cc
 
--- "1; 2 if length or header is wrong; 4 if .. the walk ..": then what the slot answers.
+-- R11.1 to R11.7: then what the slot answers.
 module _ (xs : List ℕ) (p : Place) (name : List ℕ) where
   pub illegal-looked : legalName name ≡ false → Refused IllegalName ≡ lookUpFrom xs p name
   unfolding lookUpFrom

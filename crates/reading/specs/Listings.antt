@@ -17,6 +17,6 @@ unfoldable pub parts : ℕ → List ℕ → Size → List ℕ → ℕ → ℕ �
 parts zero xs s order v w j = []
 parts (suc f) xs s order v w j = partAt xs s v w (getD order j 0) ++ parts f xs s order v w (suc j)
 
--- "and nothing behind them": bytes over the first of an output, the others as they were.
+-- R9.8: bytes over the first of an output, the others as they were.
 abbrev pub Written : List ℕ → List ℕ → List ℕ → Type 0
 Written bytes out left = left ≡ bytes ++ drop (length bytes) out

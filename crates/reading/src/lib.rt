@@ -1,5 +1,5 @@
-// The calls that change nothing: look up and list. Neither has a `requires`: each checks for itself, in document 01's order
-// of refusals.
+// The calls that change nothing: look up and list. Neither has a `requires`: each checks for itself, in the order of
+// refusals R10.9 and, for look up, section 11.
 ghost use mathlib.Core.Path.{_≡_};
 ghost use Prim.Native.Nat.{_≤_, _<_, _+_, _-_, _*_};
 ghost use lib.ListN.{length};
@@ -54,7 +54,8 @@ fn answer_of(slot: &[u8], b: usize, name: Key) -> LookUpAnswer
     LookUpAnswer::Found(value)
 }
 
-// Look up where the walk of the filled name is known: it reads one bucket and has its own order of refusals.
+// Look up where the walk of the filled name is known: it reads one bucket, and goes through section 11 of the rules from the
+// top.
 pub fn look_up_from(file: &[u8], walk: Walk, name: &[u8]) -> LookUpAnswer
     ensures { λ r. ⌜ r ≡ lookUpFrom (now (file .entry)) (walk .place) (now (name .entry)) ⌝ }
 {
@@ -165,8 +166,7 @@ fn list_checked(
     ListAnswer::Listed((bytes / 32) as u64)
 }
 
-// Writes the entries, ascending, whose names lie from the first to the second name, both included, and nothing behind
-// them, and gives their number.
+// R9.8: writes the entries from the first name to the second, ascending, and leaves what is behind them.
 pub fn list(file: &[u8], trie: Trie, first: &[u8], second: &[u8], output: &mut [u8]) -> ListAnswer
     ensures { λ r.
         ⌜ listed r (now (output .exit)) ≡ listOf (now (file .entry)) trie (now (first .entry)) (now (second .entry)) (now (output .entry)) ⌝ }

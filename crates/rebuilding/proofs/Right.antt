@@ -1,4 +1,5 @@
--- The trie that is made of the arrays is document 01's: the tree of a run is the one that rebuild takes of its strings.
+-- The trie that is made of the arrays is that of the rules' section 6: the tree of a run is the one that rebuild takes
+-- of its strings.
 use Rattle.model.proofs.Prelude.{List, [], _+_, _-_, _<_, _∙_, _∷_, _≡_, _≤_, add-zero, ap, arith, drop, getD, getD-drop, getD-take, length, length-drop, length-take, map, refl, suc, sym, take, zero, ℕ}
 use Rattle.model.specs.Order.{Low, Str, at, none}
 use Rattle.model.specs.Files.{Slot, Sound, order-of, ranges, strings-of}

@@ -32,7 +32,6 @@ place z i d m (x ∷ xs) =
     let other = place z (suc i) d m xs in
     cond (eqb x d) (cond (eqb m 0) i later) other
 
--- "the middle one of the strings with fewest digits (of an even number, the lower middle)", of strings that have less than
--- 255 digits, counted from i
+-- R6.2: the place of a run's root, of strings that have less than 255 digits, counted from i
 unfoldable pub middle : ℕ → List ℕ → ℕ
 middle i xs = let d = least 255 xs in place i i d ((many 0 d xs - 1) / 2) xs

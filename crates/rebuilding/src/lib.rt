@@ -89,7 +89,7 @@ fn place_of(lens: &[u8; 256], from: usize, to: usize, digits: u8, before: usize)
     from
 }
 
-// Of a run, the root is the middle one of the strings with fewest digits; of an even number, the lower middle.
+// R6.2: the root of a run.
 fn root_of(lens: &[u8; 256], from: usize, to: usize) -> usize
     requires { ⌜ (from < to) × (to ≤ 256) ⌝ }
     ensures { λ r. ⌜ (from ≤ r) × (r < to) × (r ≡ middle from (run from to (now (lens .entry)))) ⌝ }

@@ -38,8 +38,8 @@ fn name_at(entries: &[u8; 544], at: usize) -> [u8; 24]
     name
 }
 
-// The split string's digits: the shortest beginning of the split key that is smaller than as many digits of the last name.
-// The two differ, so if they share 23 digits the last digit decides.
+// R7.4: how many digits the split string has. The split key and the last name differ, so if they share 23 digits the
+// last digit decides.
 fn string_length(key: &[u8; 24], last: &[u8; 24]) -> usize
     ensures { λ r. ⌜ (1 ≤ r) × (r ≤ 24) × (r ≡ diff (take 23 (now (key .entry))) (now (last .entry)) + 1) ⌝ }
 {
@@ -69,7 +69,7 @@ fn stay_of(entries: &[u8; 544], b: usize, string: &[u8; 24], len: usize) -> usiz
     1 + entries::not_above(&whole[32..], b - 1, digits::bound_key_at(string, 0, len))
 }
 
-// The split of b + 1 entries, sorted. The split key is at position b/2 + 1, counted from 1.
+// R7.3 and R7.4: the split of b + 1 entries, sorted.
 pub fn split_of(entries: &[u8; 544], b: usize, trie: Trie) -> Split
     requires { ⌜ (2 ≤ b) × (b ≤ 16) ⌝ }
     ensures { λ r. ⌜ (Parted r b) × (Found r b trie (now (entries .entry))) ⌝ }

@@ -1,4 +1,4 @@
-// The strings of a sound file in ascending order: its non-empty bounds and all their non-empty beginnings.
+// The strings of a sound file (R5.7), in ascending order.
 //
 // A beginning comes after everything that it begins. So after a bound x, before the next bound y, come the beginnings of x
 // that are longer than what x and y share, the longest first. Each string is kept as its length and its last digit, which

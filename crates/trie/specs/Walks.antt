@@ -18,8 +18,8 @@ use Rattle.trie.specs.declared.Place.{Place}
 use Rattle.trie.specs.declared.Place.the-variants.{Cell as before-cell, Slot as at-slot, Stale as stale}
 use Rattle.trie.specs.declared.Walk.{Walk}
 
--- The leaf reached: its path, its side and its slot. Nothing where "the walk meets a cell number not below the count, more
--- cells than the count, a digit number above the path's length or 23". The first number is how many cells may still be met.
+-- The leaf reached: its path, its side and its slot. Nothing where R11.4, R11.5 or R11.6 refuses the walk. The first
+-- number is how many cells may still be met.
 unfoldable pub walkRun : ℕ → ℕ → List Cell → Str → Str → Spot → Side → Option (Str × Spot × ℕ)
 walkRun zero count cs n p k (slot s) = some (p, k, s)
 walkRun zero count cs n p k (further m) = nothing

@@ -1,4 +1,4 @@
-// The trie: its cells held together with their count and a first leaf, and the walk (document 000, A1).
+// The trie: its cells held together with their count and a first leaf, and the walk (docs/RULES.md, R5.4 to R5.6).
 ghost use mathlib.Core.Bool.{cond};
 ghost use mathlib.Core.Path.{_≡_};
 ghost use Prim.Native.Nat.{_≤_, _<_, _+_};
@@ -88,7 +88,7 @@ fn place_of(side: Side, count: u16, more: u16) -> Place
     }
 }
 
-// Cell 0 is the root. With count 0 the walk ends at the first leaf at once.
+// R5.1: cell 0 is the root; R5.6: with count 0 the walk ends at the first leaf.
 fn root(count: u16, first: u16) -> Place
     ensures { λ r. ⌜ r ≡ cond (leb count 256) (placeOf (root-side count first) count count) Place.Stale ⌝ }
 {
@@ -132,8 +132,7 @@ impl Walk {
         }
     }
 
-    // The cell's string is the first digits of the path, as many as its number says, then its digit. A name within that
-    // string goes left and the path becomes that string; otherwise it goes right with the path unchanged.
+    // R5.4 and R5.5: the cell's string, and whether the name goes left or right.
     pub fn step(mut self, name: &[u8; 24], i: u16, cell: Cell) -> Walk
         requires { ⌜ (self .len ≤ 24) × (0 < self .more) ⌝ }
         ensures { λ r. ⌜ (r .more < self .more) × Steps (now (name .entry)) self i cell r ⌝ }

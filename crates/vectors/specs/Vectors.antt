@@ -1,4 +1,4 @@
--- Cases of document 01's definitions, each with what is expected, and one test that computes whether a case holds.
+-- Cases of the definitions, each with what is expected, and one test that computes whether a case holds.
 use mathlib.Core.Bool.{Bool, _&&_, false, true}
 use mathlib.Core.Option.{Option, none as nothing, some}
 use mathlib.Core.List.{List, [], _++_, _∷_}

@@ -1,1 +1,1 @@
-// The definitions of document 01, compared with an independent model on small cases.
+// The definitions, compared with an independent model of the rules (docs/RULES.md) on small cases.

@@ -11,7 +11,7 @@ use Rattle.file.specs.declared.survey.Kind.the-variants.{Bad, Cut, Sound}
 abbrev pub created : TrieGiven → List ℕ → Created
 created r xs = record { answer = r .answer; file = xs; trie = r .trie }
 
--- "Check gives sound, cut or bad as a result."
+-- R9.2: sound, cut or bad.
 abbrev pub found : Kind → Found
 found is-sound = Sound
 found (is-cut N) = Cut

@@ -1,5 +1,5 @@
-// The calls on a whole file: create, check, recover, rebuild. None has a `requires`: each checks for itself, in document
-// 01's order of refusals.
+// The calls on a whole file: create, check, recover, rebuild. None has a `requires`: each checks for itself, in the
+// order of refusals R10.9.
 ghost use mathlib.Core.Path.{_≡_};
 ghost use Prim.Native.Nat.{_<_};
 ghost use Rattle.model.specs.Calls.{createOf, new-trie, rebuildOf, recoverOf};
@@ -61,7 +61,7 @@ pub fn check(file: &[u8]) -> Kind
     kind
 }
 
-// Frees slot N of a cut file in one store and names it.
+// R9.3: frees N in one store, and names it.
 pub fn recover(file: &mut [u8], limit: u64) -> RecoverAnswer
     ensures { λ r. ⌜ recovered r (now (file .exit)) ≡ recoverOf (now (file .entry)) limit ⌝ }
 {

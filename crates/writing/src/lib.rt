@@ -96,7 +96,7 @@ pub fn written(lower: &[u8], upper: &[u8], entries: &[u8]) -> [u8; 576]
     slot
 }
 
-// The bytes of the entries whose names lie from the first to the second, both included.
+// The bytes of the entries from the first name to the second, both included (R9.8).
 pub fn part_between(slot: &[u8], b: usize, first: Key, second: Key) -> &[u8]
     requires { ⌜ (length (now slot) ≡ 64 + 32 * b) × (b ≤ 16) ⌝ }
     ensures { λ r. ⌜ (length (now r) ≤ 512)
