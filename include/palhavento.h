@@ -176,6 +176,10 @@ uint64_t pal_lookup(const uint8_t *file, size_t file_length,
  * A lower one stops the call where a kill could. After a stop or a kill discard the trie, recover
  * and rebuild: a call that was stopped before its last store then counts as never made.
  *
+ * The stores and their order do not depend on the limit. Whatever instant the call is stopped at,
+ * the lent file is as its first stores leave it, each whole, but for the store under way. For the
+ * order in which the machine sees the writes of one call, the compiler is trusted.
+ *
  * PAL_ADDED, PAL_REPLACED (out[0]: the old value, out[1]: its run, now 0), PAL_STOPPED (out[0]:
  * stores made). Refusals: 8, 1, 2, 3, 4, 5, 6.
  */

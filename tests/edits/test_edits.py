@@ -15,8 +15,13 @@ SCRIPT = pathlib.Path(__file__).resolve().parents[2] / "scripts" / "edits"
 PROVER = """\
 #!/usr/bin/env bash
 crate=$2
+if [ "$1" = check ]; then
+    ls crates/$crate/proofs >"$PLACE/proofs"
+    exit "$(cat "$PLACE/alone")"
+fi
 ls target/inc/$crate/*/*.oantt >/dev/null || exit 2
-if grep -q edited crates/$crate/src/lib.rt; then
+[ -e crates/d/proofs/Laws.antt ] || [ ! -e "$PLACE/needs-laws" ] || exit 1
+if grep -q edited crates/$crate/src/lib.rt crates/d/specs/D.antt; then
     tail -n +2 "$PLACE/answer"
     exit "$(head -n 1 "$PLACE/answer")"
 fi
@@ -34,7 +39,12 @@ class Edits(unittest.TestCase):
         self.addCleanup(place.cleanup)
         self.top = pathlib.Path(place.name)
         self.write("scripts/edits", SCRIPT.read_text())
-        self.write("crates.txt", "c:\n")
+        self.write("crates.txt", "d:\nc: d\n")
+        self.write("crates/d/specs/D.antt", "first;")
+        self.write("crates/d/proofs/Prelude.antt", "")
+        self.write("crates/d/proofs/Laws.antt", "")
+        self.write("alone", "0")
+        self.write("crates/c/proofs/C.antt", "use Rattle.d.proofs.Prelude.{refl}\n")
         self.write("crates/c/src/lib.rt", "fn f() {\n    first;\n    twice; twice;\n}\n")
         self.write("target/stamp/c", "stamp")
         self.write("target/rlib/c.rlib/toolchain/checked/c.oantt", "--@ kernel some/kind\n")
@@ -121,6 +131,50 @@ class Edits(unittest.TestCase):
             self.write("edits/c/one.edit", text)
             status, said = self.run_script()
             self.assertEqual(status, 1, said)
+
+    def change_another(self):
+        """The edit changes a definition of crate d, and crate c must refuse it."""
+        self.write("edits/c/one.edit", "crate: d\nfile: specs/D.antt\nold: first;\nnew: edited;\n")
+
+    def test_an_edit_of_another_crates_definition_that_is_refused_counts(self):
+        self.change_another()
+        status, said = self.run_script()
+        self.assertEqual(status, 0, said)
+        self.assertTrue(said.endswith("1 passed, 0 failed\n"), said)
+        self.assertEqual((self.top / "proofs").read_text(), "Lib.antt\nPrelude.antt\n")
+        self.assertEqual((self.top / "crates/d/specs/D.antt").read_text(), "first;")
+
+    def test_an_edit_of_another_crates_definition_that_is_proved_fails(self):
+        self.change_another()
+        self.write("answer", "0\nlogic=proved functions=1\n")
+        self.fails("NOT REFUSED")
+
+    def test_the_control_must_be_proved_over_the_other_crate_cut_down(self):
+        self.change_another()
+        self.write("needs-laws", "")
+        self.fails("c is not proved over d cut down")
+
+    def test_the_other_crate_must_be_proved_by_its_definitions(self):
+        self.change_another()
+        self.write("alone", "1")
+        self.fails("not proved by its definitions alone")
+
+    def test_only_a_definition_of_another_crate_is_changed(self):
+        self.write("crates/d/src/lib.rt", "first;")
+        for crate, file, why in (
+            ("d", "src/lib.rt", "is no file of the crate's specs"),
+            ("none", "specs/D.antt", "is no other crate"),
+            ("c", "specs/D.antt", "is no other crate"),
+        ):
+            self.write("edits/c/one.edit", f"crate: {crate}\nfile: {file}\nold: first;\nnew: edited;\n")
+            self.fails(why)
+
+    def test_an_edit_of_its_own_crate_is_tried_before_one_of_another(self):
+        self.change_another()
+        self.write("edits/c/two.edit", "file: src/lib.rt\nold:     first;\nnew:     edited;\n")
+        status, said = self.run_script("c")
+        self.assertEqual(status, 0, said)
+        self.assertLess(said.index("c/two"), said.index("c/one"))
 
     def test_every_edit_starts_from_the_crate_as_it_stands(self):
         self.write("edits/c/two.edit", "file: src/lib.rt\nold:     first;\nnew:     edited;\n")

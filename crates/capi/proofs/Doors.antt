@@ -18,6 +18,8 @@ use Rattle.file.specs.declared.survey.Kind.{Kind as Found}
 use Rattle.file.specs.declared.survey.Kind.the-variants.{Bad, Cut, Sound}
 use Rattle.whole.specs.Outcomes.{created, found, rebuilt, recovered}
 use Rattle.reading.specs.Outcomes.{listed}
+use Rattle.reading.specs.Walked.{lookUpFrom}
+use Rattle.reading.proofs.LookingUp.{walked-looked}
 use Rattle.changing.specs.Outcomes.{put, removed}
 use Rattle.trie.specs.declared.Walk.{Walk}
 use Rattle.trie.specs.Walks.{Walks, walkOf}
@@ -86,8 +88,8 @@ module _ (image : List ℕ) (well : length image ≡ imageSize) where
 
 -- Look up walks over the image itself.
 pub lookUp-walked : (image file name : List ℕ) {n : List ℕ} {x : LookUpAnswer} (w : Walk) → n ≡ filled name → Walks w (walkOf (trieOf image) n)
-    → ((t : Trie) → Walks w (walkOf t (filled name)) → x ≡ lookUpOf file t name) → x ≡ lookUpOf file (trieOf image) name
-lookUp-walked image file name w e W said = said (trieOf image) (subst (λ (k : List ℕ). Walks w (walkOf (trieOf image) k)) e W)
+    → x ≡ lookUpFrom file (w .place) name → x ≡ lookUpOf file (trieOf image) name
+lookUp-walked image file name w e W said = said ∙ walked-looked file (trieOf image) name w (subst (λ (k : List ℕ). Walks w (walkOf (trieOf image) k)) e W)
 
 pub recover-said : (file : List ℕ) (limit : ℕ) (out : List ℕ) {x a : RecoverAnswer} {ys ws : List ℕ} {n : ℕ}
     → x ≡ a → recovered x ys ≡ recoverOf file limit → n ≡ recoverSays a .0

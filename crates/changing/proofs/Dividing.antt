@@ -1,20 +1,19 @@
--- Put into a full bucket: what refuses the split, and what its two stores leave.
+-- Put into a full bucket: what refuses the split, and its two stores.
 use Rattle.model.specs.declared.Layout.{Layout}
 use Rattle.model.specs.Places.{place-of}
-use Rattle.model.proofs.Prelude.{List, Option, [], _*_, _+_, _-_, _/_, _<_, _∙_, _≡_, _≤_, ap, ap₂, arith, clash, decLe, decLt, drop, le-ltb, length, lt-ltb, paste, some, subst, suc, sym, take, ℕ}
+use Rattle.model.proofs.Prelude.{List, Option, [], _*_, _+_, _-_, _/_, _<_, _∙_, _≡_, _≤_, ap, ap₂, arith, clash, decLe, decLt, drop, le-ltb, length, lt-ltb, some, subst, suc, sym, take, ℕ}
 use Rattle.model.specs.declared.Cause.the-variants.{ManyStrings, NoFreeSlot}
-use Rattle.model.specs.declared.PutAnswer.the-variants.{Added, Refused, Stopped}
-use Rattle.model.specs.declared.PutGiven.{PutGiven}
+use Rattle.model.specs.declared.PutAnswer.the-variants.{Added, Refused}
 use Rattle.model.specs.declared.Trie.{Trie}
 use Rattle.model.specs.Order.{Low, Str, _⊑_, _◁_, diff}
 use Rattle.model.specs.Names.{Legal}
-use Rattle.model.specs.Entries.{Entry, Row, chosen, insert, name-at}
-use Rattle.model.specs.Files.{In, Slot, Sound, first, head, slot-at, string-count, strings-of, used}
+use Rattle.model.specs.Entries.{Entry, Row, chosen, find, insert, name-at}
+use Rattle.model.specs.Files.{In, Slot, Sound, entries-of, first, head, slot-at, string-count, strings-of, used}
 use Rattle.model.specs.Tries.{Agrees, walk-trie}
 use Rattle.model.specs.Growth.{grown-trie, path-cells, root, spot-cells}
-use Rattle.model.specs.Changes.{Lowest, Result, call, free?, halves, new-half, old-half, put as asked, put-in, refuse, split-of, stored, stores}
-use Rattle.model.specs.Format.{headerOf, readFile, storeBytes, version-1}
-use Rattle.model.specs.Calls.{PutDone, putMade, refusalOf, storesBytes, trieAfter}
+use Rattle.model.specs.Changes.{Lowest, Result, call, free?, halves, holds?, put as asked, put-in, refuse, split-of, stored, stores}
+use Rattle.model.specs.Format.{headerOf, readFile, version-1}
+use Rattle.model.specs.Calls.{putAnswer, refusalOf, trieAfter}
 use Rattle.model.proofs.Entries.{chosen-no, chosen-yes, row-at, row-insert}
 use Rattle.model.proofs.Names.{legal-length}
 use Rattle.model.proofs.Format.{headed-headerOf, readFile-read}
@@ -23,8 +22,11 @@ use Rattle.bucket.specs.Slots.{lowerAt, upperAt}
 use Rattle.writing.specs.Slots.{writtenBytes}
 use Rattle.bucket.proofs.Slots.{Reads}
 use Rattle.writing.proofs.Changing.{length-new}
+use Rattle.file.specs.declared.Plan.{Plan}
 use Rattle.file.specs.declared.Room.{Room}
 use Rattle.file.specs.declared.Room.the-variants.{At, Full as NoRoom}
+use Rattle.file.specs.declared.Size.{Size}
+use Rattle.file.specs.Plans.{Fits}
 use Rattle.file.specs.Maps.{RoomTold, map-of, room-of}
 use Rattle.file.specs.Sizes.{Inside as RoomInside}
 use Rattle.trie.specs.Places.{Placed}
@@ -37,13 +39,21 @@ use Rattle.checking.specs.declared.Checked.{Checked}
 use Rattle.splitting.specs.declared.Split.{Split}
 use Rattle.changing.specs.Full.{DivideTold, Full}
 use Rattle.splitting.specs.Divides.{Divides, Found}
-use Rattle.changing.specs.Outcomes.{put}
+use Rattle.changing.specs.declared.PutPlan.{PutPlan}
+use Rattle.changing.specs.Plans.{PutPlanned}
 use Rattle.checking.specs.Ready.{Agreed}
 use Rattle.splitting.specs.Parts.{Parted}
 use Rattle.changing.specs.Splits.{SplitTold}
 use Rattle.splitting.proofs.Halving.{new-slot-is, old-slot-is, split-begins, split-some, string-front}
-use Rattle.changing.proofs.Spots.{slot-reads, store-is}
+use Rattle.changing.proofs.Spots.{NoStore, slot-reads}
 use Rattle.splitting.proofs.Counting.{split-count}
+
+-- What the plan of two stores ensures; its slots are the file's.
+abbrev TwoStores : Plan → ℕ → List ℕ → ℕ → List ℕ → Type 0
+TwoStores p k bytes l others = (p .stores ≡ 2) × (p .first ≡ k) × (p .one ≡ bytes) × (p .second ≡ l) × (p .two ≡ others)
+
+pub fits-two : (r p : Plan) (k l : ℕ) (bytes others : List ℕ) (size : Size) → r ≡ p → TwoStores p k bytes l others → k < size .slots → l < size .slots → Fits r size
+fits-two r p k l bytes others size e q h i = rw (e, q .1, q .3) (h, i)
 
 -- A free slot that was found is one of the file's.
 pub room-inside : {r : Room} {k n : ℕ} → r ≡ At k → RoomInside r n → k < n
@@ -85,39 +95,19 @@ module _ (b : ℕ) (two : 2 ≤ b) (few : b ≤ 16) (xs : List ℕ) {fs : List S
   pub length-all : length ws ≡ b + 1
   length-all = omega (arith, length-new n v es (F .new), F .counted)
 
-  -- The stores of a split, made in part and whole.
-  module _ {s : Split} (D : Divides s b t ws) (N limit : ℕ) (r : PutGiven) where
-    abbrev made : PutDone
-    made = putMade xs t (version-1 b) fs n v limit (stores (halves b (place-of (version-1 b)) N A l u ws))
-
-    pub none-stored : limit < 1 → (r .answer ≡ Stopped 0) × (r .trie ≡ t) → put r xs ≡ made
-    unfolding putMade storesBytes
-    none-stored h g = let z : limit ≡ 0 = omega arith in rw (z, g .0, g .1)
-
-    module _ (ys slot new : List ℕ) (here : slot ≡ take (64 + 32 * b) (drop (16 + A * (64 + 32 * b)) xs))
-        (new-is : new ≡ writtenBytes (take (s .len) (s .string)) (upperAt slot) (take (32 * (b + 1) - 32 * s .stay) (drop (32 * s .stay) entries)))
-        (first-made : ys ≡ paste xs (16 + N * (64 + 32 * b)) (take (64 + 32 * b) new) (64 + 32 * b)) where
-      at-slot : Reads b slot l u es
-      at-slot = subst (λ (z : List ℕ). Reads b z l u es) (sym here) at-a
-
-      first-is : ys ≡ storeBytes (version-1 b) N (new-half b (place-of (version-1 b)) ws u) xs
-      first-is =
-          first-made ∙ store-is b N (new-half b (place-of (version-1 b)) ws u) xs new
-          (new-slot-is row-all b two few length-all entries (F .entries-are) slot at-slot (s .string) (s .len) (s .stay) (D .string-is) (D .len-is) (D .stay-is) new new-is)
-
-      pub one-stored : 1 ≤ limit → limit < 2 → (r .answer ≡ Stopped 1) × (r .trie ≡ t) → put r ys ≡ made
-      unfolding putMade storesBytes
-      one-stored h i g = let z : limit ≡ 1 = omega arith in rw (z, g .0, g .1, first-is)
-
-      pub two-stored : (zs old : List ℕ) → old ≡ writtenBytes (lowerAt slot) (take (s .len) (s .string)) (take (32 * s .stay) entries)
-          → zs ≡ paste ys (16 + A * (64 + 32 * b)) (take (64 + 32 * b) old) (64 + 32 * b) → 2 ≤ limit
-          → (r .answer ≡ Added) × (r .trie ≡ grown-trie t (name-at ws (b / 2)) (split-of b (place-of (version-1 b)) ws) A N) → put r zs ≡ made
-      unfolding putMade storesBytes trieAfter
-      two-stored zs old old-is second-made h g =
-          let q : zs ≡ storeBytes (version-1 b) A (old-half b (place-of (version-1 b)) ws l) ys =
-          second-made ∙ store-is b A (old-half b (place-of (version-1 b)) ws l) ys old
-          (old-slot-is row-all b two few length-all entries (F .entries-are) slot at-slot (s .string) (s .len) (s .stay) (D .string-is) (D .len-is) (D .stay-is) old old-is) in
-          rw (le-ltb limit 2 h, ← F .slot-is, F .is, F .new, q, first-is, g .0, g .1)
+  -- The stores of a split, planned.
+  both-planned : {s : Split} → Divides s b t ws → (N : ℕ) (r : PutPlan) (p : Plan) (slot new old : List ℕ) → slot ≡ take (64 + 32 * b) (drop (16 + A * (64 + 32 * b)) xs)
+      → new ≡ writtenBytes (take (s .len) (s .string)) (upperAt slot) (take (32 * (b + 1) - 32 * s .stay) (drop (32 * s .stay) entries))
+      → old ≡ writtenBytes (lowerAt slot) (take (s .len) (s .string)) (take (32 * s .stay) entries) → TwoStores p N new A old
+      → (r .plan ≡ p) × (r .answer ≡ Added) × (r .trie ≡ grown-trie t (name-at ws (b / 2)) (split-of b (place-of (version-1 b)) ws) A N)
+      → PutPlanned r t (version-1 b) fs n v (stores (halves b (place-of (version-1 b)) N A l u ws))
+  unfolding trieAfter
+  both-planned {s} D N r p slot new old here new-is old-is q g =
+      let at-slot : Reads b slot l u es = subst (λ (z : List ℕ). Reads b z l u es) (sym here) at-a in
+      let x = new-slot-is row-all b two few length-all entries (F .entries-are) slot at-slot (s .string) (s .len) (s .stay) (D .string-is) (D .len-is) (D .stay-is) new new-is in
+      let z = old-slot-is row-all b two few length-all entries (F .entries-are) slot at-slot (s .string) (s .len) (s .stay) (D .string-is) (D .len-is) (D .stay-is) old old-is in
+      let a : r .answer ≡ putAnswer (find n (entries-of (slot-at fs (first (holds? n) fs)))) = rw (← F .slot-is, F .is, F .new) (g .1) in
+      (rw (g .0) (q .0, (q .1, rw (q .2) x), (q .3, rw (q .4) z)), a, rw (F .is) (g .2))
 
   -- The split key is a name of A's range, and its walk over a trie that agrees ends.
   abbrev c : Str
@@ -162,15 +152,20 @@ module _ (b : ℕ) (two : 2 ≤ b) (few : b ≤ 16) (xs : List ℕ) {fs : List S
   unfolding call put-in
   call-split = rw (← F .slot-is, F .is) (chosen-no (decLe (length ws) b) (λ h. omega (arith, h, length-all)) _ _)
 
-  pub no-room : (r : PutGiven) (limit : ℕ) → length fs ≤ N → (r .answer ≡ Refused NoFreeSlot) × (r .trie ≡ t) → put r xs ≡ putMade xs t (version-1 b) fs n v limit (call b (place-of (version-1 b)) fs (asked n v))
-  unfolding putMade refusalOf
-  no-room r limit h g = rw (call-split, chosen-no (decLt N (length fs)) (λ k. omega (arith, h, k)), g .0, g .1)
+  pub no-room : (r : PutPlan) (p : Plan) → length fs ≤ N → NoStore p → (r .plan ≡ p) × (r .answer ≡ Refused NoFreeSlot) × (r .trie ≡ t)
+      → PutPlanned r t (version-1 b) fs n v (call b (place-of (version-1 b)) fs (asked n v))
+  unfolding refusalOf
+  no-room r p h q g =
+      let e : call b (place-of (version-1 b)) fs (asked n v) ≡ refuse 5 = call-split ∙ chosen-no (decLt N (length fs)) (λ k. omega (arith, h, k)) _ _ in
+      subst (PutPlanned r t (version-1 b) fs n v) (sym e) (rw (g .0) (q .0), g .1, g .2)
 
-  pub too-many : (r : PutGiven) (limit : ℕ) → N < length fs → 256 < string-count (stored (halves b (place-of (version-1 b)) N A l u ws) fs)
-      → (r .answer ≡ Refused ManyStrings) × (r .trie ≡ t) → put r xs ≡ putMade xs t (version-1 b) fs n v limit (call b (place-of (version-1 b)) fs (asked n v))
-  unfolding putMade refusalOf
-  too-many r limit h k g =
-      rw (call-split, chosen-yes (decLt N (length fs)) h, chosen-no (decLe (string-count (stored (halves b (place-of (version-1 b)) N A l u ws) fs)) 256) (λ i. omega (arith, i, k)), g .0, g .1)
+  pub too-many : (r : PutPlan) (p : Plan) → N < length fs → 256 < string-count (stored (halves b (place-of (version-1 b)) N A l u ws) fs) → NoStore p
+      → (r .plan ≡ p) × (r .answer ≡ Refused ManyStrings) × (r .trie ≡ t) → PutPlanned r t (version-1 b) fs n v (call b (place-of (version-1 b)) fs (asked n v))
+  unfolding refusalOf
+  too-many r p h k q g =
+      let e : call b (place-of (version-1 b)) fs (asked n v) ≡ refuse 6 =
+      call-split ∙ chosen-yes (decLt N (length fs)) h _ _ ∙ chosen-no (decLe (string-count (stored (halves b (place-of (version-1 b)) N A l u ws) fs)) 256) (λ i. omega (arith, i, k)) _ _ in
+      subst (PutPlanned r t (version-1 b) fs n v) (sym e) (rw (g .0) (q .0), g .1, g .2)
 
   pub both-made : N < length fs → string-count (stored (halves b (place-of (version-1 b)) N A l u ws) fs) ≤ 256 → call b (place-of (version-1 b)) fs (asked n v) ≡ two-stores
   both-made h k =
@@ -205,53 +200,44 @@ module _ {c : Checked} {xs : List ℕ} {t : Trie} (G : Agreed c xs t) where
   lowest : {room : Room} → RoomTold (c .survey .used) (c .size .slots) room → {fs : List Slot} → readFile xs ≡ some (version-1 (c .size .b), fs) → room ≡ room-of fs
   lowest R {fs} e = R .lowest fs (slots-are xs e (G .ready .said .header)) (G .ready .said .sized .legal .slots-most) (known G e .map-is)
 
-module _ {c : Checked} {xs : List ℕ} {t : Trie} (G : Agreed c xs t) (A : ℕ) (entries : List ℕ) (limit : ℕ) where
+module _ {c : Checked} {xs : List ℕ} {t : Trie} (G : Agreed c xs t) (A : ℕ) (entries : List ℕ) (r : PutPlan) where
   -- The two stores.
-  module _ (N : ℕ) {s : Split} (r : PutGiven) where
-    pub none-told : limit < 1 → (r .answer ≡ Stopped 0) × (r .trie ≡ t) → DivideTold c xs xs t A N entries s limit r
-    none-told h g fs e n v l u es F D = none-stored (c .size .b) (two G) (few G) xs e (known G e .sound) t F D N limit r h g
-
-    module _ {ys slot new : List ℕ} (here : slot ≡ take (64 + 32 * c .size .b) (drop (16 + A * (64 + 32 * c .size .b)) xs))
-        (new-is : new ≡ writtenBytes (take (s .len) (s .string)) (upperAt slot) (take (32 * (c .size .b + 1) - 32 * s .stay) (drop (32 * s .stay) entries)))
-        (first-made : ys ≡ paste xs (16 + N * (64 + 32 * c .size .b)) (take (64 + 32 * c .size .b) new) (64 + 32 * c .size .b)) where
-      pub one-told : 1 ≤ limit → limit < 2 → (r .answer ≡ Stopped 1) × (r .trie ≡ t) → DivideTold c xs ys t A N entries s limit r
-      one-told h i g fs e n v l u es F D = one-stored (c .size .b) (two G) (few G) xs e (known G e .sound) t F D N limit r ys slot new here new-is first-made h i g
-
-      pub two-told : {zs old : List ℕ} {w : Trie} → old ≡ writtenBytes (lowerAt slot) (take (s .len) (s .string)) (take (32 * s .stay) entries)
-          → zs ≡ paste ys (16 + A * (64 + 32 * c .size .b)) (take (64 + 32 * c .size .b) old) (64 + 32 * c .size .b) → 2 ≤ limit
-          → Grows t (c .places) (c .strings .lens) (s .walk) (take (s .len) (s .string)) (s .shared) A N w
-          → (r .answer ≡ Added) × (r .trie ≡ w) → DivideTold c xs zs t A N entries s limit r
-      two-told {zs} {old} {w} old-is second-made h k g fs e n v l u es F D =
-          let K = known G e in
-          two-stored (c .size .b) (two G) (few G) xs e (K .sound) t F D N limit r ys slot new here new-is first-made zs old old-is second-made h
-          (g .0, g .1 ∙ grown-is (c .size .b) (two G) (few G) xs e (K .sound) t F (K .agrees) D (G .placed) (K .lens-are) N w k)
+  pub divide-told : {p : Plan} {N : ℕ} {s : Split} {slot new old : List ℕ} {w : Trie} → slot ≡ take (64 + 32 * c .size .b) (drop (16 + A * (64 + 32 * c .size .b)) xs)
+      → new ≡ writtenBytes (take (s .len) (s .string)) (upperAt slot) (take (32 * (c .size .b + 1) - 32 * s .stay) (drop (32 * s .stay) entries))
+      → old ≡ writtenBytes (lowerAt slot) (take (s .len) (s .string)) (take (32 * s .stay) entries)
+      → Grows t (c .places) (c .strings .lens) (s .walk) (take (s .len) (s .string)) (s .shared) A N w → TwoStores p N new A old
+      → (r .plan ≡ p) × (r .answer ≡ Added) × (r .trie ≡ w) → DivideTold c xs t A N entries s r
+  divide-told {p} {N} {s} {slot} {new} {old} {w} here new-is old-is k q g fs e n v l u es F D =
+      let K = known G e in
+      both-planned (c .size .b) (two G) (few G) xs e (K .sound) t F D N r p slot new old here new-is old-is q
+      (g .0, g .1, g .2 ∙ grown-is (c .size .b) (two G) (few G) xs e (K .sound) t F (K .agrees) D (G .placed) (K .lens-are) N w k)
 
   -- The room for the new slot.
   module _ {room : Room} (R : RoomTold (c .survey .used) (c .size .slots) room) where
-    pub full-told : room ≡ NoRoom → (r : PutGiven) → (r .answer ≡ Refused NoFreeSlot) × (r .trie ≡ t) → SplitTold xs xs t (c .size) A entries limit r
-    full-told q r g fs e n v a l u es i j lo up w k z =
+    pub full-told : {p : Plan} → room ≡ NoRoom → NoStore p → (r .plan ≡ p) × (r .answer ≡ Refused NoFreeSlot) × (r .trie ≡ t) → SplitTold xs t (c .size) A entries r
+    full-told {p} q o g fs e n v a l u es i j lo up w k z =
         no-room (c .size .b) (two G) (few G) xs e (known G e .sound) t
-        (record { legal = a; is = i; slot-is = j; above = lo; within = up; new = w; counted = k; entries-are = z }) r limit
-        (room-full fs (sym (lowest G R e) ∙ q)) g
+        (record { legal = a; is = i; slot-is = j; above = lo; within = up; new = w; counted = k; entries-are = z }) r p
+        (room-full fs (sym (lowest G R e) ∙ q)) o g
 
-    module _ {N : ℕ} (q : room ≡ At N) {s : Split} (p : Parted s (c .size .b)) (f : Found s (c .size .b) t entries) where
-      pub many-told : (r : PutGiven) → 256 + s .shared < t .count + s .len → (r .answer ≡ Refused ManyStrings) × (r .trie ≡ t) → SplitTold xs xs t (c .size) A entries limit r
-      many-told r h g fs e n v a l u es i j lo up w k z =
+    module _ {N : ℕ} (q : room ≡ At N) {s : Split} (m : Parted s (c .size .b)) (f : Found s (c .size .b) t entries) where
+      pub many-told : {p : Plan} → 256 + s .shared < t .count + s .len → NoStore p → (r .plan ≡ p) × (r .answer ≡ Refused ManyStrings) × (r .trie ≡ t) → SplitTold xs t (c .size) A entries r
+      many-told {p} h o g fs e n v a l u es i j lo up w k z =
           let S = known G e .sound in
           let F : Full (c .size .b) fs A n v l u es entries = record { legal = a; is = i; slot-is = j; above = lo; within = up; new = w; counted = k; entries-are = z } in
           let D = f l u (insert n v es) (row-all (c .size .b) (two G) (few G) xs e S t F) (length-all (c .size .b) (two G) (few G) xs e S t F) z in
-          let m = room-at fs N (sym (lowest G R e) ∙ q) in
-          too-many (c .size .b) (two G) (few G) xs e S t F r limit (m .1)
-          (omega (arith, p .shared-most, h, count-after (c .size .b) (two G) (few G) xs e S t F (known G e .agrees) D (first free? fs) (free-lowest fs (m .1)))) g
+          let x = room-at fs N (sym (lowest G R e) ∙ q) in
+          too-many (c .size .b) (two G) (few G) xs e S t F r p (x .1)
+          (omega (arith, m .shared-most, h, count-after (c .size .b) (two G) (few G) xs e S t F (known G e .agrees) D (first free? fs) (free-lowest fs (x .1)))) o g
 
-      pub split-told : {ys : List ℕ} (r : PutGiven) → t .count + s .len ≤ 256 + s .shared → DivideTold c xs ys t A N entries s limit r → SplitTold xs ys t (c .size) A entries limit r
-      split-told r h d fs e n v a l u es i j lo up w k z =
+      pub split-told : t .count + s .len ≤ 256 + s .shared → DivideTold c xs t A N entries s r → SplitTold xs t (c .size) A entries r
+      split-told h d fs e n v a l u es i j lo up w k z =
           let S = known G e .sound in
           let F : Full (c .size .b) fs A n v l u es entries = record { legal = a; is = i; slot-is = j; above = lo; within = up; new = w; counted = k; entries-are = z } in
           let D = f l u (insert n v es) (row-all (c .size .b) (two G) (few G) xs e S t F) (length-all (c .size .b) (two G) (few G) xs e S t F) z in
-          let m = room-at fs N (sym (lowest G R e) ∙ q) in
-          let y = both-made (c .size .b) (two G) (few G) xs e S t F (m .1)
-          (omega (arith, p .shared-most, h, count-after (c .size .b) (two G) (few G) xs e S t F (known G e .agrees) D (first free? fs) (free-lowest fs (m .1)))) in
-          d fs e n v l u es F D
-          ∙ ap (λ (x : ℕ). putMade xs t (version-1 (c .size .b)) fs n v limit (stores (halves (c .size .b) (place-of (version-1 (c .size .b))) x A l u (insert n v es)))) (m .0)
-          ∙ ap (putMade xs t (version-1 (c .size .b)) fs n v limit) (sym y)
+          let x = room-at fs N (sym (lowest G R e) ∙ q) in
+          let y = both-made (c .size .b) (two G) (few G) xs e S t F (x .1)
+          (omega (arith, m .shared-most, h, count-after (c .size .b) (two G) (few G) xs e S t F (known G e .agrees) D (first free? fs) (free-lowest fs (x .1)))) in
+          subst (PutPlanned r t (version-1 (c .size .b)) fs n v)
+          (ap (λ (k : ℕ). stores (halves (c .size .b) (place-of (version-1 (c .size .b))) k A l u (insert n v es))) (x .0) ∙ sym y)
+          (d fs e n v l u es F D)

@@ -1,45 +1,61 @@
 -- Put, put together from the spot of the name.
 use Rattle.model.specs.Places.{place-of}
-use Rattle.model.proofs.Prelude.{List, [], _<_, _∷_, _≡_, _≤_, arith, decLe, false, le-ltb, length, lt-ltb, nothing, some, true, ℕ}
+use Rattle.model.proofs.Prelude.{Bool, List, Option, [], _<_, _∙_, _∷_, _≡_, _≤_, arith, clash, decLe, false, le-ltb, length, lt-ltb, ltb, ltb-false, subst, sym, take, take-all, take-nil, true, ℕ}
 use Rattle.model.specs.declared.Cause.{Cause}
 use Rattle.model.specs.declared.Cause.the-variants.{IllegalName, WrongSize}
-use Rattle.model.specs.declared.PutAnswer.the-variants.{Added, Refused, Replaced, Stopped}
+use Rattle.model.specs.declared.Layout.{Layout}
+use Rattle.model.specs.declared.PutAnswer.the-variants.{Refused, Stopped}
 use Rattle.model.specs.declared.PutGiven.{PutGiven}
 use Rattle.model.specs.declared.Trie.{Trie}
 use Rattle.model.specs.Order.{Str}
 use Rattle.model.specs.Names.{filled, legalName}
 use Rattle.model.specs.Entries.{find, insert}
-use Rattle.model.specs.Files.{Slot, used}
-use Rattle.model.specs.Changes.{call, put as asked, put-in, stores}
-use Rattle.model.specs.Format.{storeBytes, version-1}
-use Rattle.model.specs.Calls.{fine, lookedOf, putLooked, putMade, putOf, refusing, storesBytes, trieAfter}
+use Rattle.model.specs.Files.{Slot, entries-of, first, slot-at, used}
+use Rattle.model.specs.Changes.{Result, call, holds?, put as asked, put-in, refuse, stores}
+use Rattle.model.specs.Format.{slotBytes, slotSize, version-1}
+use Rattle.model.specs.Calls.{fine, lookedOf, putAnswer, putLooked, putMade, putOf, refusing, storesBytes, trieAfter}
 use Rattle.model.proofs.Entries.{chosen-yes}
+use Rattle.file.specs.declared.Plan.{Plan}
+use Rattle.file.specs.Plans.{Committed}
+use Rattle.changing.specs.declared.PutPlan.{PutPlan}
 use Rattle.changing.specs.declared.Spot.{Spot}
+use Rattle.changing.specs.Plans.{PutPlanned}
 use Rattle.changing.specs.Outcomes.{put}
 use Rattle.changing.specs.Spots.{SpotIn}
+use Rattle.changing.proofs.Spots.{OneStore}
 
 -- One store: of a held name, or of a new one that fits.
-module _ (xs : List ℕ) (t : Trie) (b limit : ℕ) {fs : List Slot} {s : Spot} {n : Str} (v : ℕ) (P : SpotIn s fs n)
+module _ (t : Trie) (b : ℕ) {fs : List Slot} {s : Spot} {n : Str} (v : ℕ) (P : SpotIn s fs n)
     (k : length (insert n v (P .entries)) ≤ b) where
   call-put : call b (place-of (version-1 b)) fs (asked n v) ≡ stores ((s .slot, used (P .low) (P .up) (insert n v (P .entries))) ∷ [])
   unfolding call put-in
   call-put = rw (← P .slot-is, P .is) (chosen-yes (decLe (length (insert n v (P .entries))) b) k _ _)
 
-  pub put-stopped : (r : PutGiven) → limit < 1 → (r .answer ≡ Stopped 0) × (r .trie ≡ t) → put r xs ≡ putMade xs t (version-1 b) fs n v limit (call b (place-of (version-1 b)) fs (asked n v))
+  pub put-one : (r : PutPlan) (p : Plan) (bytes : List ℕ) {o : Option ℕ} → find n (P .entries) ≡ o
+      → take (slotSize (version-1 b)) bytes ≡ slotBytes (version-1 b) (used (P .low) (P .up) (insert n v (P .entries))) → OneStore p (s .slot) bytes
+      → (r .plan ≡ p) × (r .answer ≡ putAnswer o) × (r .trie ≡ t) → PutPlanned r t (version-1 b) fs n v (call b (place-of (version-1 b)) fs (asked n v))
+  unfolding trieAfter
+  put-one r p bytes f z q g =
+      let a : r .answer ≡ putAnswer (find n (entries-of (slot-at fs (first (holds? n) fs)))) = rw (← P .slot-is, P .is, f) (g .1) in
+      subst (PutPlanned r t (version-1 b) fs n v) (sym call-put) (rw (g .0) (q .0, (q .1, rw (q .2) z)), a, g .2)
+
+-- What is left of a plan that is committed.
+module _ (xs ys : List ℕ) (t : Trie) (y : Layout) (fs : List Slot) (n : Str) (v limit : ℕ) (p : PutPlan) (d : Bool) (C : Committed d xs ys y (p .plan) limit)
+    (r : PutGiven) where
+  pub put-stopped : (a : Result) → PutPlanned p t y fs n v a → d ≡ true → (r .answer ≡ Stopped limit) × (r .trie ≡ t) → put r ys ≡ putMade xs t y fs n v limit a
+  unfolding putMade
+  put-stopped (refuse c) q e g =
+      let z : true ≡ ltb limit 0 = sym e ∙ C [] (q .0) .1 in let w : ltb limit 0 ≡ false = le-ltb limit 0 (omega arith) in
+      let x : _≡_ {A = Bool} true false = z ∙ w in clash cc
+  put-stopped (stores ss) q e g =
+      let k = C ss (q .0) in let h : ltb limit (length ss) ≡ true = sym (k .1) ∙ e in rw (h, k .0, g .0, g .1)
+
+  pub put-made : (a : Result) → PutPlanned p t y fs n v a → d ≡ false → (r .answer ≡ p .answer) × (r .trie ≡ p .trie) → put r ys ≡ putMade xs t y fs n v limit a
   unfolding putMade storesBytes
-  put-stopped r h g = let z : limit ≡ 0 = omega arith in rw (call-put, lt-ltb limit 1 h, z, g .0, g .1)
-
-  pub put-replaced : (r : PutGiven) (w : ℕ) (ys : List ℕ) → 1 ≤ limit → find n (P .entries) ≡ some w
-      → ys ≡ storeBytes (version-1 b) (s .slot) (used (P .low) (P .up) (insert n v (P .entries))) xs → (r .answer ≡ Replaced w) × (r .trie ≡ t)
-      → put r ys ≡ putMade xs t (version-1 b) fs n v limit (call b (place-of (version-1 b)) fs (asked n v))
-  unfolding putMade storesBytes trieAfter
-  put-replaced r w ys h f q g = rw (call-put, le-ltb limit 1 h, ← P .slot-is, P .is, f, q, g .0, g .1)
-
-  pub put-added : (r : PutGiven) (ys : List ℕ) → 1 ≤ limit → find n (P .entries) ≡ nothing
-      → ys ≡ storeBytes (version-1 b) (s .slot) (used (P .low) (P .up) (insert n v (P .entries))) xs → (r .answer ≡ Added) × (r .trie ≡ t)
-      → put r ys ≡ putMade xs t (version-1 b) fs n v limit (call b (place-of (version-1 b)) fs (asked n v))
-  unfolding putMade storesBytes trieAfter
-  put-added r ys h f q g = rw (call-put, le-ltb limit 1 h, ← P .slot-is, P .is, f, q, g .0, g .1)
+  put-made (refuse c) q e g = rw (C [] (q .0) .0, take-nil limit, g .0, g .1, q .1, q .2)
+  put-made (stores ss) q e g =
+      let k = C ss (q .0) in let h : ltb limit (length ss) ≡ false = sym (k .1) ∙ e in
+      rw (h, k .0, take-all limit ss (ltb-false limit (length ss) h), g .0, g .1, q .1, q .2)
 
 -- Of any file: what is refused before, and the rest.
 module _ (xs : List ℕ) (t : Trie) (name : List ℕ) (v limit : ℕ) (r : PutGiven) where

@@ -1,8 +1,9 @@
 -- Remove, put together from the spot of the name.
 use Rattle.model.specs.Places.{place-of}
-use Rattle.model.proofs.Prelude.{List, [], _<_, _∷_, _≡_, _≤_, arith, false, le-ltb, lt-ltb, nothing, some, true, ℕ}
+use Rattle.model.proofs.Prelude.{Bool, List, [], _<_, _∙_, _∷_, _≡_, _≤_, arith, false, le-ltb, length, lt-ltb, ltb, ltb-false, nothing, some, sym, take, take-all, take-nil, true, ℕ}
 use Rattle.model.specs.declared.Cause.{Cause}
 use Rattle.model.specs.declared.Cause.the-variants.{IllegalName, WrongSize}
+use Rattle.model.specs.declared.Layout.{Layout}
 use Rattle.model.specs.declared.RemoveAnswer.{RemoveAnswer}
 use Rattle.model.specs.declared.RemoveAnswer.the-variants.{Absent, Refused, Removed, Stopped}
 use Rattle.model.specs.declared.Trie.{Trie}
@@ -10,31 +11,56 @@ use Rattle.model.specs.Order.{Str}
 use Rattle.model.specs.Names.{filled, legalName}
 use Rattle.model.specs.Entries.{find, without}
 use Rattle.model.specs.Files.{Slot, used}
-use Rattle.model.specs.Changes.{call, remove, remove-in, stores, stores-if}
-use Rattle.model.specs.Format.{storeBytes, version-1}
+use Rattle.model.specs.Changes.{Result, call, refuse, remove, remove-in, stores, stores-if}
+use Rattle.model.specs.Format.{slotBytes, slotSize, version-1}
 use Rattle.model.specs.Calls.{fine, lookedOf, refusing, removeLooked, removeMade, removeOf, storesBytes}
+use Rattle.file.specs.declared.Plan.{Plan}
+use Rattle.file.specs.Plans.{Committed}
 use Rattle.changing.specs.declared.Spot.{Spot}
+use Rattle.changing.specs.Plans.{RemovePlanned}
 use Rattle.changing.specs.Outcomes.{removed}
 use Rattle.changing.specs.Spots.{SpotIn}
+use Rattle.changing.proofs.Spots.{OneStore}
 
 -- Of a file that passed the checks.
-module _ (xs : List ℕ) (b limit : ℕ) {fs : List Slot} {s : Spot} {n : Str} (P : SpotIn s fs n) where
+module _ (b : ℕ) {fs : List Slot} {s : Spot} {n : Str} (P : SpotIn s fs n) where
   call-remove : call b (place-of (version-1 b)) fs (remove n) ≡ stores (stores-if (find n (P .entries)) ((s .slot, used (P .low) (P .up) (without n (P .entries))) ∷ []))
   unfolding call remove-in
   call-remove = rw (← P .slot-is, P .is)
 
-  pub remove-absent : find n (P .entries) ≡ nothing → removed Absent xs ≡ removeMade xs (version-1 b) limit (call b (place-of (version-1 b)) fs (remove n))
-  unfolding removeMade stores-if storesBytes
-  remove-absent h = rw (call-remove, h, le-ltb limit 0 (omega arith))
+  pub remove-absent : (p : Plan) → find n (P .entries) ≡ nothing → p .stores ≡ 0 → RemovePlanned p (version-1 b) (call b (place-of (version-1 b)) fs (remove n))
+  unfolding stores-if
+  remove-absent p h q = rw (call-remove, h) q
 
-  pub remove-stopped : (w : ℕ) → find n (P .entries) ≡ some w → limit < 1 → removed (Stopped 0) xs ≡ removeMade xs (version-1 b) limit (call b (place-of (version-1 b)) fs (remove n))
-  unfolding removeMade stores-if storesBytes
-  remove-stopped w h k = let z : limit ≡ 0 = omega arith in rw (call-remove, h, lt-ltb limit 1 k, z)
+  pub remove-held : (p : Plan) (bytes : List ℕ) (w : ℕ) → find n (P .entries) ≡ some w
+      → take (slotSize (version-1 b)) bytes ≡ slotBytes (version-1 b) (used (P .low) (P .up) (without n (P .entries))) → OneStore p (s .slot) bytes
+      → RemovePlanned p (version-1 b) (call b (place-of (version-1 b)) fs (remove n))
+  unfolding stores-if
+  remove-held p bytes w h z q = rw (call-remove, h) (q .0, (q .1, rw (q .2) z))
 
-  pub remove-done : (w : ℕ) (ys : List ℕ) → find n (P .entries) ≡ some w → 1 ≤ limit
-      → ys ≡ storeBytes (version-1 b) (s .slot) (used (P .low) (P .up) (without n (P .entries))) xs → removed Removed ys ≡ removeMade xs (version-1 b) limit (call b (place-of (version-1 b)) fs (remove n))
-  unfolding removeMade stores-if storesBytes
-  remove-done w ys h k q = rw (call-remove, h, le-ltb limit 1 k, q)
+-- What is left of a plan that is committed.
+module _ (xs ys : List ℕ) (y : Layout) (limit : ℕ) (p : Plan) (d : Bool) (C : Committed d xs ys y p limit) where
+  pub remove-stopped : (a : Result) → RemovePlanned p y a → d ≡ true → removed (Stopped limit) ys ≡ removeMade xs y limit a
+  unfolding removeMade
+  remove-stopped (refuse c) q e = absurd q
+  remove-stopped (stores ss) q e =
+      let k = C ss q in let h : ltb limit (length ss) ≡ true = sym (k .1) ∙ e in rw (h, k .0)
+
+  pub remove-none : (a : Result) → RemovePlanned p y a → d ≡ false → p .stores < 1 → removed Absent ys ≡ removeMade xs y limit a
+  unfolding removeMade storesBytes
+  remove-none (refuse c) q e h = absurd q
+  remove-none (stores []) q e h = rw (le-ltb limit 0 (omega arith), C [] q .0, take-nil limit)
+  remove-none (stores (s ∷ [])) q e h = absurd (omega (arith, h, q .0))
+  remove-none (stores (s ∷ t ∷ [])) q e h = absurd (omega (arith, h, q .0))
+  remove-none (stores (s ∷ t ∷ u ∷ ss)) q e h = absurd q
+
+  pub remove-some : (a : Result) → RemovePlanned p y a → d ≡ false → 1 ≤ p .stores → removed Removed ys ≡ removeMade xs y limit a
+  unfolding removeMade
+  remove-some (refuse c) q e h = absurd q
+  remove-some (stores []) q e h = absurd (omega (arith, h, q))
+  remove-some (stores (s ∷ ss)) q e h =
+      let k = C (s ∷ ss) q in let f : ltb limit (length (s ∷ ss)) ≡ false = sym (k .1) ∙ e in
+      rw (f, k .0, take-all limit (s ∷ ss) (ltb-false limit (length (s ∷ ss)) f))
 
 -- Of any file: what is refused before, and the rest.
 module _ (xs : List ℕ) (t : Trie) (name : List ℕ) (limit : ℕ) where

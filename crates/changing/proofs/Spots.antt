@@ -1,12 +1,12 @@
--- The spot of a name in a file that is read and sound, and the bytes of one whole-slot store.
-use Rattle.model.proofs.Prelude.{Bool, List, Option, [], _*_, _+_, _-_, _<_, _∙_, _≡_, _≤_, ap, arith, clash, drop, drop-drop, eq-eqb, eqb, eqb-true, false, getD, getD-take, le-ltb, length, lt-ltb, ltb, ltb-true, nothing, paste, refl, some, subst, suc, sym, take, take-all, true, zero, ℕ}
+-- The spot of a name in a file that is read and sound, the bytes that its slot is to have, and a plan of one store.
+use Rattle.model.proofs.Prelude.{Bool, List, Option, [], _*_, _+_, _-_, _<_, _∙_, _≡_, _≤_, ap, arith, clash, drop, drop-drop, eq-eqb, eqb, eqb-true, false, getD, getD-take, le-ltb, length, lt-ltb, ltb, ltb-true, nothing, refl, some, subst, suc, sym, take, take-all, true, zero, ℕ}
 use Rattle.model.specs.declared.Layout.{Layout}
 use Rattle.model.specs.Order.{Low, Str}
 use Rattle.model.specs.Names.{Legal}
 use Rattle.model.specs.Entries.{Entry, find, insert, without}
 use Rattle.model.specs.Files.{In, Slot, Sound, free, head, order-of, slot-at, used}
 use Rattle.model.specs.Changes.{holds?}
-use Rattle.model.specs.Format.{entriesBytes, entriesOf, entrySize, padded, readFile, readUsed, slotAt, slotBytes, slotSize, storeBytes, usedOf, valueOf, version-1}
+use Rattle.model.specs.Format.{entriesBytes, entriesOf, entrySize, padded, readFile, readUsed, slotAt, slotBytes, slotSize, usedOf, valueOf, version-1}
 use Rattle.model.proofs.Names.{both-true, legal-length}
 use Rattle.model.proofs.Entries.{row-insert}
 use Rattle.model.proofs.Files.{first-right, one-range, used-inside}
@@ -21,6 +21,10 @@ use Rattle.bucket.proofs.Slots.{Reads, count-is, read-written, reads}
 use Rattle.writing.proofs.Finding.{below-place}
 use Rattle.entries.proofs.Places.{place-found}
 use Rattle.writing.proofs.Changing.{is-held, length-held, length-new, not-held, put-held-part, put-new, removed-part, rewritten-is, row-without}
+use Rattle.file.specs.declared.Plan.{Plan}
+use Rattle.file.specs.declared.Size.{Size}
+use Rattle.file.specs.Plans.{Fits}
+use Rattle.file.specs.Sizes.{Legal as LegalSize}
 use Rattle.file.specs.Holders.{Holder, Ordered}
 use Rattle.file.proofs.Readings.{used-read}
 use Rattle.checking.specs.declared.Checked.{Checked}
@@ -186,11 +190,18 @@ new-fits {n = n} P v b h k = omega (arith, length-new n v (P .entries) h, P .cou
 pub key-whole : (n : Str) (v : ℕ) → Legal n → v ≡ value (take 24 (drop 0 n)) → v ≡ value n
 key-whole n v g e = e ∙ ap value (take-all 24 n (omega (arith, legal-length g)))
 
--- One store.
-pub store-is : (b k : ℕ) (s : Slot) (xs zs : List ℕ) → take (slotSize (version-1 b)) zs ≡ slotBytes (version-1 b) s
-    → paste xs (16 + k * (64 + 32 * b)) (take (64 + 32 * b) zs) (64 + 32 * b) ≡ storeBytes (version-1 b) k s xs
-unfolding storeBytes slotSize entrySize
-store-is b k s xs zs h = ap (λ (z : List ℕ). paste xs (16 + k * (64 + 32 * b)) z (64 + 32 * b)) h
+-- What the plans of no store and of one ensure; their slots are the file's.
+abbrev pub NoStore : Plan → Type 0
+NoStore p = (p .stores ≡ 0) × (p .first ≡ 0) × (p .second ≡ 0)
+
+abbrev pub OneStore : Plan → ℕ → List ℕ → Type 0
+OneStore p k bytes = (p .stores ≡ 1) × (p .first ≡ k) × (p .one ≡ bytes) × (p .second ≡ 0)
+
+pub fits-none : (r p : Plan) (size : Size) → r ≡ p → NoStore p → LegalSize size → Fits r size
+fits-none r p size e q l = rw (e, q .1, q .2) (l .slots-least, l .slots-least)
+
+pub fits-one : (r p : Plan) (k : ℕ) (bytes : List ℕ) (size : Size) → r ≡ p → OneStore p k bytes → k < size .slots → LegalSize size → Fits r size
+fits-one r p k bytes size e q h l = rw (e, q .1, q .3) (h, l .slots-least)
 
 -- Parts of arrays, from their start on.
 pub part-is : (k : ℕ) (es zs : List ℕ) → es ≡ zs → take (k - 0) (drop 0 es) ≡ take k zs
@@ -208,6 +219,3 @@ held-there xs count place v w h e = rw (lt-ltb place count h, e)
 pub held-below : (xs : List ℕ) (count place v : ℕ) → isHeld xs count place v ≡ true → place < count
 unfolding isHeld
 held-below xs count place v t = ltb-true place count (both-true (ltb place count) (eqb (value (take 24 (drop (64 + 32 * place) xs))) v) t .0)
-
-pub part-whole : (xs zs : List ℕ) (at n m : ℕ) → n ≡ m → paste xs at (take (n - 0) (drop 0 zs)) m ≡ paste xs at (take m zs) m
-part-whole xs zs at n m e = ap (λ (z : List ℕ). paste xs at z m) (part-is n zs zs refl ∙ ap (λ (k : ℕ). take k zs) e)

@@ -1,15 +1,15 @@
 // The calls that change a file: put and remove. Neither has a `requires`: each checks for itself, in the order of
-// refusals R10.9.
+// refusals R10.9, and then plans its stores, without the limit and without writing, before it commits them.
 ghost use mathlib.Core.Path.{_≡_};
 ghost use Prim.Native.Nat.{_≤_, _<_, _+_, _-_, _*_};
 ghost use lib.ListN.{drop, length, take};
-ghost use lib.Seq.{paste};
 ghost use Rattle.model.specs.Format.{padded};
 ghost use Rattle.digits.specs.Keys.{keyValue};
 ghost use Rattle.model.specs.Calls.{putOf, removeOf};
 ghost use Rattle.writing.specs.Entries.{changedValue, withoutEntry};
 ghost use Rattle.bucket.specs.Slots.{lowerAt, upperAt};
 ghost use Rattle.writing.specs.Slots.{writtenBytes};
+ghost use Rattle.file.specs.Plans.{Fits};
 ghost use Rattle.file.specs.Sizes.{Sized};
 ghost use Rattle.growth.specs.Grows.{Grows};
 ghost use Rattle.changing.specs.Full.{DivideTold};
@@ -25,6 +25,7 @@ use digits::Key;
 use digits::Naming;
 use digits::u16_of_usize;
 use digits::usize_of_u8;
+use file::Plan;
 use file::Room;
 use file::Size;
 use model::Cause;
@@ -46,15 +47,17 @@ fn refused(cause: Cause, trie: Trie) -> PutGiven
     given(PutAnswer::Refused(cause), trie)
 }
 
-// One whole-slot store: the slot k with the bytes that it is to have.
-fn store(file: &mut [u8], size: Size, k: usize, slot: &[u8; 576])
-    requires { ⌜ (Sized (length (now file)) size) × (k < size .slots) ⌝ }
-    ensures { λ _. ⌜ (length (now (file .exit)) ≡ length (now (file .entry)))
-        × (now (file .exit) ≡ paste (now (file .entry)) (16 + k * (64 + 32 * size .b)) (take (64 + 32 * size .b) (now (slot .entry))) (64 + 32 * size .b)) ⌝ }
+// What a put is to store, its answer once all of that is made, and the trie then. A put that is refused has nothing to store.
+pub struct PutPlan {
+    pub plan: Plan,
+    pub answer: PutAnswer,
+    pub trie: Trie,
+}
+
+fn planned(plan: Plan, answer: PutAnswer, trie: Trie) -> PutPlan
+    ensures { λ r. ⌜ (r .plan ≡ plan) × (r .answer ≡ answer) × (r .trie ≡ trie) ⌝ }
 {
-    let whole = &slot[..];
-    let n = file::slot_size(size);
-    file::store(file, size, k, &whole[0..n]);
+    PutPlan { plan, answer, trie }
 }
 
 // Where in its bucket a name is or would be: the slot, how many entries it has, and how many of them are below the name.
@@ -108,42 +111,27 @@ fn replaced(slot: &[u8], b: usize, spot: Spot, value: u64) -> [u8; 576]
 }
 
 // R7.9: a new value for a name that is held, in one store.
-fn replace(file: &mut [u8], size: Size, spot: Spot, value: u64, limit: u64, trie: Trie) -> PutGiven
+fn replace(file: &[u8], size: Size, spot: Spot, value: u64, trie: Trie) -> PutPlan
     requires { ⌜ (Sized (length (now file)) size) × (Spotted spot size) × (spot .place < spot .count) ⌝ }
-    ensures { λ r. ⌜ ReplaceTold (now (file .entry)) (now (file .exit)) trie size spot value limit r ⌝ }
+    ensures { λ r. ⌜ (Fits (r .plan) size) × (ReplaceTold (now (file .entry)) trie size spot value r) ⌝ }
 {
-    if limit < 1 {
-        return given(PutAnswer::Stopped(0), trie);
-    }
     let k = spot.slot;
     let slot = file::slot_at(file, size, k);
     let old = entries::value_at(&slot[64..], spot.place);
     let new = replaced(slot, size.b, spot, value);
-    store(file, size, k, &new);
-    given(PutAnswer::Replaced(old), trie)
+    planned(file::one_store(k, &new), PutAnswer::Replaced(old), trie)
 }
 
 // A new name that fits into its bucket, one store.
-fn add(
-    file: &mut [u8],
-    size: Size,
-    spot: Spot,
-    entries: &[u8; 544],
-    limit: u64,
-    trie: Trie,
-) -> PutGiven
+fn add(file: &[u8], size: Size, spot: Spot, entries: &[u8; 544], trie: Trie) -> PutPlan
     requires { ⌜ (Sized (length (now file)) size) × (Spotted spot size) × (spot .count < size .b) ⌝ }
-    ensures { λ r. ⌜ AddTold (now (file .entry)) (now (file .exit)) trie size spot (now (entries .entry)) limit r ⌝ }
+    ensures { λ r. ⌜ (Fits (r .plan) size) × (AddTold (now (file .entry)) trie size spot (now (entries .entry)) r) ⌝ }
 {
-    if limit < 1 {
-        return given(PutAnswer::Stopped(0), trie);
-    }
     let k = spot.slot;
     let end = 32 * (spot.count + 1);
     let whole = &entries[..];
     let new = writing::rewritten(file::slot_at(file, size, k), &whole[0..end]);
-    store(file, size, k, &new);
-    given(PutAnswer::Added, trie)
+    planned(file::one_store(k, &new), PutAnswer::Added, trie)
 }
 
 // The trie after a split, with what the checks found of its cells and strings.
@@ -170,69 +158,58 @@ fn grown(checked: Checked, trie: Trie, split: Split, a: usize, n: usize) -> Trie
 
 // R7.8: two stores, first the new slot, then A, cut down. The trie grows with the last (R8.1).
 fn divide(
-    file: &mut [u8],
+    file: &[u8],
     checked: Checked,
     a: usize,
     n: usize,
     entries: &[u8; 544],
     split: Split,
-    limit: u64,
     trie: Trie,
-) -> PutGiven
+) -> PutPlan
     requires { ⌜ (Agreed checked (now file) trie) × (a < checked .size .slots) × (n < checked .size .slots) × (Parted split (checked .size .b))
         × (trie .count + split .len ≤ 256 + split .shared) ⌝ }
-    ensures { λ r. ⌜ DivideTold checked (now (file .entry)) (now (file .exit)) trie a n (now (entries .entry)) split limit r ⌝ }
+    ensures { λ r. ⌜ (Fits (r .plan) (checked .size)) × (DivideTold checked (now (file .entry)) trie a n (now (entries .entry)) split r) ⌝ }
 {
-    if limit < 1 {
-        return given(PutAnswer::Stopped(0), trie);
-    }
     let size = checked.size;
     let slot = file::slot_at(file, size, a);
     let new = splitting::new_slot(slot, size.b, entries, split);
     let old = splitting::old_slot(slot, size.b, entries, split);
-    store(file, size, n, &new);
-    if limit < 2 {
-        return given(PutAnswer::Stopped(1), trie);
-    }
-    store(file, size, a, &old);
-    given(PutAnswer::Added, grown(checked, trie, split, a, n))
+    planned(
+        file::two_stores(n, &new, a, &old),
+        PutAnswer::Added,
+        grown(checked, trie, split, a, n),
+    )
 }
 
 // A new name whose bucket is full: refused where no slot is free or the strings would be too many.
-fn split(
-    file: &mut [u8],
-    checked: Checked,
-    a: usize,
-    entries: &[u8; 544],
-    limit: u64,
-    trie: Trie,
-) -> PutGiven
+fn split(file: &[u8], checked: Checked, a: usize, entries: &[u8; 544], trie: Trie) -> PutPlan
     requires { ⌜ (Agreed checked (now file) trie) × (a < checked .size .slots) ⌝ }
-    ensures { λ r. ⌜ SplitTold (now (file .entry)) (now (file .exit)) trie (checked .size) a (now (entries .entry)) limit r ⌝ }
+    ensures { λ r. ⌜ (Fits (r .plan) (checked .size)) × (SplitTold (now (file .entry)) trie (checked .size) a (now (entries .entry)) r) ⌝ }
 {
     let size = checked.size;
     let survey = checked.survey;
     let Room::At(n) = file::lowest_free(survey.used, size.slots) else {
-        return refused(Cause::NoFreeSlot, trie);
+        return planned(
+            file::no_store(),
+            PutAnswer::Refused(Cause::NoFreeSlot),
+            trie,
+        );
     };
     let split = splitting::split_of(entries, size.b, trie);
     if 256 + split.shared < digits::usize_of_u16(trie.count) + split.len {
-        return refused(Cause::ManyStrings, trie);
+        return planned(
+            file::no_store(),
+            PutAnswer::Refused(Cause::ManyStrings),
+            trie,
+        );
     }
-    divide(file, checked, a, n, entries, split, limit, trie)
+    divide(file, checked, a, n, entries, split, trie)
 }
 
 // Put into a file that passed the checks.
-fn put_checked(
-    file: &mut [u8],
-    checked: Checked,
-    name: &[u8; 24],
-    value: u64,
-    limit: u64,
-    trie: Trie,
-) -> PutGiven
+fn put_plan(file: &[u8], checked: Checked, name: &[u8; 24], value: u64, trie: Trie) -> PutPlan
     requires { ⌜ Agreed checked (now file) trie ⌝ }
-    ensures { λ r. ⌜ PutTold (now (file .entry)) (now (file .exit)) trie (checked .size) (now (name .entry)) value limit r ⌝ }
+    ensures { λ r. ⌜ (Fits (r .plan) (checked .size)) × (PutTold (now (file .entry)) trie (checked .size) (now (name .entry)) value r) ⌝ }
 {
     let size = checked.size;
     let key = digits::key_at(name, 0);
@@ -240,13 +217,13 @@ fn put_checked(
     let count = spot.count;
     let slot = file::slot_at(file, size, spot.slot);
     if is_held(slot, spot, key) {
-        return replace(file, size, spot, value, limit, trie);
+        return replace(file, size, spot, value, trie);
     }
     let entries = writing::with_entry(&slot[64..], count, spot.place, name, value);
     if count < size.b {
-        return add(file, size, spot, &entries, limit, trie);
+        return add(file, size, spot, &entries, trie);
     }
-    split(file, checked, spot.slot, &entries, limit, trie)
+    split(file, checked, spot.slot, &entries, trie)
 }
 
 // Puts a name with its value.
@@ -265,7 +242,13 @@ pub fn put(file: &mut [u8], trie: Trie, name: &[u8], value: u64, limit: u64) -> 
         Verdict::Refused(cause) => refused(cause, trie),
         Verdict::Fine => {
             let filled = digits::filled(name);
-            put_checked(file, checked, &filled, value, limit, trie)
+            let change = put_plan(file, checked, &filled, value, trie);
+            let plan = change.plan;
+            let answer = change.answer;
+            if file::commit(file, checked.size, plan, limit) {
+                return given(PutAnswer::Stopped(limit), trie);
+            }
+            given(answer, change.trie)
         }
     }
 }
@@ -282,24 +265,20 @@ fn lessened(slot: &[u8], b: usize, spot: Spot) -> [u8; 576]
     writing::rewritten(slot, &entries[0..end])
 }
 
-// R7.10: remove from a file that passed the checks. A bucket that becomes empty keeps its range.
-fn remove_checked(file: &mut [u8], checked: Checked, name: Key, limit: u64) -> RemoveAnswer
+// R7.10: remove from a file that passed the checks. A bucket that becomes empty keeps its range; an absent name needs no store.
+fn remove_plan(file: &[u8], checked: Checked, name: Key) -> Plan
     requires { ⌜ Ready checked (now file) ⌝ }
-    ensures { λ r. ⌜ RemoveTold (now (file .entry)) (now (file .exit)) (checked .size) name limit r ⌝ }
+    ensures { λ r. ⌜ (Fits r (checked .size)) × (RemoveTold (now (file .entry)) (checked .size) name r) ⌝ }
 {
     let size = checked.size;
     let spot = spot_of(file, checked, name);
     let k = spot.slot;
     let slot = file::slot_at(file, size, k);
     if !is_held(slot, spot, name) {
-        return RemoveAnswer::Absent;
-    }
-    if limit < 1 {
-        return RemoveAnswer::Stopped(0);
+        return file::no_store();
     }
     let new = lessened(slot, size.b, spot);
-    store(file, size, k, &new);
-    RemoveAnswer::Removed
+    file::one_store(k, &new)
 }
 
 // Removes a name, one store; a name that is absent needs none.
@@ -318,7 +297,14 @@ pub fn remove(file: &mut [u8], trie: Trie, name: &[u8], limit: u64) -> RemoveAns
         Verdict::Refused(cause) => RemoveAnswer::Refused(cause),
         Verdict::Fine => {
             let filled = digits::filled(name);
-            remove_checked(file, checked, digits::key_at(&filled, 0), limit)
+            let plan = remove_plan(file, checked, digits::key_at(&filled, 0));
+            if file::commit(file, checked.size, plan, limit) {
+                return RemoveAnswer::Stopped(limit);
+            }
+            if plan.stores < 1 {
+                return RemoveAnswer::Absent;
+            }
+            RemoveAnswer::Removed
         }
     }
 }

@@ -1,5 +1,5 @@
 -- Laws of a file's sizes, and of lists of slot numbers.
-use Rattle.model.proofs.Prelude.{List, [], _*_, _+_, _-_, _<_, _∙_, _∷_, _≡_, _≤_, add-sub-cancel-left, ap, arith, drop, le-of-eq, length, length-drop, length-take, mul-le-mul, paste, refl, replicate, set, suc, suc-mul, sym, take, zero, ℕ}
+use Rattle.model.proofs.Prelude.{List, [], _*_, _+_, _-_, _<_, _∙_, _∷_, _≡_, _≤_, add-sub-cancel-left, ap, arith, drop, le-of-eq, length, length-drop, length-take, length-take-le, mul-le-mul, paste, refl, replicate, set, suc, suc-mul, sym, take, zero, ℕ}
 use Rattle.file.specs.declared.Size.{Size}
 use Rattle.file.specs.Sizes.{Below, Sized}
 
@@ -38,9 +38,16 @@ part-is xs k n m e = rw (e, add-sub-cancel-left)
 pub part-length : (xs : List ℕ) (at n : ℕ) → at + n ≤ length xs → length (take (at + n - at) (drop at xs)) ≡ n
 part-length xs at n h = simp (add-sub-cancel-left, length-take, length-drop) (omega arith)
 
--- a paste whose length and start have other names
-pub paste-is : (d s : List ℕ) (k n m : ℕ) → n ≡ m → length s ≡ m → paste d (16 + k * n) s (length s) ≡ paste d (16 + k * m) s m
-paste-is d s k n m e h = rw (e, h)
+-- an array's first n bytes
+pub first-length : (s : List ℕ) (n : ℕ) → n ≤ length s → length (take (n - 0) s) ≡ n
+first-length s n h = let z : n - 0 ≡ n = omega arith in rw z (length-take-le n s h)
+
+-- their paste, where n is m under another name
+pub first-pasted : (d s : List ℕ) (k n m : ℕ) → n ≡ m → m ≤ length s → paste d (16 + k * n) (take (n - 0) s) (length (take (n - 0) s)) ≡ paste d (16 + k * m) (take m s) m
+first-pasted d s k n m e h =
+    let z : n - 0 ≡ m = omega arith in
+    let l : length (take m s) ≡ m = length-take-le m s h in
+    rw (z, e, l)
 
 -- a list of zeros, of any length
 pub below-zeros : (m n : ℕ) → 0 < n → Below (replicate m 0) n

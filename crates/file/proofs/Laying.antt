@@ -9,7 +9,7 @@ use Rattle.model.specs.Format.{entrySize, readSlot, readSlots, readUsed, slotAt
 use Rattle.model.proofs.Lists.{at-replicate}
 use Rattle.model.proofs.Names.{never-both}
 use Rattle.model.proofs.Cells.{occ-append, occ-mem, one-if-equal, one-if-not}
-use Rattle.model.proofs.Checks.{isWell-well, well-isWell}
+use Rattle.model.proofs.Checks.{check-bad, isWell-well, well-isWell}
 use Rattle.model.proofs.Files.{cut-well}
 use Rattle.model.proofs.Format.{readSlots-each}
 use Rattle.digits.specs.Keys.{continued, isZero, lowValue, value}
@@ -21,7 +21,7 @@ use Rattle.file.specs.Surveys.{checkSlots}
 use Rattle.file.proofs.Moves.{put-back, put-front, put-here}
 use Rattle.file.proofs.Comparing.{bytes-at, bytesAt, not-stands-sorts, stands-sorts}
 use Rattle.file.proofs.Maps.{map-lt}
-use Rattle.file.proofs.Verdicts.{Mapped, Ordered, check-bad, check-none, check-slots, laid-known, laid-listed}
+use Rattle.file.proofs.Verdicts.{Mapped, Ordered, check-none, check-slots, laid-known, laid-listed}
 
 -- The map of slots, slot by slot.
 map-next : (fs : List Slot) (k : ℕ) → k < length fs → map-of (drop k fs) ≡ 2 * map-of (drop (suc k) fs) + bit-of (slot-at fs k)

@@ -4,3 +4,4 @@ pub mod Copies
 pub mod Maps
 pub mod Orders
 pub mod Holders
+pub mod Plans

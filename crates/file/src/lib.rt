@@ -1,4 +1,4 @@
-// The file: its header and sizes, its slots, the one function that stores, and create.
+// The file: its header and sizes, its slots, the one function that commits a change, and create.
 //
 // R2.1 to R2.7 of docs/RULES.md have the header and the length: 16 bytes, then slots of 64 + 32 × b bytes each.
 ghost use mathlib.Core.Path.{_≡_};
@@ -9,6 +9,7 @@ ghost use Rattle.model.specs.Files.{created};
 ghost use Rattle.model.specs.Checks.{sameStr};
 ghost use Rattle.model.specs.Format.{fileBytes, headerBytes, version-1};
 ghost use Rattle.file.specs.Maps.{RoomTold};
+ghost use Rattle.file.specs.Plans.{Committed, Fits};
 ghost use Rattle.file.specs.Sizes.{Legal, Sized, Fitting, Told};
 use digits::u8_of_usize;
 use digits::usize_of_u8;
@@ -117,13 +118,88 @@ pub fn slot_at(file: &[u8], size: Size, k: usize) -> &[u8]
     &file[at..end]
 }
 
-// R7.1: a store replaces one whole slot. Nothing else writes to a lent file, create aside.
-pub fn store(file: &mut [u8], size: Size, k: usize, slot: &[u8])
-    requires { ⌜ (Sized (length (now file)) size) × (k < size .slots) × (length (now slot) ≡ 64 + 32 * size .b) ⌝ }
-    ensures { λ _. ⌜ now (file .exit) ≡ paste (now (file .entry)) (16 + k * (64 + 32 * size .b)) (now (slot .entry)) (64 + 32 * size .b) ⌝ }
+// What a change is to store: no slot, one or two, the first one first. A plan is found before a byte is written, and without
+// the limit. `one` begins with what slot `first` is to be, `two` with what slot `second` is to be.
+pub struct Plan {
+    pub stores: usize,
+    pub first: usize,
+    pub one: [u8; 576],
+    pub second: usize,
+    pub two: [u8; 576],
+}
+
+pub fn no_store() -> Plan
+    ensures { λ r. ⌜ (r .stores ≡ 0) × (r .first ≡ 0) × (r .second ≡ 0) ⌝ }
 {
-    let at = 16 + k * slot_size(size);
-    entries::copy(file, at, slot);
+    Plan {
+        stores: 0,
+        first: 0,
+        one: [0u8; 576],
+        second: 0,
+        two: [0u8; 576],
+    }
+}
+
+pub fn one_store(first: usize, slot: &[u8; 576]) -> Plan
+    ensures { λ r. ⌜ (r .stores ≡ 1) × (r .first ≡ first) × (r .one ≡ now (slot .entry)) × (r .second ≡ 0) ⌝ }
+{
+    Plan {
+        stores: 1,
+        first,
+        one: *slot,
+        second: 0,
+        two: [0u8; 576],
+    }
+}
+
+pub fn two_stores(first: usize, slot: &[u8; 576], second: usize, other: &[u8; 576]) -> Plan
+    ensures { λ r. ⌜ (r .stores ≡ 2) × (r .first ≡ first) × (r .one ≡ now (slot .entry))
+        × (r .second ≡ second) × (r .two ≡ now (other .entry)) ⌝ }
+{
+    Plan {
+        stores: 2,
+        first,
+        one: *slot,
+        second,
+        two: *other,
+    }
+}
+
+// R7.1: a store replaces one whole slot, by the beginning of the bytes given.
+fn store(file: &mut [u8], size: Size, k: usize, slot: &[u8; 576])
+    requires { ⌜ (Sized (length (now file)) size) × (k < size .slots) ⌝ }
+    ensures { λ _. ⌜ (length (now (file .exit)) ≡ length (now (file .entry)))
+        × (now (file .exit) ≡ paste (now (file .entry)) (16 + k * (64 + 32 * size .b)) (take (64 + 32 * size .b) (now (slot .entry))) (64 + 32 * size .b)) ⌝ }
+{
+    let whole = &slot[..];
+    let n = slot_size(size);
+    let at = 16 + k * n;
+    entries::copy(file, at, &whole[0..n]);
+}
+
+// R7.12: makes the plan's stores in their order, as many as the limit allows, and tells whether the limit stopped it. Nothing
+// else writes to a lent file, create aside.
+pub fn commit(file: &mut [u8], size: Size, plan: Plan, limit: u64) -> bool
+    requires { ⌜ (Sized (length (now file)) size) × (Fits plan size) ⌝ }
+    ensures { λ r. ⌜ Committed r (now (file .entry)) (now (file .exit)) (version-1 (size .b)) plan limit ⌝ }
+{
+    if plan.stores < 1 {
+        return false;
+    }
+    if limit < 1 {
+        return true;
+    }
+    let slot = plan.one;
+    store(file, size, plan.first, &slot);
+    if plan.stores < 2 {
+        return false;
+    }
+    if limit < 2 {
+        return true;
+    }
+    let other = plan.two;
+    store(file, size, plan.second, &other);
+    false
 }
 
 fn clear(file: &mut [u8])

@@ -7,6 +7,7 @@ pub mod Demand1
 pub mod Demand2
 pub mod Stops
 pub mod Demand3
+pub mod Limits
 pub mod Meanings
 pub mod Determined
 pub mod Strength

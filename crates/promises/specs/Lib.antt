@@ -5,6 +5,7 @@ pub mod Situations
 pub mod Demand1
 pub mod Demand2
 pub mod Demand3
+pub mod Limits
 pub mod Meanings
 pub mod Determined
 pub mod WrongCalls

@@ -1,6 +1,7 @@
 -- Look up, put together from its stages: each refusal, and what one slot answers to a name.
 use Rattle.model.proofs.Prelude.{Bool, List, Option, [], _&&_, _*_, _+_, _<_, _∙_, _≡_, _≤_, _⊎_, ap, arith, clash, cond, drop, false, getD, inl, inr, le-ltb, leb, length, lt-ltb, ltb, not, nothing, refl, some, subst, sym, take, true, ℕ}
 use Rattle.model.specs.declared.Cause.the-variants.{BadFile, IllegalName, StaleTrie}
+use Rattle.model.specs.declared.Layout.{Layout}
 use Rattle.model.specs.declared.LookUpAnswer.{LookUpAnswer}
 use Rattle.model.specs.declared.LookUpAnswer.the-variants.{Absent as NotFound, Found, Refused}
 use Rattle.model.specs.declared.Trie.{Trie}
@@ -25,10 +26,12 @@ use Rattle.bucket.specs.Slots.{countAt}
 use Rattle.bucket.proofs.Slots.{count-is, free-zero, ill-read, range-holds, read-used, read-values, well-reads, zero-free}
 use Rattle.entries.proofs.Places.{held}
 use Rattle.writing.proofs.Finding.{held-find}
-use Rattle.trie.specs.declared.Place.the-variants.{Slot as at-slot}
+use Rattle.trie.specs.declared.Place.{Place}
+use Rattle.trie.specs.declared.Place.the-variants.{Cell as before-cell, Slot as at-slot, Stale as stale}
 use Rattle.trie.specs.declared.Walk.{Walk}
 use Rattle.trie.specs.Walks.{Walks, walkOf}
-use Rattle.trie.proofs.Laws.{arrive-run, landed, lands-at}
+use Rattle.trie.proofs.Laws.{arrive-run, landed}
+use Rattle.reading.specs.Walked.{headedFrom, lookUpFrom, slotOf}
 
 -- Which way a test went, by the answer that it gave.
 pub holding-holds : (t : Bool) → Holds ≡ holding t → t ≡ true
@@ -101,41 +104,68 @@ module _ (b : ℕ) (xs : List ℕ) (n : Str) where
         go (some y) q = cc
 
 -- R11.1 to R11.7: then what the slot answers.
-module _ (xs : List ℕ) (t : Trie) (name : List ℕ) where
-  pub illegal-looked : legalName name ≡ false → Refused IllegalName ≡ lookUpOf xs t name
-  unfolding lookUpOf
+module _ (xs : List ℕ) (p : Place) (name : List ℕ) where
+  pub illegal-looked : legalName name ≡ false → Refused IllegalName ≡ lookUpFrom xs p name
+  unfolding lookUpFrom
   illegal-looked e = rw e
 
-  pub headless-looked : legalName name ≡ true → headerOf xs ≡ nothing → Refused BadFile ≡ lookUpOf xs t name
-  unfolding lookUpOf headedAnswer
+  pub headless-looked : legalName name ≡ true → headerOf xs ≡ nothing → Refused BadFile ≡ lookUpFrom xs p name
+  unfolding lookUpFrom headedFrom
   headless-looked e h = rw (e, h)
 
   module _ {b slots : ℕ} (e : legalName name ≡ true) (h : headerOf xs ≡ some (version-1 b, slots)) where
-    -- Where the walk lands, and what is answered there.
-    landed-looked : lookUpOf xs t name ≡ arrivedAnswer xs (version-1 b) (filled name) (landed slots (walkOf t (filled name)))
-    unfolding lookUpOf headedAnswer walkOf arrivedAnswer
-    landed-looked =
-        rw (e, h, arrive-run (t .count) slots (t .count) (t .cells) (filled name) [] root (root-side (t .count) (t .first))) (go (leb (t .count) 256) _)
+    pub stray-looked : ((s : ℕ) → p ≡ at-slot s → ⊥) → Refused StaleTrie ≡ lookUpFrom xs p name
+    unfolding lookUpFrom headedFrom slotOf arrivedAnswer
+    stray-looked apart = rw (e, h) (go p apart)
       where
-        go : (c : Bool) (o : Option (Str × Spot × ℕ)) → cond c (arrivedAnswer xs (version-1 b) (filled name) (landed slots o)) (Refused StaleTrie)
-            ≡ arrivedAnswer xs (version-1 b) (filled name) (landed slots (cond c o nothing))
-        go false o = refl
-        go true o = refl
+        go : (q : Place) → ((s : ℕ) → q ≡ at-slot s → ⊥) → Refused StaleTrie ≡ arrivedAnswer xs (version-1 b) (filled name) (slotOf q slots)
+        go (before-cell i) apart = refl
+        go (at-slot s) apart = absurd (apart s refl)
+        go stale apart = refl
 
-    module _ (w : Walk) (W : Walks w (walkOf t (filled name))) where
-      pub stray-looked : ((s : ℕ) → w .place ≡ at-slot s → ⊥) → Refused StaleTrie ≡ lookUpOf xs t name
-      unfolding arrivedAnswer
-      stray-looked apart = sym (landed-looked ∙ go (walkOf t (filled name)) W)
-        where
-          go : (o : Option (Str × Spot × ℕ)) → Walks w o → arrivedAnswer xs (version-1 b) (filled name) (landed slots o) ≡ Refused StaleTrie
-          go nothing W = refl
-          go (some (p, k, s)) W = absurd (apart s (W .place))
+    pub past-looked : {s : ℕ} → p ≡ at-slot s → slots ≤ s → Refused StaleTrie ≡ lookUpFrom xs p name
+    unfolding lookUpFrom headedFrom slotOf arrivedAnswer
+    past-looked {s} q i = rw (e, h, q, le-ltb s slots i)
 
-      pub past-looked : {s : ℕ} → w .place ≡ at-slot s → slots ≤ s → Refused StaleTrie ≡ lookUpOf xs t name
-      unfolding arrivedAnswer
-      past-looked {s} q i = sym (landed-looked ∙ rw (lands-at slots w s q (walkOf t (filled name)) W, le-ltb s slots i))
+    pub arrived-looked : {s k : ℕ} {ys : List ℕ} (r : LookUpAnswer) → p ≡ at-slot s → k ≡ s → k < slots
+        → ys ≡ take (64 + 32 * b) (drop (16 + k * (64 + 32 * b)) xs) → r ≡ slotAnswer b (filled name) (readSlot (version-1 b) ys) → r ≡ lookUpFrom xs p name
+    unfolding lookUpFrom headedFrom slotOf arrivedAnswer slotAt slotSize entrySize
+    arrived-looked {s} {k} r q l i y a = a ∙ rw (y, l, e, h, q, lt-ltb s slots (omega arith))
 
-      pub arrived-looked : {s k : ℕ} {ys : List ℕ} (r : LookUpAnswer) → w .place ≡ at-slot s → k ≡ s → k < slots
-          → ys ≡ take (64 + 32 * b) (drop (16 + k * (64 + 32 * b)) xs) → r ≡ slotAnswer b (filled name) (readSlot (version-1 b) ys) → r ≡ lookUpOf xs t name
-      unfolding arrivedAnswer slotAt slotSize entrySize
-      arrived-looked {s} {k} r q l i y a = a ∙ rw (y, l) (sym (landed-looked ∙ rw (lands-at slots w s q (walkOf t (filled name)) W, lt-ltb s slots (omega arith))))
+-- Where the walk is that of a trie, the answer is look up's own.
+module _ (xs : List ℕ) (t : Trie) (name : List ℕ) where
+  landed-looked : {y : Layout} {slots : ℕ} → legalName name ≡ true → headerOf xs ≡ some (y, slots)
+      → lookUpOf xs t name ≡ arrivedAnswer xs y (filled name) (landed slots (walkOf t (filled name)))
+  unfolding lookUpOf headedAnswer walkOf arrivedAnswer
+  landed-looked {y} {slots} e h =
+      rw (e, h, arrive-run (t .count) slots (t .count) (t .cells) (filled name) [] root (root-side (t .count) (t .first))) (go (leb (t .count) 256) _)
+    where
+      go : (c : Bool) (o : Option (Str × Spot × ℕ)) → cond c (arrivedAnswer xs y (filled name) (landed slots o)) (Refused StaleTrie)
+          ≡ arrivedAnswer xs y (filled name) (landed slots (cond c o nothing))
+      go false o = refl
+      go true o = refl
+
+  slot-landed : (w : Walk) (slots : ℕ) (o : Option (Str × Spot × ℕ)) → Walks w o → slotOf (w .place) slots ≡ landed slots o
+  unfolding slotOf
+  slot-landed w slots nothing W = rw W
+  slot-landed w slots (some (p, k, s)) W = rw (W .place)
+
+  headless : legalName name ≡ true → headerOf xs ≡ nothing → lookUpOf xs t name ≡ Refused BadFile
+  unfolding lookUpOf headedAnswer
+  headless e h = rw (e, h)
+
+  illegal : legalName name ≡ false → lookUpOf xs t name ≡ Refused IllegalName
+  unfolding lookUpOf
+  illegal e = rw e
+
+  pub walked-looked : (w : Walk) → Walks w (walkOf t (filled name)) → lookUpFrom xs (w .place) name ≡ lookUpOf xs t name
+  unfolding lookUpFrom headedFrom
+  walked-looked w W = named (legalName name) refl
+    where
+      headed : (h : Option (Layout × ℕ)) → headerOf xs ≡ h → legalName name ≡ true → lookUpFrom xs (w .place) name ≡ lookUpOf xs t name
+      headed nothing h e = rw (e, h) (sym (headless e h))
+      headed (some (y, slots)) h e = rw (e, h, slot-landed w slots (walkOf t (filled name)) W) (sym (landed-looked e h))
+
+      named : (g : Bool) → legalName name ≡ g → lookUpFrom xs (w .place) name ≡ lookUpOf xs t name
+      named true e = headed (headerOf xs) refl e
+      named false e = rw e (sym (illegal e))

@@ -8,12 +8,12 @@ ghost use Rattle.model.specs.Names.{Legal, filled};
 ghost use Rattle.model.specs.Format.{readSlot, version-1};
 ghost use Rattle.model.specs.Files.{order-of};
 ghost use Rattle.model.specs.Calls.{between, entriesIn, listEntries, listOf, lookUpOf, slotAnswer};
-ghost use Rattle.trie.specs.Walks.{Walks, walkOf};
 ghost use Rattle.digits.specs.Keys.{keyValue, value};
 ghost use Rattle.file.specs.Sizes.{Sized, Below};
 ghost use Rattle.checking.specs.Ready.{Ready};
 ghost use Rattle.reading.specs.Outcomes.{listed};
 ghost use Rattle.reading.specs.Listings.{Written, parts};
+ghost use Rattle.reading.specs.Walked.{lookUpFrom};
 use bucket::Form;
 use bucket::Range;
 use bucket::Vacancy;
@@ -54,10 +54,10 @@ fn answer_of(slot: &[u8], b: usize, name: Key) -> LookUpAnswer
     LookUpAnswer::Found(value)
 }
 
-// Look up where a trie's walk of the filled name is known: it reads one bucket, and goes through section 11 of the
-// rules from the top.
+// Look up where the walk of the filled name is known: it reads one bucket, and goes through section 11 of the rules from the
+// top.
 pub fn look_up_from(file: &[u8], walk: Walk, name: &[u8]) -> LookUpAnswer
-    ensures { λ r. ⌜ ((t : Trie) → Walks walk (walkOf t (filled (now (name .entry)))) → r ≡ lookUpOf (now (file .entry)) t (now (name .entry))) ⌝ }
+    ensures { λ r. ⌜ r ≡ lookUpFrom (now (file .entry)) (walk .place) (now (name .entry)) ⌝ }
 {
     let Naming::Legal = digits::named(name) else {
         return LookUpAnswer::Refused(Cause::IllegalName);

@@ -1,5 +1,5 @@
 -- The walk cell by cell: the definition, the code's walk of it, and where it arrives.
-use Rattle.model.proofs.Prelude.{Bool, List, Option, _+_, _-_, _<_, _∙_, _≡_, _≤_, _⊎_, add-one, ap, arith, clash, cond, decLe, eq-eqb, eqb, false, inl, inr, le-leb, le-ltb, leb, length, length-set, length-take-le, lt-leb, lt-ltb, ltb, ne-eqb, nothing, refl, set, some, subst, suc, sym, take, take-suc-set, take-take, true, zero, ℕ, ℕ-discrete}
+use Rattle.model.proofs.Prelude.{Bool, List, Option, _+_, _-_, _<_, _∙_, _≡_, _≤_, _⊎_, add-one, ap, arith, cond, decLe, eq-eqb, eqb, false, inl, inr, le-leb, le-ltb, leb, length, length-set, length-take-le, lt-leb, lt-ltb, ltb, ne-eqb, nothing, refl, set, some, subst, suc, sym, take, take-suc-set, take-take, true, zero, ℕ, ℕ-discrete}
 use Rattle.model.specs.declared.Cell.{Cell}
 use Rattle.model.specs.declared.Side.{Side}
 use Rattle.model.specs.declared.Side.the-variants.{Cell as further, Slot as slot}
@@ -233,14 +233,3 @@ arrive-run (suc f) slots count cs n p k (further m) =
       arrive-run f slots count cs n (cell (at-cell cs m .digit) (at-cell cs m .number) p) (left m) (at-cell cs m .left),
       arrive-run f slots count cs n p (right m) (at-cell cs m .right),
     )
-
--- The slot that a walk says it ended at is the one where it lands.
-module _ (slots : ℕ) (w : Walk) where
-  pub lands-at : (s : ℕ) → w .place ≡ at-slot s → (o : Option (Str × Spot × ℕ)) → Walks w o → landed slots o ≡ cond (ltb s slots) (some s) nothing
-  lands-at s q nothing h =
-      let z : at-slot s ≡ stale = sym q ∙ h in
-      clash cc
-  lands-at s q (some (p, k, i)) h =
-      let z : at-slot i ≡ at-slot s = sym (h .place) ∙ q in
-      let y : i ≡ s = cc in
-      rw y

@@ -1,15 +1,20 @@
 -- Check, and recover by its order of refusals, from a look at the whole file.
-use Rattle.model.proofs.Prelude.{List, _*_, _++_, _+_, _-_, _<_, _∙_, _≡_, _≤_, ap, arith, getD, le-ltb, length-replicate, lt-ltb, nothing, paste, refl, replicate, replicate-append-replicate, sym, take, take-at, ℕ}
+use Rattle.model.proofs.Prelude.{Bool, List, [], _*_, _++_, _+_, _-_, _<_, _∙_, _∷_, _≡_, _≤_, ap, arith, false, le-ltb, length-replicate, lt-ltb, ltb-false, ltb-true, nothing, refl, replicate, replicate-append-replicate, sym, take, take-all, take-at, true, ℕ}
 use Rattle.model.specs.declared.Cause.the-variants.{BadFile, WrongSize}
+use Rattle.model.specs.declared.Layout.{Layout}
 use Rattle.model.specs.declared.RecoverAnswer.the-variants.{Freed, Nothing, Refused as RecoverRefused, Stopped as RecoverStopped}
 use Rattle.model.specs.Checks.{is-bad, is-cut, is-sound}
-use Rattle.model.specs.Format.{checkFile, entrySize, headerOf, layoutOf, slotBytes, slotSize, storeBytes, version-1}
-use Rattle.model.specs.Calls.{recoverBy, recoverOf}
+use Rattle.model.specs.Format.{checkFile, entrySize, headerOf, layoutOf, slotBytes, slotSize, version-1}
+use Rattle.model.specs.Files.{free}
+use Rattle.model.specs.Changes.{Store}
+use Rattle.model.specs.Calls.{recoverBy, recoverOf, storesBytes}
 use Rattle.model.proofs.Format.{headed-layout, headerOf-headed}
+use Rattle.file.specs.declared.Plan.{Plan}
 use Rattle.file.specs.declared.Size.{Size}
 use Rattle.file.specs.declared.survey.Kind.{Kind as Found}
 use Rattle.file.specs.declared.survey.Kind.the-variants.{Bad, Cut, Sound}
 use Rattle.file.specs.declared.survey.Survey.{Survey}
+use Rattle.file.specs.Plans.{Committed, Fits, Planned}
 use Rattle.file.specs.Sizes.{Said}
 use Rattle.file.specs.Surveys.{Surveyed, verdict}
 use Rattle.whole.specs.Outcomes.{found, recovered}
@@ -40,21 +45,42 @@ pub recover-sound : (xs : List ℕ) (limit : ℕ) → limit ≤ 2 → checkFile 
 unfolding recoverOf recoverBy
 recover-sound xs limit h e = rw (le-ltb 2 limit h, e)
 
-pub recover-stopped : (xs : List ℕ) (limit : ℕ) {N : ℕ} → limit < 1 → checkFile xs ≡ is-cut N → recovered (RecoverStopped 0) xs ≡ recoverOf xs limit
-unfolding recoverOf recoverBy
-recover-stopped xs limit h e = rw (le-ltb 2 limit (omega arith), e, lt-ltb limit 1 h)
+-- Of a cut file with slot N to free: the plan of one store, and what is left of it once it is committed.
+module _ (xs : List ℕ) (limit : ℕ) (s : Size) {N : ℕ} (e : checkFile xs ≡ is-cut N) (h : Said s xs) (p : Plan)
+    (planned : (p .stores ≡ 1) × (p .first ≡ N) × (p .one ≡ replicate 576 0) × (p .second ≡ 0)) where
+  abbrev y : Layout
+  y = version-1 (s .b)
 
--- The first bytes of zeros are zeros.
-pub free-bytes : (n m : ℕ) → n ≡ m → m ≤ 576 → take (n - 0) (replicate 576 0) ≡ replicate {A = ℕ} m 0
-free-bytes n m e h =
-    let f : n - 0 ≡ m = omega arith in
-    let g : m + (576 - m) ≡ 576 = omega arith in
-    let z : replicate {A = ℕ} 576 0 ≡ replicate m 0 ++ replicate (576 - m) 0 = sym (replicate-append-replicate m (576 - m) 0 ∙ ap (λ (k : ℕ). replicate {A = ℕ} k 0) g) in
-    rw f (ap (take m) z ∙ take-at (replicate m 0) (replicate (576 - m) 0) m (length-replicate {A = ℕ} m 0))
+  abbrev freeing : List Store
+  freeing = (N, free) ∷ []
 
-pub recover-freed : (xs ys zs : List ℕ) (limit : ℕ) (s : Size) {N : ℕ} → limit ≤ 2 → 1 ≤ limit → checkFile xs ≡ is-cut N → Said s xs
-    → ys ≡ paste xs (16 + N * (64 + 32 * s .b)) zs (64 + 32 * s .b) → zs ≡ replicate (64 + 32 * s .b) 0 → recovered (Freed N) ys ≡ recoverOf xs limit
-unfolding recoverOf recoverBy storeBytes slotBytes slotSize entrySize
-recover-freed xs ys zs limit s h l e a p q =
-    let b : layoutOf xs ≡ version-1 (s .b) = headed-layout (headerOf-headed xs (a .header)) in
-    rw (le-ltb 2 limit h, e, le-ltb limit 1 l, b, p, q)
+  -- The first bytes of zeros are zeros.
+  free-bytes : (m : ℕ) → m ≤ 576 → take m (replicate {A = ℕ} 576 0) ≡ replicate {A = ℕ} m 0
+  free-bytes m l =
+      let g : m + (576 - m) ≡ 576 = omega arith in
+      let z : replicate {A = ℕ} 576 0 ≡ replicate m 0 ++ replicate (576 - m) 0 = sym (replicate-append-replicate m (576 - m) 0 ∙ ap (λ (k : ℕ). replicate {A = ℕ} k 0) g) in
+      ap (take m) z ∙ take-at (replicate m 0) (replicate (576 - m) 0) m (length-replicate {A = ℕ} m 0)
+
+  held : Planned p y freeing
+  unfolding slotBytes slotSize entrySize
+  held = (planned .0, (planned .1, rw (planned .2) (free-bytes (64 + 32 * s .b) (omega (arith, h .sized .legal .b-most)))))
+
+  pub recover-fits : N < s .slots → Fits p s
+  recover-fits i = rw (planned .1, planned .3) (i, h .sized .legal .slots-least)
+
+  module _ (ys : List ℕ) (d : Bool) (C : Committed d xs ys y p limit) where
+    pub recover-stopped : d ≡ true → recovered (RecoverStopped limit) ys ≡ recoverOf xs limit
+    unfolding recoverOf recoverBy storesBytes
+    recover-stopped q =
+        let c = C freeing held in
+        let l : limit < 1 = ltb-true limit 1 (sym (c .1) ∙ q) in
+        let z : limit ≡ 0 = omega arith in
+        rw (le-ltb 2 limit (omega arith), e, lt-ltb limit 1 l, c .0, z)
+
+    pub recover-freed : limit ≤ 2 → d ≡ false → recovered (Freed N) ys ≡ recoverOf xs limit
+    unfolding recoverOf recoverBy storesBytes
+    recover-freed m q =
+        let c = C freeing held in
+        let l : 1 ≤ limit = ltb-false limit 1 (sym (c .1) ∙ q) in
+        let b : layoutOf xs ≡ y = headed-layout (headerOf-headed xs (h .header)) in
+        rw (le-ltb 2 limit m, e, le-ltb limit 1 l, b, c .0, take-all limit freeing l)

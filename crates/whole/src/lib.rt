@@ -77,12 +77,10 @@ pub fn recover(file: &mut [u8], limit: u64) -> RecoverAnswer
         Kind::Bad => RecoverAnswer::Refused(Cause::BadFile),
         Kind::Sound => RecoverAnswer::Nothing,
         Kind::Cut => {
-            if limit < 1 {
-                return RecoverAnswer::Stopped(0);
+            let plan = file::one_store(survey.inner, &[0u8; 576]);
+            if file::commit(file, size, plan, limit) {
+                return RecoverAnswer::Stopped(limit);
             }
-            let free = [0u8; 576];
-            let n = file::slot_size(size);
-            file::store(file, size, survey.inner, &free[0..n]);
             RecoverAnswer::Freed(survey.inner)
         }
     }

@@ -7,29 +7,29 @@ use Rattle.reading.proofs.LookingUp.{arrived-looked, headless-looked, i
 use Rattle.reading.proofs.look_up_from.Tie as tie
 
 returns : tie.Need-returns
-returns c t w =
+returns c =
     let a = c .before .before .before .before .before .args in
-    illegal-looked (a .file .now) t (a .name .now) (naming-illegal _ (sym (c .enum-told2 .given .1) ∙ c .before .before .named .ensures))
+    illegal-looked (a .file .now) (a .walk .place) (a .name .now) (naming-illegal _ (sym (c .enum-told2 .given .1) ∙ c .before .before .named .ensures))
 
 returns-2 : tie.Need-returns-2
-returns-2 c t w =
+returns-2 c =
     let a = c .before .before .before .before .before .before .before .before .args in
     let l = naming-legal _ (sym (c .before .before .before .enum-told .given .1) ∙ c .before .before .before .before .before .named .ensures) in
-    headless-looked (a .file .now) t (a .name .now) l (wrong-said (a .file .now) (c .enum-told3 .given .1) (c .before .before .header-of .ensures))
+    headless-looked (a .file .now) (a .walk .place) (a .name .now) l (wrong-said (a .file .now) (c .enum-told3 .given .1) (c .before .before .header-of .ensures))
 
 returns-3 : tie.Need-returns-3
-returns-3 c t w =
+returns-3 c =
     let a = c .before .before .before .before .before .before .before .before .before .before .args in
     let l = naming-legal _ (sym (c .before .before .before .before .before .enum-told .given .1) ∙ c .before .before .before .before .before .before .before .named .ensures) in
     let h = right-said (c .before .before .size .given .1) (c .before .before .before .before .header-of .ensures) .header in
-    stray-looked (a .file .now) t (a .name .now) l h (a .walk) w (λ s e. no-slot (rw e at (c .match3 .keys2)))
+    stray-looked (a .file .now) (a .walk .place) (a .name .now) l h (λ s e. no-slot (rw e at (c .match3 .keys2)))
 
 returns-4 : tie.Need-returns-4
-returns-4 c t w =
+returns-4 c =
     let a = c .before .before .before .before .before .before .before .before .before .before .before .before .before .before .before .args in
     let l = naming-legal _ (sym (c .before .before .before .before .before .before .before .before .before .before .enum-told .given .1) ∙ c .before .before .before .before .before .before .before .before .before .before .before .before .named .ensures) in
     let h = right-said (c .before .before .before .before .before .before .before .size .given .1) (c .before .before .before .before .before .before .before .before .before .header-of .ensures) .header in
-    past-looked (a .file .now) t (a .name .now) l h (a .walk) w (c .before .before .before .before .place .given .1) (omega (arith, c .if1 .taken, c .before .before .usize-of-u16 .ensures .0))
+    past-looked (a .file .now) (a .walk .place) (a .name .now) l h (c .before .before .before .before .place .given .1) (omega (arith, c .if1 .taken, c .before .before .usize-of-u16 .ensures .0))
 
 slot-at-requires : tie.Need-slot-at-requires
 slot-at-requires c κs = (right-sized _ (c .before .before .before .before .before .before .before .before .size .given .1) (c .before .before .before .before .before .before .before .before .before .before .header-of .ensures), omega arith)
@@ -40,13 +40,13 @@ answer-of-requires c κs =
     search needs
 
 returns-5 : tie.Need-returns-5
-returns-5 c t w =
+returns-5 c =
     let a = c .before .before .before .before .before .before .before .before .before .before .before .before .before .before .before .before .before .before .before .before .args in
     let name = a .name .now in
     let l = naming-legal _ (sym (c .before .before .before .before .before .before .before .before .before .before .before .before .before .before .before .enum-told .given .1) ∙ c .before .before .before .before .before .before .before .before .before .before .before .before .before .before .before .before .before .named .ensures) in
     let h = right-said (c .before .before .before .before .before .before .before .before .before .before .before .before .size .given .1) (c .before .before .before .before .before .before .before .before .before .before .before .before .before .before .header-of .ensures) .header in
     let f = c .before .before .before .before .filled .ensures in
-    arrived-looked (a .file .now) t name l h (a .walk) w (c .answer-of .result) (c .before .before .before .before .before .before .before .before .before .place .given .1) (c .before .before .before .before .before .before .before .usize-of-u16 .ensures .0) (omega arith)
+    arrived-looked (a .file .now) (a .walk .place) name l h (c .answer-of .result) (c .before .before .before .before .before .before .before .before .before .place .given .1) (c .before .before .before .before .before .before .before .usize-of-u16 .ensures .0) (omega arith)
     (c .before .before .before .slot-at .ensures .0) (c .answer-of .ensures _ (legalName-legal name l) (filled-value name _ _ f (c .before .key-at .ensures)))
 
 pub look-up-from-spec : {M : Type 1} → Rattle.reading.proofs.look_up_from.Statement.statement M

@@ -1,0 +1,36 @@
+-- The eight calls of the C interface as one value, so that a demand can be put to any eight, right or wrong.
+use Prim.Native.Nat.{ℕ}
+use mathlib.Core.Path.{_≡_}
+use mathlib.Core.List.{List}
+use lib.ListN.{length}
+use Rattle.image.specs.Images.{imageSize}
+use Rattle.capi.specs.Doors.{palCheckOf, palCreateOf, palListOf, palLookUpOf, palPutOf, palRebuildOf, palRecoverOf, palRemoveOf}
+
+-- Each takes what it is lent and gives its number, then the file, the image or output and the words of `out`, as far as it may
+-- change them. The ignored `run` of put is left out.
+pub record CCalls : Type 0 where
+  pub create : List ℕ → ℕ → ℕ → ℕ → List ℕ → ℕ × List ℕ × List ℕ
+  pub check : List ℕ → ℕ
+  pub recover : List ℕ → ℕ → List ℕ → ℕ × List ℕ × List ℕ
+  pub rebuild : List ℕ → List ℕ → ℕ × List ℕ
+  pub look-up : List ℕ → List ℕ → List ℕ → List ℕ → ℕ × List ℕ
+  pub put : List ℕ → List ℕ → List ℕ → ℕ → ℕ → List ℕ → ℕ × List ℕ × List ℕ × List ℕ
+  pub remove : List ℕ → List ℕ → List ℕ → ℕ → List ℕ → ℕ × List ℕ × List ℕ × List ℕ
+  pub list : List ℕ → List ℕ → List ℕ → List ℕ → List ℕ → List ℕ → ℕ × List ℕ × List ℕ
+
+-- Ours: what the contracts of `pal_create` to `pal_list` equate with what the code does.
+abbrev pub our-c-calls : CCalls
+our-c-calls = record {
+  create = palCreateOf;
+  check = palCheckOf;
+  recover = palRecoverOf;
+  rebuild = palRebuildOf;
+  look-up = palLookUpOf;
+  put = palPutOf;
+  remove = palRemoveOf;
+  list = palListOf;
+}
+
+-- A trie image has exactly 1,540 bytes.
+abbrev pub IsImage : List ℕ → Type 0
+IsImage image = length image ≡ imageSize

@@ -1,0 +1,44 @@
+-- Demand 2 (R13.2) of the C interface: the images that calls write lead every string of digits to its bucket, and a lookup tells
+-- the truth in its number and words.
+use mathlib.Core.Path.{_≡_}
+use mathlib.Core.Logic.{_⊎_}
+use mathlib.Core.Option.{none as nothing, some}
+use mathlib.Core.List.{List, [], _∷_}
+use Prim.Native.Nat.{_<_, _^_, ℕ}
+use lib.Seq.{sets}
+use Rattle.model.specs.Order.{Str}
+use Rattle.model.specs.Names.{filled}
+use Rattle.model.specs.Entries.{find}
+use Rattle.model.specs.Files.{In, Slot, entries-of, head, slot-at}
+use Rattle.model.specs.Format.{Bytes, SoundFile}
+use Rattle.promises.specs.Demand1.{LegalName}
+use Rattle.promises.specs.Demand2.{LeadsRight}
+use Rattle.image.specs.Images.{trieOf}
+use Rattle.interface.specs.Calls.{CCalls, IsImage}
+
+-- 100 with the value in word 0 and 0 in word 1, or 101: what the bucket holds whose range holds the name.
+pub data TruthfulC (fs : List Slot) (n : Str) (out : List ℕ) : ℕ × List ℕ → Type 0 where
+  true-entry : (B : ℕ) {v : ℕ} → In (head (slot-at fs B)) n → find n (entries-of (slot-at fs B)) ≡ some v
+      → TruthfulC fs n out (100, sets out 0 (v ∷ 0 ∷ []))
+  truly-absent : (B : ℕ) → In (head (slot-at fs B)) n → find n (entries-of (slot-at fs B)) ≡ nothing → TruthfulC fs n out (101, out)
+
+-- Or 4, stale.
+pub data TellsC (fs : List Slot) (n : Str) (out : List ℕ) : ℕ × List ℕ → Type 0 where
+  told : {a : ℕ × List ℕ} → TruthfulC fs n out a → TellsC fs n out a
+  stale : TellsC fs n out (4, out)
+
+-- Demand 2 of the C calls.
+pub record Demand2C (C : CCalls) : Type 0 where
+  -- With a sound file, whatever the image.
+  pub tells : (xs image name out : List ℕ) (S : SoundFile xs) → IsImage image → LegalName name
+      → TellsC (S .slots) (filled name) out (C .look-up xs image name out)
+  -- The image that create writes, and the one after each put that is made.
+  pub created : (xs : List ℕ) (v b slots : ℕ) (image : List ℕ) → C .create xs v b slots image .0 ≡ 150
+      → LeadsRight (C .create xs v b slots image .1) (trieOf (C .create xs v b slots image .2))
+  pub grown : (xs image name : List ℕ) (v limit : ℕ) (out : List ℕ) → Bytes xs → v < 2 ^ 64
+      → (C .put xs image name v limit out .0 ≡ 110) ⊎ (C .put xs image name v limit out .0 ≡ 111)
+      → LeadsRight (C .put xs image name v limit out .1) (trieOf (C .put xs image name v limit out .2))
+  pub rebuilt : (xs image : List ℕ) → C .rebuild xs image .0 ≡ 151 → LeadsRight xs (trieOf (C .rebuild xs image .1))
+  -- With such an image a lookup is not refused.
+  pub led : (xs image name out : List ℕ) (L : LeadsRight xs (trieOf image)) → IsImage image → LegalName name
+      → TruthfulC (L .file .slots) (filled name) out (C .look-up xs image name out)

@@ -1,0 +1,6 @@
+pub mod Calls
+pub mod Demand1
+pub mod Demand2
+pub mod Demand3
+pub mod Meanings
+pub mod Determined
