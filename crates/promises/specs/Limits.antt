@@ -17,7 +17,8 @@ pub data Further (y : Layout) (xs ys : List ℕ) : Type 0 where
   one-store : (k : ℕ) (s : Slot) → ys ≡ storeBytes y k s xs → Further y xs ys
 
 -- R7.12, of a call on the file xs, and of what it leaves by its limit. Its stores are the same for every limit, and a limit
--- cuts them off. So what limit j leaves is passed through on the way to what limit j + 1 leaves.
+-- cuts them off. So limit j + 1 leaves what limit j leaves with at most one further store. In which order one call makes two
+-- stores is not said here.
 pub record InOrder (xs : List ℕ) (left : ℕ → List ℕ) : Type 0 where
   pub stores : List Store
   pub left-by : (limit : ℕ) → limit ≤ 2 → left limit ≡ storesBytes (layoutOf xs) (take limit stores) xs
