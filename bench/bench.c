@@ -73,6 +73,11 @@ static struct lap hit(const struct engine *e, const struct scene *s, unsigned pa
     return look_up(e, e->lookup, s->hits, true, passes);
 }
 
+static struct lap hit_latest(const struct engine *e, const struct scene *s, unsigned passes)
+{
+    return look_up(e, e->lookup, s->latest, true, passes);
+}
+
 static struct lap hit_rebuilt(const struct engine *e, const struct scene *s, unsigned passes)
 {
     return e->lookup_rebuilt ? look_up(e, e->lookup_rebuilt, s->hits, true, passes) : (struct lap){0, 0};
@@ -261,7 +266,8 @@ static const struct operation {
     const char *title;
     struct lap (*run)(const struct engine *, const struct scene *, unsigned passes);
 } operations[] = {
-    {"look up, held", hit},
+    {"look up, any name held", hit},
+    {"look up, latest name", hit_latest},
     {"look up, held, trie rebuilt", hit_rebuilt},
     {"look up, absent", miss},
     {"put, replaces", replace},

@@ -41,7 +41,7 @@ struct scene {
     const struct name *held, *absent; /* in the order of the shuffle */
     size_t held_count, absent_count;
     struct name *ascending; /* the held names in their order */
-    const struct name *hits[DRAWS], *misses[DRAWS];
+    const struct name *hits[DRAWS], *latest[DRAWS], *misses[DRAWS]; /* latest: each the last of its bucket */
 
     const struct name *adds[MOST_ADDS];
     size_t add_count;

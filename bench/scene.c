@@ -89,6 +89,19 @@ static void choose_adds(struct scene *s)
     EXPECT(s->add_count > 0);
 }
 
+/* The last name of slot i, in a scene whose held names are in order; NULL where the slot has none. */
+static const struct name *last_of(const struct scene *s, unsigned i)
+{
+    const uint8_t *slot = s->file + 16 + i * (64 + PAL_ENTRY_BYTES * s->b);
+    struct name last;
+    if (slot[1] == 0)
+        return NULL;
+    memcpy(last.bytes, slot + 64 + PAL_ENTRY_BYTES * (slot[1] - 1u), NAME_DIGITS);
+    const struct name *held = bsearch(&last, s->ascending, s->held_count, sizeof *s->ascending, by_name);
+    EXPECT(held != NULL);
+    return held;
+}
+
 struct scene *make_scene(unsigned b, unsigned slots, const struct name *names, size_t count)
 {
     struct scene *s = room(sizeof *s);
@@ -114,6 +127,11 @@ struct scene *make_scene(unsigned b, unsigned slots, const struct name *names, s
     for (size_t i = 0; i < DRAWS; i++) {
         s->hits[i] = &s->held[next_random(&state) % s->held_count];
         s->misses[i] = &s->absent[next_random(&state) % s->absent_count];
+    }
+    for (size_t i = 0; i < DRAWS;) {
+        const struct name *last = last_of(s, next_random(&state) % s->slots);
+        if (last)
+            s->latest[i++] = last;
     }
     return s;
 }

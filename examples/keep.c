@@ -1,6 +1,6 @@
 /*
  * Keeps names in a file on disk, through kills: puts each line `name value` of standard input, and says the line again
- * when it is on disk. With -l it lists what the file holds.
+ * when it is on disk. With -l it lists what the file holds. A name may have blanks: the value is behind the last one.
  *
  *     cc examples/keep.c $(pkg-config --cflags --libs palhavento) -o keep
  *     echo gdp.de 4329 | ./keep rates.tkf
@@ -192,20 +192,22 @@ int main(int count, char **words)
     open_file();
     char line[256];
     while (!only_list && fgets(line, sizeof line, stdin)) {
-        char *name = strtok(line, " \t\n"), *digits = strtok(NULL, " \t\n"), *end = "?";
+        line[strcspn(line, "\n")] = 0;
+        char *blank = strrchr(line, ' '), *end = "?";
         uint64_t value = 0;
         errno = 0;
-        if (digits && *digits >= '0' && *digits <= '9' && !strtok(NULL, " \t\n"))
-            value = strtoull(digits, &end, 10);
+        if (blank && blank[1] >= '0' && blank[1] <= '9')
+            value = strtoull(blank + 1, &end, 10);
         if (*end || errno) {
             fprintf(stderr, "%s: each line has a name and a number of 64 bits\n", path);
             return 64;
         }
-        uint64_t answer = put(name, value);
+        *blank = 0;
+        uint64_t answer = put(line, value);
         if (answer < 100)
             refuse(answer);
         /* Said only when the put is on disk. */
-        if (printf("%s %" PRIu64 "\n", name, value) < 0 || fflush(stdout) != 0)
+        if (printf("%s %" PRIu64 "\n", line, value) < 0 || fflush(stdout) != 0)
             fail("standard output");
     }
     if (only_list)

@@ -1,9 +1,10 @@
 /*
  * palhavento.h: an ordered file of names in lent bytes, and the trie that addresses it.
  *
- * A name has 1 to 24 bytes, each 0x21 to 0x7D, and carries a 64-bit value. A file keeps the names in
- * buckets of up to b entries, one bucket a slot; its trie leads each name to the one bucket whose
- * range holds it. The file is what lasts. The trie can be rebuilt from it at any time.
+ * A name has 1 to 24 bytes, each 0x20 to 0x7D, with no blank (0x20) first or last, and carries a
+ * 64-bit value. A file keeps the names in buckets of up to b entries, one bucket a slot; its trie
+ * leads each name to the one bucket whose range holds it. The file is what lasts. The trie can be
+ * rebuilt from it at any time.
  *
  *     uint8_t  file[PAL_FILE_BYTES(4, 8)], trie[PAL_TRIE_BYTES];
  *     uint64_t out[4];
@@ -56,7 +57,7 @@ extern "C" {
 /* The version, as numbers for #if and as text. A program built with one version runs with every later
  * one of the same major number. */
 #define PALHAVENTO_VERSION_MAJOR 1
-#define PALHAVENTO_VERSION_MINOR 0
+#define PALHAVENTO_VERSION_MINOR 3
 #define PALHAVENTO_VERSION_PATCH 0
 #define PALHAVENTO_VERSION PAL_DOTTED_(PALHAVENTO_VERSION_MAJOR, PALHAVENTO_VERSION_MINOR, PALHAVENTO_VERSION_PATCH)
 #define PAL_DOTTED_(major, minor, patch) PAL_TEXT_(major) "." PAL_TEXT_(minor) "." PAL_TEXT_(patch)
@@ -68,23 +69,31 @@ extern "C" {
 #define PAL_TRIE_BYTES 1540
 
 /* The bytes of an entry in pal_list's output: the name filled to 24 with 0x20, then the value (8,
- * little-endian). */
+ * little-endian). The name ends where the blanks at the end begin: it may have others inside. */
 #define PAL_ENTRY_BYTES 32
 
 /* The bytes of a file with bucket capacity b, 2 to 16, and slots, 1 to 64. */
 #define PAL_FILE_BYTES(b, slots) (16 + (size_t)(slots) * (64 + 32 * (size_t)(b)))
 
+/* What out[0] is where the trie is stale and no digit of a name tells how far off it was. */
+#define PAL_NO_DIGIT 255
+
 /*
  * Answers. 1 to 99 is a refusal, 255 a malformed call; every other answer says what was done.
  *
  * A refusal carries the first cause that holds, in the order 8, 1, 2, 3, 4, 5, 6, 7 (pal_lookup has
- * its own), and changes no file, trie, output or out. Only pal_create and pal_rebuild, whose trie is
- * a result, then give the empty trie: an image of zeros.
+ * its own), and changes no file, trie or output. Only pal_create and pal_rebuild, whose trie is a
+ * result, then give the empty trie: an image of zeros.
+ *
+ * PAL_STALE_TRIE is the one refusal that says more, in out[0] of every call that takes out. Where
+ * pal_lookup came to a bucket whose range lacks the name, it is where the name left the range: the
+ * number, from 0, of the name's first digit that is not that of the bound it broke, or the bound's
+ * length, up to 24, where all are. For every other cause it is PAL_NO_DIGIT.
  *
  * A word of out that is not named for an answer is left as it was.
  */
 #define PAL_ANSWERS(ANSWER) \
-    ANSWER(PAL_ILLEGAL_NAME,     1,   "A name is not 1 to 24 bytes, each 0x21 to 0x7D.") \
+    ANSWER(PAL_ILLEGAL_NAME,     1,   "A name is not 1 to 24 bytes, each 0x20 to 0x7D, no blank first or last.") \
     ANSWER(PAL_BAD_FILE,         2,   "The file is neither sound nor cut; for look up: the part it reads is wrong.") \
     ANSWER(PAL_CUT_FILE,         3,   "The file is cut: recover, then rebuild.") \
     ANSWER(PAL_STALE_TRIE,       4,   "The trie does not agree with the file: rebuild.") \
@@ -126,7 +135,9 @@ static inline const char *pal_answer_text(uint64_t answer)
 
 /*
  * Write a new file without names over the whole buffer, and its trie.
- * version is 1; file_length is PAL_FILE_BYTES(b, slots).
+ * version is 1 or 2: where a bucket splits, at the middle or by the shortest of three strings about
+ * it (rule R7.3). All other calls read it from the file. Releases before 1.3 take a file of version 2
+ * for a bad one. file_length is PAL_FILE_BYTES(b, slots).
  *
  * PAL_CREATED. Refusals: 8.
  */
@@ -162,7 +173,8 @@ uint64_t pal_rebuild(const uint8_t *file, size_t file_length,
  * Look up a name. Reads the header and one bucket. With a sound file and any trie at all the answer
  * is true or the trie is refused as stale.
  *
- * PAL_FOUND (out[0]: the value, out[1]: its run, now 0), PAL_ABSENT. Refusals: 1, 2, 4.
+ * PAL_FOUND (out[0]: the value, out[1]: its run, now 0), PAL_ABSENT. Refusals: 1, 2, 4 (out[0]: where
+ * the name left the range, or PAL_NO_DIGIT).
  */
 uint64_t pal_lookup(const uint8_t *file, size_t file_length,
                     const uint8_t *trie, size_t trie_length,
@@ -181,7 +193,7 @@ uint64_t pal_lookup(const uint8_t *file, size_t file_length,
  * order in which the machine sees the writes of one call, the compiler is trusted.
  *
  * PAL_ADDED, PAL_REPLACED (out[0]: the old value, out[1]: its run, now 0), PAL_STOPPED (out[0]:
- * stores made). Refusals: 8, 1, 2, 3, 4, 5, 6.
+ * stores made). Refusals: 8, 1, 2, 3, 4 (out[0]: PAL_NO_DIGIT), 5, 6.
  */
 uint64_t pal_put(uint8_t *file, size_t file_length,
                  uint8_t *trie, size_t trie_length,
@@ -191,7 +203,8 @@ uint64_t pal_put(uint8_t *file, size_t file_length,
 /*
  * Remove a name, within the store limit as for pal_put. An emptied bucket keeps its range.
  *
- * PAL_REMOVED, PAL_ABSENT, PAL_STOPPED (out[0]: stores made). Refusals: 8, 1, 2, 3, 4.
+ * PAL_REMOVED, PAL_ABSENT, PAL_STOPPED (out[0]: stores made). Refusals: 8, 1, 2, 3, 4 (out[0]:
+ * PAL_NO_DIGIT).
  */
 uint64_t pal_remove(uint8_t *file, size_t file_length,
                     uint8_t *trie, size_t trie_length,
@@ -202,7 +215,7 @@ uint64_t pal_remove(uint8_t *file, size_t file_length,
  * Write the entries whose names lie from first to second, both included, ascending, PAL_ENTRY_BYTES
  * each, to the beginning of output, and nothing behind them. First above second gives no entries.
  *
- * PAL_LISTED (out[0]: entries written). Refusals: 1, 2, 3, 4, 7.
+ * PAL_LISTED (out[0]: entries written). Refusals: 1, 2, 3, 4 (out[0]: PAL_NO_DIGIT), 7.
  */
 uint64_t pal_list(const uint8_t *file, size_t file_length,
                   const uint8_t *trie, size_t trie_length,

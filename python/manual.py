@@ -12,16 +12,16 @@ from palhavento import cli
 PAGE = Path(__file__).resolve().parent / "man" / "palhavento.1"
 
 DESCRIPTION = """\
-A store is one file: names of 1 to 24 bytes in ascending order, each byte from ! to }, and for each name a number from 0 to
-18446744073709551615. It has room for up to 1,024 names, in up to 64 buckets of up to 16. A change is on disk when its command
-ends. One process at a time writes a store, and any number read it beside."""
+A store is one file: names of 1 to 24 bytes in ascending order, each byte from the blank to }, with no blank first or last, and
+for each name a number from 0 to 18446744073709551615. It has room for up to 1,024 names, in up to 64 buckets of up to 16. A
+change is on disk when its command ends. One process at a time writes a store, and any number read it beside."""
 
 JSON = """\
 With --json a command prints one object on one line, also where it cannot be done: then with the keys error, a sentence, and
-status. A value is there as a number and, since many readers of JSON change a number above 2^53, as text too: value and
-value_text, old and old_text (null where the name is new), entries and entries_text. What check prints has the worst word under
-check, and under files for each file its store, check, reason and faults, each of these with its rule in docs/RULES.md, its slot
-and what it says."""
+status; of status 4 also digit, the number of the digit, from 0, at which a name left its bucket's range, or null. A value is
+there as a number and, since many readers of JSON change a number above 2^53, as text too: value and value_text, old and old_text
+(null where the name is new), entries and entries_text. What check prints has the worst word under check, and under files for
+each file its store, check, reason and faults, each of these with its rule in docs/RULES.md, its slot and what it says."""
 
 
 def plain(text: str) -> str:

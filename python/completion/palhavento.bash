@@ -1,10 +1,9 @@
 # Completion of palhavento in bash: commands, options, files, and the names that a store holds.
 
 _palhavento() {
-    # Bash itself would part the line at : and = too, which names may have.
-    local words word at given=() options=1 command cur
-    read -a words <<< "${COMP_LINE:0:COMP_POINT}."
-    cur=${words[-1]%.} command=${words[1]}
+    local words word quote kept at given=() options=1 command cur
+    _palhavento_part "${COMP_LINE:0:COMP_POINT}"
+    cur=${words[-1]} command=${words[1]-}
     COMPREPLY=()
     if ((${#words[@]} == 2)); then
         _palhavento_words create put get rm ls import check recover stats compact draw --help --version
@@ -14,7 +13,7 @@ _palhavento() {
         word=${words[at]}
         if ((options)) && [[ $word == -- ]]; then
             options=0
-        elif ((options)) && [[ $word == --b || $word == --slots ]]; then
+        elif ((options)) && [[ $word == --b || $word == --slots || $word == --version ]]; then
             ((at++))
         elif ((!options)) || [[ $word != -?* ]]; then
             given+=("$word")
@@ -22,7 +21,7 @@ _palhavento() {
     done
     if ((options)) && [[ $cur == -* ]]; then
         case $command in
-            create | compact) _palhavento_words --b --slots ;;
+            create | compact) _palhavento_words --b --slots --version ;;
             import) _palhavento_words --no-sync ;;
             draw) _palhavento_words --trie ;;
         esac
@@ -36,11 +35,41 @@ _palhavento() {
     esac
 }
 
+# Parts a line into words as the shell does, the last of them the one under the cursor. Bash itself would part it at : and =
+# too, which names may have. Sets the quote that is open at the end, and how many characters of the last word bash takes for
+# words of their own, which stay as they are: those before the open quote, or else those up to the last : or =.
+_palhavento_part() {
+    local at char word= begun=
+    words=() quote= kept=0
+    for ((at = 0; at < ${#1}; at++)); do
+        char=${1:at:1}
+        if [[ $char == "$quote" ]]; then
+            quote=
+        elif [[ $char == \\ && $quote != \' && ( -z $quote || ${1:at+1:1} == [\"\\\$\`] ) ]]; then
+            ((at++))
+            word+=${1:at:1} begun=1
+        elif [[ -n $quote ]]; then
+            word+=$char
+        elif [[ $char == [\'\"] ]]; then
+            quote=$char kept=${#word} begun=1
+        elif [[ $char != [[:blank:]] ]]; then
+            word+=$char begun=1
+        elif [[ -n $begun ]]; then
+            words+=("$word")
+            word= begun=
+        fi
+    done
+    words+=("$word")
+    if [[ -z $quote ]]; then
+        word=${word%"${word##*[:=]}"} kept=${#word}
+    fi
+}
+
 # Of these words, those that begin as the one under the cursor.
 _palhavento_words() {
     local word
     for word; do
-        [[ $word == "$cur"* ]] && _palhavento_reply "$word"
+        [[ $word == "$cur"* ]] && COMPREPLY+=("${word:kept}")
     done
 }
 
@@ -49,21 +78,25 @@ _palhavento_files() {
     local file
     compopt -o filenames 2> /dev/null
     while IFS= read -r file; do
-        [[ -d $file || $file == $1 ]] && _palhavento_reply "$file"
+        [[ -d $file || $file == $1 ]] && COMPREPLY+=("${file:kept}")
     done < <(compgen -f -- "$cur")
 }
 
-# The names of a store. A name may mean something to the shell, such as $x, so each is written as the shell reads it.
+# The names of a store: of each line, what is before the last blank. A name may mean something to the shell, such as $x or a
+# blank, so each is written as the shell reads it, within the quote that is open.
 _palhavento_names() {
-    local name
-    while read -r name _; do
-        [[ $name == "$cur"* ]] && _palhavento_reply "$(printf %q "$name")"
+    local line name
+    while IFS= read -r line; do
+        name=${line% *}
+        [[ $name == "$cur"* ]] || continue
+        name=${name:kept}
+        case $quote in
+            \') name=${name//\'/"'\''"} ;;
+            \") name=${name//\\/\\\\} name=${name//\"/\\\"} name=${name//\$/\\\$} name=${name//\`/\\\`} name=${name//!/\"\'!\'\"} ;;
+            *) [[ -z $name ]] || printf -v name %q "$name" ;;
+        esac
+        COMPREPLY+=("$name")
     done < <("$1" ls -- "$2" 2> /dev/null)
-}
-
-# Offers a word without the part before its last : or =, which bash takes for a word of its own.
-_palhavento_reply() {
-    COMPREPLY+=("${1#"${cur%"${cur##*[:=]}"}"}")
 }
 
 complete -F _palhavento palhavento

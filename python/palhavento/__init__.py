@@ -35,7 +35,7 @@ from palhavento.errors import (
 from palhavento.layout import Bucket, Cell, Stats, Trie
 from palhavento.store import Store
 
-__version__ = "1.0.0"
+__version__ = "1.3.0"
 
 __all__ = [
     "BadFile",
@@ -69,8 +69,12 @@ def open(
     sync: bool = True,
     readonly: bool = False,
     timeout: float = 0.0,
+    version: int = library.NEWEST,
 ) -> Store:
-    """Open a file, or create it where there is none; a file that is there keeps its own b and slots.
+    """Open a file, or create it where there is none; a file that is there keeps its own version, b and slots.
+
+    A new file is of version 2, whose buckets split by the shortest of three strings, so that it has fewer; releases before 1.3
+    take such a file for a bad one, and create those of version 1 alone.
 
     One process at a time has a file open for writing, and any number read it beside (`readonly=True`), which create
     nothing. While another process writes it, `open` waits for so many seconds as `timeout` says. To open it a second time
@@ -88,6 +92,8 @@ def open(
     palhavento.errors.Locked: prices.tkf: It is open in this process with sync=True: open it so, or close it first.
     >>> open("prices.tkf", readonly=True)["oil"]
     71
+    >>> open("old.tkf", version=1).version, open("old.tkf").version, open("prices.tkf").version
+    (1, 1, 2)
     >>> open("missing.tkf", create=False)
     Traceback (most recent call last):
     FileNotFoundError: [Errno 2] No such file or directory: 'missing.tkf'
@@ -95,5 +101,5 @@ def open(
     if create and not readonly and not os.path.exists(path):
         # Another process may be first to create it; then its file is opened.
         with contextlib.suppress(FileExistsError):
-            disk.create(path, library.create(b, slots)[0])
+            disk.create(path, library.create(b, slots, version)[0])
     return Store(path, readonly, sync, timeout)

@@ -19,6 +19,8 @@
 #include "palhavento.h"
 
 enum { NAME_BYTES = 24, MOST_ENTRIES = 16 * 64 };
+/* What out is before a call. A refusal leaves it as it is, but for its first word where the trie is stale. */
+#define UNSAID {PAL_NO_DIGIT}
 static const uint8_t LOWEST[] = {'!'}, HIGHEST[NAME_BYTES + 1] = "}}}}}}}}}}}}}}}}}}}}}}}}";
 
 /* The library's calls, found when it is loaded. */
@@ -105,14 +107,14 @@ static int is_refused(uint64_t answer)
     return answer < PAL_FOUND || answer == PAL_MALFORMED;
 }
 
-/* Has Python raise a refusal, about one name or two. */
-static PyObject *refused(uint64_t answer, PyObject *first, PyObject *second)
+/* Has Python raise a refusal, with the first word of out, about one name or two. */
+static PyObject *refused(uint64_t answer, const uint64_t out[4], PyObject *first, PyObject *second)
 {
-    PyObject *number = PyLong_FromUnsignedLongLong(answer);
-    if (!number)
-        return NULL;
-    PyObject *said = PyObject_CallFunctionObjArgs(refuse, number, first, second, NULL);
+    PyObject *said = NULL, *number = PyLong_FromUnsignedLongLong(answer), *word = PyLong_FromUnsignedLongLong(out[0]);
+    if (number && word)
+        said = PyObject_CallFunctionObjArgs(refuse, number, word, first, second, NULL);
     Py_DecRef(number);
+    Py_DecRef(word);
     if (said) {
         Py_DecRef(said);
         PyErr_SetString(PyExc_SystemError, "a refusal was not raised");
@@ -123,7 +125,7 @@ static PyObject *refused(uint64_t answer, PyObject *first, PyObject *second)
 static PyObject *look_up(PyObject *self, PyObject *const *given, Py_ssize_t count)
 {
     struct lent file, trie, name;
-    uint64_t out[4];
+    uint64_t out[4] = UNSAID;
     if (!wants("look_up", count, 3) || !lend(given[0], &file) || !lend(given[1], &trie) || !lend_name(given[2], &name))
         return NULL;
     uint64_t answer = lookup_in(file.at, file.length, trie.at, trie.length, name.at, name.length, out);
@@ -131,7 +133,7 @@ static PyObject *look_up(PyObject *self, PyObject *const *given, Py_ssize_t coun
     if (answer == PAL_FOUND)
         return PyLong_FromUnsignedLongLong(out[0]);
     if (answer != PAL_ABSENT)
-        return refused(answer, given[2], NULL);
+        return refused(answer, out, given[2], NULL);
     Py_IncRef(Py_None);
     return Py_None;
 }
@@ -158,13 +160,13 @@ static int copies(const struct lent *file, const struct lent *trie, PyObject *ma
     return made[0] && made[1];
 }
 
-static PyObject *outcome(uint64_t answer, PyObject *made[2], PyObject *name)
+static PyObject *outcome(uint64_t answer, const uint64_t out[4], PyObject *made[2], PyObject *name)
 {
     PyObject *given = NULL;
     if (!made[0] || !made[1])
         PyErr_NoMemory();
     else if (is_refused(answer))
-        refused(answer, name, NULL);
+        refused(answer, out, name, NULL);
     else
         given = Py_BuildValue("KOO", (unsigned long long)answer, made[0], made[1]);
     Py_DecRef(made[0]);
@@ -175,7 +177,7 @@ static PyObject *outcome(uint64_t answer, PyObject *made[2], PyObject *name)
 static PyObject *put(PyObject *self, PyObject *const *given, Py_ssize_t count)
 {
     struct lent file, trie, name;
-    uint64_t value, limit, out[4], answer = 0;
+    uint64_t value, limit, out[4] = UNSAID, answer = 0;
     PyObject *made[2];
     if (!wants("put", count, 5) || !lend(given[0], &file) || !lend(given[1], &trie) || !number_of(given[3], &value)
         || !number_of(given[4], &limit) || !lend_name(given[2], &name))
@@ -184,13 +186,13 @@ static PyObject *put(PyObject *self, PyObject *const *given, Py_ssize_t count)
         answer = put_in(bytes_in(made[0]), file.length, bytes_in(made[1]), trie.length,
                         name.at, name.length, value, 0, limit, out);
     Py_DecRef(name.made);
-    return outcome(answer, made, given[2]);
+    return outcome(answer, out, made, given[2]);
 }
 
 static PyObject *remove_(PyObject *self, PyObject *const *given, Py_ssize_t count)
 {
     struct lent file, trie, name;
-    uint64_t limit, out[4], answer = 0;
+    uint64_t limit, out[4] = UNSAID, answer = 0;
     PyObject *made[2];
     if (!wants("remove", count, 4) || !lend(given[0], &file) || !lend(given[1], &trie) || !number_of(given[3], &limit)
         || !lend_name(given[2], &name))
@@ -199,7 +201,7 @@ static PyObject *remove_(PyObject *self, PyObject *const *given, Py_ssize_t coun
         answer = remove_in(bytes_in(made[0]), file.length, bytes_in(made[1]), trie.length,
                            name.at, name.length, limit, out);
     Py_DecRef(name.made);
-    return outcome(answer, made, given[2]);
+    return outcome(answer, out, made, given[2]);
 }
 
 /* One entry of a list, as (name, value). */
@@ -217,7 +219,7 @@ static PyObject *pair(const uint8_t *entry)
 static PyObject *entries(PyObject *self, PyObject *const *given, Py_ssize_t count)
 {
     struct lent file, trie, first, second;
-    uint64_t out[4];
+    uint64_t out[4] = UNSAID;
     if (!wants("entries", count, 4) || !lend(given[0], &file) || !lend(given[1], &trie) || !lend_name(given[2], &first))
         return NULL;
     if (!lend_name(given[3], &second)) {
@@ -230,7 +232,7 @@ static PyObject *entries(PyObject *self, PyObject *const *given, Py_ssize_t coun
     Py_DecRef(first.made);
     Py_DecRef(second.made);
     if (is_refused(answer))
-        return refused(answer, given[2], given[3]);
+        return refused(answer, out, given[2], given[3]);
     PyObject *listed = PyList_New((Py_ssize_t)out[0]);
     for (Py_ssize_t at = 0; listed && at < (Py_ssize_t)out[0]; at++) {
         PyObject *entry = pair(output + PAL_ENTRY_BYTES * at);
@@ -245,13 +247,13 @@ static PyObject *entries(PyObject *self, PyObject *const *given, Py_ssize_t coun
 static PyObject *count_of(PyObject *self, PyObject *const *given, Py_ssize_t count)
 {
     struct lent file, trie;
-    uint64_t out[4];
+    uint64_t out[4] = UNSAID;
     if (!wants("count", count, 2) || !lend(given[0], &file) || !lend(given[1], &trie))
         return NULL;
     uint8_t output[PAL_ENTRY_BYTES * MOST_ENTRIES];
     uint64_t answer = list_in(file.at, file.length, trie.at, trie.length, LOWEST, sizeof LOWEST,
                                HIGHEST, NAME_BYTES, output, sizeof output, out);
-    return is_refused(answer) ? refused(answer, NULL, NULL) : PyLong_FromUnsignedLongLong(out[0]);
+    return is_refused(answer) ? refused(answer, out, NULL, NULL) : PyLong_FromUnsignedLongLong(out[0]);
 }
 
 static PyObject *changed(PyObject *self, PyObject *const *given, Py_ssize_t count)

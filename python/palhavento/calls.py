@@ -36,7 +36,7 @@ def bytes_of(name: Name) -> bytes:
     (b'gdp', b'gdp')
     >>> bytes_of("preço")
     Traceback (most recent call last):
-    palhavento.errors.IllegalName: 'preço': A name has 1 to 24 bytes, each 0x21 to 0x7D...
+    palhavento.errors.IllegalName: 'preço': A name has 1 to 24 bytes, each 0x20 to 0x7D, no blank first or last...
     """
     if isinstance(name, bytes):
         return name
@@ -67,9 +67,9 @@ def value_of(value: int) -> int:
     return number
 
 
-def _refuse(number: int, *names: Name) -> None:
-    """What the extension calls for a refusal: here its message is formed."""
-    library._answer(number, *map(bytes_of, names))
+def _refuse(number: int, word: int, *names: Name) -> None:
+    """What the extension calls for a refusal, with the first word of `out`: here its message is formed."""
+    library._answer(number, *map(bytes_of, names), word=word)
 
 
 class ByCtypes:
@@ -139,11 +139,11 @@ _EMPTY = library.create(b=2, slots=1)
 def legal(name: Name) -> Name:
     """A name that some file can hold. To look it up says so, before anything else, in any file.
 
-    >>> legal("gdp.de")
-    'gdp.de'
-    >>> legal("two words")
+    >>> legal("GDP real")
+    'GDP real'
+    >>> legal(" GDP")
     Traceback (most recent call last):
-    palhavento.errors.IllegalName: 'two words': A name has 1 to 24 bytes, each 0x21 to 0x7D...
+    palhavento.errors.IllegalName: ' GDP': A name has 1 to 24 bytes, each 0x20 to 0x7D, no blank first or last...
     """
     look_up(*_EMPTY, name)
     return name

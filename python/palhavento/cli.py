@@ -20,7 +20,7 @@ from typing import Any, NamedTuple, NoReturn
 
 import palhavento
 from palhavento import compacting, disk, library, reasons
-from palhavento.errors import BadFile, CutFile, FileFull, IllegalName, PalhaventoError, TrieFull
+from palhavento.errors import BadFile, CutFile, FileFull, IllegalName, PalhaventoError, StaleTrie, TrieFull
 from palhavento.starting import INTERRUPTED, NO_ACCESS, begin, complain, hush
 
 # Beside the refusal numbers (docs/RULES.md, section 10): the library's own answer for an absent name, and what sysexits.h has
@@ -31,13 +31,13 @@ USAGE = 64
 STATUSES = """\
 exit status:
   0    done
-  1    illegal name: 1 to 24 bytes, each 0x21 to 0x7D
+  1    illegal name: 1 to 24 bytes, each 0x20 to 0x7D, no blank first or last
   2    bad file: neither sound nor cut
   3    cut file (only check says so: what writes recovers it, what reads reads it as recovered)
-  4    stale trie, even after it was rebuilt
+  4    stale trie, even after it was rebuilt; the message says at which digit a name left its range
   5    a split is needed and there is no free slot
   6    the store would have more than 256 strings
-  8    no file has that b or that many slots
+  8    no file has that version, that b or that many slots
   64   bad arguments
   70   a fault of this program itself
   74   a file, or standard input or output, cannot be read or written
@@ -55,6 +55,7 @@ examples:
   palhavento create rates.tkf                   # a new store: 64 buckets of up to 16 names
   palhavento put rates.tkf gdp.de 42            # puts a name, or replaces its value
   palhavento get rates.tkf gdp.de               # prints 42
+  palhavento put rates.tkf 'GDP real' 7         # a name with a blank, in quotes
   palhavento ls rates.tkf gdp.a gdp.z           # the names from gdp.a to gdp.z, in order
   palhavento create copy.tkf
   palhavento ls rates.tkf | palhavento import copy.tkf -
@@ -75,11 +76,12 @@ class Report(NamedTuple):
 
 
 class Trouble(Exception):
-    """A command cannot be done, for a cause that no call has refused."""
+    """A command cannot be done: for a cause that no call has refused, or for one that is told with more than its sentence."""
 
-    def __init__(self, status: int, sentence: str) -> None:
+    def __init__(self, status: int, sentence: str, data: dict[str, object] | None = None) -> None:
         super().__init__(sentence)
         self.status = status
+        self.data = data or {}
 
 
 class Asked(Exception):
@@ -118,10 +120,13 @@ class Version(argparse.Action):
 
 
 def hint(words: Sequence[str]) -> str:
-    """What to say beside wrong arguments where one of them looks like an option, and may be meant as a name.
+    """What to say beside wrong arguments where one of them looks like an option, and may be meant as a name; or where several
+    may be meant as one name, which the shell has parted at its blanks, for want of quotes.
 
     >>> hint(["put", "rates.tkf", "-x", "3", "--json"])
     '; if -x is no option: palhavento put rates.tkf --json -- -x 3'
+    >>> hint(["put", "rates.tkf", "GDP", "real", "3"])
+    "; if 'GDP real' is one name: palhavento put rates.tkf 'GDP real' 3"
     >>> hint(["put", "rates.tkf", "--", "-x"]), hint(["put", "--json"]), hint(["-x"])
     ('', '', '')
     """
@@ -129,12 +134,24 @@ def hint(words: Sequence[str]) -> str:
     known = top.options().union(*(command.options() for command in top.commands.values()))
     place = next((place for place, word in enumerate(words)
                   if word == "--" or word[:1] == "-" != word and word.split("=")[0] not in known), 0)
-    if not place or words[place] == "--":
+    if not place:
+        return _quoted([word for word in words if word not in known])
+    if words[place] == "--":
         return ""
     behind = words[place:]
     options = [word for word in behind if word in known]
     said = [*words[:place], *options, "--", *(word for word in behind if word not in known)]
     return f"; if {words[place]} is no option: palhavento {shlex.join(said)}"
+
+
+def _quoted(words: Sequence[str]) -> str:
+    """The hint that several of these words, which are no options, are one name; nothing where they cannot be."""
+    end = {"put": -1, "get": len(words), "rm": len(words)}.get(words[0], 0) if words else 0
+    parts = words[2:end]
+    if len(parts) < 2:
+        return ""
+    name = " ".join(parts)
+    return f"; if {name!r} is one name: palhavento {shlex.join([*words[:2], name, *words[end:]])}"
 
 
 def told(error: BaseException, path: str) -> tuple[int, str]:
@@ -150,6 +167,21 @@ def told(error: BaseException, path: str) -> tuple[int, str]:
             return NO_ACCESS, f"{os.fsdecode(error.filename or path)}: {error.strerror or error}"
         case _:
             return INTERRUPTED, "interrupted."
+
+
+def beside(error: BaseException) -> dict[str, object]:
+    """What a script reads of an error, beside its sentence and its status.
+
+    >>> beside(palhavento.errors.stale(4)), beside(palhavento.errors.stale(255)), beside(KeyboardInterrupt())
+    ({'digit': 4}, {'digit': None}, {})
+    """
+    match error:
+        case StaleTrie():
+            return {"digit": error.digit}
+        case Trouble():
+            return error.data
+        case _:
+            return {}
 
 
 def value_of(text: str | bytes) -> int:
@@ -187,9 +219,10 @@ def reading(arguments: argparse.Namespace) -> palhavento.Store:
 
 
 def create(arguments: argparse.Namespace) -> Report:
-    path, b, slots = arguments.store, arguments.b, arguments.slots
-    disk.create(path, library.create(b, slots)[0])
-    return Report({"created": path, "b": b, "slots": slots}, [f"created {path}: {slots} slots of up to {b} names"])
+    path, b, slots, version = arguments.store, arguments.b, arguments.slots, arguments.version
+    disk.create(path, library.create(b, slots, version)[0])
+    data = {"created": path, "version": version, "b": b, "slots": slots}
+    return Report(data, [f"created {path}: {slots} slots of up to {b} names, version {version}"])
 
 
 def put(arguments: argparse.Namespace) -> Report:
@@ -252,10 +285,16 @@ class Progress:
 
 
 def entries_of(text: bytes, origin: str) -> list[tuple[bytes, int]]:
-    """The lines `name value` of a text; the first line that is none is told by its number."""
+    """The lines `name value` of a text; the first line that is none is told by its number.
+
+    The value is behind the last blank: a name may have blanks, though none first or last.
+
+    >>> entries_of(b"GDP real 42\\n  oil  71\\n", "lines.txt")
+    [(b'GDP real', 42), (b'oil', 71)]
+    """
     entries = []
     for number, line in enumerate(text.splitlines(), 1):
-        fields = line.split()
+        fields = line.strip().rsplit(None, 1)
         if len(fields) != 2:
             raise Trouble(USAGE, f"{origin}:{number}: want a name and a value; nothing was changed")
         try:
@@ -308,7 +347,7 @@ def import_(arguments: argparse.Namespace) -> Report:
             unchanged = isinstance(error, PalhaventoError) or disk.NOT_MADE in sentence
             itself = "" if unchanged else f", and line {number} may be"
             lines = f"{earlier(number - 1)} in the store{itself}."
-            raise Trouble(status, f"{origin}:{number}: {sentence.rstrip('.')}. {lines}") from None
+            raise Trouble(status, f"{origin}:{number}: {sentence.rstrip('.')}. {lines}", beside(error)) from None
         finally:
             progress.end()
         if not arguments.sync:
@@ -377,7 +416,7 @@ def compact(arguments: argparse.Namespace) -> Report:
     with reading(arguments) as store:
         before = store.stats()
     try:
-        after = compacting.compact(arguments.store, arguments.new, arguments.b, arguments.slots)
+        after = compacting.compact(arguments.store, arguments.new, arguments.b, arguments.slots, arguments.version)
     except (FileFull, TrieFull) as full:
         raise Trouble(full.number, str(full)) from None
     strings = compacting.MOST_STRINGS - after.strings
@@ -433,25 +472,29 @@ def parser() -> Parser:
     new = command("create", create, "write a new store, where no file is yet", "rates.tkf --b 16 --slots 64")
     new.add_argument("--b", type=int, default=16, help="names that a bucket holds, 2 to 16 (default 16)")
     new.add_argument("--slots", type=int, default=64, help="buckets that the store has room for, 1 to 64 (default 64)")
+    new.add_argument("--version", type=int, default=library.NEWEST,
+                     help="1 or 2 (default 2): how buckets are split; releases before 1.3 read no other than 1")
     change = command("put", put, "put a name with a value, or replace its value", "rates.tkf gdp.de 42")
-    change.add_argument("name", metavar="NAME", help="1 to 24 of the characters ! to }, no blanks")
+    change.add_argument("name", metavar="NAME", help="1 to 24 of the characters from blank to }, no blank first or last; in quotes "
+                                                     "where it has blanks")
     change.add_argument("value", metavar="VALUE", type=value_of, help="0 to 18446744073709551615")
     for name, run, says in (("get", get, "print the value of a name"), ("rm", rm, "remove a name")):
         command(name, run, says, "rates.tkf gdp.de").add_argument("name", metavar="NAME")
     listing = command("ls", ls, "list names and values in name order", "rates.tkf gdp.a gdp.z")
     listing.add_argument("range", metavar="FIRST SECOND", nargs="*", help="only the names between, both included")
     lines = command("import", import_, "put every line `name value` of a file", "rates.tkf rates.txt")
-    lines.add_argument("lines", metavar="LINES", help="the file of lines; - is standard input")
+    lines.add_argument("lines", metavar="LINES", help="the file of lines, each a name, a blank and a value; - is standard input")
     lines.add_argument("--no-sync", dest="sync", action="store_false",
                        help="faster: wait for the disk once, at the end; a power loss before may leave a bad file")
     command("check", check, "say whether files are sound, cut (also while the writer is in a split) or bad, and why",
             "rates.tkf prices.tkf")
     command("recover", recover, "free what a stopped split left behind", "rates.tkf")
-    command("stats", stats, "count slots, names and strings", "rates.tkf")
+    command("stats", stats, "tell the version, and count slots, names and strings", "rates.tkf")
     anew = command("compact", compact, "write a store anew, in as few buckets as its names fit", "rates.tkf small.tkf")
     anew.add_argument("new", metavar="NEW", help="the new store, where no file is yet")
     anew.add_argument("--b", type=int, help="names that a bucket of it holds (default: as the old one)")
     anew.add_argument("--slots", type=int, help="buckets that it has room for (default: as the old one)")
+    anew.add_argument("--version", type=int, help="its version, 1 or 2 (default: as the old one)")
     picture = command("draw", draw, "draw the store as an SVG", "rates.tkf rates.svg --trie")
     picture.add_argument("picture", metavar="FILE.svg", help="where the picture goes")
     picture.add_argument("--trie", action="store_true", help="draw the trie in place of the buckets")
@@ -472,8 +515,9 @@ def report_of(words: Sequence[str]) -> Report:
         return asked.report
     except (PalhaventoError, Trouble, OSError, KeyboardInterrupt) as error:
         status, sentence = told(error, store)
+        more = beside(error)
     complain(f"palhavento: {sentence}")
-    return Report({"error": sentence, "status": status}, [], status)
+    return Report({"error": sentence, "status": status, **more}, [], status)
 
 
 def print_out(lines: Sequence[str]) -> str | None:

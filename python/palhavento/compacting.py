@@ -32,12 +32,14 @@ _WEIGHTS = (0.0, 0.25, 0.5, 0.75, 1.0, 2.0, 24.0)
 _SHUFFLES = 6
 
 
-def compact(old: disk.Path, new: disk.Path, b: int | None = None, slots: int | None = None) -> layout.Stats:
+def compact(
+    old: disk.Path, new: disk.Path, b: int | None = None, slots: int | None = None, version: int | None = None
+) -> layout.Stats:
     """Write the names of an old store into a new one, where no file is yet, and give the new one's counts.
 
-    The new store has the old one's b and slots unless others are given. Where the sizes stay and no way is better, it is the
-    old one's copy; where they do not, and the names fit by no way that is tried, nothing is written. What a writer puts into
-    the old store meanwhile is not in the new one.
+    The new store has the old one's version, b and slots unless others are given. Where b and slots stay and no way is better, it
+    is the old one's copy; where they do not, and the names fit by no way that is tried, nothing is written. What a writer puts
+    into the old store meanwhile is not in the new one.
 
     >>> with palhavento.open("four.tkf", b=4, slots=2) as store:
     ...     store.update(a=1, b=2, c=3, d=4)
@@ -48,13 +50,15 @@ def compact(old: disk.Path, new: disk.Path, b: int | None = None, slots: int | N
     with Store(old, readonly=True) as store:
         file, trie = store._agreed()
     values = {name.encode("ascii"): value for name, value in calls.entries(file, trie, calls.LOWEST, calls.HIGHEST)}
-    sizes = layout.sizes(file)
-    wanted = sizes[0] if b is None else b, sizes[1] if slots is None else slots
-    made = [(file, trie)] if wanted == sizes else []
+    had = (*layout.sizes(file), layout.version(file))
+    sizes = tuple(now if wanted is None else wanted for now, wanted in zip(had, (b, slots, version)))
+    empty = library.create(*sizes)
+    # The versions differ in where a bucket is split, and the header says which it is: the old slots are sound in both.
+    made = [(empty[0][: library.HEADER_BYTES] + file[library.HEADER_BYTES :], trie)] if sizes[:2] == had[:2] else []
     refused = (0, 0)
-    for steps in _ways(list(values), wanted[0]):
+    for steps in _ways(list(values), sizes[0], sizes[2]):
         try:
-            made.append(_filled(steps, values, *wanted))
+            made.append(_filled(empty, steps, values))
         except _Full as full:
             refused = max(refused, full.args)
     if not made:
@@ -73,9 +77,9 @@ class _Full(Exception):
     """A way that does not fit: how many names were in the file, and the number that refused the next."""
 
 
-def _filled(steps: Iterable[_Step], values: dict[bytes, int], b: int, slots: int) -> tuple[bytes, bytes]:
+def _filled(empty: tuple[bytes, bytes], steps: Iterable[_Step], values: dict[bytes, int]) -> tuple[bytes, bytes]:
     """A new file after these steps, and its trie."""
-    file, trie = library.create(b, slots)
+    file, trie = empty
     for name, is_put in steps:
         try:
             if is_put:
@@ -93,10 +97,10 @@ def _room(made: tuple[bytes, bytes]) -> tuple[int, int]:
     return min(stats.free, MOST_STRINGS - stats.strings), MOST_STRINGS - stats.strings
 
 
-def _ways(names: list[bytes], b: int) -> Iterator[list[_Step]]:
+def _ways(names: list[bytes], b: int, version: int) -> Iterator[list[_Step]]:
     """The ways to try, for names that ascend."""
     for weight in _WEIGHTS:
-        yield _packed(names, b, weight)
+        yield _packed(names, b, version, weight)
     shuffled = (random.Random(seed).sample(names, len(names)) for seed in range(_SHUFFLES))
     for order in (names, names[::-1], _from_the_middle(names), *shuffled):
         yield [(name, True) for name in order]
@@ -113,41 +117,58 @@ def _from_the_middle(names: list[bytes]) -> list[bytes]:
     return order
 
 
-def _packed(names: list[bytes], b: int, weight: float) -> list[_Step]:
+def _packed(names: list[bytes], b: int, version: int, weight: float) -> list[_Step]:
     """Puts that fill bucket after bucket, from the lowest name on, with removes of what only made them split.
 
-    A bucket splits when it holds b + 1 names: behind the split key, which has b/2 names below it, by the shortest string
-    that parts the key from the last name (R7.3, R7.4). The key is the last name that the bucket shall have, those below it
-    are its first ones, and those behind it are fillers that share with the key no less than the next name does. The last
-    name of a bucket is chosen so that the bucket has many names and its bound few new strings.
+    A bucket splits when it holds b + 1 names: behind the split key, by the shortest string that parts the key from the last
+    name (R7.3, R7.4). The key is the last name that the bucket shall have, those below it are names of the bucket too, and
+    those behind it are fillers that share with the key no less than the next name does. The last name of a bucket is chosen
+    so that the bucket has many names and its bound few new strings.
     """
-    below, behind = b // 2, b - b // 2
     steps: list[_Step] = []
     strings: set[bytes] = set()
     left = names
     while len(left) > b:
         choices = []
-        for key in range(below, b):
-            bound, fillers = _cut(left[key], left[key + 1], behind)
+        for key in range(b // 2 - 1, b):
+            bound, fillers = _cut(left[key], left[key + 1])
+            below = _below(bound, left[:key], b, version)
             beginnings = {bound[:end] for end in range(1, len(bound) + 1)}
-            if len(fillers) == behind:
-                choices.append((key - weight * len(beginnings - strings), key, beginnings, fillers))
+            if below is not None and len(fillers) >= b - below:
+                choices.append((key - weight * len(beginnings - strings), key, below, beginnings, fillers[: b - below]))
         if not choices:
             break
-        _, key, beginnings, fillers = max(choices, key=lambda choice: choice[:2])
+        _, key, below, beginnings, fillers = max(choices, key=lambda choice: choice[:2])
         strings |= beginnings
-        steps += [(name, True) for name in [*left[:below], left[key], *fillers, *left[below:key]]]
+        steps += [(name, True) for name in [*left[key - below : key + 1], *fillers, *left[: key - below]]]
         steps += [(name, False) for name in fillers]
         left = left[key + 1 :]
     return steps + [(name, True) for name in left]
 
 
-def _cut(last: bytes, following: bytes, count: int) -> tuple[bytes, list[bytes]]:
-    """The shortest bound between two names, and so many fillers beyond it, or fewer where there are no more.
+def _below(bound: bytes, lower: list[bytes], b: int, version: int) -> int | None:
+    """How many of the names below a split key are to be there for it to be one, the next ones; None where it cannot be one.
 
-    >>> _cut(b"run.15", b"run.16", 3)
-    (b'run.15', [b'run.16', b'run.16!', b'run.16"'])
-    >>> _cut(b"i", b"in", 2)
+    Version 1 takes the key at the middle. Version 2 asks the one before it too, and takes that if its string is shorter. So the
+    key stands there, and a filler in the middle: that has more digits in common with the last one. Only where the key's string
+    has all 24 digits no string is longer; then the key stands in the middle, and must follow a name with as long a string.
+    """
+    below = b // 2
+    if version > 1 and len(bound) < 24:
+        below -= 1
+    elif version > 1 and not (lower and lower[-1].ljust(24).startswith(bound[:23])):
+        return None
+    return below if below <= len(lower) else None
+
+
+def _cut(last: bytes, following: bytes) -> tuple[bytes, list[bytes]]:
+    """The shortest bound between two names, and the fillers beyond it that there are.
+
+    >>> bound, fillers = _cut(b"run.15", b"run.16")
+    >>> bound, fillers[:3], len(fillers)
+    (b'run.15', [b'run.16', b'run.16!', b'run.16"'], 94)
+    >>> bound, fillers = _cut(b"i", b"in")
+    >>> bound, fillers[:2]
     (b'i ', [b'in', b'in!'])
     """
     filled = last.ljust(24)
@@ -157,4 +178,4 @@ def _cut(last: bytes, following: bytes, count: int) -> tuple[bytes, list[bytes]]
         fillers = [beyond, *(beyond + bytes([digit]) for digit in range(0x21, 0x7E))]
     else:
         fillers = [filled[:23] + bytes([digit]) for digit in range(filled[23] + 1, 0x7E)]
-    return filled[: shared + 1], fillers[:count]
+    return filled[: shared + 1], fillers

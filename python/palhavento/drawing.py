@@ -137,10 +137,12 @@ COLUMN_GAP = 36
 TOP = 98
 
 
-def store_svg(contents: Sequence[tuple[Bucket, Sequence[Entry]]], b: int, slots: int, trie: Trie) -> Picture:
+def store_svg(
+    contents: Sequence[tuple[Bucket, Sequence[Entry]]], b: int, slots: int, trie: Trie, version: int
+) -> Picture:
     """The buckets of a store in range order, each with its entries; how much room there is, and where there is none.
 
-    >>> picture = store_svg([(Bucket(0, "", "", 2), [("gdp.at", 482), ("gdp.de", 4329)])], 4, 8, Trie(0, 0, []))
+    >>> picture = store_svg([(Bucket(0, "", "", 2), [("gdp.at", 482), ("gdp.de", 4329)])], 4, 8, Trie(0, 0, []), 2)
     >>> picture
     <Picture: 2 names in 1 bucket of up to 4; 30 more fit at most>
     """
@@ -157,6 +159,7 @@ def store_svg(contents: Sequence[tuple[Bucket, Sequence[Entry]]], b: int, slots:
     width, bottom, body = draw(contents, b, full)
     parts = [
         _text(MARGIN, MARGIN + 13, held.capitalize(), size=15, font=SANS, weight="bold"),
+        _text(width - MARGIN, MARGIN + 13, f"version {version}", size=11, font=SANS, fill=QUIET, anchor="end"),
         *_gauge(MARGIN, MARGIN + 26, width - 2 * MARGIN, names, inside, room - inside),
         _text(MARGIN, MARGIN + 54, _room_told(inside, free, b, trie), size=12, font=SANS, fill=QUIET),
         *body,
@@ -170,7 +173,8 @@ def store_svg(contents: Sequence[tuple[Bucket, Sequence[Entry]]], b: int, slots:
         notes.append("Full: a new name that belongs there is refused.")
     if trie.count > 3 * MOST_STRINGS // 4:
         notes.append(f"{trie.count} of {MOST_STRINGS} strings are in use; a split that needs more is refused.")
-    if columns == 1 and any(" " in bucket.upper for bucket, _ in contents):
+    if (any(" " in name for _, entries in contents for name, _ in entries)
+            or columns == 1 and any(" " in bucket.upper for bucket, _ in contents)):
         notes.append(f"{BLANK} is a blank.")
     lines, bottom = _notes(bottom + 26, notes) if notes else ([], bottom + MARGIN)
     return _picture(width, bottom, title, [*parts, *lines])
@@ -254,7 +258,7 @@ def _entries(x: float, y: float, lines: Sequence[list[Placed]], width: float, to
                 line, rest = line[:-1], rest + 1
             yield _text(x + _end_of(line[-1], size) + BETWEEN, y, f"+{rest}", size=size, fill=QUIET)
         for name_at, value_at, (name, value) in line:
-            yield _text(x + name_at, y, name, size=size)
+            yield _text(x + name_at, y, _shown(name), size=size)
             yield _text(x + value_at, y, str(value), size=size, fill=VALUE)
         y += LINE
     if not total:
@@ -285,7 +289,7 @@ def _told(bucket: Bucket, entries: Sequence[Entry], b: int, full: bool) -> str:
     above = f"above {_shown(bucket.lower)}" if bucket.lower else "no lower limit"
     within = f"within {_shown(bucket.upper)}" if bucket.upper else "no upper limit"
     heading = f"slot {bucket.slot}: {bucket.entries} of {b} entries{', full' * full}, {above}, {within}"
-    return "\n".join([heading, *(f"{name} {value}" for name, value in entries)])
+    return "\n".join([heading, *(f"{_shown(name)} {value}" for name, value in entries)])
 
 
 Body = tuple[float, float, list[str]]

@@ -28,9 +28,9 @@ class PalhaventoError(Exception):
 
 
 # A ValueError too: who passes a name that no file can hold expects what int("x") raises. No KeyError, for then
-# store.get("a b") would hide the fault.
+# store.get("a~b") would hide the fault.
 class IllegalName(PalhaventoError, ValueError):
-    """A name has 1 to 24 bytes, each 0x21 to 0x7D."""
+    """A name has 1 to 24 bytes, each 0x20 to 0x7D, no blank first or last."""
 
     number = 1
 
@@ -51,6 +51,9 @@ class StaleTrie(PalhaventoError):
     """The trie does not agree with the file: rebuild it."""
 
     number = 4
+    # Where a name that was looked up left the range of the bucket that the trie led to: the number, from 0, of its first digit
+    # that is not that of the bound it broke, or the bound's length where all are. None for every other cause.
+    digit: int | None = None
 
 
 class FileFull(PalhaventoError):
@@ -73,7 +76,7 @@ class ShortOutput(PalhaventoError):
 
 # A ValueError too, for the same reason as an illegal name.
 class WrongSize(PalhaventoError, ValueError):
-    """No file has that size: b is 2 to 16, and slots is 1 to 64."""
+    """No file is such: the version is 1 or 2, b is 2 to 16, and slots is 1 to 64."""
 
     number = 8
 
@@ -122,15 +125,34 @@ def refusal(number: int, about: str = "") -> PalhaventoError:
     return kind(number, f"{about}: {kind.__doc__}" if about else f"{kind.__doc__}")
 
 
+NO_DIGIT = 255
+
+
+def stale(word: int, about: str = "") -> PalhaventoError:
+    """The refusal of a trie, with the word that the library gives beside its number.
+
+    >>> stale(4, "'rate3'")
+    StaleTrie(4, "'rate3': The trie does not agree ... rebuild it. The name left the bucket's range at digit number 4, from 0.")
+    >>> stale(4).digit, stale(NO_DIGIT).digit, stale(NO_DIGIT)
+    (4, None, StaleTrie(4, 'The trie does not agree with the file: rebuild it.'))
+    """
+    plain = refusal(StaleTrie.number, about)
+    if word == NO_DIGIT:
+        return plain
+    refused = StaleTrie(plain.number, f"{plain} The name left the bucket's range at digit number {word}, from 0.")
+    refused.digit = word
+    return refused
+
+
 def illegal(*names: str | bytes) -> PalhaventoError:
     """The refusal of the first of these names that is illegal: how long it is, and which byte of it is wrong.
 
-    >>> print(illegal("gdp", "a b"))
-    'a b': A name has 1 to 24 bytes, each 0x21 to 0x7D; byte 2 of this one is 0x20 (a blank).
+    >>> print(illegal("GDP real", "GDP "))
+    'GDP ': A name has 1 to 24 bytes, each 0x20 to 0x7D, no blank first or last; this one ends with a blank.
     >>> print(illegal("preço"))
-    'preço': A name has 1 to 24 bytes, each 0x21 to 0x7D; byte 4 of this one is 0xC3 (of 'ç').
+    'preço': A name has 1 to 24 bytes, each 0x20 to 0x7D, no blank first or last; byte 4 of this one is 0xC3 (of 'ç').
     >>> print(illegal(b"x" * 25))
-    'xxxxxxxxxxxxxxxxxxxxxxxxx': A name has 1 to 24 bytes, each 0x21 to 0x7D; this one has 25.
+    'xxxxxxxxxxxxxxxxxxxxxxxxx': A name has 1 to 24 bytes, each 0x20 to 0x7D, no blank first or last; this one has 25.
     """
     for name in names:
         if wrong := _wrong(name):
@@ -140,8 +162,8 @@ def illegal(*names: str | bytes) -> PalhaventoError:
 
 _RULE = (IllegalName.__doc__ or "").rstrip(".")
 _LONGEST = 24
-_LEGAL = range(0x21, 0x7E)
-_NAMED = {0x00: "zero", 0x09: "a tab", 0x0A: "a line feed", 0x0D: "a carriage return", 0x20: "a blank", 0x7E: "'~'"}
+_DIGITS = range(0x20, 0x7E)
+_NAMED = {0x00: "zero", 0x09: "a tab", 0x0A: "a line feed", 0x0D: "a carriage return", 0x7E: "'~'"}
 
 
 def _wrong(name: str | bytes) -> str:
@@ -150,9 +172,10 @@ def _wrong(name: str | bytes) -> str:
     if not digits:
         return "this one is empty"
     length = f"this one has {len(digits)}" if len(digits) > _LONGEST else ""
-    place = next((place for place, digit in enumerate(digits) if digit not in _LEGAL), None)
+    place = next((place for place, digit in enumerate(digits) if digit not in _DIGITS), None)
     if place is None:
-        return length
+        at = "begins" if digits.startswith(b" ") else "ends" if digits.endswith(b" ") else ""
+        return f"{length + ', and' if length else 'this one'} {at} with a blank" if at else length
     # All bytes before it are ASCII, so its place among the characters is the same.
     what = f"0x{digits[place]:02X}"
     if digits[place] in _NAMED:

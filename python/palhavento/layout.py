@@ -57,6 +57,7 @@ class Trie:
 class Stats:
     """How full a file is; the load is entries by the room in the used slots."""
 
+    version: int
     b: int
     slots: int
     used: int
@@ -70,6 +71,11 @@ class Stats:
 def sizes(file: bytes) -> tuple[int, int]:
     """b and slots of a file that is not bad."""
     return file[5], file[6]
+
+
+def version(file: bytes) -> int:
+    """The version of a file that is not bad: by which rule its buckets are split (R7.3)."""
+    return file[3]
 
 
 def buckets(file: bytes) -> list[Bucket]:
@@ -119,6 +125,7 @@ def stats(file: bytes, image: bytes) -> Stats:
     found = buckets(file)
     entries = sum(bucket.entries for bucket in found)
     return Stats(
+        version=version(file),
         b=b,
         slots=slots,
         used=len(found),

@@ -20,7 +20,7 @@ from ctypes import c_char_p, c_size_t, c_uint64
 from pathlib import Path
 from typing import NamedTuple
 
-from palhavento.errors import illegal, refusal, shown
+from palhavento.errors import NO_DIGIT, StaleTrie, illegal, refusal, shown, stale
 
 TRIE_BYTES = 1540
 ENTRY_BYTES = 32
@@ -67,10 +67,15 @@ def file_bytes(b: int, slots: int) -> int:
     return HEADER_BYTES + slots * slot_bytes(b)
 
 
+# The versions of a file that there are, and the one that a new file has unless another is asked for.
+VERSIONS = 1, 2
+NEWEST = VERSIONS[-1]
 LARGEST_FILE = file_bytes(16, 64)
 MOST_ENTRIES = 16 * 64
 
 _Words = c_uint64 * 4
+# What `out` is before a call. A refusal leaves it as it is, but for its first word where the trie is stale.
+_UNSAID = NO_DIGIT, 0, 0, 0
 _SLICE = [c_char_p, c_size_t]
 _PARAMETERS = {
     "pal_create": [*_SLICE, c_uint64, c_uint64, c_uint64, *_SLICE],
@@ -111,34 +116,35 @@ def _lend(buffer: bytearray) -> ctypes.Array[ctypes.c_char]:
     return (ctypes.c_char * len(buffer)).from_buffer(buffer)
 
 
-def _answer(answer: int, *names: bytes, about: str = "") -> int:
+def _answer(answer: int, *names: bytes, about: str = "", word: int = NO_DIGIT) -> int:
     """An answer that is no refusal; else the refusal is raised, with the names or whatever it is about."""
     if answer == 1:
         raise illegal(*names)
     if answer < 100 or answer == 255:
-        raise refusal(answer, about or " to ".join(map(shown, names)))
+        about = about or " to ".join(map(shown, names))
+        raise stale(word, about) if answer == StaleTrie.number else refusal(answer, about)
     return answer
 
 
-def create(b: int, slots: int) -> tuple[bytes, bytes]:
+def create(b: int, slots: int, version: int = NEWEST) -> tuple[bytes, bytes]:
     """A new file without names, and its trie.
 
     >>> file, trie = create(b=2, slots=1)
     >>> file[:7], len(file), trie == bytes(TRIE_BYTES)
-    (b'TKF\\x01\\x00\\x02\\x01', 144, True)
+    (b'TKF\\x02\\x00\\x02\\x01', 144, True)
     >>> create(b=17, slots=1)
     Traceback (most recent call last):
-    palhavento.errors.WrongSize: b = 17, slots = 1: No file has that size: b is 2 to 16, and slots is 1 to 64.
+    palhavento.errors.WrongSize: version = 2, b = 17, slots = 1: No file is such: the version is 1 or 2, b is 2 to 16, ...
     """
-    for size in (b, slots):
-        if not isinstance(size, int):
-            raise TypeError(f"b and slots are ints, not {type(size).__name__}")
-    about = f"b = {b}, slots = {slots}"
+    for number in (version, b, slots):
+        if not isinstance(number, int):
+            raise TypeError(f"version, b and slots are ints, not {type(number).__name__}")
+    about = f"version = {version}, b = {b}, slots = {slots}"
     # A number outside 64 bits would wrap on its way into the call, and a large one would ask for memory first.
-    if not (0 <= b < 256 and 0 <= slots < 256):
+    if not all(0 <= number < 256 for number in (version, b, slots)):
         raise refusal(8, about)
     file, trie = bytearray(file_bytes(b, slots)), bytearray(TRIE_BYTES)
-    _answer(_LIBRARY.pal_create(_lend(file), len(file), 1, b, slots, _lend(trie), len(trie)), about=about)
+    _answer(_LIBRARY.pal_create(_lend(file), len(file), version, b, slots, _lend(trie), len(trie)), about=about)
     return bytes(file), bytes(trie)
 
 
@@ -162,7 +168,7 @@ def recover(file: bytes, limit: int) -> Outcome:
     >>> check(cut) == CUT, recovered.answer == FREED, recovered.word, recovered.file == file
     (True, True, 1, True)
     """
-    changed, words = bytearray(file), _Words()
+    changed, words = bytearray(file), _Words(*_UNSAID)
     answer = _answer(_LIBRARY.pal_recover(_lend(changed), len(changed), limit, words))
     return Outcome(answer, bytes(changed), b"", words[0])
 
@@ -181,9 +187,9 @@ def rebuild(file: bytes) -> bytes:
 
 def look_up(file: bytes, trie: bytes, name: bytes) -> int | None:
     """The value of a name, or None where it is absent."""
-    words = _Words()
+    words = _Words(*_UNSAID)
     answer = _LIBRARY.pal_lookup(file, len(file), trie, len(trie), name, len(name), words)
-    return words[0] if _answer(answer, name) == FOUND else None
+    return words[0] if _answer(answer, name, word=words[0]) == FOUND else None
 
 
 def put(file: bytes, trie: bytes, name: bytes, value: int, limit: int) -> Outcome:
@@ -194,11 +200,11 @@ def put(file: bytes, trie: bytes, name: bytes, value: int, limit: int) -> Outcom
     >>> put_.answer == ADDED, again.answer == REPLACED, again.word
     (True, True, 7)
     """
-    changed, grown, words = bytearray(file), bytearray(trie), _Words()
+    changed, grown, words = bytearray(file), bytearray(trie), _Words(*_UNSAID)
     answer = _LIBRARY.pal_put(
         _lend(changed), len(changed), _lend(grown), len(grown), name, len(name), value, 0, limit, words
     )
-    return Outcome(_answer(answer, name), bytes(changed), bytes(grown), words[0])
+    return Outcome(_answer(answer, name, word=words[0]), bytes(changed), bytes(grown), words[0])
 
 
 def remove(file: bytes, trie: bytes, name: bytes, limit: int) -> Outcome:
@@ -207,11 +213,11 @@ def remove(file: bytes, trie: bytes, name: bytes, limit: int) -> Outcome:
     >>> remove(*create(b=2, slots=1), b"a", limit=1).answer == ABSENT
     True
     """
-    changed, same, words = bytearray(file), bytearray(trie), _Words()
+    changed, same, words = bytearray(file), bytearray(trie), _Words(*_UNSAID)
     answer = _LIBRARY.pal_remove(
         _lend(changed), len(changed), _lend(same), len(same), name, len(name), limit, words
     )
-    return Outcome(_answer(answer, name), bytes(changed), bytes(same), words[0])
+    return Outcome(_answer(answer, name, word=words[0]), bytes(changed), bytes(same), words[0])
 
 
 def entries(file: bytes, trie: bytes, first: bytes, second: bytes, room: int) -> bytes:
@@ -225,9 +231,9 @@ def entries(file: bytes, trie: bytes, first: bytes, second: bytes, room: int) ->
     Traceback (most recent call last):
     palhavento.errors.ShortOutput: 'a' to 'z': The output is too short: it needs 32 bytes for each entry.
     """
-    output, words = bytearray(ENTRY_BYTES * room), _Words()
+    output, words = bytearray(ENTRY_BYTES * room), _Words(*_UNSAID)
     answer = _LIBRARY.pal_list(
         file, len(file), trie, len(trie), first, len(first), second, len(second), _lend(output), len(output), words
     )
-    _answer(answer, first, second)
+    _answer(answer, first, second, word=words[0])
     return bytes(output[: ENTRY_BYTES * words[0]])

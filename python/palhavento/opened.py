@@ -76,7 +76,7 @@ class Opened:
         except BaseException:
             self.disk.close()
             raise
-        self.b, self.slots = layout.sizes(file)
+        self.version, (self.b, self.slots) = layout.version(file), layout.sizes(file)
         _ALL.add(self)
 
     def is_closed(self) -> bool:
@@ -171,7 +171,7 @@ class Opened:
     def ask(self, call: Callable[..., Given], *given: object) -> Given:
         """What a call gives for the file as it is now and its trie."""
         with self.alone:
-            now = self._now
+            now, digit = self._now, None
             known = now is not None and time.monotonic() < now[2]
             file = now[0] if known else self.read()
             try:
@@ -180,8 +180,8 @@ class Opened:
                 # A writer is alone with its file, so what is bad stays bad.
                 if not self.readonly:
                     raise self._refused(BadFile.number, file) from None
-            except (CutFile, StaleTrie):
-                pass
+            except (CutFile, StaleTrie) as refused:
+                digit = getattr(refused, "digit", None)
             else:
                 if not (known or self.readonly):
                     self._know(file)
@@ -189,7 +189,8 @@ class Opened:
             self._now = None
             file = self._settled()
             self.trie = self._rebuilt(file)
-            _log.info("%s: the trie was stale and is rebuilt", self.path)
+            where = "" if digit is None else f"; a name left its bucket's range at digit number {digit}"
+            _log.info("%s: the trie was stale and is rebuilt%s", self.path, where)
             return call(file, self.trie, *given)
 
     def _know(self, file: bytes) -> None:

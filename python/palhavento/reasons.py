@@ -90,8 +90,8 @@ def _header(file: bytes) -> Iterator[Fault]:
         yield Fault("R2.2", None, f"not a store: it begins with {_shown(file[:3])}, and a store with \"TKF\"")
         return
     version, b, slots = int.from_bytes(file[3:5], "little"), file[5], file[6]
-    if version != 1:
-        yield Fault("R2.3", None, f"header: the version is {version}, and 1 is the only one")
+    if version not in library.VERSIONS:
+        yield Fault("R2.3", None, f"header: the version is {version}, and may be {' or '.join(map(str, library.VERSIONS))}")
     if not 2 <= b <= 16:
         yield Fault("R2.4", None, f"header: b is {b}, and may be 2 to 16")
     if not 1 <= slots <= 64:
@@ -225,9 +225,9 @@ def _illegal(filled: bytes) -> str | None:
     if not name:
         return "the name is empty"
     for place, byte in enumerate(name, 1):
-        if byte not in DIGITS or byte == 0x20:
+        if byte not in DIGITS:
             return f"byte {place} of the name {_shown(name)} is 0x{byte:02X}"
-    return None
+    return f"the name {_shown(name)} begins with a blank" if name.startswith(b" ") else None
 
 
 def _shown(digits: bytes) -> str:

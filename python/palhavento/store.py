@@ -165,8 +165,9 @@ class Store(MutableMapping[str, int]):
     Traceback (most recent call last):
     KeyError: 'run.2'
     >>> store["two words"] = 1
+    >>> store["two words "] = 1
     Traceback (most recent call last):
-    palhavento.errors.IllegalName: 'two words': A name has 1 to 24 bytes, each 0x21 to 0x7D...
+    palhavento.errors.IllegalName: 'two words ': A name has 1 to 24 bytes, each 0x20 to 0x7D, no blank first or last...
     >>> del store["run.1"]
     >>> store.close()
     >>> store["run.1"]
@@ -181,7 +182,7 @@ class Store(MutableMapping[str, int]):
             self._opened = opened.of(path, readonly, sync, timeout)
         self.path = os.fsdecode(path)
         self.readonly = readonly
-        self.b, self.slots = self._opened.b, self._opened.slots
+        self.version, self.b, self.slots = self._opened.version, self._opened.b, self._opened.slots
 
     # The mapping.
 
@@ -282,13 +283,17 @@ class Store(MutableMapping[str, int]):
         """The entries whose names begin so, in order; every name begins with nothing.
 
         >>> with palhavento.open("rates.tkf") as store:
-        ...     store.update({"gdp": 1, "gdp.at": 2, "gdp.de": 3, "cpi.at": 4})
-        ...     store.prefix("gdp.")
-        [('gdp.at', 2), ('gdp.de', 3)]
+        ...     store.update({"gdp": 1, "gdp.at": 2, "gdp.de": 3, "cpi.at": 4, "gdp real": 5})
+        ...     store.prefix("gdp."), store.prefix("gdp ")
+        ([('gdp.at', 2), ('gdp.de', 3)], [('gdp real', 5)])
         """
         digits = calls.bytes_of(beginning)
-        # A name that begins so is neither below what it begins with nor above that continued by the highest digits.
-        return self.range(digits, digits.ljust(len(HIGHEST), HIGHEST[:1])) if digits else self.range()
+        if not digits:
+            return self.range()
+        # A name that begins so is neither below what it begins with nor above that continued by the highest digits. But no
+        # name ends with a blank: one that does is taken without, and is then in the range itself.
+        entries = self.range(digits.rstrip(b" ") or digits, digits.ljust(len(HIGHEST), HIGHEST[:1]))
+        return [entry for entry in entries if entry[0].encode("ascii").startswith(digits)]
 
     def snapshot(self) -> dict[str, int]:
         """All entries as a `dict`, in the order of names.
@@ -444,7 +449,7 @@ class Store(MutableMapping[str, int]):
         """How full the file is.
 
         >>> palhavento.open("empty.tkf", b=4, slots=8).stats()
-        Stats(b=4, slots=8, used=1, free=7, entries=0, strings=0, bytes=1552, load=0.0)
+        Stats(version=2, b=4, slots=8, used=1, free=7, entries=0, strings=0, bytes=1552, load=0.0)
         """
         return layout.stats(*self._agreed())
 
@@ -482,7 +487,7 @@ class Store(MutableMapping[str, int]):
         <Picture: no names in 1 bucket of up to 4; 32 more fit at most>
         """
         file, trie = self._agreed()
-        return drawing.store_svg(layout.contents(file), *layout.sizes(file), layout.trie(trie))
+        return drawing.store_svg(layout.contents(file), *layout.sizes(file), layout.trie(trie), layout.version(file))
 
     def _repr_svg_(self) -> str | None:
         """The store as a notebook shows it; a closed one has no picture, only its repr."""

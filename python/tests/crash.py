@@ -330,7 +330,7 @@ def a_call(content: bytes, letters: str, chance: random.Random) -> tuple[list[by
     if file != content:
         return [file], held
     trie = library.rebuild(file)
-    name = "".join(chance.choices(letters, k=chance.choice((1, 2, 3, 5, 8, 24)))).encode()
+    name = "".join(chance.choices(letters, k=chance.choice((1, 2, 3, 5, 8, 24)))).strip().encode() or b"x y"
     if held and chance.random() < 0.5:
         name = chance.choice(list(held))
     if name in held and chance.random() < 0.3:
@@ -407,7 +407,7 @@ class Trial:
     def life(self, files: Files, chance: random.Random, states: int, faults: Faults | None) -> Files | None:
         """One process with its stores, and crash states of its disk; one of these is for the next life."""
         machine = Machine(files)
-        letters = chance.choice(("abcdefg}", "xy", "!abcdefghijklmnopqrstuvwxyz0123456789}"))
+        letters = chance.choice(("abcdefg} ", "xy", "xy  ", "!abcdefghijklmnopqrstuvwxyz0123456789}"))
         with machine.runs():
             # Perhaps somebody was here who did not wait for the disk. Then nothing is promised before a store is that does.
             promised = self.kind is not disk.Disk or chance.random() < 0.8 or self.hasty(machine, letters, chance)
@@ -459,7 +459,7 @@ class Trial:
         b = 2 + seed % 15
         # From files within one sector to the largest.
         slots = chance.choice((1, 2, 3, chance.randint(4, 20), chance.randint(21, 63), 64))
-        content = library.create(b, slots)[0]
+        content = library.create(b, slots, chance.choice(library.VERSIONS))[0]
         for _ in range(chance.choice((0, 20, 400))):
             states_of_call, held = a_call(content, "abcdefghij", chance)
             content = states_of_call[-1] if states_of_call else content

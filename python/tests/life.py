@@ -226,7 +226,7 @@ def live(path: str, first: int, end: int, moment: int, inside: int) -> None:
     # Whether a store waits for the disk makes no difference to a kill inside a write, but comes sooner to one.
     store = opened(path, names.splitlines(), sync=inside == NEVER)
     for number, request in enumerate(requests.splitlines()[first:end], start=first):
-        match request.split():
+        match request.split("\t"):
             case [name, value]:
                 put(store, number, name, int(value))
             case [name]:

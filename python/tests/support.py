@@ -16,6 +16,8 @@ from palhavento import library  # noqa: E402  (the path above comes first)
 logging.getLogger("palhavento").addHandler(logging.NullHandler())
 
 WORDS = "the of and to a in that is i".split()
+# Names with one blank inside and with many; some that others begin with, and some that end like a value.
+BLANKS = ["GDP real", "GDP", "GDP real 2", "GDP  real", "a b", "a", "a  b", "a b c d e f g h i j k l", "a" + " " * 22 + "b", "1 2", "1"]
 
 
 class InFolder(unittest.TestCase):
@@ -28,9 +30,9 @@ class InFolder(unittest.TestCase):
         self.path = self.folder / "store.tkf"
 
 
-def sound_file(names: list[str], b: int, slots: int) -> bytes:
+def sound_file(names: list[str], b: int, slots: int, version: int = 1) -> bytes:
     """A file with these names, each with its place, from 1, as its value."""
-    file, trie = library.create(b, slots)
+    file, trie = library.create(b, slots, version)
     for place, name in enumerate(names, start=1):
         _, file, trie, _ = library.put(file, trie, name.encode(), place, 2)
     return file

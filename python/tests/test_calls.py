@@ -23,12 +23,17 @@ TRIE = library.rebuild(FILE)
 STALE = library.create(4, 8)[1]
 
 
+def leads_to(slot: int) -> bytes:
+    """A trie without cells, which leads every name to one slot."""
+    return bytes([0, 0, slot, 0]).ljust(library.TRIE_BYTES, b"\0")
+
+
 def outcome(call: Callable[..., object], *given: object) -> object:
     """What a call gives, or what it raises."""
     try:
         return call(*given)
     except Exception as error:
-        return type(error), error.args
+        return type(error), error.args, getattr(error, "digit", None)
 
 
 class Index:
@@ -64,7 +69,7 @@ class BothWays(unittest.TestCase):
         self.assertIsNone(self.same("changed", FILE, FILE))
 
     def test_each_refusal(self) -> None:
-        for name in ("", "a b", "x" * 25, "preço", "\ud800", b"\xff", "a\0"):
+        for name in ("", " a", "a ", " ", "x" * 25, "preço", "\ud800", b"\xff", "a\0"):
             self.assertIs(self.same("look_up", FILE, TRIE, name)[0], errors.IllegalName)
             self.assertIs(self.same("put", FILE, TRIE, name, 1, 2)[0], errors.IllegalName)
             self.assertIs(self.same("remove", FILE, TRIE, name, 2)[0], errors.IllegalName)
@@ -83,6 +88,37 @@ class BothWays(unittest.TestCase):
         self.assertIs(self.same("look_up", FILE, STALE, "that")[0], errors.StaleTrie)
         self.assertIs(self.same("put", full, library.rebuild(full), "c", 1, 2)[0], errors.FileFull)
         self.assertIs(self.same("put", FILE, TRIE, "c", 1, 3)[0], errors.WrongSize)
+
+    def test_where_a_name_left_the_range(self) -> None:
+        # One bound of 24 digits: slot 0 ends there, and slot 1 begins.
+        bound = "m" * 23 + "b"
+        file = sound_file(["m" * 23 + digit for digit in "abc"], b=2, slots=3)
+        for number in range(24):
+            for slot, digit in ((0, "z"), (1, "!")):
+                refused = self.same("look_up", file, leads_to(slot), bound[:number] + digit)
+                self.assertEqual((refused[0], refused[2]), (errors.StaleTrie, number))
+        self.assertEqual(self.same("look_up", file, leads_to(1), bound)[2], 24)
+        self.assertEqual(self.same("look_up", file, leads_to(0), bound), 2)
+        # Where a name begins with a whole lower bound, the number is the bound's length. Of these "i " is slot 3's.
+        for name, slot, number in (("in", 2, 1), ("i", 2, 1), ("of", 1, 1), ("i", 3, 2), ("i x", 3, 2), ("a", 3, 0), ("j", 3, 0)):
+            self.assertEqual(self.same("look_up", FILE, leads_to(slot), name)[2], number)
+
+    def test_every_other_stale_trie_says_no_digit(self) -> None:
+        free, past, many = leads_to(5), leads_to(8), b"\x01\x01" + bytes(1538)
+        for trie in (free, past, many, b"\1\0\0\0" + b"a\1\0\0\0\0" + bytes(1530), b"\1\0\0\0" + b"}\0\xff\xff\0\0" + bytes(1530)):
+            self.assertEqual(self.same("look_up", FILE, trie, "that")[::2], (errors.StaleTrie, None))
+        for name, given in (("put", ("that", 1, 2)), ("remove", ("that", 2)), ("entries", ("a", "z")), ("count", ())):
+            for trie in (STALE, free, past, many):
+                self.assertEqual(self.same(name, FILE, trie, *given)[::2], (errors.StaleTrie, None))
+
+    def test_the_words_of_a_refusal(self) -> None:
+        for file, trie, name, want in (
+            (FILE, leads_to(0), b"that", [0, 7, 7, 7]), (FILE, leads_to(5), b"that", [255, 7, 7, 7]),
+            (FILE, TRIE, b"a~", [7] * 4), (FILE[:-1], TRIE, b"that", [7] * 4), (FILE, TRIE[:-1], b"that", [7] * 4),
+        ):
+            words = library._Words(*[7] * 4)
+            library._LIBRARY.pal_lookup(file, len(file), trie, len(trie), name, len(name), words)
+            self.assertEqual(list(words), want)
 
     def test_what_counts_as_an_int(self) -> None:
         for value in (Index(), True, 0, 2**63, 2**64 - 1):
@@ -107,9 +143,9 @@ class BothWays(unittest.TestCase):
         chance = random.Random(5)
         for turn in range(40):
             b, slots = chance.choice((2, 3, 4, 16)), chance.choice((1, 2, 8, 64))
-            file, trie = library.create(b, slots)
+            file, trie = library.create(b, slots, turn % 2 + 1)
             for _ in range(chance.choice((4, 40))):
-                name = "".join(chance.choice("abc}!") for _ in range(chance.choice((1, 2, 5, 24))))
+                name = "".join(chance.choice("abc}! ") for _ in range(chance.choice((1, 2, 5, 24))))
                 call, given = ("put", (name, chance.getrandbits(64))) if chance.random() < 0.8 else ("remove", (name,))
                 stopped = self.same(call, file, trie, *given, 1)
                 made = self.same(call, file, trie, *given, 2)

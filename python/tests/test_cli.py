@@ -10,7 +10,7 @@ import unittest
 from concurrent.futures import ThreadPoolExecutor
 from pathlib import Path
 
-from support import WORDS, InFolder, cut_file, sound_file
+from support import BLANKS, WORDS, InFolder, cut_file, sound_file
 
 import palhavento
 
@@ -88,7 +88,7 @@ class CommandLine(InFolder):
             ended = self.run_(words[0], "--json", *words[1:])
             return ended.returncode, json.loads(ended.stdout)
 
-        self.assertEqual(said("create", self.store), (0, {"created": str(self.store), "b": 16, "slots": 64}))
+        self.assertEqual(said("create", self.store), (0, {"created": str(self.store), "version": 2, "b": 16, "slots": 64}))
         largest = 2**64 - 1
         new = {"name": "oil", "value": 71, "value_text": "71", "old": None, "old_text": None}
         self.assertEqual(said("put", self.store, "oil", 71), (0, new))
@@ -103,8 +103,9 @@ class CommandLine(InFolder):
         self.assertEqual(said("--version"), (0, {"version": f"palhavento {palhavento.__version__}"}))
         status, figures = said("stats", self.store)
         self.assertEqual((status, figures["entries"], figures["used"], figures["bytes"]), (0, 1, 1, 36880))
+        self.assertEqual(figures["version"], 2)
         self.assertEqual(said("rm", self.store, "oil"), (0, {"removed": "oil"}))
-        for status, words in ((101, ["get", self.store, "oil"]), (1, ["get", self.store, "a b"]), (64, ["get"]),
+        for status, words in ((101, ["get", self.store, "oil"]), (1, ["get", self.store, "a~b"]), (64, ["get"]),
                               (64, ["put", self.store, "oil", "much"]), (74, ["get", self.folder, "oil"])):
             told, error = said(*words)
             self.assertEqual((told, error["status"], set(error)), (status, status, {"error", "status"}))
@@ -120,10 +121,35 @@ class CommandLine(InFolder):
         self.assertEqual(self.done("import", copy, text, "--no-sync"), "imported 9\n")
         self.assertEqual(self.done("ls", copy), listed)
 
+    def test_names_with_blanks_go_round(self):
+        self.store.write_bytes(sound_file(BLANKS, b=2, slots=16))
+        listed = self.done("ls", self.store)
+        self.assertEqual(listed, "".join(f"{name} {value}\n" for name, value in sorted(zip(BLANKS, range(1, 99)))))
+        copy = self.folder / "copy.tkf"
+        self.done("create", copy, "--b", 3)
+        self.assertEqual(self.done("import", copy, "-", input=listed), f"imported {len(BLANKS)}\n")
+        self.assertEqual(self.done("ls", copy), listed)
+        said = json.loads(self.done("ls", "--json", copy, "GDP", "GDP real"))
+        self.assertEqual(said["entries"], [["GDP", 2], ["GDP  real", 4], ["GDP real", 1]])
+        self.assertEqual(self.done("put", copy, "GDP real", 8), "replaced 1\n")
+        self.assertEqual(self.done("get", copy, "GDP real"), "8\n")
+        self.assertEqual(self.done("rm", copy, "a" + " " * 22 + "b"), "removed\n")
+        self.assertEqual(self.refused(101, "get", copy, "GDP  real 2"), "palhavento: GDP  real 2: absent\n")
+
+    def test_import_takes_what_is_before_the_last_blank(self):
+        self.done("create", self.store)
+        text = "oil\t71\n  gas   72  \nGDP real 73\r\nGDP  real\t 74\n1 2 75"
+        self.assertEqual(self.done("import", self.store, "-", input=text), "imported 5\n")
+        self.assertEqual(self.done("ls", self.store), "1 2 75\nGDP  real 74\nGDP real 73\ngas 72\noil 71\n")
+        said = self.refused(1, "import", self.store, "-", input="a 1\nGDP\treal 2\n")
+        self.assertIn("standard input:2: 'GDP\\treal': ", said)
+        self.assertIn("byte 4 of this one is 0x09 (a tab). Nothing was changed.", said)
+
     def test_import_refuses_before_it_begins(self):
         self.done("create", self.store)
         for text, status in (("a 1\nb\n", 64), ("a 1\nb two\n", 64), ("a 1\nb -1\n", 64), ("a 1\n\nb 2\n", 64),
-                             (f"a 1\nb {2**64}\n", 64), ("a 1\n~ 2\n", 1), (f"a 1\n{'x' * 25} 2\n", 1)):
+                             (f"a 1\nb {2**64}\n", 64), ("a 1\n~ 2\n", 1), (f"a 1\n{'x' * 25} 2\n", 1),
+                             ("a 1\nb 2 c\n", 64), (f"a 1\n{'x' * 12} {'x' * 12} 2\n", 1)):
             self.assertIn("standard input:2: ", self.refused(status, "import", self.store, "-", input=text))
         self.refused(74, "import", self.store, self.folder / "none.txt")
 
@@ -215,9 +241,9 @@ class CommandLine(InFolder):
 
     def test_illegal_names(self):
         self.nine_words()
-        self.all_refused(1, [["get", self.store, name] for name in ("a b", "", "x" * 25, "~", "preço", "a\nb")])
-        for words in (["put", self.store, "a b", 1], ["rm", self.store, "a b"], ["ls", self.store, "a b", "z"]):
-            self.assertIn("byte 2 of this one is 0x20 (a blank)", self.refused(1, *words))
+        self.all_refused(1, [["get", self.store, name] for name in (" a", "a ", " ", "", "x" * 25, "~", "preço", "a\nb")])
+        for words in (["put", self.store, "a b ", 1], ["rm", self.store, "a b "], ["ls", self.store, "a b ", "z"]):
+            self.assertIn("this one ends with a blank.", self.refused(1, *words))
         self.assertIn("this one has 25.", self.refused(1, "get", self.store, "x" * 25))
         self.assertIn("byte 4 of this one is 0xC3 (of 'ç')", self.refused(1, "get", self.store, "preço"))
         self.assertIn("byte 2 of this one is 0xFF.", self.refused(1, "get", self.store, os.fsdecode(b"a\xff")))
@@ -251,6 +277,28 @@ class CommandLine(InFolder):
         self.assertEqual((ended.returncode, ended.stdout), (0, "freed slot 1\n"))
         self.assertEqual(self.done("check", self.store), "sound\n")
 
+    def test_a_trie_that_stays_stale(self):
+        self.store.write_bytes(sound_file(["rate1", "rate2", "rate3"], b=2, slots=3))
+        (self.folder / "lines.txt").write_text("rate1 1\nrate2 4\n")
+        # No file gives such a trie: it leads every name to slot 0, also when it is made anew.
+        program = ("import sys; from unittest import mock; from palhavento import cli, library; "
+                   "mock.patch.object(library, 'rebuild', return_value=bytes(1540)).start(); sys.exit(cli.main())")
+
+        def ended(*words):
+            return subprocess.run([sys.executable, "-c", program, *words], cwd=self.folder, capture_output=True, text=True,
+                                  env={**os.environ, "PYTHONPATH": str(PACKAGE)}, timeout=60)
+
+        said = ended("get", "--json", "store.tkf", "rate3")
+        told = json.loads(said.stdout)
+        self.assertEqual((said.returncode, told.pop("digit"), told.pop("status")), (4, 4, 4))
+        self.assertTrue(told["error"].endswith(" The name left the bucket's range at digit number 4, from 0."), said)
+        self.assertTrue(said.stderr.endswith(f"palhavento: {told['error']}\n"), said)
+        for words in (["ls", "--json", "store.tkf"], ["import", "--json", "store.tkf", "lines.txt"]):
+            said = ended(*words)
+            told = json.loads(said.stdout)
+            self.assertEqual((said.returncode, told.pop("digit"), told.pop("status"), list(told)), (4, None, 4, ["error"]))
+            self.assertNotIn("digit", told["error"])
+
     def test_full(self):
         self.done("create", self.store, "--b", 2, "--slots", 1)
         for name in "ab":
@@ -266,7 +314,8 @@ class CommandLine(InFolder):
         self.refused(6, "put", self.store, "p" * 23 + "c", 0)
 
     def test_sizes(self):
-        sizes = (["--b", 1], ["--b", 17], ["--slots", 0], ["--slots", 65], ["--b", -1], ["--slots", 10**30])
+        sizes = (["--b", 1], ["--b", 17], ["--slots", 0], ["--slots", 65], ["--b", -1], ["--slots", 10**30],
+                 ["--version", 0], ["--version", 3], ["--version", 257], ["--version", 2**64 + 1])
         self.all_refused(8, [["create", self.store, *size] for size in sizes])
 
     def test_locked(self):
@@ -294,6 +343,17 @@ class CommandLine(InFolder):
         self.done("put", self.store, "--", "-x", 3)
         self.assertIn("palhavento get -- -x.tkf a\n", self.refused(64, "get", "-x.tkf", "a"))
         self.assertNotIn("is no option", self.refused(64, "put", self.store, "oil"))
+
+    def test_a_name_without_its_quotes_is_told_how_to_be_one(self):
+        self.nine_words()
+        for words, line in ((["put", self.store, "GDP", "real", 3], f"put {self.store} 'GDP real' 3"),
+                            (["get", "--json", self.store, "a", "b", "c"], f"get {self.store} 'a b c'"),
+                            (["rm", self.store, "a", "b"], f"rm {self.store} 'a b'")):
+            said = self.run_(*words)
+            self.assertEqual((said.returncode, said.stderr.count("\n")), (64, 1))
+            self.assertIn(f"is one name: palhavento {line}\n", said.stderr)
+        for words in (["put", self.store, "oil", "much"], ["put", self.store], ["ls", self.store, "a", "b", "c"]):
+            self.assertNotIn("is one name", self.refused(64, *words))
 
     def test_check_of_many_files(self):
         sound, cut, bad, none = (self.folder / f"{name}.tkf" for name in ("a-sound", "b-cut", "c-bad", "d-none"))
@@ -332,6 +392,20 @@ class CommandLine(InFolder):
 
     def test_version(self):
         self.assertEqual(self.done("--version"), f"palhavento {palhavento.__version__}\n")
+
+    def test_a_stores_version(self):
+        for version in (1, 2):
+            store, new = self.folder / f"{version}.tkf", self.folder / f"new{version}.tkf"
+            said = self.done("create", store, "--b", 4, "--slots", 8, *["--version", 1] * (version == 1))
+            self.assertEqual(said, f"created {store}: 8 slots of up to 4 names, version {version}\n")
+            self.done("import", store, "-", input="".join(f"{word} 1\n" for word in WORDS))
+            self.assertTrue(self.done("stats", store).startswith(f"version {version}\nb 4\nslots 8\n"))
+            told = json.loads(self.done("compact", "--json", store, new))
+            self.assertEqual((told["version"], told["entries"]), (version, 9))
+            self.done("compact", "--version", 3 - version, store, self.folder / "other.tkf")
+            self.assertIn(f"version {3 - version}\n", self.done("stats", self.folder / "other.tkf"))
+            self.assertEqual(self.done("ls", self.folder / "other.tkf"), self.done("ls", store))
+            (self.folder / "other.tkf").unlink()
 
     def test_missing_files_and_folders(self):
         self.nine_words()

@@ -6,7 +6,7 @@ import os
 import random
 import unittest
 
-from support import InFolder, cut_file, sound_file
+from support import BLANKS, InFolder, cut_file, sound_file
 
 import palhavento
 from palhavento import compacting, layout, library
@@ -22,7 +22,10 @@ def words(count: int, seed: int, digits: str = "abcdefghijklmnopqrstuvwxyz", len
     chance = random.Random(seed)
     found: set[str] = set()
     while len(found) < count:
-        found.add("".join(chance.choices(digits, k=chance.randrange(length // 2, length + 1))))
+        name = "".join(chance.choices(digits, k=chance.randrange(length // 2, length + 1)))
+        # A blank is legal inside a name alone.
+        if name == name.strip():
+            found.add(name)
     return sorted(found)
 
 
@@ -57,24 +60,29 @@ class Compacting(InFolder):
             (5, 64, [f"run.{number}" for number in range(320)]),
             (2, 64, words(128, seed=3, length=24)),
             (3, 8, ["a" * length for length in range(1, 25)]),
+            (4, 64, words(256, seed=4, digits="ab ", length=16)),
+            (3, 8, ["a", *("a" + " " * length + "b" for length in range(23))]),
             (16, 4, ["z" * 23 + chr(digit) for digit in range(0x21, 0x61)]),
         ):
             plain = sorted(name.encode() for name in names)
-            file, trie = compacting._filled(compacting._packed(plain, b, 0.0), dict.fromkeys(plain, 7), b, slots)
-            stats = layout.stats(file, trie)
-            self.assertEqual((stats.entries, stats.used, library.check(file)), (b * slots, slots, library.SOUND))
-            # No other order comes near.
-            for order in (plain, plain[::-1], random.Random(0).sample(plain, len(plain))):
-                if b > 3:
-                    with self.assertRaises(compacting._Full):
-                        compacting._filled([(name, True) for name in order], {}, b, slots)
+            for version in library.VERSIONS:
+                empty = library.create(b, slots, version)
+                file, trie = compacting._filled(empty, compacting._packed(plain, b, version, 0.0), dict.fromkeys(plain, 7))
+                stats = layout.stats(file, trie)
+                self.assertEqual((stats.entries, stats.used, library.check(file)), (b * slots, slots, library.SOUND))
+                # No other order comes near.
+                for order in (plain, plain[::-1], random.Random(0).sample(plain, len(plain))):
+                    if b > 3:
+                        with self.assertRaises(compacting._Full):
+                            compacting._filled(empty, [(name, True) for name in order], {})
 
     def test_every_way_ends_with_every_name_and_no_other(self) -> None:
         for b in (2, 3, 5, 16):
-            for names in ([], ["a"], words(40, b), words(90, b, "ab", 12), ["a" * length for length in range(1, 25)],
+            for names in ([], ["a"], words(40, b), words(90, b, "ab", 12), ["a" * length for length in range(1, 25)], BLANKS,
+                          words(60, b, "a  ", 24), ["a" + " " * length + "b" for length in range(23)],
                           ["}" * 23 + chr(digit) for digit in range(0x60, 0x7E)], [f"run.{number}" for number in range(9 * b)]):
                 plain = sorted(name.encode() for name in names)
-                for steps in compacting._ways(plain, b):
+                for steps in [*compacting._ways(plain, b, 1), *compacting._ways(plain, b, 2)]:
                     held: set[bytes] = set()
                     for name, is_put in steps:
                         self.assertEqual(name in held, not is_put)
@@ -85,8 +93,8 @@ class Compacting(InFolder):
         for seed in range(8):
             chance = random.Random(seed)
             b, slots = chance.randrange(2, 17), chance.randrange(4, 65)
-            file, trie = library.create(b, slots)
-            for name in shuffled(words(200, seed, "abcde", 12), seed):
+            file, trie = library.create(b, slots, seed % 2 + 1)
+            for name in shuffled(words(200, seed, "abcd ", 12), seed):
                 try:
                     _, file, trie, _ = library.put(file, trie, name.encode(), chance.getrandbits(64), 2)
                 except palhavento.PalhaventoError:
@@ -104,6 +112,20 @@ class Compacting(InFolder):
         self.assertEqual((stats.b, stats.slots, stats.entries), (16, 64, 100))
         stats = self.compacted(file, b=16, slots=10)
         self.assertEqual((stats.b, stats.slots), (16, 10))
+
+    def test_the_version_stays_or_is_the_one_that_is_asked_for(self) -> None:
+        # A store that no way but its own arrangement fits: in either version it is the old one's copy at worst.
+        scarce = [group * 23 + digit for group in "abcdefghij" for digit in "0123"]
+        for names, b in ((NUMBERED[:100], 4), (scarce, 2)):
+            for version in library.VERSIONS:
+                file = sound_file(names, b=b, slots=64, version=version)
+                self.assertEqual(self.compacted(file).version, version)
+                for other in library.VERSIONS:
+                    self.assertEqual(self.compacted(file, version=other).version, other)
+                    with palhavento.open(self.new, readonly=True) as store:
+                        self.assertEqual(store.version, other)
+        with self.assertRaisesRegex(palhavento.WrongSize, "version = 3, b = 2, slots = 64"):
+            palhavento.compact(self.path, self.folder / "other.tkf", version=3)
 
     def test_what_does_not_fit_writes_nothing(self) -> None:
         self.path.write_bytes(sound_file(NUMBERED[:100], b=16, slots=64))

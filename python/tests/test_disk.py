@@ -222,9 +222,9 @@ class Damage(InFolder):
                     changed = bytearray(file)
                     changed[place // 8] ^= 1 << place % 8
                     opened += self.behaves(bytes(changed))
-        # Values and some digits of names may be any; everything else is noticed.
+        # Values and most digits of names may be any, those behind a name too; everything else is noticed.
         self.assertGreater(opened, 6 * 64)
-        self.assertLess(opened, 1000)
+        self.assertLess(opened, 1500)
 
     def test_every_length(self) -> None:
         file = sound_file(WORDS[:4], b=2, slots=4)

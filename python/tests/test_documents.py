@@ -82,6 +82,25 @@ class Rules(unittest.TestCase):
         self.assertTrue(cited and cited <= there, cited - there)
 
 
+class Reading(unittest.TestCase):
+    """READING.md gives for each file the lines to read: those that are neither blank nor `use` lines."""
+
+    def test_the_lines_of_each_file_and_of_each_table(self):
+        text = (PROJECT / "docs/READING.md").read_text(encoding="utf-8")
+        row = re.compile(r"^\| `(crates/\S+)` \| (\d+) \|", re.MULTILINE)
+        tables = [rows for rows in map(row.findall, text.split("\n\n")) if rows]
+        for path, lines in (row for rows in tables for row in rows):
+            read = (PROJECT / path).read_text(encoding="utf-8").splitlines()
+            self.assertEqual(sum(bool(line.strip()) and not line.startswith("use ") for line in read), int(lines), path)
+        believed, _, stated, _, interface = (sum(int(lines) for _, lines in rows) for rows in tables)
+        self.assertEqual([int(n) for n in re.findall(r": (\d+) lines", text)], [believed, stated, interface])
+
+    def test_no_definition_of_the_model_is_left_out(self):
+        text = (PROJECT / "docs/READING.md").read_text(encoding="utf-8")
+        for path in (PROJECT / "crates/model/specs").glob("*.antt"):
+            self.assertTrue(path.name == "Lib.antt" or f"`crates/model/specs/{path.name}`" in text, path)
+
+
 class Documents(InFolder):
     def setUp(self) -> None:
         super().setUp()

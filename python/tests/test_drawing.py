@@ -8,7 +8,7 @@ import re
 import unittest
 from xml.etree import ElementTree
 
-from support import InFolder
+from support import BLANKS, InFolder
 
 import palhavento
 from palhavento import Bucket, Cell, Trie
@@ -86,7 +86,7 @@ def ends(text: ElementTree.Element) -> tuple[float, float, float, float]:
     long = advance * size * len(text.text or "")
     if text.get("transform"):
         return x, x + size, y, y + long
-    left = x - long / 2 if text.get("text-anchor") == "middle" else x
+    left = x - long * {"middle": 0.5, "end": 1}.get(text.get("text-anchor"), 0)
     return left, left + long, y - size, y
 
 
@@ -122,25 +122,40 @@ class Pictures(unittest.TestCase):
 
 class Store(Pictures):
     def test_the_nine_words(self):
-        picture = store_svg(NINE, 4, 8, NINE_TRIE)
+        picture = store_svg(NINE, 4, 8, NINE_TRIE, 2)
         drawn = [texts(bucket) for bucket in things(picture, "bucket")]
         self.assertEqual([" ".join(said) for said in drawn], ["slot 0 a 5 and 3 i 9 3 of 4", "slot 3 in 6 is 8 2 of 4",
                                                               "slot 2 of 2 1 of 4", "slot 1 that 7 the 1 to 4 3 of 4"])
         said = texts(ElementTree.fromstring(picture))
         self.assertIn("i␣", said)
         self.assertIn("9 names in 4 buckets of up to 4", said)
+        self.assertIn("version 2", said)
+        self.assertIn("version 1", texts(ElementTree.fromstring(store_svg(NINE, 4, 8, NINE_TRIE, 1))))
         self.assertIn("Room for up to 23 more: 7 in these buckets and 16 in 4 free slots.", said)
 
     def test_a_bucket_is_full_where_a_further_name_is_refused(self):
         full = [(Bucket(1, "", "m", 2), [("a", 1), ("b", 2)]), (Bucket(0, "m", "", 1), [("n", 3)])]
         trie = Trie(1, 0, [Cell("m", 0, ("slot", 1), ("slot", 0))])
-        refuses, splits = store_svg(full, 2, 2, trie), store_svg(full, 2, 3, trie)
+        refuses, splits = store_svg(full, 2, 2, trie, 2), store_svg(full, 2, 3, trie, 2)
         self.assertEqual([texts(bucket)[-1] for bucket in things(refuses, "bucket")], ["full", "1 of 2"])
         self.assertEqual([texts(bucket)[-1] for bucket in things(splits, "bucket")], ["2 of 2", "1 of 2"])
         self.assertIn("Orange: the next new name splits the bucket.", texts(ElementTree.fromstring(splits)))
 
+    def test_every_blank_of_a_name_is_seen(self):
+        entries = sorted((name, value) for value, name in enumerate(BLANKS))
+        for slots, drawn in ((1, "GDP␣␣real"), (30, "1␣2")):
+            contents = [(Bucket(slot, "", "", len(entries)), entries) for slot in range(slots)]
+            picture = store_svg(contents, 16, 64, Trie(0, 0, []), 2)
+            self.assert_inside(picture)
+            bucket = things(picture, "bucket")[0]
+            self.assert_apart(bucket)
+            self.assertIn(drawn, texts(bucket))
+            self.assertIn("\na␣b␣c␣d␣e␣f␣g␣h␣i␣j␣k␣l 7", bucket.find(SVG + "title").text)
+            self.assertIn("␣ is a blank.", texts(ElementTree.fromstring(picture)))
+        self.assertNotIn("is a blank", store_svg([(Bucket(0, "", "", 1), [("a", 1)])], 2, 1, Trie(0, 0, []), 2))
+
     def test_no_room_at_all(self):
-        picture = store_svg([(Bucket(0, "", "", 2), [("a", 1), ("b", 2)])], 2, 1, Trie(0, 0, []))
+        picture = store_svg([(Bucket(0, "", "", 2), [("a", 1), ("b", 2)])], 2, 1, Trie(0, 0, []), 2)
         self.assertEqual(repr(picture), "<Picture: 2 names in 1 bucket of up to 2; no more fit>")
         self.assertIn("Full: every new name is refused, as no slot is free.", texts(ElementTree.fromstring(picture)))
 
@@ -149,10 +164,12 @@ class Store(Pictures):
             bounds = ["", *(f"{place:02}<&'\"> " for place in range(number - 1)), ""]
             names = [[(f"{place:02}<&{entry:02}", 10 ** entry) for entry in range(place % 17)] for place in range(number)]
             contents = [(Bucket(place, bounds[place], bounds[place + 1], len(own)), own) for place, own in enumerate(names)]
-            picture = store_svg(contents, 16, 64, Trie(0, 0, []))
+            picture = store_svg(contents, 16, 64, Trie(0, 0, []), 2)
             buckets = things(picture, "bucket")
             self.assertEqual(len(buckets), number)
             self.assert_inside(picture)
+            heading, version = list(ElementTree.fromstring(picture).iter(SVG + "text"))[:2]
+            self.assertLess(ends(heading)[1], ends(version)[0])
             for bucket, (_, entries) in zip(buckets, contents):
                 self.assert_apart(bucket)
                 self.assert_counted(bucket, entries)
@@ -163,7 +180,7 @@ class Store(Pictures):
             first = (Bucket(63, "", "}" * 24, b), entries)
             for others in (0, 1, 30, 63):
                 contents = [first, *((Bucket(place, "}" * 24, "}" * 24, b), entries) for place in range(others))]
-                picture = store_svg(contents, b, 64, Trie(0, 0, []))
+                picture = store_svg(contents, b, 64, Trie(0, 0, []), 2)
                 self.assert_inside(picture)
                 for bucket in things(picture, "bucket"):
                     self.assert_apart(bucket)
@@ -285,7 +302,7 @@ class InANotebook(InFolder):
             said.add(texts(drawn)[-1])
             near = [bucket.lower, bucket.upper, *(name for name in names if is_in(name, bucket))]
             probes = {(beginning + last)[:24] for beginning in near for last in "!5z}"}
-            for name in sorted(probe for probe in probes - set(names) if " " not in probe and is_in(probe, bucket)):
+            for name in sorted(probe for probe in probes - set(names) if probe == probe.strip() and is_in(probe, bucket)):
                 if texts(drawn)[-1] == "full":
                     with self.assertRaises(refusal):
                         store[name] = 0
@@ -295,7 +312,7 @@ class InANotebook(InFolder):
         return said
 
     def test_the_31_words(self):
-        with palhavento.open(self.path, b=4, slots=16, sync=False) as store:
+        with palhavento.open(self.path, b=4, slots=16, sync=False, version=1) as store:
             store.update({name: 0 for name in MORE_WORDS})
             trie, buckets = store.trie_svg(), store.svg()
         self.assertEqual([int(texts(leaf)[0]) for leaf in things(trie, "leaf")], MORE_LEAVES)

@@ -47,6 +47,7 @@ class Classes(unittest.TestCase):
             refused = errors.refusal(number, "about")
             back = pickle.loads(pickle.dumps(refused))
             self.assertEqual((type(back), back.args), (type(refused), refused.args))
+        self.assertEqual([pickle.loads(pickle.dumps(errors.stale(word))).digit for word in (0, 24, 255)], [0, 24, None])
 
 
 class Raised(InFolder):
@@ -66,7 +67,7 @@ class Raised(InFolder):
     def test_illegal_name(self) -> None:
         store = self.open()
         store["}" * 24] = 1
-        for name in ("", "a b", "~", "\x7f", "x" * 25, "é", b"\x80", b"\x00", "a\n"):
+        for name in ("", " a", "a ", " " * 24, "~", "\x7f", "x" * 25, "é", b"\x80", b"\x00", "a\n"):
             self.refused(errors.IllegalName, store.__setitem__, name, 1)
             self.refused(errors.IllegalName, store.__getitem__, name)
             self.refused(errors.IllegalName, store.__delitem__, name)
@@ -74,17 +75,22 @@ class Raised(InFolder):
             self.refused(errors.IllegalName, store.range, name, "b")
             self.refused(errors.IllegalName, store.range, "b", name)
         with self.assertRaises(ValueError):
-            store.get("a b")
+            store.get("a~b")
 
     def test_an_illegal_name_is_told_what_is_wrong_with_it(self) -> None:
         store = self.open()
-        rule = "A name has 1 to 24 bytes, each 0x21 to 0x7D"
+        rule = "A name has 1 to 24 bytes, each 0x20 to 0x7D, no blank first or last"
         for name, shown, wrong in (
-            ("a b", "'a b'", "byte 2 of this one is 0x20 (a blank)"),
+            (" a b", "' a b'", "this one begins with a blank"),
+            ("a b ", "'a b '", "this one ends with a blank"),
+            (" ", "' '", "this one begins with a blank"),
             ("", "''", "this one is empty"),
             ("x" * 25, f"'{'x' * 25}'", "this one has 25"),
             ("x" * 1000, f"'{'x' * 32}'...", "this one has 1000"),
-            ("y z" + "x" * 22, f"'y z{'x' * 22}'", "this one has 25, and byte 2 is 0x20 (a blank)"),
+            ("y z" + "x" * 22, f"'y z{'x' * 22}'", "this one has 25"),
+            ("x" * 24 + " ", f"'{'x' * 24} '", "this one has 25, and ends with a blank"),
+            ("y~z" + "x" * 22, f"'y~z{'x' * 22}'", "this one has 25, and byte 2 is 0x7E ('~')"),
+            (" a\n", "' a\\n'", "byte 3 of this one is 0x0A (a line feed)"),
             ("gdp~", "'gdp~'", "byte 4 of this one is 0x7E ('~')"),
             ("gdp\n", "'gdp\\n'", "byte 4 of this one is 0x0A (a line feed)"),
             ("preço", "'preço'", "byte 4 of this one is 0xC3 (of 'ç')"),
@@ -142,8 +148,24 @@ class Raised(InFolder):
         with mock.patch.object(library, "rebuild", return_value=store._opened.trie) as rebuild:
             self.refused(errors.StaleTrie, store.__getitem__, "rate3")
             self.refused(errors.StaleTrie, store.__setitem__, "rate4", 4)
-        self.assertEqual(rebuild.call_count, 2)
+            with self.assertRaises(errors.StaleTrie) as caught:
+                store.get("rate3")
+        self.assertEqual(rebuild.call_count, 3)
+        self.assertEqual(caught.exception.digit, 4)
+        said = "'rate3': The trie does not agree with the file: rebuild it. The name left the bucket's range at digit number 4, from 0."
+        self.assertEqual(str(caught.exception), said)
         self.assertEqual(store["rate3"], 3)
+
+    def test_where_a_name_left_its_range_is_logged(self) -> None:
+        self.path.write_bytes(sound_file(["rate1", "rate2", "rate3"], b=2, slots=3))
+        for readonly in (False, True):
+            with self.open(readonly=readonly) as store:
+                for name, said in (("rate3", "; a name left its bucket's range at digit number 4"), ("rate4", "")):
+                    store._opened.trie = bytes(library.TRIE_BYTES)
+                    with self.assertLogs("palhavento", "INFO") as logs:
+                        # To count asks for agreement, and so does a put; neither says where.
+                        self.assertEqual(store.get(name) if said else len(store), 3)
+                    self.assertEqual(logs.output, [f"INFO:palhavento:{self.path}: the trie was stale and is rebuilt{said}"])
 
     def test_file_full(self) -> None:
         store = self.open(b=2, slots=1)

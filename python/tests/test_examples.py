@@ -12,7 +12,7 @@ import time
 import tomllib
 from pathlib import Path
 
-from support import InFolder, cut_file
+from support import BLANKS, InFolder, cut_file
 
 import packing
 import palhavento
@@ -46,6 +46,12 @@ int kill_after(int file)
     return file < 0;
 }
 """
+
+
+def entry_of(line: str) -> tuple[str, int]:
+    """A line `name value`; a name may have blanks."""
+    name, value = line.rsplit(" ", 1)
+    return name, int(value)
 
 
 class Header(InFolder):
@@ -84,12 +90,12 @@ class Keep(InFolder):
 
     def listed(self) -> dict[str, int]:
         lines = subprocess.check_output([str(self.folder / "keep"), "-l", str(self.path)], text=True).splitlines()
-        return {name: int(value) for name, value in map(str.split, lines)}
+        return dict(map(entry_of, lines))
 
     def test_killed_after_each_store(self):
         (self.folder / "kill.c").write_text(KILL, encoding="ascii")
         keep = self.build("-Dfdatasync=kill_after", str(self.folder / "kill.c"))
-        names = [f"rate.{place * 37 % 41}" for place in range(41)]
+        names = [f"rate {place * 37 % 41} real" for place in range(41)]
         lines = "".join(f"{name} {2**64 - 1 - place}\n" for place, name in enumerate(names))
         states, stores = set(), 0
         while True:
@@ -103,7 +109,7 @@ class Keep(InFolder):
             with palhavento.open(self.path, readonly=True) as store:
                 states.add(store.check())
                 seen = dict(store.items())
-            said = {name: int(value) for name, value in map(str.split, ended.stdout.splitlines())}
+            said = dict(map(entry_of, ended.stdout.splitlines()))
             made = len(seen) - len(said)
             self.assertIn(made, (0, 1))
             self.assertEqual(seen, {name: 2**64 - 1 - place for place, name in enumerate(names[:len(said) + made])})
@@ -120,7 +126,7 @@ class Keep(InFolder):
             def feed(pipe=process.stdin):
                 try:
                     while True:
-                        pipe.write(b"rate.%d %d\n" % (chance.randrange(60), time.time_ns()))
+                        pipe.write(b"rate %d %d\n" % (chance.randrange(60), time.time_ns()))
                 except (OSError, ValueError):
                     pass
 
@@ -136,11 +142,16 @@ class Keep(InFolder):
             with self.assertRaises(BrokenPipeError):
                 process.stdin.close()
             self.assertTrue(lines)
-            said |= {name.decode(): int(value) for name, value in map(bytes.split, lines)}
+            said |= dict(entry_of(line.decode()) for line in lines)
         kept = self.listed()
         self.assertEqual([name for name in said if kept.get(name, 0) < said[name]], [])
         with palhavento.open(self.path) as store:
             self.assertEqual(dict(store.items()), kept)
+
+    def test_names_with_blanks(self):
+        lines = "".join(f"{name} {value}\n" for value, name in enumerate(BLANKS))
+        self.assertEqual(subprocess.check_output([self.build(), str(self.path)], input=lines, text=True), lines)
+        self.assertEqual(self.listed(), dict(zip(BLANKS, range(99))))
 
     def test_it_recovers_and_refuses(self):
         keep = self.build()
@@ -152,8 +163,10 @@ class Keep(InFolder):
         self.path.write_bytes(cut_file())
         self.assertEqual(run("rate3 3\nrate4 18446744073709551615\n"), (0, "rate3 3\nrate4 18446744073709551615\n", ""))
         self.assertEqual(self.listed(), {"rate1": 1, "rate2": 2, "rate3": 3, "rate4": 2**64 - 1})
-        self.assertEqual(run("a~ 1\n"), (1, "", "A name is not 1 to 24 bytes, each 0x21 to 0x7D."))
-        for wrong in ("a", "a -1", "a 18446744073709551616", "a 1 2", ""):
+        for illegal in ("a~ 1", " a 1", "a  1", " 1"):
+            rule = "A name is not 1 to 24 bytes, each 0x20 to 0x7D, no blank first or last."
+            self.assertEqual(run(f"{illegal}\n"), (1, "", rule))
+        for wrong in ("a", "a -1", "a 18446744073709551616", "a 1 b", "a 1 ", ""):
             self.assertEqual(run(wrong + "\n"), (64, "", "each line has a name and a number of 64 bits"))
         with palhavento.open(self.path):
             self.assertIn("another process has it open for writing", run("a 1\n")[2])

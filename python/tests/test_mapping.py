@@ -16,7 +16,7 @@ from collections.abc import Callable
 from pathlib import Path
 from unittest import mock
 
-from support import WORDS, InFolder
+from support import BLANKS, WORDS, InFolder
 
 import palhavento
 from palhavento import errors, layout
@@ -24,7 +24,7 @@ from palhavento import errors, layout
 
 def some_name(chance: random.Random) -> str:
     """A name of a small world, in which many begin alike."""
-    return "".join(chance.choice("!am}") for _ in range(chance.randint(1, 4)))
+    return "".join(chance.choice("!am} ") for _ in range(chance.randint(1, 5))).strip() or "a  m"
 
 
 class AsADict(InFolder):
@@ -32,7 +32,7 @@ class AsADict(InFolder):
         for seed in range(4):
             chance = random.Random(seed)
             path, b = self.folder / f"{seed}.tkf", chance.choice([2, 3, 4, 16])
-            store, model = palhavento.open(path, b=b, slots=24, sync=False), {}
+            store, model = palhavento.open(path, b=b, slots=24, sync=False, version=seed % 2 + 1), {}
             for _ in range(400):
                 self.one_operation(chance, store, model)
             self.assertGreater(len(model), 10)
@@ -118,8 +118,8 @@ class AsADict(InFolder):
 
     def test_sizes_are_ints(self) -> None:
         for size in (4.0, "4", None):
-            for words in ({"b": size}, {"slots": size}):
-                with self.assertRaisesRegex(TypeError, f"b and slots are ints, not {type(size).__name__}"):
+            for words in ({"b": size}, {"slots": size}, {"version": size}):
+                with self.assertRaisesRegex(TypeError, f"version, b and slots are ints, not {type(size).__name__}"):
                     palhavento.open(self.path, **words)  # type: ignore[arg-type]
         self.assertFalse(self.path.exists())
 
@@ -296,7 +296,7 @@ class Changes(InFolder):
                     self.store.update(wrong)
 
     def test_update_looks_at_all_names_and_values_first(self) -> None:
-        for wrong in ({"a": 1, "b c": 2}, {"a": 1, "b": -1}, {"a": 1, "b": "2"}, {"a": 1, 2: 2}, {"a": 1, "é": 2}):
+        for wrong in ({"a": 1, "b c ": 2}, {"a": 1, "b": -1}, {"a": 1, "b": "2"}, {"a": 1, 2: 2}, {"a": 1, "é": 2}):
             with self.assertRaises((errors.IllegalName, OverflowError, TypeError)):
                 self.store.update(wrong)
             self.assertEqual(dict(self.store), {})
@@ -329,7 +329,7 @@ class Changes(InFolder):
 
     def test_prefix(self) -> None:
         chance = random.Random(3)
-        names = {some_name(chance) for _ in range(60)} | {"}" * 24, "}" * 23, "a" * 24}
+        names = {some_name(chance) for _ in range(60)} | {"}" * 24, "}" * 23, "a" * 24, *BLANKS}
         with palhavento.open(self.folder / "large.tkf", sync=False) as store:
             store.update((name, len(name)) for name in names)
             beginnings = {name[:length] for name in names for length in range(len(name) + 1)}
@@ -337,7 +337,7 @@ class Changes(InFolder):
                 want = sorted((name, len(name)) for name in names if name.startswith(beginning))
                 self.assertEqual(store.prefix(beginning), want)
                 self.assertEqual(store.prefix(beginning.encode()), want)
-            for wrong in (" ", "a b", "~", "é", "a" * 25):
+            for wrong in (" ", " a", "a~b", "~", "é", "a" * 25, "a" * 23 + " "):
                 with self.assertRaises(errors.IllegalName):
                     store.prefix(wrong)
             with self.assertRaises(TypeError):
@@ -354,7 +354,7 @@ class Changes(InFolder):
             with self.assertRaises(TypeError):
                 self.store.increment("n", by)  # type: ignore[arg-type]
         with self.assertRaises(errors.IllegalName):
-            self.store.increment("a b")
+            self.store.increment("a~b")
         self.assertEqual(dict(self.store), {"n": 2**64 - 1})
 
     def test_pop_popitem_setdefault_and_clear(self) -> None:
@@ -492,13 +492,13 @@ class CommonPath(InFolder):
 class ForTheMaintainer(InFolder):
     def setUp(self) -> None:
         super().setUp()
-        self.store = palhavento.open(self.path, b=4, slots=8, sync=False)
+        self.store = palhavento.open(self.path, b=4, slots=8, sync=False, version=1)
         self.addCleanup(self.store.close)
         for place, word in enumerate(WORDS, start=1):
             self.store[word] = place
 
     def test_stats(self) -> None:
-        stats = palhavento.Stats(b=4, slots=8, used=4, free=4, entries=9, strings=3, bytes=1552, load=9 / 16)
+        stats = palhavento.Stats(version=1, b=4, slots=8, used=4, free=4, entries=9, strings=3, bytes=1552, load=9 / 16)
         self.assertEqual(self.store.stats(), stats)
 
     def test_buckets(self) -> None:
@@ -519,11 +519,12 @@ class ForTheMaintainer(InFolder):
             self.assertIs(self.store.trie_svg(), drawing.trie_svg.return_value)
         contents = layout.contents(self.path.read_bytes())
         self.assertEqual([entry for _, entries in contents for entry in entries], self.store.range())
-        drawing.store_svg.assert_called_once_with(contents, 4, 8, self.store.trie())
+        drawing.store_svg.assert_called_once_with(contents, 4, 8, self.store.trie(), 1)
         drawing.trie_svg.assert_called_once_with(self.store.trie())
 
     def test_a_store_shows_itself(self) -> None:
-        self.assertEqual((self.store.path, self.store.b, self.store.slots), (str(self.path), 4, 8))
+        shown = self.store.path, self.store.version, self.store.b, self.store.slots
+        self.assertEqual(shown, (str(self.path), 1, 4, 8))
         self.assertEqual((self.store.readonly, self.store.closed), (False, False))
         self.assertTrue(repr(self.store).endswith("b=4, slots=8>"))
         self.store.close()

@@ -67,7 +67,7 @@ class Wheel(InFolder):
         command = [sys.executable, installed, "create", "a.tkf", "--slots", "2"]
         printed = subprocess.check_output(command, text=True, cwd=self.folder,
                                           env={**os.environ, "PYTHONPATH": str(self.folder / "site")})
-        self.assertEqual(printed, "created a.tkf: 2 slots of up to 16 names\n")
+        self.assertEqual(printed, "created a.tkf: 2 slots of up to 16 names, version 2\n")
 
     def test_an_editable_one_leads_to_the_package_here(self) -> None:
         with zipfile.ZipFile(self.folder / packing.build_editable(str(self.folder))) as packed:

@@ -8,7 +8,7 @@ import re
 import unittest
 from pathlib import Path
 
-from support import WORDS, InFolder, cut_file, sound_file
+from support import BLANKS, WORDS, InFolder, cut_file, sound_file
 
 import palhavento
 from palhavento import library, reasons
@@ -44,7 +44,8 @@ BROKEN: list[tuple[str, int | None, bytes]] = [
     ("R2.1", None, b""),
     ("R2.1", None, NINE[:15]),
     ("R2.2", None, b"name,value\nab,1\n" * 9),
-    ("R2.3", None, edited((3, b"\x02"))),
+    ("R2.3", None, edited((3, b"\x00"))),
+    ("R2.3", None, edited((3, b"\x03"))),
     ("R2.3", None, edited((4, b"\x01"))),
     ("R2.4", None, edited((5, b"\x01"))),
     ("R2.4", None, edited((5, b"\x11"))),
@@ -71,6 +72,8 @@ BROKEN: list[tuple[str, int | None, bytes]] = [
     ("R3.13", 0, edited((entry(0, 1), b" "))),
     ("R3.13", 0, edited((entry(0, 1), b" " * 24))),
     ("R3.13", 0, edited((entry(0, 1) + 23, b"\xff"))),
+    ("R3.13", 0, edited((entry(0, 0), b" a b"))),
+    ("R3.13", 0, edited((entry(0, 0), b"a \x1f"))),
     ("R3.14", 0, edited((entry(0, 0), b"b"))),
     ("R3.14", 1, edited((entry(1, 0), b"the "))),
     ("R3.15", 0, edited((entry(0, 2), b"in"))),
@@ -122,6 +125,14 @@ class Reasons(unittest.TestCase):
         cut = "slot 1: is left of a split that was stopped; to recover frees it (R4.8)"
         self.assertEqual(reasons.state(cut_file()).reason, cut)
 
+    def test_a_blank_is_wrong_only_at_the_beginning_of_a_name(self) -> None:
+        self.assertEqual(reasons.state(sound_file(BLANKS, b=2, slots=16)), "sound")
+        self.assertEqual(reasons.state(edited((entry(0, 0), b"a b"))), "sound")
+        says = "slot 0: entry 0: the name \" a b\" begins with a blank (R3.13)"
+        self.assertEqual(reasons.state(edited((entry(0, 0), b" a b"))).reason, says)
+        # Two blanks behind a name are none of it, so these are two entries with one name.
+        self.assertEqual(reasons.state(edited((entry(0, 1), b"a  "))).faults[0].rule, "R3.14")
+
     def test_every_bad_slot_is_told(self) -> None:
         state = reasons.state(edited((at(0, 4), b"\x01"), (at(3, 60), b"\x01"), (at(5, 9), b"\x01")))
         self.assertEqual([(fault.slot, fault.rule) for fault in state.faults], [(0, "R3.6"), (3, "R3.11"), (5, "R3.1")])
@@ -131,7 +142,7 @@ class Reasons(unittest.TestCase):
         chance = random.Random(12)
         seen = set()
         for _ in range(4000):
-            names = ["".join(chance.choices("abc", k=chance.randrange(1, 4))) for _ in range(chance.randrange(12))]
+            names = ["".join(chance.choices("abc ", k=chance.randrange(1, 5))).strip() or "a" for _ in range(chance.randrange(12))]
             size = library.slot_bytes(2)
             try:
                 file = bytearray(sound_file(names, b=2, slots=6))

@@ -77,7 +77,7 @@ class Streams(InShell):
 
     def test_a_complaint_that_cannot_be_made_leaves_the_status(self) -> None:
         for closed in ("2>&-", "2>/dev/full"):
-            ended = self.shells(f"palhavento get store.tkf oil {closed}", f"palhavento get store.tkf 'a b' {closed}",
+            ended = self.shells(f"palhavento get store.tkf oil {closed}", f"palhavento get store.tkf 'a ' {closed}",
                                 f"palhavento get {closed}", f"palhavento ls none.tkf {closed}",
                                 f"palhavento import none.tkf lines.txt {closed}", f"{MODULE} ls store.tkf >&- {closed}",
                                 f"palhavento get --json store.tkf oil {closed}")

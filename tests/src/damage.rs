@@ -3,7 +3,7 @@
 use crate::chance::Chance;
 use crate::door::{read_image, write_image, IMAGE};
 use crate::make;
-use crate::model::file::{header, slot_length, File, HEADER};
+use crate::model::file::{header, File, Header, HEADER};
 use crate::model::trie::{Place, Side, Trie, CELLS};
 
 /// A damaged copy of a file. Some damage leaves it sound: a changed value, two slots that changed places.
@@ -17,13 +17,14 @@ pub fn damaged_file(chance: &mut Chance, file: &[u8], names: &[Vec<u8>]) -> Vec<
 }
 
 fn damage_file(chance: &mut Chance, file: &mut Vec<u8>, names: &[Vec<u8>]) {
-    let Some((b, slots)) = header(file) else {
+    let Some(header) = header(file) else {
         return change_length(chance, file);
     };
-    let length = slot_length(b);
+    let Header { b, slots, .. } = header;
+    let length = header.slot_length();
     let slot = chance.below(slots);
     let at = HEADER + slot * length;
-    match chance.below(21) {
+    match chance.below(22) {
         // One bit anywhere, or in a slot's first 64 bytes.
         0 => {
             let place = chance.below(file.len());
@@ -94,8 +95,10 @@ fn damage_file(chance: &mut Chance, file: &mut Vec<u8>, names: &[Vec<u8>]) {
             let place = chance.below(HEADER);
             file[place] = if chance.percent(50) { file[place].wrapping_add(1) } else { chance.byte() };
         }
+        // Another version: the splits were of the one before.
+        19 => file[3..5].copy_from_slice(&(make::version(chance) as u16).to_le_bytes()),
         // One slot more or less, with the length that belongs to it.
-        19 => {
+        20 => {
             if chance.percent(50) && slots < 64 {
                 file[6] += 1;
                 file.extend(vec![0; length]);
@@ -135,7 +138,7 @@ fn change_border(chance: &mut Chance, file: &mut [u8], names: &[Vec<u8>]) {
         let last = new.len() - 1;
         new.0[last] = new.0[last].saturating_add(1).min(0x7D);
     }
-    let length = slot_length(read.b);
+    let length = read.header.slot_length();
     let (upper, lower) = (HEADER + below * length, HEADER + above * length);
     file[upper + 3] = new.len() as u8;
     file[upper + 32..upper + 56].fill(0);

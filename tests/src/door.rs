@@ -1,6 +1,6 @@
 //! The C interface as values: a call, what it leaves behind, and what the model leaves behind for the same call.
 
-use crate::model::calls::{self, Answer};
+use crate::model::calls::{self, Answer, TRIE_STALE};
 use crate::model::trie::{Cell, Side, Trie, CELLS};
 
 /// A trie image has exactly this many bytes.
@@ -95,6 +95,8 @@ pub fn write_image(trie: &Trie) -> Vec<u8> {
 pub fn number_and_words(answer: Answer) -> (u64, Vec<u64>) {
     match answer {
         Answer::Refused(number) => (number, vec![]),
+        // Word 0 is the digit number, or 255.
+        Answer::Stale(digit) => (TRIE_STALE, vec![digit]),
         // Word 0 is the value; word 1, for the run of a later version, is 0.
         Answer::Found(value) => (100, vec![value, 0]),
         Answer::Absent => (101, vec![]),

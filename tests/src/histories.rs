@@ -5,16 +5,17 @@ use std::collections::BTreeMap;
 use crate::chance::Chance;
 use crate::door::{Call, Outcome, IMAGE};
 use crate::make;
-use crate::model::file::file_length;
+use crate::model::file::Header;
+use crate::model::names::{is_legal_name, BLANK};
 
-/// A closed world of names: everything of one to three digits over three, and a few long ones.
+/// A closed world of names: every legal one of one to three digits over the blank and three others, and a few long ones.
 fn world(chance: &mut Chance) -> Vec<Vec<u8>> {
-    let alphabet = [0x21, chance.between(0x22, 0x7C) as u8, 0x7D];
+    let alphabet = [BLANK, 0x21, chance.between(0x22, 0x7C) as u8, 0x7D];
     let mut names: Vec<Vec<u8>> = Vec::new();
     let mut last: Vec<Vec<u8>> = vec![Vec::new()];
     for _ in 0..3 {
         last = last.iter().flat_map(|name| alphabet.iter().map(move |digit| [&name[..], &[*digit]].concat())).collect();
-        names.extend(last.iter().cloned());
+        names.extend(last.iter().filter(|name| is_legal_name(name)).cloned());
     }
     let style = *chance.pick(&make::STYLES);
     names.extend(make::names(chance, style, 20));
@@ -31,11 +32,12 @@ pub fn tell(seed: u64, mut call: impl FnMut(Call) -> Outcome) {
     let mut chance = Chance::new(seed);
     let b = chance.between(2, 5);
     let slots = chance.between(1, 24);
+    let header = Header::new(make::version(&mut chance), b, slots);
     let names = world(&mut chance);
     let mut history: BTreeMap<Vec<u8>, u64> = BTreeMap::new();
     let made = call(Call::Create {
-        file: vec![chance.byte(); file_length(b, slots)],
-        version: 1,
+        file: vec![chance.byte(); header.file_length()],
+        version: header.version,
         b: b as u64,
         slots: slots as u64,
         trie: vec![0; IMAGE],

@@ -24,7 +24,6 @@ use crate::door::{by_model, Call, Outcome, CALLS, IMAGE};
 use crate::journal;
 use crate::library::{by_library, Grounds};
 use crate::lives::{self, call_for, Said, World, ABOUT_TO, SIGKILL, SIZES, STOPPED};
-use crate::model::file::file_length;
 
 /// A program that opens the file, makes requests and says so, as `lives.rs` does.
 pub struct Victim {
@@ -126,6 +125,10 @@ impl Drop for Nursery {
 /// More requests than any file is asked for.
 const REQUESTS: u64 = 10_000;
 
+/// A process that dies by itself has so many requests before it: long before the last there was a store to die at. A full
+/// file refuses most puts, and of small slots few stores can be torn, so a hundred would be too few.
+const AHEAD: u64 = 1_000;
+
 /// The files so far, so that each has a name of its own.
 static FILES: AtomicU64 = AtomicU64::new(0);
 
@@ -152,9 +155,10 @@ struct Trial<'a> {
 impl<'a> Trial<'a> {
     fn new(victim: &'a Victim, seed: u64, tally: &'a mut Tally) -> Trial<'a> {
         let world = World::new(seed);
-        let (b, slots) = (world.b as u64, world.slots as u64);
-        let file = vec![0xA5; file_length(world.b, world.slots)];
-        let create = Call::Create { file, version: 1, b, slots, trie: vec![0; IMAGE] };
+        let header = &world.header;
+        let (b, slots) = (header.b as u64, header.slots as u64);
+        let file = vec![0xA5; header.file_length()];
+        let create = Call::Create { file, version: header.version, b, slots, trie: vec![0; IMAGE] };
         let created = by_library(&create, &mut Grounds::default(), 0).expect("nothing beside is written");
         assert!(created == by_model(&create), "create differs from the model");
         let number = FILES.fetch_add(1, Ordering::Relaxed);
@@ -177,9 +181,8 @@ impl<'a> Trial<'a> {
     fn life(&mut self, kill: Kill) -> bool {
         const NEVER: u64 = u64::MAX;
         let (end, moment, inside) = match kill {
-            // Long before the hundredth request there was a store to die at.
-            Kill::Moment(moment) => (self.next + 100, moment, NEVER),
-            Kill::Inside(write) => (self.next + 100, NEVER, write),
+            Kill::Moment(moment) => (self.next + AHEAD, moment, NEVER),
+            Kill::Inside(write) => (self.next + AHEAD, NEVER, write),
             Kill::Never => (self.next, NEVER, NEVER),
             _ => (NEVER, NEVER, NEVER),
         };
@@ -400,7 +403,7 @@ impl<'a> Trial<'a> {
 
     /// Until the file is full, or the time or the requests are over.
     fn goes_on(&self, end: Instant) -> bool {
-        self.refused < 5 && self.next + 200 < REQUESTS && Instant::now() < end
+        self.refused < 5 && self.next + AHEAD < REQUESTS && Instant::now() < end
     }
 
     /// Kills at random moments, from microseconds to milliseconds.
@@ -459,7 +462,7 @@ pub fn try_files(victim: &Victim, moments: Moments, default: bool, time: Duratio
             break;
         }
         let mut trial = Trial::new(victim, seed, &mut tally);
-        let b = trial.world.b as u64;
+        let b = trial.world.header.b as u64;
         match moments {
             Moments::Every if victim.package => {
                 // One process fills the first bucket, so that a split is near.

@@ -17,15 +17,14 @@ use crate::chance::Chance;
 use crate::door::{Call, Outcome, IMAGE};
 use crate::library::{by_library, Grounds};
 use crate::make;
-use crate::model::file::{slot_length, HEADER};
+use crate::model::file::{Header, HEADER, VERSIONS};
 
 /// The answer of a call that its limit stopped.
 pub const STOPPED: u64 = 112;
 
-/// A size of file, the names that are asked for, and a history of requests without end: all from one number.
+/// A size and version of file, the names that are asked for, and a history of requests without end: all from one number.
 pub struct World {
-    pub b: usize,
-    pub slots: usize,
+    pub header: Header,
     pub names: Vec<Vec<u8>>,
     seed: u64,
 }
@@ -45,7 +44,9 @@ impl World {
         let (b, slots, names) = SIZES[(seed % SIZES.len() as u64) as usize];
         let mut chance = Chance::new(seed);
         let style = make::STYLES[(seed / SIZES.len() as u64) as usize % make::STYLES.len()];
-        World { b, slots, names: make::names(&mut chance, style, names), seed }
+        // Among the first sizes there is each version, and later each size has each.
+        let version = VERSIONS[((seed + seed / SIZES.len() as u64) % VERSIONS.len() as u64) as usize];
+        World { header: Header::new(version, b, slots), names: make::names(&mut chance, style, names), seed }
     }
 
     /// The request of a number. Its value is no other request's, so that every store changes a byte.
@@ -56,12 +57,12 @@ impl World {
     }
 
     /// The world in words, with so many of its requests, for a process without this `Chance`: each name on a line, an
-    /// empty line, then on a line each request's name, and after a space the value that is put.
+    /// empty line, then on a line each request's name, and after a tab, which no name has, the value that is put.
     pub fn text(&self, requests: u64) -> String {
         let word = |name: &[u8]| String::from_utf8(name.to_vec()).expect("digits are ASCII");
         let names = self.names.iter().map(|name| word(name) + "\n");
         let requests = (0..requests).map(|number| self.request(number)).map(|request| match request.value {
-            Some(value) => format!("{} {value}\n", word(request.name)),
+            Some(value) => format!("{}\t{value}\n", word(request.name)),
             None => format!("{}\n", word(request.name)),
         });
         names.chain(["\n".to_string()]).chain(requests).collect()
@@ -144,7 +145,7 @@ pub fn live(path: &Path, seed: u64, first: u64, end: u64, moment: u64) {
         listener,
         file: Vec::new(),
         trie: Vec::new(),
-        slot_length: slot_length(world.b),
+        slot_length: world.header.slot_length(),
         moments: moment,
         grounds: Grounds::default(),
         turn: first as usize,

@@ -3,7 +3,7 @@
 use std::collections::BTreeSet;
 
 use crate::chance::Chance;
-use crate::model::file::{bucket_bytes, file_length, header_bytes, kind, store, Bucket, Entry, File, Kind, Slot};
+use crate::model::file::{bucket_bytes, kind, store, Bucket, Entry, File, Header, Kind, Slot, HEADER, VERSIONS};
 use crate::model::names::{filled, is_legal_name, unfilled, Bound, BLANK, DIGITS};
 use crate::model::trie::{fits, row, strings, Cell, Place, Side, Trie, CELLS};
 
@@ -22,10 +22,12 @@ pub enum Style {
     Ends,
     /// Any digits.
     Any,
+    /// A few words with one or more blanks between them.
+    Phrases,
 }
 
-pub const STYLES: [Style; 6] =
-    [Style::Words, Style::LongBeginnings, Style::LastDigit, Style::Beginnings, Style::Ends, Style::Any];
+pub const STYLES: [Style; 7] =
+    [Style::Words, Style::LongBeginnings, Style::LastDigit, Style::Beginnings, Style::Ends, Style::Any, Style::Phrases];
 
 fn digit(chance: &mut Chance) -> u8 {
     chance.between(0x21, 0x7D) as u8
@@ -35,9 +37,32 @@ fn digits(chance: &mut Chance, alphabet: &[u8], length: usize) -> Vec<u8> {
     (0..length).map(|_| *chance.pick(alphabet)).collect()
 }
 
-/// Some legal names of a style, each once. There may be fewer than asked for.
+/// Words with one blank between two of them, or with several.
+fn phrase(chance: &mut Chance) -> Vec<u8> {
+    let mut phrase = chance.pick(&["GDP", "real", "a", "i"]).as_bytes().to_vec();
+    for _ in 0..chance.below(4) {
+        let blanks = if chance.percent(70) { 1 } else { chance.between(2, 20) };
+        phrase.extend(vec![BLANK; blanks]);
+        phrase.extend(chance.pick(&["GDP", "real", "a", "b", "i", "1998", "!", "}"]).as_bytes());
+    }
+    phrase.truncate(DIGITS);
+    phrase
+}
+
+/// A name of these digits: no blank stands first, and none last.
+fn named(chance: &mut Chance, mut digits: Vec<u8>) -> Vec<u8> {
+    digits.truncate(unfilled(&digits).len());
+    match digits.first_mut() {
+        None => digits.push(digit(chance)),
+        Some(first) if *first == BLANK => *first = digit(chance),
+        Some(_) => {}
+    }
+    digits
+}
+
+/// Some legal names of a style, each once. There may be fewer than asked for. In every style some names have blanks inside.
 pub fn names(chance: &mut Chance, style: Style, how_many: usize) -> Vec<Vec<u8>> {
-    let alphabet: Vec<u8> = match style {
+    let mut alphabet: Vec<u8> = match style {
         Style::Words => b"aeinorst".to_vec(),
         Style::Ends => vec![0x21, 0x7D, if chance.percent(50) { 0x7C } else { 0x22 }],
         _ => {
@@ -50,6 +75,9 @@ pub fn names(chance: &mut Chance, style: Style, how_many: usize) -> Vec<Vec<u8>>
             alphabet
         }
     };
+    if chance.percent(40) {
+        alphabet.extend(vec![BLANK; chance.between(1, 3)]);
+    }
     let stem_count = match style {
         Style::LongBeginnings => chance.between(1, 3),
         Style::LastDigit => 1 + how_many / 5,
@@ -66,9 +94,13 @@ pub fn names(chance: &mut Chance, style: Style, how_many: usize) -> Vec<Vec<u8>>
                 stem[0] = digit(chance);
                 stem
             }
-            Style::Beginnings => digits(chance, &alphabet[..2], DIGITS),
+            Style::Beginnings => {
+                let few = [alphabet[0], alphabet[1], *alphabet.last().expect("digits to choose from")];
+                digits(chance, &few, DIGITS)
+            }
             _ => Vec::new(),
         })
+        .map(|stem: Vec<u8>| if stem.first() == Some(&BLANK) { [&alphabet[..1], &stem[1..]].concat() } else { stem })
         .collect();
     let mut found: BTreeSet<Vec<u8>> = BTreeSet::new();
     for _ in 0..how_many * 3 {
@@ -104,30 +136,38 @@ pub fn names(chance: &mut Chance, style: Style, how_many: usize) -> Vec<Vec<u8>>
             }
             Style::Any => {
                 let length = chance.between(1, DIGITS);
-                name = (0..length).map(|_| digit(chance)).collect();
+                name = (0..length).map(|_| chance.between(0x20, 0x7D) as u8).collect();
             }
+            Style::Phrases => name = phrase(chance),
         }
-        found.insert(name);
+        found.insert(named(chance, name));
     }
     let mut names: Vec<Vec<u8>> = found.into_iter().collect();
     chance.shuffle(&mut names);
     names
 }
 
-/// An illegal name of any kind: a wrong length, or a wrong byte at any place.
+/// An illegal name of any kind: a wrong length, a wrong byte at any place, or a blank first or last.
 pub fn illegal_name(chance: &mut Chance) -> Vec<u8> {
-    let name = match chance.below(5) {
+    let name = match chance.below(6) {
         0 => Vec::new(),
         1 => vec![b'a'; 25],
         2 => {
             let length = chance.between(26, 600);
             vec![digit(chance); length]
         }
+        3 => {
+            let length = chance.between(1, DIGITS);
+            let mut name: Vec<u8> = (0..length).map(|_| *chance.pick(&[BLANK, 0x21, 0x61, 0x7D])).collect();
+            let place = *chance.pick(&[0, length - 1]);
+            name[place] = BLANK;
+            name
+        }
         _ => {
             let length = chance.between(1, 26);
             let mut name: Vec<u8> = (0..length).map(|_| digit(chance)).collect();
             let place = chance.below(length);
-            name[place] = *chance.pick(&[0x00, 0x20, 0x7E, 0x7F, 0x80, 0xFF, 0x1F, 0xA1]);
+            name[place] = *chance.pick(&[0x00, 0x7E, 0x7F, 0x80, 0xFF, 0x1F, 0xA1]);
             name
         }
     };
@@ -170,6 +210,10 @@ pub fn entries(chance: &mut Chance, names: &[Vec<u8>], lower: &Bound, upper: &Bo
             _ => chance.pick(names).clone(),
         };
         if chance.percent(50) && name.len() < DIGITS {
+            if chance.percent(20) {
+                name.push(BLANK);
+                name.truncate(DIGITS - 1);
+            }
             name.push(digit(chance));
         }
         if chance.percent(30) && !name.is_empty() {
@@ -192,20 +236,27 @@ pub fn value(chance: &mut Chance) -> u64 {
     }
 }
 
+/// A version that is offered.
+pub fn version(chance: &mut Chance) -> u64 {
+    *chance.pick(&VERSIONS)
+}
+
 /// The bytes of a file with these slots.
-pub fn file_bytes(b: usize, slots: &[Slot]) -> Vec<u8> {
-    let mut file = vec![0; file_length(b, slots.len())];
-    file[..16].copy_from_slice(&header_bytes(b, slots.len()));
+pub fn file_bytes(version: u64, b: usize, slots: &[Slot]) -> Vec<u8> {
+    let header = Header::new(version, b, slots.len());
+    let mut file = vec![0; header.file_length()];
+    file[..HEADER].copy_from_slice(&header.bytes());
     for (number, slot) in slots.iter().enumerate() {
         if let Slot::Used(bucket) = slot {
-            store(&mut file, b, number, &bucket_bytes(bucket, b));
+            store(&mut file, &header, number, &bucket_bytes(bucket, &header));
         }
     }
     file
 }
 
 /// A sound file with arbitrary bounds, its buckets in any slots.
-pub fn sound_file(chance: &mut Chance, b: usize, slots: usize, used: usize, names: &[Vec<u8>]) -> Vec<u8> {
+pub fn sound_file(chance: &mut Chance, header: Header, used: usize, names: &[Vec<u8>]) -> Vec<u8> {
+    let Header { version, b, slots } = header;
     let mut bounds = BTreeSet::new();
     for _ in 0..used * 10 {
         if bounds.len() + 1 >= used {
@@ -224,13 +275,14 @@ pub fn sound_file(chance: &mut Chance, b: usize, slots: usize, used: usize, name
         all[number] = Slot::Used(Bucket { lower, upper: upper.clone(), entries });
         lower = upper;
     }
-    let file = file_bytes(b, &all);
+    let file = file_bytes(version, b, &all);
     assert!(matches!(kind(&file), Kind::Sound(_)));
     file
 }
 
 /// A sound file with exactly so many strings: each bound has a first digit of its own, so its beginnings are its own.
-pub fn file_with_strings(chance: &mut Chance, b: usize, slots: usize, used: usize, how_many: usize) -> Vec<u8> {
+pub fn file_with_strings(chance: &mut Chance, header: Header, used: usize, how_many: usize) -> Vec<u8> {
+    let Header { version, b, slots } = header;
     let bounds = used - 1;
     assert!(bounds <= how_many && how_many <= bounds * DIGITS && bounds <= 0x7D - 0x21);
     let mut lengths = vec![1; bounds];
@@ -265,7 +317,7 @@ pub fn file_with_strings(chance: &mut Chance, b: usize, slots: usize, used: usiz
         all[number] = Slot::Used(Bucket { lower, upper: upper.clone(), entries });
         lower = upper;
     }
-    let file = file_bytes(b, &all);
+    let file = file_bytes(version, b, &all);
     let Kind::Sound(read) = kind(&file) else { panic!("the file is sound") };
     assert_eq!(strings(&read).len(), how_many);
     file
@@ -280,11 +332,11 @@ pub fn names_near(chance: &mut Chance, file: &[u8]) -> Vec<Vec<u8>> {
         let mut longer = name.clone();
         let mut other = name.clone();
         while longer.len() < DIGITS && chance.percent(70) {
-            longer.push(*chance.pick(&[0x21, 0x61, 0x7D]));
+            longer.push(*chance.pick(&[0x20, 0x21, 0x61, 0x7D]));
         }
         let last = other.len() - 1;
         other[last] = digit(chance);
-        near.extend([name, longer, other]);
+        near.extend([name, named(chance, longer), other]);
     }
     near
 }
@@ -350,8 +402,8 @@ fn shape(
 
 /// Whether a legal name lies above the string `left` and within the string `right`, beside a leaf.
 pub fn has_a_legal_name(left: Option<&Bound>, right: Option<&Bound>) -> bool {
-    // The least name above `left`: its last digit that can be raised is raised, and what is left of a blank inside is
-    // ended by the smallest digit of names.
+    // The least name above `left`: its last digit that can be raised is raised. A name does not begin with a blank, and the
+    // least that begins with none is "!".
     let mut least = left.map_or(vec![0x21], |left| left.0.clone());
     if left.is_some() {
         while least.last() == Some(&0x7D) {
@@ -359,9 +411,8 @@ pub fn has_a_legal_name(left: Option<&Bound>, right: Option<&Bound>) -> bool {
         }
         let Some(last) = least.last_mut() else { return false };
         *last += 1;
-        if let Some(blank) = least.iter().position(|digit| *digit == BLANK) {
-            least.truncate(blank);
-            least.push(0x21);
+        if least[0] == BLANK {
+            least = vec![0x21];
         }
     }
     assert!(is_legal_name(&least));
@@ -387,7 +438,7 @@ pub fn unreached_leaves(trie: &Trie) -> Vec<Place> {
 /// None if no bucket is full or no slot is free.
 pub fn cut_file(chance: &mut Chance, file: &File, names: &[Vec<u8>], nearly: bool) -> Option<Vec<u8>> {
     let full: Vec<usize> =
-        file.used().filter(|(_, bucket)| bucket.entries.len() == file.b).map(|(number, _)| number).collect();
+        file.used().filter(|(_, bucket)| bucket.entries.len() == file.header.b).map(|(number, _)| number).collect();
     let free: Vec<usize> = (0..file.slots.len()).filter(|number| file.slots[*number] == Slot::Free).collect();
     if full.is_empty() || free.is_empty() {
         return None;
@@ -415,7 +466,7 @@ pub fn cut_file(chance: &mut Chance, file: &File, names: &[Vec<u8>], nearly: boo
         let more = entries(chance, names, &copy.lower, &copy.upper, 3);
         let more =
             more.into_iter().find(|entry| kept.value_of(&entry.name).is_none() && copy.value_of(&entry.name).is_none());
-        if let (Some(more), true) = (more, copy.entries.len() < file.b) {
+        if let (Some(more), true) = (more, copy.entries.len() < file.header.b) {
             copy.entries.push(more);
             copy.entries.sort_by_key(|entry| entry.name);
         }
@@ -448,7 +499,7 @@ pub fn cut_file(chance: &mut Chance, file: &File, names: &[Vec<u8>], nearly: boo
     let mut slots = file.slots.clone();
     slots[a] = Slot::Used(kept);
     slots[n] = Slot::Used(copy);
-    Some(file_bytes(file.b, &slots))
+    Some(file_bytes(file.header.version, file.header.b, &slots))
 }
 
 #[cfg(test)]
@@ -458,7 +509,7 @@ mod tests {
     use crate::model::names::{is_in_range, Filled};
     use crate::model::trie::{agrees, rebuilt, walk};
 
-    /// Every name of up to three digits over a few, filled.
+    /// Every legal name of up to three digits over a few, filled.
     fn small_names(alphabet: &[u8]) -> Vec<Filled> {
         let mut all: Vec<Vec<u8>> = vec![Vec::new()];
         let mut last = all.clone();
@@ -469,7 +520,7 @@ mod tests {
                 .collect();
             all.extend(last.clone());
         }
-        all.iter().filter(|name| !name.is_empty()).map(|name| filled(name)).collect()
+        all.iter().filter(|name| is_legal_name(name)).map(|name| filled(name)).collect()
     }
 
     #[test]
@@ -480,7 +531,8 @@ mod tests {
             let pool = names(&mut chance, style, 30);
             let slots = chance.between(1, 12);
             let used = chance.between(1, slots);
-            let file = File::read(&sound_file(&mut chance, 3, slots, used, &pool)).unwrap();
+            let header = Header::new(version(&mut chance), 3, slots);
+            let file = File::read(&sound_file(&mut chance, header, used, &pool)).unwrap();
             assert!(cut_slot(&file).is_none(), "a sound file is not cut");
             // The one bucket that fits a leaf is one.
             let Some(again) = rebuilt(&file) else { continue };
@@ -493,7 +545,7 @@ mod tests {
             for roots in [Roots::First, Roots::Last, Roots::Any, Roots::Any] {
                 let trie = shaped(&mut chance, &file, roots).unwrap();
                 assert!(agrees(&trie, &file) && agrees(&again, &file));
-                for name in pool.iter().map(|name| filled(name)).chain(small_names(&[0x21, 0x61, 0x7D])) {
+                for name in pool.iter().map(|name| filled(name)).chain(small_names(&[0x20, 0x21, 0x61, 0x7D])) {
                     let (slot, _) = file.bucket_of(&name);
                     assert_eq!(walk(&trie, &name, slots).unwrap().slot, slot);
                     assert_eq!(walk(&again, &name, slots).unwrap().slot, slot);
@@ -513,9 +565,11 @@ mod tests {
         assert!(has_a_legal_name(Some(&string(b"r|")), Some(&string(b"r"))));
         assert!(!has_a_legal_name(Some(&string(b"}")), None));
         assert!(has_a_legal_name(Some(&string(b" }")), Some(&string(b"!"))));
-        assert!(!has_a_legal_name(Some(&string(b"a b")), Some(&string(b"a "))));
+        assert!(has_a_legal_name(Some(&string(b"a b")), Some(&string(b"a "))));
+        assert!(!has_a_legal_name(Some(&string(b"a }")), Some(&string(b"a "))));
+        assert!(has_a_legal_name(Some(&string(b"a  ")), Some(&string(b"a "))));
         // The same asked of every name of up to three digits.
-        let alphabet: Vec<u8> = vec![0x21, 0x22, 0x7C, 0x7D];
+        let alphabet: Vec<u8> = vec![0x20, 0x21, 0x22, 0x7C, 0x7D];
         let all = small_names(&alphabet);
         let mut chance = Chance::new(5);
         let mut answers = [0, 0];
@@ -536,13 +590,30 @@ mod tests {
     }
 
     #[test]
+    fn every_style_has_names_with_blanks_inside() {
+        for style in STYLES {
+            let mut found = [false; 3];
+            for seed in 0..60 {
+                let mut chance = Chance::new(seed);
+                for name in names(&mut chance, style, 20) {
+                    assert!(is_legal_name(&name), "{name:?}");
+                    found[name.iter().filter(|digit| **digit == BLANK).count().min(2)] = true;
+                }
+                illegal_name(&mut chance);
+            }
+            assert!(found == [true; 3], "{style:?}: none, one and many blanks: {found:?}");
+        }
+    }
+
+    #[test]
     fn cut_files_are_cut() {
         let mut kinds = [0; 3];
         for seed in 0..2000 {
             let mut chance = Chance::new(seed);
             let style = *chance.pick(&STYLES);
             let pool = names(&mut chance, style, 30);
-            let file = File::read(&sound_file(&mut chance, 2, 6, 3, &pool)).unwrap();
+            let header = Header::new(version(&mut chance), 2, 6);
+            let file = File::read(&sound_file(&mut chance, header, 3, &pool)).unwrap();
             if let Some(bytes) = cut_file(&mut chance, &file, &pool, false) {
                 assert!(matches!(kind(&bytes), Kind::Cut(_)));
             }

@@ -2,8 +2,8 @@
 
 use crate::door::{read_image, Call, Outcome, IMAGE, OUT_AT_ENTRY};
 use crate::make::file_bytes;
-use crate::model::calls::entries_between;
-use crate::model::file::{file_length, Bucket, Entry, File, Slot};
+use crate::model::calls::{self, entries_between, Answer};
+use crate::model::file::{Bucket, Entry, File, Header, Slot, VERSIONS};
 use crate::model::names::{filled, unfilled, Bound};
 use crate::model::trie::{row, strings, walk, Side};
 
@@ -19,8 +19,12 @@ struct Desk<'a> {
 
 impl<'a> Desk<'a> {
     fn new(b: usize, slots: usize, door: Door<'a>) -> Desk<'a> {
-        let file = vec![0x77; file_length(b, slots)];
-        let call = Call::Create { file, version: 1, b: b as u64, slots: slots as u64, trie: vec![0x77; IMAGE] };
+        Desk::of_version(1, b, slots, door)
+    }
+
+    fn of_version(version: u64, b: usize, slots: usize, door: Door<'a>) -> Desk<'a> {
+        let file = vec![0x77; Header::new(version, b, slots).file_length()];
+        let call = Call::Create { file, version, b: b as u64, slots: slots as u64, trie: vec![0x77; IMAGE] };
         let made = door(&call);
         assert_eq!(made.answer, 150);
         assert!(made.trie == [0; IMAGE], "count 0 and first leaf 0");
@@ -142,34 +146,86 @@ pub fn table(file: &[u8]) -> String {
     text
 }
 
+/// Section 12: what the program prints for its input.
+pub fn program(input: &[u8]) -> String {
+    let mut file = vec![0; Header::new(1, 4, 8).file_length()];
+    let (_, mut trie) = calls::create(&mut file, 1, 4, 8);
+    // R12.1: the last line may end without a line feed.
+    let lines = input.strip_suffix(b"\n").unwrap_or(input).split(|byte| *byte == b'\n');
+    for (number, name) in (1..).zip(lines).filter(|_| !input.is_empty()) {
+        if let Answer::Refused(refusal) = calls::put(&mut file, &mut trie, name, number, 2) {
+            return format!("refused {refusal} {number}\n");
+        }
+    }
+    table(&file)
+}
+
 fn strs(texts: &[&str]) -> Vec<String> {
     texts.iter().map(|text| text.to_string()).collect()
 }
 
 /// R14.1: 24 bytes are legal.
 pub fn a_name_of_24_bytes_is_legal(door: Door) {
-    let mut desk = Desk::new(4, 8, door);
-    assert_eq!(desk.put("abcdefghijklmnopqrstuvwx", 5, 2), 110);
-    assert_eq!(desk.look_up(b"abcdefghijklmnopqrstuvwx"), (100, words(&[5, 0])));
+    for version in VERSIONS {
+        let mut desk = Desk::of_version(version, 4, 8, &mut *door);
+        assert_eq!(desk.put("abcdefghijklmnopqrstuvwx", 5, 2), 110);
+        assert_eq!(desk.look_up(b"abcdefghijklmnopqrstuvwx"), (100, words(&[5, 0])));
+    }
 }
 
 /// R14.1: 0 and 25 bytes are illegal.
 pub fn names_of_0_and_25_bytes_are_refused(door: Door) {
-    let mut desk = Desk::new(4, 8, door);
-    for name in [&b""[..], b"abcdefghijklmnopqrstuvwxy"] {
-        assert_eq!(desk.put_all(name, 5, 2), (1, words(&[])));
-        assert_eq!(desk.look_up(name), (1, words(&[])));
+    for version in VERSIONS {
+        let mut desk = Desk::of_version(version, 4, 8, &mut *door);
+        for name in [&b""[..], b"abcdefghijklmnopqrstuvwxy"] {
+            assert_eq!(desk.put_all(name, 5, 2), (1, words(&[])));
+            assert_eq!(desk.look_up(name), (1, words(&[])));
+        }
     }
 }
 
-/// R14.2: 0x7D is legal, 0x7E and 0x20 are not, so "a b" is illegal.
-pub fn digit_7d_is_legal_7e_and_20_are_refused(door: Door) {
-    let mut desk = Desk::new(4, 8, door);
-    assert_eq!(desk.put("}", 5, 2), 110);
-    assert_eq!(desk.look_up(b"}"), (100, words(&[5, 0])));
-    for name in ["~", " ", "a b", "a ", " a"] {
-        assert_eq!(desk.put(name, 5, 2), 1);
-        assert_eq!(desk.look_up(name.as_bytes()).0, 1);
+/// R14.2: 0x7D is legal, 0x7E is not.
+pub fn digit_7d_is_legal_and_7e_is_refused(door: Door) {
+    for version in VERSIONS {
+        let mut desk = Desk::of_version(version, 4, 8, &mut *door);
+        assert_eq!(desk.put("}", 5, 2), 110);
+        assert_eq!(desk.look_up(b"}"), (100, words(&[5, 0])));
+        for name in ["~", "a~", "~a", "a~a"] {
+            assert_eq!(desk.put(name, 5, 2), 1);
+            assert_eq!(desk.look_up(name.as_bytes()), (1, words(&[])));
+        }
+    }
+}
+
+/// R14.2: 0x20 is legal inside a name, so "a b" is legal; a leading or a trailing blank is refused.
+pub fn a_blank_is_legal_inside_a_name_alone(door: Door) {
+    for version in VERSIONS {
+        let mut desk = Desk::of_version(version, 4, 8, &mut *door);
+        for (place, name) in ["a b", "a  b", "GDP real", "a                      b"].iter().enumerate() {
+            assert_eq!(desk.put(name, place as u64, 2), 110);
+            assert_eq!(desk.look_up(name.as_bytes()), (100, words(&[place as u64, 0])));
+        }
+        let file = desk.file.clone();
+        for name in [" ", "a ", " a", "a b ", " a b", "  a", "a  ", "                        "] {
+            assert_eq!(desk.put_all(name.as_bytes(), 5, 2), (1, words(&[])));
+            assert_eq!(desk.look_up(name.as_bytes()), (1, words(&[])));
+            assert_eq!(desk.remove(name, 2), (1, words(&[])));
+            assert_eq!(desk.list(name, "z", 320).answer, 1);
+            assert_eq!(desk.list("a", name, 320).answer, 1);
+        }
+        assert!(desk.file == file);
+        // "a" is the beginning of all but one, and absent.
+        assert_eq!(desk.look_up(b"a"), (101, words(&[])));
+        let listed = desk.list("a  b", "a b", 64);
+        assert_eq!((listed.answer, listed.out), (152, words(&[2])));
+        assert_eq!((&listed.output[..24], &listed.output[32..56]), (&filled(b"a  b")[..], &filled(b"a b")[..]));
+        // A slot whose first name begins with a blank is not well formed, and one whose first name is blank is not.
+        for changed in [&b" b"[..], b" "] {
+            desk.file = file.clone();
+            desk.file[80..80 + 24].copy_from_slice(&filled(changed));
+            assert_eq!(desk.check(), 142);
+            assert_eq!(desk.look_up(b"a b").0, 2);
+        }
     }
 }
 
@@ -179,7 +235,7 @@ pub fn i_is_within_i_blank_and_in_is_within_i(door: Door) {
         let bound = |digits: &str| Bound(digits.as_bytes().to_vec());
         Slot::Used(Bucket { lower: bound(lower), upper: bound(upper), entries: vec![] })
     };
-    let file = file_bytes(4, &[bucket("", "i "), bucket("i ", "i"), bucket("i", "")]);
+    let file = file_bytes(1, 4, &[bucket("", "i "), bucket("i ", "i"), bucket("i", "")]);
     let mut desk = Desk { file, trie: vec![], door };
     assert_eq!(desk.rebuild(), 151);
     desk.add(&["i", "in", "j"]);
@@ -187,6 +243,49 @@ pub fn i_is_within_i_blank_and_in_is_within_i(door: Door) {
     let expected: Vec<_> =
         expected.iter().map(|(slot, l, u, name)| (*slot, l.to_string(), u.to_string(), strs(&[name]))).collect();
     assert_eq!(desk.buckets(), expected);
+}
+
+/// Ranges whose bounds end in blanks: "a  " parts "a" and "a  b" from "a b", and "a " parts "a b" from "a!".
+pub fn ranges_that_end_in_blanks(door: Door) {
+    let bucket = |lower: &str, upper: &str| {
+        let bound = |digits: &str| Bound(digits.as_bytes().to_vec());
+        Slot::Used(Bucket { lower: bound(lower), upper: bound(upper), entries: vec![] })
+    };
+    let bounds = ["", "a  ", "a ", "a", ""];
+    let slots: Vec<Slot> = bounds.windows(2).map(|pair| bucket(pair[0], pair[1])).collect();
+    let mut desk = Desk { file: file_bytes(1, 4, &slots), trie: vec![], door };
+    assert_eq!(desk.rebuild(), 151);
+    // By length: "a" first, then "a " left of it, then "a  " left of that.
+    assert_eq!(desk.cells(), vec![('a', 0, -1, 3), (' ', 1, -2, 2), (' ', 2, 0, 1)]);
+    desk.add(&["a  b", "a b", "a!", "a", "b", "a  !", "a } b", "ab"]);
+    let names = [&["a", "a  !", "a  b"][..], &["a b", "a } b"], &["a!", "ab"], &["b"]];
+    let expected: Vec<_> =
+        (0..4).map(|slot| (slot, bounds[slot].to_string(), bounds[slot + 1].to_string(), strs(names[slot]))).collect();
+    assert_eq!(desk.buckets(), expected);
+}
+
+/// b = 2: split strings of names with blanks. The key "a  b" parts from "a b" at the third digit, which is a blank.
+pub fn split_strings_that_end_in_blanks(door: Door) {
+    let cases: [([&str; 3], &str, usize); 5] = [
+        (["a", "a  b", "a b"], "a  ", 2),
+        (["Z", "a", "a b"], "a  ", 2),
+        (["a", "a b", "a c"], "a b", 2),
+        (["a b", "a!", "ab"], "a!", 2),
+        (["GDP", "GDP nominal", "GDP real"], "GDP n", 2),
+    ];
+    for (names, string, stay) in cases {
+        for turn in 0..3 {
+            let mut put = names;
+            put.rotate_left(turn);
+            let mut desk = Desk::new(2, 4, &mut *door);
+            desk.add(&put);
+            let expected = vec![
+                (0, String::new(), string.to_string(), strs(&names[..stay])),
+                (1, string.to_string(), String::new(), strs(&names[stay..])),
+            ];
+            assert_eq!(desk.buckets(), expected);
+        }
+    }
 }
 
 /// R14.4 to R14.6: a and of the to splits at "o", a and in is of at "i", a and i in is at "i ".
@@ -211,74 +310,80 @@ pub fn split_strings(door: Door) {
 
 /// R14.7: rate1 rate2 rate3 splits at "rate2" and gives five cells; the absent name rb walks to slot 1.
 pub fn rate_gives_five_cells(door: Door) {
-    let mut desk = Desk::new(2, 4, door);
-    desk.add(&["rate1", "rate2", "rate3"]);
-    let expected = vec![
-        (0, String::new(), "rate2".to_string(), strs(&["rate1", "rate2"])),
-        (1, "rate2".to_string(), String::new(), strs(&["rate3"])),
-    ];
-    assert_eq!(desk.buckets(), expected);
-    let cells = vec![('r', 0, -1, 1), ('a', 1, -2, 1), ('t', 2, -3, 1), ('e', 3, -4, 1), ('2', 4, 0, 1)];
-    assert_eq!(desk.cells(), cells);
-    assert_eq!(desk.look_up(b"rb"), (101, words(&[])));
-    assert_eq!(desk.leads_to("rb"), 1);
-    // Rebuilding takes the beginnings too, and gives the same trie here.
-    assert_eq!(desk.rebuild(), 151);
-    assert_eq!(desk.cells(), cells);
+    for version in VERSIONS {
+        let mut desk = Desk::of_version(version, 2, 4, &mut *door);
+        desk.add(&["rate1", "rate2", "rate3"]);
+        let expected = vec![
+            (0, String::new(), "rate2".to_string(), strs(&["rate1", "rate2"])),
+            (1, "rate2".to_string(), String::new(), strs(&["rate3"])),
+        ];
+        assert_eq!(desk.buckets(), expected);
+        let cells = vec![('r', 0, -1, 1), ('a', 1, -2, 1), ('t', 2, -3, 1), ('e', 3, -4, 1), ('2', 4, 0, 1)];
+        assert_eq!(desk.cells(), cells);
+        assert_eq!(desk.look_up(b"rb"), (101, words(&[])));
+        assert_eq!(desk.leads_to("rb"), 1);
+        // Rebuilding takes the beginnings too, and gives the same trie here.
+        assert_eq!(desk.rebuild(), 151);
+        assert_eq!(desk.cells(), cells);
+    }
 }
 
 /// R14.8: razz and rz split slot 1 at "ra", which is a string already: no cell is added.
 pub fn razz_and_rz_add_no_cell(door: Door) {
-    let mut desk = Desk::new(2, 4, door);
-    desk.add(&["rate1", "rate2", "rate3", "razz", "rz"]);
-    let expected = vec![
-        (0, String::new(), "rate2".to_string(), strs(&["rate1", "rate2"])),
-        (1, "rate2".to_string(), "ra".to_string(), strs(&["rate3", "razz"])),
-        (2, "ra".to_string(), String::new(), strs(&["rz"])),
-    ];
-    assert_eq!(desk.buckets(), expected);
-    // Both leaves above "ra" lead to the new slot, not only the one reached.
-    let cells = vec![('r', 0, -1, 2), ('a', 1, -2, 2), ('t', 2, -3, 1), ('e', 3, -4, 1), ('2', 4, 0, 1)];
-    assert_eq!(desk.cells(), cells);
-    for (name, slot) in [("rate2", 0), ("rate3", 1), ("rau", 1), ("rb", 2), ("s", 2), ("}", 2), ("!", 0)] {
-        assert_eq!(desk.leads_to(name), slot, "{name}");
-    }
-    for (place, name) in ["rate1", "rate2", "rate3", "razz", "rz"].iter().enumerate() {
-        assert_eq!(desk.look_up(name.as_bytes()), (100, words(&[place as u64 + 1, 0])));
+    for version in VERSIONS {
+        let mut desk = Desk::of_version(version, 2, 4, &mut *door);
+        desk.add(&["rate1", "rate2", "rate3", "razz", "rz"]);
+        let expected = vec![
+            (0, String::new(), "rate2".to_string(), strs(&["rate1", "rate2"])),
+            (1, "rate2".to_string(), "ra".to_string(), strs(&["rate3", "razz"])),
+            (2, "ra".to_string(), String::new(), strs(&["rz"])),
+        ];
+        assert_eq!(desk.buckets(), expected);
+        // Both leaves above "ra" lead to the new slot, not only the one reached.
+        let cells = vec![('r', 0, -1, 2), ('a', 1, -2, 2), ('t', 2, -3, 1), ('e', 3, -4, 1), ('2', 4, 0, 1)];
+        assert_eq!(desk.cells(), cells);
+        for (name, slot) in [("rate2", 0), ("rate3", 1), ("rau", 1), ("rb", 2), ("s", 2), ("}", 2), ("!", 0)] {
+            assert_eq!(desk.leads_to(name), slot, "{name}");
+        }
+        for (place, name) in ["rate1", "rate2", "rate3", "razz", "rz"].iter().enumerate() {
+            assert_eq!(desk.look_up(name.as_bytes()), (100, words(&[place as u64 + 1, 0])));
+        }
     }
 }
 
 /// R14.9: the last put stopped after one store, and recovered: rz is absent.
 pub fn the_last_put_stopped_after_one_store(door: Door) {
-    let mut desk = Desk::new(2, 4, door);
-    desk.add(&["rate1", "rate2", "rate3", "razz"]);
-    let before = desk.file.clone();
-    let trie = desk.trie.clone();
-    assert_eq!(desk.put_all(b"rz", 5, 0), (112, words(&[0])));
-    assert!(desk.file == before && desk.trie == trie);
-    assert_eq!(desk.put_all(b"rz", 5, 1), (112, words(&[1])));
-    assert!(desk.trie == trie, "the trie is unchanged");
-    let stopped = desk.read();
-    assert!(stopped.bucket(1).upper.is_empty());
-    assert_eq!(stopped.bucket(1).entries.len(), 2, "rate3 and razz are still there");
-    assert_eq!(stopped.bucket(2).entries, [Entry { name: filled(b"rz"), value: 5 }]);
-    assert_eq!(stopped.bucket(2).lower, Bound(b"ra".to_vec()));
-    assert_eq!(desk.check(), 141);
-    // Nobody but recover takes a cut file.
-    assert_eq!(desk.put("zz", 6, 2), 3);
-    assert_eq!(desk.remove("razz", 2).0, 3);
-    assert_eq!(desk.list("a", "z", 320).answer, 3);
-    assert_eq!(desk.rebuild(), 3);
-    assert!(desk.trie == [0; IMAGE], "a refused rebuild gives the trie with count 0 and first leaf 0");
-    assert_eq!(desk.recover(0), (112, words(&[0])));
-    assert_eq!(desk.check(), 141);
-    assert_eq!(desk.recover(1), (130, words(&[2])));
-    assert!(desk.file == before, "recovery keeps the outer bucket");
-    assert_eq!(desk.check(), 140);
-    assert_eq!(desk.recover(0), (131, words(&[])));
-    assert_eq!(desk.rebuild(), 151);
-    assert_eq!(desk.look_up(b"rz"), (101, words(&[])));
-    assert_eq!(desk.look_up(b"razz"), (100, words(&[4, 0])));
+    for version in VERSIONS {
+        let mut desk = Desk::of_version(version, 2, 4, &mut *door);
+        desk.add(&["rate1", "rate2", "rate3", "razz"]);
+        let before = desk.file.clone();
+        let trie = desk.trie.clone();
+        assert_eq!(desk.put_all(b"rz", 5, 0), (112, words(&[0])));
+        assert!(desk.file == before && desk.trie == trie);
+        assert_eq!(desk.put_all(b"rz", 5, 1), (112, words(&[1])));
+        assert!(desk.trie == trie, "the trie is unchanged");
+        let stopped = desk.read();
+        assert!(stopped.bucket(1).upper.is_empty());
+        assert_eq!(stopped.bucket(1).entries.len(), 2, "rate3 and razz are still there");
+        assert_eq!(stopped.bucket(2).entries, [Entry { name: filled(b"rz"), value: 5 }]);
+        assert_eq!(stopped.bucket(2).lower, Bound(b"ra".to_vec()));
+        assert_eq!(desk.check(), 141);
+        // Nobody but recover takes a cut file.
+        assert_eq!(desk.put("zz", 6, 2), 3);
+        assert_eq!(desk.remove("razz", 2).0, 3);
+        assert_eq!(desk.list("a", "z", 320).answer, 3);
+        assert_eq!(desk.rebuild(), 3);
+        assert!(desk.trie == [0; IMAGE], "a refused rebuild gives the trie with count 0 and first leaf 0");
+        assert_eq!(desk.recover(0), (112, words(&[0])));
+        assert_eq!(desk.check(), 141);
+        assert_eq!(desk.recover(1), (130, words(&[2])));
+        assert!(desk.file == before, "recovery keeps the outer bucket");
+        assert_eq!(desk.check(), 140);
+        assert_eq!(desk.recover(0), (131, words(&[])));
+        assert_eq!(desk.rebuild(), 151);
+        assert_eq!(desk.look_up(b"rz"), (101, words(&[])));
+        assert_eq!(desk.look_up(b"razz"), (100, words(&[4, 0])));
+    }
 }
 
 /// The nine words of the program, as it puts them.
@@ -347,78 +452,224 @@ pub fn the_31_words(door: Door) {
     assert_eq!(entries_between(&read, &filled(b"!"), &filled(b"}")).len(), 31);
 }
 
+/// Version 2, R7.3: the string that is the shortest of those at positions m, m - 1 and m + 1 against the last name, and of
+/// equally short ones that of m before that of m - 1. What version 1 splits at stands beside it.
+pub fn shorter_separators(door: Door) {
+    // b, the names, the string of version 1 and how many stay, the same of version 2.
+    type Case<'a> = (usize, &'a [&'a str], (&'a str, usize), (&'a str, usize));
+    let cases: [Case; 9] = [
+        // "of" and "and" give one digit each: a tie.
+        (4, &["a", "and", "of", "the", "to"], ("o", 3), ("o", 3)),
+        (4, &["a", "and", "in", "is", "of"], ("i", 4), ("i", 4)),
+        // "i" gives "i ", "and" gives "a".
+        (4, &["a", "and", "i", "in", "is"], ("i ", 3), ("a", 2)),
+        // b = 2 has the positions 2 and 1: "ab" gives "ab ", "a" gives "a ".
+        (2, &["a", "ab", "abc"], ("ab ", 2), ("a ", 1)),
+        (2, &["rate1", "rate2", "rate3"], ("rate2", 2), ("rate2", 2)),
+        (2, &["q", "rate2", "rate3"], ("rate2", 2), ("q", 1)),
+        // b = 3 has the positions 2, 1 and 3.
+        (3, &["a", "b1", "b2", "b3"], ("b1", 2), ("a", 1)),
+        (3, &["b0", "b1", "b2", "b3"], ("b1", 2), ("b1", 2)),
+        // The key before the middle one, not the first: "b" is at position 3, m is 4.
+        (6, &["a", "aa", "b", "c1", "c2", "c3", "c4"], ("c1", 4), ("b", 3)),
+    ];
+    for (b, names, one, two) in cases {
+        for (version, (string, stay)) in [(1, one), (2, two)] {
+            for turn in 0..names.len() {
+                let mut put = names.to_vec();
+                put.rotate_left(turn);
+                let mut desk = Desk::of_version(version, b, 2, &mut *door);
+                desk.add(&put);
+                let expected = vec![
+                    (0, String::new(), string.to_string(), strs(&names[..stay])),
+                    (1, string.to_string(), String::new(), strs(&names[stay..])),
+                ];
+                assert_eq!(desk.buckets(), expected, "version {version}");
+            }
+        }
+    }
+}
+
+/// The nine words in a file of version 2: the last put splits at "a", where version 1 does at "i ".
+pub fn the_nine_words_in_version_2(door: Door) {
+    let mut desk = Desk::of_version(2, 4, 8, door);
+    desk.add(&NINE);
+    let expected = "slot lower upper entries\n0 - [a] a and\n3 [a] [i] i in is\n2 [i] [o] of\n1 [o] - that the to\n";
+    assert_eq!(table(&desk.file), expected);
+    // Grown: o first, i left of it, a left of that, which was led to by the split key "and".
+    assert_eq!(desk.cells(), vec![('o', 0, -1, 1), ('i', 0, -2, 2), ('a', 0, 0, 3)]);
+    assert_eq!(desk.rebuild(), 151);
+    assert_eq!(desk.cells(), vec![('i', 0, -1, -2), ('a', 0, 0, 3), ('o', 0, 2, 1)]);
+    for (place, word) in NINE.iter().enumerate() {
+        assert_eq!(desk.look_up(word.as_bytes()), (100, words(&[place as u64 + 1, 0])));
+    }
+}
+
+/// The splits of one version are as good as another's: with the other version in the header the file is sound, its trie
+/// agrees, and what is split from then on is split by that version.
+pub fn a_file_with_splits_of_another_version(door: Door) {
+    // that the to tonic top: "to" gives "to ", the key before it gives "th".
+    let by_one = [(1, "o", "to ", &["that", "the", "to"][..]), (4, "to ", "", &["tonic", "top"])];
+    let by_two = [(1, "o", "th", &["that", "the"][..]), (4, "th", "", &["to", "tonic", "top"])];
+    for (from, to, last_two) in [(1, 2, by_two), (2, 1, by_one)] {
+        let mut desk = Desk::of_version(from, 4, 8, &mut *door);
+        desk.add(&NINE);
+        desk.file[3] = to;
+        assert_eq!(desk.check(), 140);
+        assert_eq!(desk.recover(1), (131, words(&[])));
+        for (place, word) in NINE.iter().enumerate() {
+            assert_eq!(desk.look_up(word.as_bytes()), (100, words(&[place as u64 + 1, 0])));
+        }
+        desk.add(&["tonic", "top"]);
+        assert_eq!(desk.file[3], to);
+        let expected: Vec<_> =
+            last_two.iter().map(|(slot, l, u, names)| (*slot, l.to_string(), u.to_string(), strs(names))).collect();
+        assert_eq!(desk.buckets()[3..], expected);
+        assert_eq!(desk.rebuild(), 151);
+        assert_eq!(desk.look_up(b"tonic"), (100, words(&[1, 0])));
+    }
+}
+
 /// Put on a held name, remove, and what stops them.
 pub fn replace_remove_and_stops(door: Door) {
-    let mut desk = Desk::new(4, 8, door);
-    desk.add(&NINE);
-    let (file, trie) = (desk.file.clone(), desk.trie.clone());
-    assert_eq!(desk.put_all(b"of", 77, 0), (112, words(&[0])));
-    assert!(desk.file == file && desk.trie == trie);
-    assert_eq!(desk.put_all(b"of", 77, 1), (111, words(&[2, 0])));
-    assert_eq!(desk.put_all(b"of", 0, 2), (111, words(&[77, 0])));
-    assert_eq!(desk.look_up(b"of"), (100, words(&[0, 0])));
-    assert_eq!(desk.remove("of", 0), (112, words(&[0])));
-    assert_eq!(desk.remove("of", 1), (120, words(&[])));
-    assert_eq!(desk.look_up(b"of"), (101, words(&[])));
-    // R7.10: an emptied bucket keeps its range.
-    assert_eq!(desk.buckets()[2], (2, "i".to_string(), "o".to_string(), vec![]));
-    assert!(desk.trie == trie);
-    // R7.11: an absent name needs no store.
-    assert_eq!(desk.remove("of", 0), (101, words(&[])));
-    assert_eq!(desk.check(), 140);
+    for version in VERSIONS {
+        let mut desk = Desk::of_version(version, 4, 8, &mut *door);
+        desk.add(&NINE);
+        let (file, trie) = (desk.file.clone(), desk.trie.clone());
+        assert_eq!(desk.put_all(b"of", 77, 0), (112, words(&[0])));
+        assert!(desk.file == file && desk.trie == trie);
+        assert_eq!(desk.put_all(b"of", 77, 1), (111, words(&[2, 0])));
+        assert_eq!(desk.put_all(b"of", 0, 2), (111, words(&[77, 0])));
+        assert_eq!(desk.look_up(b"of"), (100, words(&[0, 0])));
+        assert_eq!(desk.remove("of", 0), (112, words(&[0])));
+        assert_eq!(desk.remove("of", 1), (120, words(&[])));
+        assert_eq!(desk.look_up(b"of"), (101, words(&[])));
+        // R7.10: an emptied bucket keeps its range.
+        assert_eq!(desk.buckets()[2], (2, "i".to_string(), "o".to_string(), vec![]));
+        assert!(desk.trie == trie);
+        // R7.11: an absent name needs no store.
+        assert_eq!(desk.remove("of", 0), (101, words(&[])));
+        assert_eq!(desk.check(), 140);
+    }
 }
 
 /// Each refusal of the table by an example.
 pub fn each_refusal_number(door: Door) {
-    let mut desk = Desk::new(2, 2, door);
-    desk.add(&["a", "b", "c"]);
-    let (file, trie) = (desk.file.clone(), desk.trie.clone());
-    assert_eq!(desk.put("a b", 1, 2), 1);
-    assert_eq!(desk.put("x", 1, 3), 8);
-    assert_eq!(desk.put("", 1, 3), 8, "8 stands before 1");
-    // R10.5: slot 0 has a and b, slot 1 has c and then d.
-    assert_eq!(desk.put("d", 4, 2), 110);
-    assert_eq!(desk.put_all(b"e", 5, 2), (5, words(&[])));
-    assert_eq!(desk.put_all(b"e", 5, 0), (5, words(&[])), "a refusal comes before a stop");
-    assert!(desk.trie == trie);
-    // A trie older than its file.
-    desk.trie = vec![0; IMAGE];
-    assert_eq!(desk.put("a", 1, 2), 4);
-    assert_eq!(desk.remove("zz", 2).0, 4);
-    assert_eq!(desk.list("a", "z", 320).answer, 4);
-    assert_eq!(desk.look_up(b"a").0, 100);
-    assert_eq!(desk.look_up(b"d").0, 4);
-    desk.trie = trie.clone();
-    desk.file = file;
-    let short = desk.list("a", "c", 95);
-    assert_eq!((short.answer, short.out), (7, words(&[])));
-    assert!(short.output == [0x55; 95]);
-    assert_eq!(desk.list("a", "c", 96).answer, 152);
-    let none = desk.list("c", "a", 0);
-    assert_eq!((none.answer, none.out), (152, words(&[0])));
-    // Every bit of the header counts.
-    for place in 0..16 {
-        let right = desk.file.clone();
-        desk.file[place] ^= 0x40;
-        assert_eq!(desk.check(), 142);
-        assert_eq!(desk.put("x", 1, 2), 2);
-        assert_eq!(desk.remove("x", 2).0, 2);
-        assert_eq!(desk.list("x", "y", 0).answer, 2);
-        assert_eq!(desk.look_up(b"x").0, 2);
-        assert_eq!(desk.recover(2).0, 2);
-        assert_eq!(desk.rebuild(), 2);
+    for version in VERSIONS {
+        let mut desk = Desk::of_version(version, 2, 2, &mut *door);
+        desk.add(&["a", "b", "c"]);
+        let (file, trie) = (desk.file.clone(), desk.trie.clone());
+        assert_eq!(desk.put("a ", 1, 2), 1);
+        assert_eq!(desk.put("x", 1, 3), 8);
+        assert_eq!(desk.put("", 1, 3), 8, "8 stands before 1");
+        // R10.5: slot 0 has a and b, slot 1 has c and then d.
+        assert_eq!(desk.put("d", 4, 2), 110);
+        assert_eq!(desk.put_all(b"e", 5, 2), (5, words(&[])));
+        assert_eq!(desk.put_all(b"e", 5, 0), (5, words(&[])), "a refusal comes before a stop");
+        assert!(desk.trie == trie);
+        // A trie older than its file.
+        desk.trie = vec![0; IMAGE];
+        assert_eq!(desk.put_all(b"a", 1, 2), (4, words(&[255])));
+        assert_eq!(desk.remove("zz", 2), (4, words(&[255])));
+        let refused = desk.list("a", "z", 320);
+        assert_eq!((refused.answer, refused.out), (4, words(&[255])));
+        assert_eq!(desk.look_up(b"a").0, 100);
+        // It leads d to slot 0, whose upper bound is "b".
+        assert_eq!(desk.look_up(b"d"), (4, words(&[0])));
         desk.trie = trie.clone();
-        desk.file = right;
+        desk.file = file;
+        let short = desk.list("a", "c", 95);
+        assert_eq!((short.answer, short.out), (7, words(&[])));
+        assert!(short.output == [0x55; 95]);
+        assert_eq!(desk.list("a", "c", 96).answer, 152);
+        let none = desk.list("c", "a", 0);
+        assert_eq!((none.answer, none.out), (152, words(&[0])));
+        // Every bit of the header counts.
+        for place in 0..16 {
+            let right = desk.file.clone();
+            desk.file[place] ^= 0x40;
+            assert_eq!(desk.check(), 142);
+            assert_eq!(desk.put("x", 1, 2), 2);
+            assert_eq!(desk.remove("x", 2).0, 2);
+            assert_eq!(desk.list("x", "y", 0).answer, 2);
+            assert_eq!(desk.look_up(b"x").0, 2);
+            assert_eq!(desk.recover(2).0, 2);
+            assert_eq!(desk.rebuild(), 2);
+            desk.trie = trie.clone();
+            desk.file = right;
+        }
+        assert_eq!(desk.recover(3).0, 8);
+        for (version, b, slots, length) in [
+            (1, 1, 2, 208),
+            (1, 17, 2, 1232),
+            (1, 2, 0, 16),
+            (1, 2, 65, 8336),
+            (1, 2, 2, 271),
+            (2, 2, 2, 271),
+            (0, 2, 2, 272),
+        ]
+        .into_iter()
+        .chain([3, 4, 256, 257, 258, 1 << 32 | 1, u64::MAX].map(|version| (version, 2, 2, 272)))
+        {
+            let call = Call::Create { file: vec![9; length], version, b, slots, trie: vec![9; IMAGE] };
+            let outcome = (desk.door)(&call);
+            assert_eq!(outcome.answer, 8);
+            assert!(outcome.file.iter().all(|byte| *byte == 9) && outcome.trie == [0; IMAGE]);
+        }
     }
-    assert_eq!(desk.recover(3).0, 8);
-    for (version, b, slots, length) in
-        [(1, 1, 2, 208), (1, 17, 2, 1232), (1, 2, 0, 16), (1, 2, 65, 8336), (1, 2, 2, 271), (2, 2, 2, 272)]
-    {
-        let call = Call::Create { file: vec![9; length], version, b, slots, trie: vec![9; IMAGE] };
-        let outcome = (desk.door)(&call);
-        assert_eq!(outcome.answer, 8);
-        assert!(outcome.file.iter().all(|byte| *byte == 9) && outcome.trie == [0; IMAGE]);
+}
+
+/// Where a name left the range: R11.10 carries the digit number for the bound that was broken, every other refusal 4 has 255.
+pub fn where_a_name_left_the_range(door: Door) {
+    let digits = b"abcdefghijklmnopqrstuvwx";
+    let bound = Bound(digits.to_vec());
+    let bucket = |lower: &Bound, upper: &Bound| {
+        Slot::Used(Bucket { lower: lower.clone(), upper: upper.clone(), entries: vec![] })
+    };
+    let none = Bound::empty();
+    let file = file_bytes(1, 2, &[bucket(&none, &bound), bucket(&bound, &none), Slot::Free]);
+    let mut desk = Desk { file, trie: vec![0; IMAGE], door };
+    for number in 0..24 {
+        let mut name = *digits;
+        // Above the upper bound of slot 0, to which the trie with count 0 leads every name. Later digits do not matter.
+        name[number] += 1;
+        desk.trie[2] = 0;
+        assert_eq!(desk.look_up(&name), (4, words(&[number as u64])));
+        assert_eq!(desk.look_up(&name[..=number]), (4, words(&[number as u64])));
+        // Below the lower bound of slot 1.
+        name[number] -= 2;
+        desk.trie[2] = 1;
+        assert_eq!(desk.look_up(&name), (4, words(&[number as u64])));
+        assert_eq!(desk.look_up(&name[..=number]), (4, words(&[number as u64])));
+        // A beginning of the lower bound differs from it where the filling begins.
+        if number > 0 {
+            assert_eq!(desk.look_up(&digits[..number]), (4, words(&[number as u64])));
+        }
     }
+    // Equal to the whole lower bound: its length.
+    assert_eq!(desk.look_up(digits), (4, words(&[24])));
+    desk.trie[2] = 0;
+    assert_eq!(desk.look_up(digits), (101, words(&[])));
+    // A free slot, no slot at all, a cell past the count, a count above 256.
+    for (count, first_leaf) in [(0, 2), (0, 3), (0, 64), (1, 0), (257, 0)] {
+        desk.trie[..2].copy_from_slice(&u16::to_le_bytes(count));
+        desk.trie[2] = first_leaf;
+        // The right side of cell 0, whose digit is 0.
+        desk.trie[8..10].copy_from_slice(&i16::to_le_bytes(-1));
+        assert_eq!(desk.look_up(b"a"), (4, words(&[255])), "count {count}, first leaf {first_leaf}");
+        assert_eq!(desk.put_all(b"a", 1, 2), (4, words(&[255])));
+        assert_eq!(desk.put_all(b"a", 1, 0), (4, words(&[255])));
+        assert_eq!(desk.remove("a", 2), (4, words(&[255])));
+        let refused = desk.list("a", "b", 32);
+        assert_eq!((refused.answer, refused.out), (4, words(&[255])));
+    }
+    // Put, remove and list have 255 also where a lookup with the same trie has a number.
+    desk.trie = vec![0; IMAGE];
+    assert_eq!(desk.look_up(b"z"), (4, words(&[0])));
+    assert_eq!(desk.put_all(b"z", 1, 2), (4, words(&[255])));
+    assert_eq!(desk.remove("z", 2), (4, words(&[255])));
+    let refused = desk.list("z", "z", 0);
+    assert_eq!((refused.answer, refused.out), (4, words(&[255])));
 }
 
 /// R10.6: 256 strings pass, 257 do not.
@@ -461,7 +712,10 @@ macro_rules! every_situation {
         $crate::every_situation!(@ $show,
             a_name_of_24_bytes_is_legal
             names_of_0_and_25_bytes_are_refused
-            digit_7d_is_legal_7e_and_20_are_refused
+            digit_7d_is_legal_and_7e_is_refused
+            a_blank_is_legal_inside_a_name_alone
+            ranges_that_end_in_blanks
+            split_strings_that_end_in_blanks
             i_is_within_i_blank_and_in_is_within_i
             split_strings
             rate_gives_five_cells
@@ -470,8 +724,12 @@ macro_rules! every_situation {
             the_nine_words_and_the_table
             the_nine_words_rebuilt
             the_31_words
+            shorter_separators
+            the_nine_words_in_version_2
+            a_file_with_splits_of_another_version
             replace_remove_and_stops
             each_refusal_number
+            where_a_name_left_the_range
             strings_fill_the_trie
         );
     };
@@ -485,7 +743,7 @@ macro_rules! every_situation {
 
 #[cfg(test)]
 mod tests {
-    use super::Door;
+    use super::{program, Door};
     use crate::door::by_model;
 
     fn show(situation: fn(Door)) {
@@ -493,4 +751,17 @@ mod tests {
     }
 
     crate::every_situation!(show);
+
+    /// What stands beside each input of `program/` is what the model prints.
+    #[test]
+    fn the_outputs_of_the_program() {
+        let folder = concat!(env!("CARGO_MANIFEST_DIR"), "/program");
+        let inputs = std::fs::read_dir(folder).expect("the folder is there").map(|file| file.expect("a file").path());
+        let inputs: Vec<_> = inputs.filter(|path| path.extension().is_some_and(|end| end == "in")).collect();
+        assert!(inputs.len() > 10);
+        for input in inputs {
+            let output = std::fs::read_to_string(input.with_extension("out")).expect("there is an output");
+            assert_eq!(program(&std::fs::read(&input).expect("the input can be read")), output, "{}", input.display());
+        }
+    }
 }

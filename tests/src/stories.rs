@@ -5,10 +5,10 @@ use crate::chance::Chance;
 use crate::damage::{damaged_file, damaged_trie, unreached_leaf_changed};
 use crate::door::{read_image, write_image, Call, Outcome, IMAGE};
 use crate::make::{self, cut_file, shaped, sound_file, value, Roots, STYLES};
-use crate::model::calls::{entries_between, split};
-use crate::model::file::{file_length, header, kind, Entry, File, Kind};
-use crate::model::names::{filled, is_legal_name, DIGITS};
-use crate::model::trie::{agrees, rebuilt, strings, strings_of, Side, CELLS};
+use crate::model::calls::{entries_between, split, split_positions, split_string};
+use crate::model::file::{header, kind, read_slot, slot_bytes, Bucket, Entry, File, Header, Kind, Slot};
+use crate::model::names::{filled, is_legal_name, is_within, unfilled, Bound, Filled, BLANK, DIGITS};
+use crate::model::trie::{agrees, rebuilt, strings, strings_of, walk, Side, CELLS};
 use crate::run::Run;
 
 /// The sizes of a story, each from the first to the second number.
@@ -41,6 +41,20 @@ pub const SITUATIONS: &[&str] = &[
     "a split of a trie that is neither grown nor rebuilt",
     "a split into a slot below a used one",
     "a split into slot 63",
+    "a split in a file of version 1",
+    "a split in a file of version 2",
+    "a split by the key before the middle one",
+    "a split by the key before the middle one, b = 2",
+    "a tie of two split strings, which the middle key wins",
+    "a tie of two split strings, which the middle key wins, b = 2",
+    "a sound file with the splits of another version",
+    "a split string that ends in a blank",
+    "a split string that ends in several blanks",
+    "a split string with a blank inside",
+    "a split of names with a blank inside",
+    "a list from or to a name with a blank inside",
+    "an illegal name with a blank first",
+    "an illegal name with a blank last",
     "a list of 1024 entries",
     "a split stopped after one store, the new name moved",
     "a split stopped after one store, the new name stayed",
@@ -51,6 +65,11 @@ pub const SITUATIONS: &[&str] = &[
     "a sound file with more than 256 strings, a lookup that answers",
     "a stale trie that answers a lookup",
     "a stale trie that is refused by a lookup",
+    "a lookup refused 4 by its walk",
+    "a lookup refused 4 by a free slot",
+    "a lookup refused 4 below the lower bound",
+    "a lookup refused 4 at the whole lower bound",
+    "a lookup refused 4 above the upper bound",
     "a digit number above 23 on a path of 24 digits",
     "a walk that meets a cell twice",
     "a lookup that answers in a cut file",
@@ -104,8 +123,9 @@ pub fn tell_history(seed: u64, run: &mut Run, profile: &Profile) {
     }
     let dirt = chance.byte();
     let trie = vec![dirt; IMAGE];
-    let file = vec![dirt; file_length(b, slots)];
-    let made = run.call(Call::Create { file, version: 1, b: b as u64, slots: slots as u64, trie });
+    let header = Header::new(make::version(&mut chance), b, slots);
+    let file = vec![dirt; header.file_length()];
+    let made = run.call(Call::Create { file, version: header.version, b: b as u64, slots: slots as u64, trie });
     let changes = chance.between(profile.changes.0, profile.changes.1);
     let mut story =
         Story { chance, run, names, file: made.file, trie: made.trie, old_tries: Vec::new(), puts: profile.puts };
@@ -130,7 +150,8 @@ pub fn tell_built(seed: u64, run: &mut Run, profile: &Profile) {
     let style = *chance.pick(&STYLES);
     let how_many = chance.between(profile.names.0, profile.names.1);
     let mut names = make::names(&mut chance, style, how_many);
-    let file = sound_file(&mut chance, b, slots, used, &names);
+    let header = Header::new(make::version(&mut chance), b, slots);
+    let file = sound_file(&mut chance, header, used, &names);
     names.extend(make::names_near(&mut chance, &file));
     tell_of_file(chance, run, profile, file, names);
 }
@@ -142,7 +163,8 @@ pub fn tell_brim(seed: u64, run: &mut Run, profile: &Profile) {
     let slots = if chance.percent(40) { 64 } else { chance.between(profile.slots.0, profile.slots.1) };
     let used = *chance.pick(&[slots, slots - 1, slots - 1, slots - 2]);
     let how_many = *chance.pick(&[200, 240, 250, 254, 255, 256, 256, 257, 280]);
-    let file = make::file_with_strings(&mut chance, b, slots, used, how_many);
+    let header = Header::new(make::version(&mut chance), b, slots);
+    let file = make::file_with_strings(&mut chance, header, used, how_many);
     let names = make::names_near(&mut chance, &file);
     tell_of_file(chance, run, profile, file, names);
 }
@@ -230,6 +252,11 @@ impl Story<'_> {
     fn beside(&mut self) {
         let file = self.some_file();
         let kind = self.run.call(Call::Check { file: file.clone() }).answer;
+        if kind == SOUND
+            && header(&file).map(|header| header.version) != header(&self.file).map(|header| header.version)
+        {
+            mark("a sound file with the splits of another version");
+        }
         for _ in 0..self.chance.between(1, 4) {
             let trie = self.some_trie(&file);
             self.some_call(&file, kind, trie);
@@ -283,7 +310,7 @@ impl Story<'_> {
         }
     }
 
-    /// Mostly a name of the story, sometimes one close to it, sometimes an illegal one.
+    /// Mostly a name of the story, sometimes one close to it, which may be illegal, sometimes an illegal one.
     fn some_name(&mut self) -> Vec<u8> {
         let chance = &mut self.chance;
         let mut name = chance.pick(&self.names).clone();
@@ -291,13 +318,18 @@ impl Story<'_> {
             0..=74 => name,
             75..=91 => {
                 match chance.below(4) {
-                    0 if name.len() < DIGITS => name.push(*chance.pick(&[0x21, 0x61, 0x7D])),
+                    0 if name.len() < DIGITS => {
+                        if chance.percent(30) && name.len() + 1 < DIGITS {
+                            name.push(BLANK);
+                        }
+                        name.push(*chance.pick(&[0x21, 0x61, 0x7D]));
+                    }
                     1 if name.len() > 1 => {
                         name.pop();
                     }
                     2 => {
                         let place = chance.below(name.len());
-                        name[place] = chance.between(0x21, 0x7D) as u8;
+                        name[place] = if chance.percent(25) { BLANK } else { chance.between(0x21, 0x7D) as u8 };
                     }
                     _ => {
                         let length = *chance.pick(&[1, 1, 24]);
@@ -396,6 +428,9 @@ impl Story<'_> {
         let output = vec![self.chance.byte(); length];
         let call = Call::List { file: file.to_vec(), trie, first: first.clone(), second: second.clone(), output };
         let outcome = self.run.call(call);
+        if outcome.answer == 152 && entries > 0 && (first.contains(&BLANK) || second.contains(&BLANK)) {
+            mark("a list from or to a name with a blank inside");
+        }
         match outcome.answer {
             152 if entries > 0 && length == exactly => mark("a list into an output that is exactly long enough"),
             152 if filled(&first) > filled(&second) => mark("a list whose first name is above its second"),
@@ -414,15 +449,15 @@ impl Story<'_> {
         let name = self.chance.pick(&self.names).clone();
         let (f, t, n) = (file.clone(), trie.clone(), name.clone());
         let outcome = self.run.call(Call::Put { file: f, trie: t, name: n, value: 1, run: 0, limit: 2 });
-        assert_eq!(outcome.answer, 4);
+        assert_eq!((outcome.answer, outcome.out[0]), (4, 255));
         mark("a leaf that no legal name reaches was changed, put refuses");
         let (f, t, n) = (file.clone(), trie.clone(), name.clone());
         let outcome = self.run.call(Call::Remove { file: f, trie: t, name: n, limit: 2 });
-        assert_eq!(outcome.answer, 4);
+        assert_eq!((outcome.answer, outcome.out[0]), (4, 255));
         mark("a leaf that no legal name reaches was changed, remove refuses");
         let (f, t, n) = (file.clone(), trie.clone(), name.clone());
         let outcome = self.run.call(Call::List { file: f, trie: t, first: n.clone(), second: n, output: vec![0; 32] });
-        assert_eq!(outcome.answer, 4);
+        assert_eq!((outcome.answer, outcome.out[0]), (4, 255));
         mark("a leaf that no legal name reaches was changed, list refuses");
         let outcome = self.run.call(Call::Lookup { file, trie, name });
         assert!(outcome.answer == 100 || outcome.answer == 101);
@@ -458,17 +493,57 @@ fn mark_growth(before: &[u8], after: &[u8], file: &[u8], file_after: &[u8]) {
         mark("a split that leads two or more old leaves to the new slot");
     }
     let (Some(old), Some(new)) = (File::read(file), File::read(file_after)) else { return };
-    let new_slot = new.used().map(|(slot, _)| slot).find(|slot| old.used().all(|(used, _)| used != *slot));
-    if old.used().any(|(used, _)| new_slot.is_some_and(|new| new < used)) {
+    let new_slot = new.used().find(|(slot, _)| old.used().all(|(used, _)| used != *slot));
+    let Some((new_slot, bucket)) = new_slot else { return };
+    if old.used().any(|(used, _)| new_slot < used) {
         mark("a split into a slot below a used one");
     }
-    if new_slot == Some(63) {
+    if new_slot == 63 {
         mark("a split into slot 63");
+    }
+    // The split string is the new bucket's lower bound.
+    mark_keys(&new, bucket);
+    let string = &bucket.lower.0;
+    let before_blanks = unfilled(string);
+    match string.len() - before_blanks.len() {
+        0 => {}
+        1 => mark("a split string that ends in a blank"),
+        _ => mark("a split string that ends in several blanks"),
+    }
+    if before_blanks.contains(&BLANK) {
+        mark("a split string with a blank inside");
+    }
+    if bucket.entries.iter().any(|entry| unfilled(&entry.name).contains(&BLANK)) {
+        mark("a split of names with a blank inside");
+    }
+}
+
+/// Notes which split key of a version was taken. The file has just been split, and the new bucket has the upper part.
+fn mark_keys(file: &File, upper: &Bucket) {
+    let Header { version, b, .. } = file.header;
+    mark(if version == 1 { "a split in a file of version 1" } else { "a split in a file of version 2" });
+    let (_, lower) = file.used().find(|(_, bucket)| bucket.upper == upper.lower).expect("there is a lower part");
+    let names: Vec<&Filled> = lower.entries.iter().chain(&upper.entries).map(|entry| &entry.name).collect();
+    let strings: Vec<Bound> =
+        split_positions(version, b).iter().map(|position| split_string(names[position - 1], names[b])).collect();
+    if strings.len() > 1 && strings[1].len() < strings[0].len() {
+        mark("a split by the key before the middle one");
+        if b == 2 {
+            mark("a split by the key before the middle one, b = 2");
+        }
+    } else if strings.len() > 1 && strings[1].len() == strings[0].len() && strings[1] != strings[0] {
+        mark("a tie of two split strings, which the middle key wins");
+        if b == 2 {
+            mark("a tie of two split strings, which the middle key wins, b = 2");
+        }
     }
 }
 
 fn mark_lookup(file: &[u8], kind: u64, trie: &[u8], name: &[u8], outcome: &Outcome) {
     let answers = outcome.answer == 100 || outcome.answer == 101;
+    if outcome.answer == 4 {
+        mark_stale(file, trie, name);
+    }
     match kind {
         CUT if answers => mark("a lookup that answers in a cut file"),
         BAD if answers => mark("a lookup that answers in a bad file"),
@@ -496,17 +571,35 @@ fn mark_lookup(file: &[u8], kind: u64, trie: &[u8], name: &[u8], outcome: &Outco
     }
 }
 
+/// Notes for which cause a lookup was refused with 4.
+fn mark_stale(file: &[u8], trie: &[u8], name: &[u8]) {
+    let header = header(file).expect("2 stands before 4");
+    let name = filled(name);
+    let Some(leaf) = walk(&read_image(trie), &name, header.slots) else {
+        return mark("a lookup refused 4 by its walk");
+    };
+    match read_slot(slot_bytes(file, &header, leaf.slot), &header) {
+        Slot::Free => mark("a lookup refused 4 by a free slot"),
+        Slot::Used(bucket) if !is_within(&name, &bucket.upper) => mark("a lookup refused 4 above the upper bound"),
+        Slot::Used(bucket) if name.starts_with(&bucket.lower.0) => mark("a lookup refused 4 at the whole lower bound"),
+        _ => mark("a lookup refused 4 below the lower bound"),
+    }
+}
+
 /// Notes which causes of refusal held together with the one that was given.
 fn mark_order(limit: u64, name: &[u8], kind: u64, file: &[u8], trie: &[u8], answer: u64) {
     let illegal = !is_legal_name(name);
     let stale = || {
         trie.len() == IMAGE
-            && header(file).is_some_and(|(_, slots)| {
+            && header(file).is_some_and(|header| {
                 // A count above 256 or a first leaf that is no slot agrees with no file at all.
                 let trie = read_image(trie);
-                trie.count > CELLS || (trie.count > 0 && trie.first_leaf > 0) || trie.first_leaf >= slots
+                trie.count > CELLS || (trie.count > 0 && trie.first_leaf > 0) || trie.first_leaf >= header.slots
             })
     };
+    if answer == 1 && (1..=DIGITS).contains(&name.len()) && name.iter().all(|byte| (0x20..=0x7D).contains(byte)) {
+        mark(if name[0] == BLANK { "an illegal name with a blank first" } else { "an illegal name with a blank last" });
+    }
     match answer {
         8 if illegal => mark("8 stands before 1"),
         8 if limit > 2 && kind == BAD => mark("8 stands before 2"),
@@ -520,7 +613,7 @@ fn mark_order(limit: u64, name: &[u8], kind: u64, file: &[u8], trie: &[u8], answ
         4 | 5 => {
             let file = File::read(file).unwrap();
             let (_, bucket) = file.bucket_of(&filled(name));
-            let splits = bucket.entries.len() == file.b && bucket.value_of(&filled(name)).is_none();
+            let splits = bucket.entries.len() == file.header.b && bucket.value_of(&filled(name)).is_none();
             let full = file.used().count() == file.slots.len();
             if answer == 4 && splits && full {
                 mark("4 stands before 5");
@@ -541,6 +634,6 @@ fn strings_after_a_split(file: &File, name: &[u8]) -> usize {
     entries.push(Entry { name, value: 0 });
     entries.sort_by_key(|entry| entry.name);
     let mut after = strings(file);
-    after.extend(strings_of([&split(&entries).string].into_iter()));
+    after.extend(strings_of([&split(file.header.version, &entries).string].into_iter()));
     after.len()
 }

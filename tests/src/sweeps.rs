@@ -1,11 +1,13 @@
 //! Sweeps: every value of something, where random choices might miss one.
 
+use std::collections::BTreeSet;
+
 use crate::answers::mark;
 use crate::chance::Chance;
 use crate::door::{write_image, Call, IMAGE};
-use crate::make::{file_bytes, sound_file};
-use crate::model::file::{file_length, Bucket, Entry, File, Slot};
-use crate::model::names::{filled, is_in_range, Bound};
+use crate::make::{self, file_bytes, sound_file};
+use crate::model::file::{Bucket, Entry, File, Header, Slot, VERSIONS};
+use crate::model::names::{filled, is_in_range, is_legal_name, Bound};
 use crate::model::trie::{rebuilt, Cell, Side, Trie, CELLS};
 use crate::run::Run;
 
@@ -27,13 +29,14 @@ fn image_of(file: &[u8]) -> Vec<u8> {
 }
 
 /// A sound file with two buckets and a free slot.
-fn small_sound() -> Vec<u8> {
-    file_bytes(2, &[bucket("", "h", &[("a", 7), ("gold", 8)]), Slot::Free, bucket("h", "", &[("i", 9)])])
+fn small_sound(version: u64) -> Vec<u8> {
+    file_bytes(version, 2, &[bucket("", "h", &[("a", 7), ("gold", 8)]), Slot::Free, bucket("h", "", &[("i", 9)])])
 }
 
 /// The same file while a put of "cc" is stopped after its first store.
-fn small_cut() -> Vec<u8> {
+fn small_cut(version: u64) -> Vec<u8> {
     file_bytes(
+        version,
         2,
         &[bucket("", "h", &[("a", 7), ("gold", 8)]), bucket("c", "h", &[("gold", 8)]), bucket("h", "", &[("i", 9)])],
     )
@@ -46,33 +49,37 @@ pub fn create_arguments(_: u64, run: &mut Run) {
         let file = vec![0xEE; length];
         run.call(Call::Create { file, version, b, slots, trie: vec![0xDD; IMAGE] });
     };
-    for b in (0..=20).chain(big) {
-        for slots in (0..=66).chain(big) {
-            // The length that would belong to it, if it is not out of all reason.
-            let slot = b.wrapping_mul(32).wrapping_add(64);
-            let length = (slots.wrapping_mul(slot).wrapping_add(16) % (1 << 16)) as usize;
-            create(run, length, 1, b, slots);
-            if slots % 5 == 0 || slots > 60 || b > 14 {
-                create(run, length + 1, 1, b, slots);
-                create(run, length.saturating_sub(1), 1, b, slots);
+    for version in VERSIONS {
+        for b in (0..=20).chain(big) {
+            for slots in (0..=66).chain(big) {
+                // The length that would belong to it, if it is not out of all reason.
+                let slot = b.wrapping_mul(32).wrapping_add(64);
+                let length = (slots.wrapping_mul(slot).wrapping_add(16) % (1 << 16)) as usize;
+                create(run, length, version, b, slots);
+                if slots % 5 == 0 || slots > 60 || b > 14 {
+                    create(run, length + 1, version, b, slots);
+                    create(run, length.saturating_sub(1), version, b, slots);
+                }
             }
         }
-    }
-    for version in [0, 1, 2, 3, 4, 255, 256, 257, (1 << 16) | 1, (1 << 32) | 1, u64::MAX] {
-        for (b, slots) in [(2, 1), (4, 8), (16, 64), (1, 8), (4, 0)] {
-            create(run, file_length(b, slots), version, b as u64, slots as u64);
+        for length in [0, 1, 15, 16, 17, 100] {
+            create(run, length, version, 4, 8);
+            create(run, length, version, 0, 0);
         }
     }
-    for length in [0, 1, 15, 16, 17, 100] {
-        create(run, length, 1, 4, 8);
-        create(run, length, 1, 0, 0);
+    let far = [1 << 16, 1 << 32, 1 << 63].into_iter().flat_map(|far| VERSIONS.map(|version| far | version));
+    for version in (0..=5).chain([255, 256, 257, 258, 259, 512, 513, u64::MAX]).chain(far) {
+        for (b, slots) in [(2, 1), (4, 8), (16, 64), (1, 8), (4, 0)] {
+            create(run, Header::new(version, b, slots).file_length(), version, b as u64, slots as u64);
+        }
     }
     for length in [0, 1, 2, 4, 1539, 1541, IMAGE + 256, 3080, IMAGE + 65_536] {
         let trie = vec![0xDD; length];
         for b in [4, 99] {
-            run.call(Call::Create { file: vec![0xEE; file_length(4, 8)], version: 1, b, slots: 8, trie: trie.clone() });
+            let file = vec![0xEE; Header::new(1, 4, 8).file_length()];
+            run.call(Call::Create { file, version: 1, b, slots: 8, trie: trie.clone() });
         }
-        for file in [small_sound(), small_cut(), vec![]] {
+        for file in [small_sound(1), small_cut(1), vec![]] {
             run.call(Call::Rebuild { file, trie: trie.clone() });
         }
     }
@@ -80,47 +87,50 @@ pub fn create_arguments(_: u64, run: &mut Run) {
 
 /// Files whose header says any b, slots and version, with the length that belongs to it.
 pub fn headers(_: u64, run: &mut Run) {
-    let with_header = |b: usize, slots: usize, version: [u8; 2]| {
-        let mut file = vec![0; file_length(b, slots)];
-        file[..3].copy_from_slice(b"TKF");
-        file[3..5].copy_from_slice(&version);
-        file[5] = b as u8;
-        file[6] = slots as u8;
+    let with_header = |version: u64, b: usize, slots: usize| {
+        let header = Header::new(version, b, slots);
+        let mut file = vec![0; header.file_length()];
+        file[..16].copy_from_slice(&header.bytes());
         if slots > 0 {
             file[16] = 1;
         }
         file
     };
-    for b in (0..=20).chain([32, 128, 255]) {
-        for slots in (0..=5).chain([31, 32, 63, 64, 65, 66, 127, 128, 255]) {
-            all_calls(run, &with_header(b, slots, [1, 0]), &[0; IMAGE]);
+    for version in VERSIONS {
+        for b in (0..=20).chain([32, 128, 255]) {
+            for slots in (0..=5).chain([31, 32, 63, 64, 65, 66, 127, 128, 255]) {
+                all_calls(run, &with_header(version, b, slots), &[0; IMAGE]);
+            }
         }
     }
-    for version in [[0, 0], [1, 0], [2, 0], [3, 0], [255, 0], [0, 1], [1, 1], [1, 255]] {
-        all_calls(run, &with_header(4, 3, version), &[0; IMAGE]);
+    // 257 has 1 in both bytes.
+    for version in (0..=5).chain([255, 256, 257, 258, 259, 512, 513, 514, 0xFF01, 0xFFFF]) {
+        all_calls(run, &with_header(version, 4, 3), &[0; IMAGE]);
     }
 }
 
 /// Every byte at every place of names of every length, and lengths far too great.
 pub fn bytes_of_a_name(_: u64, run: &mut Run) {
-    let file = small_sound();
-    let trie = image_of(&file);
+    let files = VERSIONS.map(small_sound);
+    let trie = image_of(&files[0]);
     for length in 1..=25 {
+        let file = &files[length % files.len()];
         for place in 0..length {
             for byte in 0..=255 {
                 let mut name = vec![b'g'; length];
                 name[place] = byte;
                 run.call(Call::Lookup { file: file.clone(), trie: trie.clone(), name: name.clone() });
                 if EDGES.contains(&byte) {
-                    all_with_name(run, &file, &trie, &name);
+                    all_with_name(run, file, &trie, &name);
                 }
             }
         }
     }
     for length in (0..=2).chain(23..=300).chain([511, 512, 513, 65_535, 65_536, 65_537, 65_560]) {
         let name = vec![b'g'; length];
+        let file = &files[length % files.len()];
         run.call(Call::Lookup { file: file.clone(), trie: trie.clone(), name: name.clone() });
-        all_with_name(run, &file, &trie, &name);
+        all_with_name(run, file, &trie, &name);
     }
 }
 
@@ -139,8 +149,9 @@ const EDGES: [u8; 11] = [0x00, 0x01, 0x1F, 0x20, 0x21, 0x7D, 0x7E, 0x7F, 0x80, 0
 
 /// Entries and bounds of every length, with every edge at every place, also past their end. Nothing else is wrong with the
 /// file, so the digits alone decide.
-pub fn stored_digits(_: u64, run: &mut Run) {
-    let lone = file_bytes(2, &[bucket("", "", &[("a", 7)])]);
+pub fn stored_digits(story: u64, run: &mut Run) {
+    let version = VERSIONS[story as usize];
+    let lone = file_bytes(version, 2, &[bucket("", "", &[("a", 7)])]);
     let trie = vec![0; IMAGE];
     for length in 0..=24 {
         for place in 0..24 {
@@ -154,8 +165,8 @@ pub fn stored_digits(_: u64, run: &mut Run) {
             }
         }
     }
-    let blank = file_bytes(2, &[bucket("", "", &[]), Slot::Free]);
-    let slot = 128;
+    let blank = file_bytes(version, 2, &[bucket("", "", &[]), Slot::Free]);
+    let slot = Header::new(version, 2, 2).slot_length();
     for length in 1..=24 {
         for place in 0..24 {
             for byte in EDGES {
@@ -177,7 +188,8 @@ pub fn stored_digits(_: u64, run: &mut Run) {
     }
 }
 
-/// The fullest file there is: 64 slots with 16 entries each. The story's number chooses how the buckets lie in the slots.
+/// The fullest file there is: 64 slots with 16 entries each. The story's number chooses the version, and how the buckets lie
+/// in the slots.
 pub fn fullest_file(story: u64, run: &mut Run) {
     let names: Vec<Vec<u8>> = (0..1024).map(|n| vec![0x21 + (n / 90) as u8, 0x21 + (n % 90) as u8]).collect();
     let mut slots = vec![Slot::Free; 64];
@@ -195,7 +207,7 @@ pub fn fullest_file(story: u64, run: &mut Run) {
         slots[number] = Slot::Used(Bucket { lower, upper: upper.clone(), entries });
         lower = upper;
     }
-    let file = file_bytes(16, &slots);
+    let file = file_bytes(VERSIONS[story as usize % VERSIONS.len()], 16, &slots);
     let trie = image_of(&file);
     run.call(Call::Check { file: file.clone() });
     run.call(Call::Recover { file: file.clone(), limit: 0 });
@@ -240,9 +252,10 @@ fn all_calls(run: &mut Run, file: &[u8], trie: &[u8]) {
 }
 
 /// Every single bit of a sound and a cut file, and every byte of what is not an entry.
-pub fn bits_of_a_file(_: u64, run: &mut Run) {
-    let trie = image_of(&small_sound());
-    for file in [small_sound(), small_cut()] {
+pub fn bits_of_a_file(story: u64, run: &mut Run) {
+    let version = VERSIONS[story as usize];
+    let trie = image_of(&small_sound(version));
+    for file in [small_sound(version), small_cut(version)] {
         for place in 0..file.len() {
             for bit in 0..8 {
                 let mut damaged = file.clone();
@@ -268,8 +281,9 @@ pub fn bits_of_a_file(_: u64, run: &mut Run) {
 }
 
 /// Every single bit of a trie image, and every byte of its first cells.
-pub fn bits_of_a_trie(_: u64, run: &mut Run) {
+pub fn bits_of_a_trie(story: u64, run: &mut Run) {
     let file = file_bytes(
+        VERSIONS[story as usize],
         2,
         &[
             bucket("", "ga", &[("a", 7)]),
@@ -310,9 +324,10 @@ pub fn bits_of_a_trie(_: u64, run: &mut Run) {
     }
 }
 
-/// Every order in which a few names can come, and every stop on the way. The story's number chooses the names.
+/// Every order in which a few names can come, and every stop on the way. The story's number chooses the names; the versions
+/// take turns.
 pub fn orders(story: u64, run: &mut Run) {
-    let sets: [&[&str]; 6] = [
+    let sets: [&[&str]; 7] = [
         &["rate1", "rate2", "rate3", "razz", "rz", "rb"],
         &["a", "aa", "aaa", "aaaa", "aaaaa", "aaaaaa"],
         &["!", "}", "!}", "}!", "!!", "}}"],
@@ -326,14 +341,17 @@ pub fn orders(story: u64, run: &mut Run) {
             "w",
         ],
         &["b", "a}", "a|", "a}}", "b!", "c"],
+        &["a", "a b", "a  b", "a b c", "a   c", "a!"],
     ];
     let names = sets[story as usize % sets.len()];
     let b = 2 + story / sets.len() as u64 % 2;
     let mut order: Vec<usize> = (0..names.len()).collect();
+    let mut versions = VERSIONS.iter().cycle();
     each_order(&mut order, 0, &mut |order| {
+        let version = *versions.next().expect("they come again and again");
         let made = run.call(Call::Create {
-            file: vec![0x55; file_length(b as usize, 5)],
-            version: 1,
+            file: vec![0x55; Header::new(version, b as usize, 5).file_length()],
+            version,
             b,
             slots: 5,
             trie: vec![0x55; IMAGE],
@@ -372,7 +390,8 @@ fn each_order(order: &mut Vec<usize>, from: usize, tell: &mut impl FnMut(&[usize
 }
 
 /// Every file of three slots with few bounds and few names: check, recover and rebuild.
-pub fn small_files(_: u64, run: &mut Run) {
+pub fn small_files(story: u64, run: &mut Run) {
+    let version = VERSIONS[story as usize];
     let bounds = ["", "a", "b"];
     let entries: [&[(&str, u64)]; 8] = [
         &[],
@@ -401,7 +420,7 @@ pub fn small_files(_: u64, run: &mut Run) {
     for one in &slots {
         for two in &slots {
             for three in &slots {
-                let file = file_bytes(2, &[one.clone(), two.clone(), three.clone()]);
+                let file = file_bytes(version, 2, &[one.clone(), two.clone(), three.clone()]);
                 let kind = run.call(Call::Check { file: file.clone() }).answer;
                 if kind != 142 {
                     run.call(Call::Recover { file: file.clone(), limit: 2 });
@@ -413,9 +432,10 @@ pub fn small_files(_: u64, run: &mut Run) {
 }
 
 /// Look ups with tries that no file agrees with: each word of look up's order on both sides.
-pub fn walks(_: u64, run: &mut Run) {
+pub fn walks(story: u64, run: &mut Run) {
     let slots = 5;
     let file = file_bytes(
+        VERSIONS[story as usize],
         2,
         &[
             bucket("", "", &[("abcdefghijklmnopqrstuvwx", 1), ("az", 2)]),
@@ -508,16 +528,52 @@ pub fn walks(_: u64, run: &mut Run) {
     }
 }
 
+/// Names that left a range at every place: beyond bounds of every length, and equal to the whole of them.
+pub fn broken_bounds(_: u64, run: &mut Run) {
+    let digits = b"mmnnoopp  qqrrsstt  uuvv";
+    let mut numbers = [BTreeSet::new(), BTreeSet::new()];
+    for length in 1..=24 {
+        let between = Bound(digits[..length].to_vec());
+        let slot = |lower: &Bound, upper: &Bound| {
+            Slot::Used(Bucket { lower: lower.clone(), upper: upper.clone(), entries: vec![] })
+        };
+        let none = Bound::empty();
+        let version = VERSIONS[length % VERSIONS.len()];
+        let file = file_bytes(version, 2, &[slot(&none, &between), slot(&between, &none)]);
+        for place in 0..24 {
+            for other in [0x20, 0x21, digits[place] - 1, digits[place], digits[place] + 1, 0x7D] {
+                let mut name = digits.to_vec();
+                name[place] = other;
+                for end in [place + 1, 24] {
+                    for slot in [0, 1] {
+                        let (file, trie) = (file.clone(), write_image(&Trie::empty(slot)));
+                        let outcome = run.call(Call::Lookup { file, trie, name: name[..end].to_vec() });
+                        if outcome.answer == 4 {
+                            numbers[slot].insert(outcome.out[0]);
+                        }
+                    }
+                }
+            }
+        }
+    }
+    // A name that is not within an upper bound differs from it; one that is within a lower may be equal to all of it.
+    assert!(numbers[0].iter().copied().eq(0..24) && numbers[1].iter().copied().eq(0..=24), "{numbers:?}");
+}
+
 /// Look ups with tries whose cells are thrown together, so that walks are long and odd.
 pub fn thrown_tries(story: u64, run: &mut Run) {
     let mut chance = Chance::new(story);
     let alphabet = [0x20, 0x21, b'a', b'b', b'c', 0x7D, 0xFF];
     let mut names: Vec<Vec<u8>> = Vec::new();
-    for _ in 0..8 {
+    while names.len() < 8 {
         let length = chance.between(1, 4);
-        names.push((0..length).map(|_| *chance.pick(&alphabet[1..6])).collect());
+        let name: Vec<u8> = (0..length).map(|_| *chance.pick(&alphabet[..6])).collect();
+        if is_legal_name(&name) {
+            names.push(name);
+        }
     }
-    let file = sound_file(&mut chance, 2, 4, 3, &names);
+    let header = Header::new(make::version(&mut chance), 2, 4);
+    let file = sound_file(&mut chance, header, 3, &names);
     for _ in 0..20 {
         let mut trie = Trie::empty(chance.below(5));
         trie.count = chance.between(1, 12);

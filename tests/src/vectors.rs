@@ -11,10 +11,12 @@ use std::collections::BTreeMap;
 use crate::chance::Chance;
 use crate::damage::{damaged_file, damaged_trie};
 use crate::door::{read_image, write_image};
-use crate::make::{bound, cut_file, file_bytes, file_with_strings, illegal_name, names_near, shaped, value, Roots};
+use crate::make::{
+    bound, cut_file, file_bytes, file_with_strings, illegal_name, names_near, shaped, value, version, Roots,
+};
 use crate::model::calls::{self, Answer};
-use crate::model::file::{file_length, kind, Bucket, Entry, File, Kind, Slot, HEADER};
-use crate::model::names::{filled, is_legal_name, is_within, Bound};
+use crate::model::file::{kind, Bucket, Entry, File, Header, Kind, Slot, HEADER};
+use crate::model::names::{filled, is_legal_name, is_within, unfilled, Bound, BLANK};
 use crate::model::trie::{agrees, strings, Cell, Place, Side, Trie, CELLS};
 use crate::situations::{NINE, WORDS};
 use sheet::{bytes, list, said, truth, written_cells, Sheet};
@@ -46,6 +48,7 @@ pub fn text() -> String {
     removes(&mut sheet);
     lists(&mut sheet);
     worked_puts(&mut sheet);
+    shorter_separators(&mut sheet);
     worked_words(&mut sheet);
     most_strings(&mut sheet);
     sheet.written()
@@ -78,6 +81,9 @@ impl Wanted {
 fn sort(answer: Answer) -> &'static str {
     match answer {
         Answer::Refused(number) => ["0", "1", "2", "3", "4", "5", "6", "7", "8"][number as usize],
+        Answer::Stale(calls::NO_DIGIT) => "4",
+        Answer::Stale(0) => "left at 0",
+        Answer::Stale(_) => "left later",
         Answer::Created => "created",
         Answer::Sound => "sound",
         Answer::Cut => "cut",
@@ -98,15 +104,18 @@ fn sort(answer: Answer) -> &'static str {
     }
 }
 
-/// Short names over few digits, some with a shared beginning.
+/// Short names over few digits, some with a shared beginning, some with blanks inside.
 fn few_names(chance: &mut Chance) -> Vec<Vec<u8>> {
-    let alphabet = chance.pick(&["ab", "ino", "!a}", "!}", "rst", "xyz"]).as_bytes();
+    let alphabet = chance.pick(&["ab", "ino", "!a}", "!}", "rst", "xyz", "a b", "i  n"]).as_bytes();
     let length = match chance.below(20) {
         0..=8 => 0,
         9..=17 => chance.between(1, 4),
         _ => chance.between(18, 23),
     };
-    let stem: Vec<u8> = (0..length).map(|_| *chance.pick(alphabet)).collect();
+    let mut stem: Vec<u8> = (0..length).map(|_| *chance.pick(alphabet)).collect();
+    if let Some(first) = stem.first_mut().filter(|first| **first == BLANK) {
+        *first = alphabet[0];
+    }
     // Names that leave the stem early are split by strings that the trie already has.
     let leave_early = chance.percent(40);
     let mut name = || {
@@ -118,7 +127,11 @@ fn few_names(chance: &mut Chance) -> Vec<Vec<u8>> {
         name.extend((0..more).map(|_| *chance.pick(alphabet)));
         name
     };
-    (0..9).map(|_| name()).collect()
+    let mut names: Vec<Vec<u8>> = Vec::new();
+    while names.len() < 9 {
+        names.extend(Some(name()).filter(|name| is_legal_name(name)));
+    }
+    names
 }
 
 /// A small value, or any.
@@ -127,6 +140,14 @@ fn some_value(chance: &mut Chance) -> u64 {
         true => chance.below(1000) as u64,
         false => value(chance),
     }
+}
+
+/// A file as create makes it.
+fn new_file(version: u64, b: usize, slots: usize) -> (Vec<u8>, Trie) {
+    let mut file = vec![0; Header::new(version, b, slots).file_length()];
+    let (answer, trie) = calls::create(&mut file, version, b as u64, slots as u64);
+    assert_eq!(answer, Answer::Created);
+    (file, trie)
 }
 
 /// A small file that lived through a few calls.
@@ -143,9 +164,9 @@ struct Small {
 impl Small {
     fn new(chance: &mut Chance) -> Small {
         let (b, slots) = (chance.between(2, 3), chance.between(2, 4));
+        let version = version(chance);
         let names = few_names(chance);
-        let mut file = vec![0; file_length(b, slots)];
-        let (_, trie) = calls::create(&mut file, 1, b as u64, slots as u64);
+        let (file, trie) = new_file(version, b, slots);
         let mut small = Small { file, older: trie.clone(), trie, cut: None, names };
         for _ in 0..chance.between(2, 10) {
             let name = chance.pick(&small.names).clone();
@@ -194,9 +215,9 @@ impl Small {
 
     /// The same buckets in other slots.
     fn shuffled(&self, chance: &mut Chance) -> Vec<u8> {
-        let File { b, mut slots } = self.read();
+        let File { header, mut slots } = self.read();
         chance.shuffle(&mut slots);
-        file_bytes(b, &slots)
+        file_bytes(header.version, header.b, &slots)
     }
 
     /// Mostly the trie or another that agrees, sometimes an older one or a damaged one.
@@ -233,7 +254,9 @@ fn short_illegal_name(chance: &mut Chance) -> Vec<u8> {
 }
 
 fn legal_names(sheet: &mut Sheet) {
-    for name in [&[b'a'; 24][..], b"", &[b'a'; 25], b"}", b"~", b"!", b" ", b"a b"] {
+    for name in
+        [&[b'a'; 24][..], b"", &[b'a'; 25], b"}", b"~", b"!", b" ", b"a b", b" a", b"a ", b"a  b", b"GDP real", b" a b"]
+    {
         sheet.case("legals", "legal", &[bytes(name), truth(is_legal_name(name))]);
     }
     gather(1_000, "true 6, false 9", |chance, wanted| {
@@ -273,16 +296,19 @@ fn bounds_in_order(sheet: &mut Sheet) {
 }
 
 fn split_strings(sheet: &mut Sheet) {
-    gather(4_000, "short 6, blank 6, long 6", |chance, wanted| {
+    gather(4_000, "short 6, blank 6, blanks 3, blank inside 3, long 6", |chance, wanted| {
         let mut names = few_names(chance);
         names.sort();
         let (key, last) = (&names[3], &names[5]);
         if key == last {
             return;
         }
-        let string = calls::split(&[key, last].map(|name| Entry { name: filled(name), value: 0 })).string;
-        let sort = match string.0.last() {
-            Some(0x20) => "blank",
+        let string = calls::split_string(&filled(key), &filled(last));
+        let before_blanks = unfilled(&string.0);
+        let sort = match string.len() - before_blanks.len() {
+            0 if before_blanks.contains(&BLANK) => "blank inside",
+            1 => "blank",
+            2.. => "blanks",
             _ if string.len() > 3 => "long",
             _ => "short",
         };
@@ -375,22 +401,21 @@ fn cut_or_not(sheet: &mut Sheet) {
         ("a c", "c"),
         ("a c d", "c c! d"),
     ] {
-        check(sheet, &file_bytes(3, &[bucket("", a), bucket("b", n)]));
+        check(sheet, &file_bytes(1, 3, &[bucket("", a), bucket("b", n)]));
     }
-    check(sheet, &file_bytes(3, &[bucket("b", "c d"), bucket("", "a c d"), Slot::Free]));
-    check(sheet, &file_bytes(3, &[bucket("", "a c d"), bucket("", "a c d")]));
-    check(sheet, &file_bytes(3, &[bucket("b", "c d"), Slot::Free]));
-    check(sheet, &file_bytes(3, &[Slot::Free, Slot::Free]));
+    check(sheet, &file_bytes(1, 3, &[bucket("b", "c d"), bucket("", "a c d"), Slot::Free]));
+    check(sheet, &file_bytes(1, 3, &[bucket("", "a c d"), bucket("", "a c d")]));
+    check(sheet, &file_bytes(1, 3, &[bucket("b", "c d"), Slot::Free]));
+    check(sheet, &file_bytes(1, 3, &[Slot::Free, Slot::Free]));
 }
 
-/// A new file whose header is wrong in one byte, or whose length is.
+/// A new file whose header is wrong in one byte, or whose length is. The version is 4, then 257; version 2 is another one.
 fn wrong_headers(sheet: &mut Sheet) {
-    let mut file = vec![0; file_length(2, 2)];
-    calls::create(&mut file, 1, 2, 2);
-    for place in [0, 1, 2, 3, 4, 5, 6, 7, 15] {
-        let mut wrong = file.clone();
-        wrong[place] += 1;
-        check(sheet, &wrong);
+    let (file, _) = new_file(1, 2, 2);
+    for (place, more) in [(0, 1), (1, 1), (2, 1), (3, 3), (4, 1), (5, 1), (6, 1), (7, 1), (15, 1), (3, 1)] {
+        let mut other = file.clone();
+        other[place] += more;
+        check(sheet, &other);
     }
     check(sheet, &file[..file.len() - 1]);
     check(sheet, &[&file[..], &[0]].concat());
@@ -399,12 +424,17 @@ fn wrong_headers(sheet: &mut Sheet) {
 }
 
 fn creates(sheet: &mut Sheet) {
+    let length = |version: u64, b: usize, slots: usize| Header::new(version, b, slots).file_length();
     for (length, [version, b, slots]) in [
-        (file_length(2, 2), [1, 2, 2]),
-        (file_length(3, 3), [1, 3, 3]),
-        (file_length(3, 3) + 1, [1, 3, 3]),
-        (file_length(2, 2), [2, 2, 2]),
-        (file_length(1, 1), [1, 1, 1]),
+        (length(1, 2, 2), [1, 2, 2]),
+        (length(1, 3, 3), [1, 3, 3]),
+        (length(1, 3, 3) + 1, [1, 3, 3]),
+        (length(2, 2, 2), [2, 2, 2]),
+        (length(2, 3, 3) - 1, [2, 3, 3]),
+        (length(1, 2, 2), [0, 2, 2]),
+        (length(1, 2, 2), [3, 2, 2]),
+        (length(1, 2, 2), [257, 2, 2]),
+        (length(1, 1, 1), [1, 1, 1]),
         (HEADER, [1, 2, 0]),
     ] {
         let mut file = vec![0x20; length];
@@ -468,7 +498,7 @@ fn look_up(sheet: &mut Sheet, list: &'static str, file: &[u8], trie: &Trie, name
 }
 
 fn look_ups(sheet: &mut Sheet) {
-    gather(10_000, "found 4, absent 3, found anyhow 3, 1 1, 2 3, 4 7", |chance, wanted| {
+    gather(10_000, "found 4, absent 3, found anyhow 3, 1 1, 2 3, 4 4, left at 0 2, left later 5", |chance, wanted| {
         let small = Small::new(chance);
         let (file, trie, name) = (small.some_file(chance), small.some_trie(chance), small.some_name(chance));
         let sort = match calls::look_up(&file, &trie, &name) {
@@ -485,8 +515,7 @@ fn look_ups(sheet: &mut Sheet) {
 /// Tries that are wrong in one way each, beside the file of rate1, rate2 and rate3 (R14.7). Look up meets some of it,
 /// and overlooks the rest.
 fn wrong_tries(sheet: &mut Sheet) {
-    let mut file = vec![0; file_length(2, 4)];
-    let (_, mut trie) = calls::create(&mut file, 1, 2, 4);
+    let (mut file, mut trie) = new_file(1, 2, 4);
     for name in ["rate1", "rate2", "rate3"] {
         calls::put(&mut file, &mut trie, name.as_bytes(), 1, 2);
     }
@@ -621,8 +650,7 @@ fn lists(sheet: &mut Sheet) {
 
 /// R14.7 to R14.9: rate1, rate2, rate3, razz and rz with b = 2, and the last put stopped after one store.
 fn worked_puts(sheet: &mut Sheet) {
-    let mut file = vec![0; file_length(2, 4)];
-    let (_, mut trie) = calls::create(&mut file, 1, 2, 4);
+    let (mut file, mut trie) = new_file(1, 2, 4);
     for (name, value) in [("rate1", 1), ("rate2", 2), ("rate3", 3), ("razz", 4)] {
         (file, trie) = put(sheet, "worked", &file, &trie, Put(name.as_bytes(), value, 2));
     }
@@ -634,13 +662,35 @@ fn worked_puts(sheet: &mut Sheet) {
     look_up(sheet, "worked", &recovered, &trie, b"rz");
 }
 
+/// What version 2 splits otherwise: the last of the nine words, and b = 2 with names that are beginnings of each other. Then a
+/// tie, and names of which the key before the middle one would win against its neighbour. Each also with version 1 in the
+/// header.
+fn shorter_separators(sheet: &mut Sheet) {
+    let sets: [(usize, &[&str]); 4] = [
+        (4, &["and", "is", "i", "in", "a"]),
+        (2, &["abc", "a", "ab"]),
+        (2, &["r2", "r3", "r1"]),
+        (4, &["a", "cb", "b", "d", "ca"]),
+    ];
+    for (b, names) in sets {
+        let (mut file, mut trie) = new_file(2, b, 2);
+        let (last, before) = names.split_last().expect("there are names");
+        for name in before {
+            assert_eq!(calls::put(&mut file, &mut trie, name.as_bytes(), 1, 2), Answer::Added);
+        }
+        for version in [2, 1] {
+            file[3] = version;
+            put(sheet, "worked", &file, &trie, Put(last.as_bytes(), 2, 2));
+        }
+    }
+}
+
 /// The nine words of R14.11 and the 31 words of R14.12: put one after the other, each with its place from 1 on as
 /// value.
 fn worked_words(sheet: &mut Sheet) {
     for (slots, words) in [(8, &NINE[..]), (16, &WORDS[..])] {
-        let mut file = vec![0; file_length(4, slots)];
-        let lent = sheet.file(&file);
-        let (_, mut trie) = calls::create(&mut file, 1, 4, slots as u64);
+        let lent = sheet.file(&vec![0; Header::new(1, 4, slots).file_length()]);
+        let (mut file, mut trie) = new_file(1, 4, slots);
         for (place, word) in words.iter().enumerate() {
             let answer = calls::put(&mut file, &mut trie, word.as_bytes(), place as u64 + 1, 2);
             assert_eq!(answer, Answer::Added);
@@ -658,9 +708,9 @@ fn worked_words(sheet: &mut Sheet) {
 /// 256 strings are not too many, 257 are.
 fn most_strings(sheet: &mut Sheet) {
     let mut chance = Chance::new(14_000);
-    let most = file_with_strings(&mut chance, 2, 13, 12, CELLS);
+    let most = file_with_strings(&mut chance, Header::new(1, 2, 13), 12, CELLS);
     let trie = rebuild(sheet, "fullest", &most);
-    let too_many = file_with_strings(&mut chance, 2, 12, 12, CELLS + 1);
+    let too_many = file_with_strings(&mut chance, Header::new(1, 2, 12), 12, CELLS + 1);
     rebuild(sheet, "fullest", &too_many);
     let refused = |name: &Vec<u8>| {
         let answer = calls::put(&mut most.clone(), &mut trie.clone(), name, 1, 2);

@@ -7,14 +7,18 @@ use std::io::Write;
 use std::sync::atomic::{AtomicUsize, Ordering::SeqCst};
 
 use palhavento_tests::answers;
+use palhavento_tests::model::file::VERSIONS;
 use palhavento_tests::run::{is_whole, part, Run};
 use palhavento_tests::stories::{tell_brim, tell_built, tell_history, Profile, SITUATIONS};
 use palhavento_tests::sweeps;
 
 /// As many parts as there are tests below.
-const PARTS: usize = 19;
+const PARTS: usize = 20;
 /// So many calls at least are compared in a whole run.
 const CALLS: u64 = 1_000_000;
+
+/// A story for each version.
+const EACH_VERSION: u64 = VERSIONS.len() as u64;
 
 static ENDED: AtomicUsize = AtomicUsize::new(0);
 
@@ -105,7 +109,7 @@ fn fullest_file() {
 
 #[test]
 fn stored_digits() {
-    run_part("stored_digits", 0, 1, sweeps::stored_digits);
+    run_part("stored_digits", 0, EACH_VERSION, sweeps::stored_digits);
 }
 
 #[test]
@@ -115,27 +119,32 @@ fn bytes_of_a_name() {
 
 #[test]
 fn bits_of_a_file() {
-    run_part("bits_of_a_file", 0, 1, sweeps::bits_of_a_file);
+    run_part("bits_of_a_file", 0, EACH_VERSION, sweeps::bits_of_a_file);
 }
 
 #[test]
 fn bits_of_a_trie() {
-    run_part("bits_of_a_trie", 0, 1, sweeps::bits_of_a_trie);
+    run_part("bits_of_a_trie", 0, EACH_VERSION, sweeps::bits_of_a_trie);
 }
 
 #[test]
 fn orders() {
-    run_part("orders", 0, 12, sweeps::orders);
+    run_part("orders", 0, 14, sweeps::orders);
 }
 
 #[test]
 fn small_files() {
-    run_part("small_files", 0, 1, sweeps::small_files);
+    run_part("small_files", 0, EACH_VERSION, sweeps::small_files);
 }
 
 #[test]
 fn walks() {
-    run_part("walks", 0, 1, sweeps::walks);
+    run_part("walks", 0, EACH_VERSION, sweeps::walks);
+}
+
+#[test]
+fn broken_bounds() {
+    run_part("broken_bounds", 0, 1, sweeps::broken_bounds);
 }
 
 #[test]

@@ -10,7 +10,7 @@ use palhavento_tests::damage::{damaged_file, damaged_trie};
 use palhavento_tests::door::{by_model, write_image, Call, CALLS, IMAGE};
 use palhavento_tests::library::{lend, take_back, Grounds, Lent};
 use palhavento_tests::make::{cut_file, file_with_strings, names, names_near, shaped, sound_file, Roots, Style};
-use palhavento_tests::model::file::{file_length, File};
+use palhavento_tests::model::file::{File, Header, VERSIONS};
 use palhavento_tests::model::trie::{rebuilt, Cell, Side, Trie, CELLS};
 use palhavento_tests::run::SMALL_STACK;
 use palhavento_tests::watch;
@@ -117,18 +117,19 @@ fn the_paint_shows_what_is_used() {
 /// Full-size files: 64 slots, b = 16. Sound, cut and bad.
 fn files(chance: &mut Chance) -> Vec<Vec<u8>> {
     let mut files = Vec::new();
+    // The versions take turns.
+    let mut headers = VERSIONS.iter().cycle().map(|version| Header::new(*version, 16, 64));
+    let mut header = || headers.next().expect("they come again and again");
     for (style, how_many) in
         [(Style::Any, 2000), (Style::LongBeginnings, 400), (Style::LastDigit, 400), (Style::Ends, 300)]
     {
         let pool = names(chance, style, how_many);
-        files.push(sound_file(chance, 16, 64, 64, &pool));
-        files.push(sound_file(chance, 16, 64, 40, &pool));
+        files.push(sound_file(chance, header(), 64, &pool));
+        files.push(sound_file(chance, header(), 40, &pool));
     }
-    files.push(file_with_strings(chance, 16, 64, 64, 256));
-    files.push(file_with_strings(chance, 16, 64, 63, 256));
-    files.push(file_with_strings(chance, 16, 64, 63, 255));
-    files.push(file_with_strings(chance, 16, 64, 12, 240));
-    files.push(file_with_strings(chance, 16, 64, 64, 63));
+    for (used, how_many) in [(64, 256), (63, 256), (63, 255), (12, 240), (64, 63)] {
+        files.push(file_with_strings(chance, header(), used, how_many));
+    }
     let sound = files.clone();
     for file in &sound {
         let read = File::read(file).unwrap();
@@ -138,7 +139,7 @@ fn files(chance: &mut Chance) -> Vec<Vec<u8>> {
         files.push(damaged_file(chance, file, &pool));
         // Bad only in its very last byte.
         let mut bad = file.clone();
-        bad[file_length(16, 64) - 1] ^= 1;
+        *bad.last_mut().expect("a file has bytes") ^= 1;
         files.push(bad);
     }
     files
@@ -204,8 +205,11 @@ fn each_call_uses_less_than_64_kb() {
         let most = &mut deepest[call.number()];
         *most = used.max(*most);
     };
-    measure(Call::Create { file: vec![7; file_length(16, 64)], version: 1, b: 16, slots: 64, trie: vec![7; IMAGE] });
-    measure(Call::Create { file: vec![7; file_length(16, 64)], version: 1, b: 16, slots: 63, trie: vec![7; IMAGE] });
+    for version in VERSIONS {
+        let file = vec![7; Header::new(version, 16, 64).file_length()];
+        measure(Call::Create { file: file.clone(), version, b: 16, slots: 64, trie: vec![7; IMAGE] });
+        measure(Call::Create { file, version, b: 16, slots: 63, trie: vec![7; IMAGE] });
+    }
     for file in files(&mut chance) {
         measure(Call::Check { file: file.clone() });
         measure(Call::Recover { file: file.clone(), limit: 2 });

@@ -5,7 +5,7 @@ use Rattle.model.specs.declared.Side.{Side}
 use Rattle.model.specs.declared.Trie.{Trie}
 use Rattle.model.specs.Order.{Str, _≺_, none, top}
 use Rattle.model.specs.Files.{Slot, Sound, all, bounds, ranges, strings-of}
-use Rattle.model.specs.Tries.{Agrees, Leads, Numbers, Spans, Tree, at-cell, leaves, occ, root-side, size, strings, zero-cell}
+use Rattle.model.specs.Tries.{Agrees, Leads, Numbers, Tree, at-cell, leaves, occ, root-side, size, strings, zero-cell}
 use Rattle.model.specs.Rebuilding.{rebuilt}
 use Rattle.model.specs.Agreeing.{areZeroCells, isAgreeing, slotsBetween}
 use Rattle.model.proofs.Agreeing.{agrees-isAgreeing, isAgreeing-agrees, trie-slots, zeros-past}
@@ -14,7 +14,7 @@ use Rattle.model.proofs.Cells.{each-once, reads-size, reads-total, total-once, 
 use Rattle.model.proofs.Files.{strings-right}
 use Rattle.model.proofs.Rebuilding.{rebuilt-agrees}
 use Rattle.model.proofs.Shapes.{Floors, same-shapes, spans-floors}
-use Rattle.model.proofs.Tries.{cast, cells-count, flat-trie, inside, strings-are, trie-flat}
+use Rattle.model.proofs.Tries.{Spans, cast, cells-count, flat-trie, inside, strings-are, trie-flat}
 use Rattle.trie.specs.declared.Strings.{Strings}
 use Rattle.trie.specs.Places.{Placed}
 use Rattle.trie.specs.Strung.{Holds, Strung}

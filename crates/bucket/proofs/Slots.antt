@@ -1,36 +1,38 @@
--- A slot as it is read: free, or used and well formed, with its range.
-use Rattle.model.proofs.Prelude.{Bool, Bool·not-not, List, [], _&&_, _*_, _++_, _+_, _-_, _<_, _∙_, _∷_, _≡_, _≤_, ap, ap₂, arith, clash, cond, drop, eqb, false, getD, length, ltb, not, nothing, refl, replicate, some, suc, sym, take, true, zero, ℕ}
+-- A slot of any layout as it is read: free, or used and well formed, with its range and its entries.
+use Rattle.model.proofs.Prelude.{Bool, List, [], _&&_, _*_, _++_, _+_, _-_, _∙_, _∷_, _≡_, _≤_, ap, ap₂, arith, clash, cond, drop, eqb, false, getD, length, length-drop, lt-ltb, ne-eqb, not, nothing, refl, replicate, some, suc, sym, take, true, zero, ℕ}
 use Rattle.model.specs.Checks.{isAbove, isWell, legalLow, sameStr}
 use Rattle.model.specs.Entries.{Entry, Row}
 use Rattle.model.specs.Files.{IsUsed, Slot, Well, entries-of, free, head, lower-of, upper-of, used}
-use Rattle.model.specs.Format.{Contents, entriesBytes, entrySize, lowOf, padded, readSlot, readUsed, slotBytes, slotSize, usedOf, version-1}
-use Rattle.model.specs.Names.{Legal, atMost, legalBound}
-use Rattle.model.specs.Order.{Low, Str}
+use Rattle.model.specs.Format.{entriesBytes, entriesOf, entrySize, lowDigits, lowOf, padded, readSlot, readUsed, slotBytes, slotSize, usedOf}
+use Rattle.model.specs.Names.{atMost, broken, legalBound}
+use Rattle.model.specs.Order.{Low, Str, diff}
+use Rattle.model.specs.declared.Layout.{Layout}
 use Rattle.model.proofs.Checks.{isWell-well, sameStr-equal, well-isWell, wells}
 use Rattle.model.proofs.Files.{well-parts}
-use Rattle.model.proofs.Format.{bytes-each, length-entriesBytes, length-slotBytes, padded-short, slotBytes-readSlot, contents-readSlot}
-use Rattle.model.proofs.Names.{legal-legalFilled}
-use Rattle.digits.proofs.Bounds.{name-low, name-over}
-use Rattle.digits.specs.Keys.{continued, isZero, keyValue, lowValue, value}
-use Rattle.bucket.proofs.Forms.{zero-not}
-use Rattle.bucket.proofs.Parts.{countAt-slot, entries-slot}
-use Rattle.bucket.proofs.Reading.{Tested, are-zeros, by-bound, highIn, lowIn, well-tested}
-use Rattle.bucket.specs.Forms.{Formed, WellRead, vacant}
-use Rattle.bucket.specs.Slots.{countAt}
+use Rattle.model.proofs.Format.{Contents, entries-read, entry-size, length-entriesBytes, length-slotBytes, padded-short, slotBytes-readSlot}
+use Rattle.digits.specs.Keys.{continued, isZero, lowValue, value}
+use Rattle.entries.proofs.Products.{part-least}
+use Rattle.bucket.proofs.Layouts.{Tested, countAt-slot, entries-slot, lowerAt-slot, upperAt-slot, well-tested}
+use Rattle.bucket.proofs.Reading.{are-zeros, by-bound, highIn, low-digits, lowIn}
+use Rattle.bucket.specs.Forms.{Formed, WellRead, ranged, vacant}
+use Rattle.bucket.specs.Slots.{HighTold, LowTold, countAt, lowerAt, upperAt}
 use Rattle.bucket.specs.declared.Bucket.{Bucket}
 use Rattle.bucket.specs.declared.Form.the-variants.{Ill}
+use Rattle.model.proofs.Names.{legalBound-bound, within-atMost}
+use Rattle.digits.proofs.Bounds.{low-legal}
+use Rattle.bucket.specs.declared.Range.the-variants.{Holds, Lacks}
 use Rattle.bucket.specs.declared.Vacancy.the-variants.{Free, Taken}
 
 -- What is read was written.
-pub read-written : (b : ℕ) (xs : List ℕ) (s : Slot) → readUsed (version-1 b) xs ≡ some s → (usedOf 32 xs ≡ s) × (xs ≡ slotBytes (version-1 b) s)
-unfolding readUsed entrySize
-read-written b xs s = go (sameStr xs (slotBytes (version-1 b) (usedOf 32 xs))) refl
+pub read-written : (y : Layout) (xs : List ℕ) (s : Slot) → readUsed y xs ≡ some s → (usedOf (entrySize y) xs ≡ s) × (xs ≡ slotBytes y s)
+unfolding readUsed
+read-written y xs s = go (sameStr xs (slotBytes y (usedOf (entrySize y) xs))) refl
   where
-    go : (t : Bool) → sameStr xs (slotBytes (version-1 b) (usedOf 32 xs)) ≡ t → cond t (some (usedOf 32 xs)) nothing ≡ some s → (usedOf 32 xs ≡ s) × (xs ≡ slotBytes (version-1 b) s)
-    go true e h = let i : usedOf 32 xs ≡ s = cc in (i, sameStr-equal xs (slotBytes (version-1 b) (usedOf 32 xs)) e ∙ ap (slotBytes (version-1 b)) i)
+    go : (t : Bool) → sameStr xs (slotBytes y (usedOf (entrySize y) xs)) ≡ t → cond t (some (usedOf (entrySize y) xs)) nothing ≡ some s → (usedOf (entrySize y) xs ≡ s) × (xs ≡ slotBytes y s)
+    go true e h = let i : usedOf (entrySize y) xs ≡ s = cc in (i, sameStr-equal xs (slotBytes y (usedOf (entrySize y) xs)) e ∙ ap (slotBytes y) i)
     go false e h = clash cc
 
--- A slot is free where it is all zero; else it is read as used.
+-- All zero, and not.
 pub zero-same : (k : ℕ) (xs : List ℕ) → length xs ≡ k → sameStr xs (replicate k 0) ≡ isZero xs
 unfolding sameStr isZero
 zero-same zero [] e = refl
@@ -38,25 +40,27 @@ zero-same zero (x ∷ xs) e = absurd (omega arith)
 zero-same (suc k) [] e = absurd (omega arith)
 zero-same (suc k) (x ∷ xs) e = ap (λ (t : Bool). eqb x 0 && t) (zero-same k xs (omega arith))
 
-pub read-by-zero : (b : ℕ) (xs : List ℕ) → length xs ≡ slotSize (version-1 b) → readSlot (version-1 b) xs ≡ cond (isZero xs) (some free) (readUsed (version-1 b) xs)
-unfolding readSlot slotBytes entrySize
-read-by-zero b xs h = rw (zero-same (slotSize (version-1 b)) xs h)
+pub zero-not : (xs : List ℕ) → getD xs 0 0 ≡ 1 → isZero xs ≡ false
+unfolding isZero
+zero-not [] e = absurd (omega arith)
+zero-not (x ∷ xs) e = rw (ne-eqb x 0 (λ z. omega arith))
 
-pub read-used : (b : ℕ) (xs : List ℕ) {l : Low} {u : Str} {es : List Entry} → readUsed (version-1 b) xs ≡ some (used l u es) → readSlot (version-1 b) xs ≡ some (used l u es)
-unfolding slotBytes entrySize
-read-used b xs {l} {u} {es} e =
-    let i = read-written b xs (used l u es) e .1 in
+-- A slot is free where it is all zero; else it is read as used.
+pub read-by-zero : (y : Layout) (xs : List ℕ) → length xs ≡ slotSize y → readSlot y xs ≡ cond (isZero xs) (some free) (readUsed y xs)
+unfolding readSlot slotBytes
+read-by-zero y xs h = rw (zero-same (slotSize y) xs h)
+
+pub read-used : (y : Layout) (xs : List ℕ) {l : Low} {u : Str} {es : List Entry} → readUsed y xs ≡ some (used l u es) → readSlot y xs ≡ some (used l u es)
+unfolding slotBytes
+read-used y xs {l} {u} {es} e =
+    let i = read-written y xs (used l u es) e .1 in
     let z : isZero xs ≡ false = zero-not xs (ap (λ (x : List ℕ). getD x 0 0) i) in
-    read-by-zero b xs (ap length i ∙ length-slotBytes (version-1 b) (used l u es)) ∙ rw z e
-
-pub read-values : (b : ℕ) (xs : List ℕ) {l : Low} {u : Str} {es : List Entry} → ((i : ℕ) → getD xs i 0 < 256) → readUsed (version-1 b) xs ≡ some (used l u es) → Contents 32 es
-unfolding entrySize
-read-values b xs f e = contents-readSlot (version-1 b) xs (bytes-each xs f) (read-used b xs e)
+    read-by-zero y xs (ap length i ∙ length-slotBytes y (used l u es)) ∙ rw z e
 
 -- A slot that reads as used and is well formed.
-pub record Reads (b : ℕ) (xs : List ℕ) (l : Low) (u : Str) (es : List Entry) : Type 0 where
-  pub is : xs ≡ slotBytes (version-1 b) (used l u es)
-  pub tested : Tested b xs
+pub record Reads (y : Layout) (xs : List ℕ) (l : Low) (u : Str) (es : List Entry) : Type 0 where
+  pub is : xs ≡ slotBytes y (used l u es)
+  pub tested : Tested (entrySize y) (y .b) xs
   pub first : getD xs 0 0 ≡ 1
   pub count : getD xs 1 0 ≡ length es
   pub lower : lowIn xs ≡ l
@@ -64,23 +68,23 @@ pub record Reads (b : ℕ) (xs : List ℕ) (l : Low) (u : Str) (es : List Entry)
   pub low : legalLow l ≡ true
   pub high : legalBound u ≡ true
   pub row : Row l es u
-  pub most : length es ≤ b
+  pub most : length es ≤ y .b
   pub unused : ℕ
-  pub behind : drop 64 xs ≡ entriesBytes 32 es ++ replicate unused 0
+  pub behind : drop 64 xs ≡ entriesBytes (entrySize y) es ++ replicate unused 0
 
-pub reads : (b : ℕ) (xs : List ℕ) {l : Low} {u : Str} {es : List Entry} → readUsed (version-1 b) xs ≡ some (used l u es) → Well b (used l u es) → Reads b xs l u es
-unfolding usedOf slotBytes entrySize
-reads b xs {l} {u} {es} e w =
-    let p = read-written b xs (used l u es) e in
-    let s = slotBytes (version-1 b) (used l u es) in
-    let t = wells b l u es (well-isWell b w) in
-    let v = well-parts b w in
+pub reads : (y : Layout) (xs : List ℕ) {l : Low} {u : Str} {es : List Entry} → readUsed y xs ≡ some (used l u es) → Well (y .b) (used l u es) → Reads y xs l u es
+unfolding usedOf slotBytes
+reads y xs {l} {u} {es} e w =
+    let p = read-written y xs (used l u es) e in
+    let s = slotBytes y (used l u es) in
+    let t = wells (y .b) l u es (well-isWell (y .b) w) in
+    let v = well-parts (y .b) w in
     let i : xs ≡ s = p .1 in
-    let k = 32 * b - length (entriesBytes 32 es) in
-    let f : padded (32 * b) (entriesBytes 32 es) ≡ entriesBytes 32 es ++ replicate k 0 = padded-short (32 * b) (entriesBytes 32 es) (omega (arith, length-entriesBytes 32 (omega arith) (v .3), v .4)) in
+    let k = entrySize y * y .b - length (entriesBytes (entrySize y) es) in
+    let f : padded (entrySize y * y .b) (entriesBytes (entrySize y) es) ≡ entriesBytes (entrySize y) es ++ replicate k 0 = padded-short (entrySize y * y .b) (entriesBytes (entrySize y) es) (omega (arith, length-entriesBytes (entrySize y) (omega (arith, entry-size y .least)) (v .3), part-least (entrySize y) (length es) (y .b) (v .4))) in
     record {
       is = i;
-      tested = rw i (well-tested b l u es (well-isWell b w));
+      tested = rw i (well-tested y l u es (well-isWell (y .b) w));
       first = ap (λ (x : List ℕ). getD x 0 0) i;
       count = ap (λ (x : List ℕ). getD x 1 0) i;
       lower = let q = p .0 in cc;
@@ -90,40 +94,38 @@ reads b xs {l} {u} {es} e w =
       row = v .3;
       most = v .4;
       unused = k;
-      behind = ap (drop 64) i ∙ entries-slot b l u es ∙ f;
+      behind = ap (drop 64) i ∙ entries-slot y l u es ∙ f;
     }
 
 -- The same of any slot that is used.
-pub used-reads : (b : ℕ) (xs : List ℕ) (s : Slot) → IsUsed (head s) → readUsed (version-1 b) xs ≡ some s → Well b s → Reads b xs (lower-of (head s)) (upper-of (head s)) (entries-of s)
-used-reads b xs free u e w = absurd u
-used-reads b xs (used l v es) u e w = reads b xs e w
+pub used-reads : (y : Layout) (xs : List ℕ) (s : Slot) → IsUsed (head s) → readUsed y xs ≡ some s → Well (y .b) s → Reads y xs (lower-of (head s)) (upper-of (head s)) (entries-of s)
+used-reads y xs free u e w = absurd u
+used-reads y xs (used l v es) u e w = reads y xs e w
 
 -- The lower limit's number, as it is told of any slot.
-pub read-low : (b : ℕ) (xs : List ℕ) {l : Low} {u : Str} {es : List Entry} (k : ℕ) → Reads b xs l u es
-    → (getD xs 2 0 ≤ 24 → isZero (take (24 - getD xs 2 0) (drop (8 + getD xs 2 0) xs)) ≡ true → k ≡ lowValue (lowOf (take (getD xs 2 0) (drop 8 xs))))
-    → k ≡ lowValue l
-read-low b xs k R f = by-bound 8 (getD xs 2 0) xs (R .tested .lower) f ∙ ap lowValue (R .lower)
+pub read-low : (y : Layout) (xs : List ℕ) {l : Low} {u : Str} {es : List Entry} (k : ℕ) → Reads y xs l u es
+    → LowTold xs k → k ≡ lowValue l
+read-low y xs k R f = by-bound 8 (getD xs 2 0) xs (R .tested .lower) f ∙ ap lowValue (R .lower)
 
-pub read-high : (b : ℕ) (xs : List ℕ) {l : Low} {u : Str} {es : List Entry} (k : ℕ) → Reads b xs l u es
-    → (getD xs 3 0 ≤ 24 → isZero (take (24 - getD xs 3 0) (drop (32 + getD xs 3 0) xs)) ≡ true → k ≡ value (continued (take (getD xs 3 0) (drop 32 xs))))
-    → k ≡ value (continued u)
-read-high b xs k R f = by-bound 32 (getD xs 3 0) xs (R .tested .upper) f ∙ ap (λ (u : Str). value (continued u)) (R .upper)
+pub read-high : (y : Layout) (xs : List ℕ) {l : Low} {u : Str} {es : List Entry} (k : ℕ) → Reads y xs l u es
+    → HighTold xs k → k ≡ value (continued u)
+read-high y xs k R f = by-bound 32 (getD xs 3 0) xs (R .tested .upper) f ∙ ap (λ (u : Str). value (continued u)) (R .upper)
 
 -- A slot is free where it is all zero.
-module _ (b : ℕ) (xs : List ℕ) (size : length xs ≡ slotSize (version-1 b)) where
-  pub zero-free : isZero xs ≡ true → readSlot (version-1 b) xs ≡ some free
-  zero-free e = read-by-zero b xs size ∙ rw e
+module _ (y : Layout) (xs : List ℕ) (size : length xs ≡ slotSize y) where
+  pub zero-free : isZero xs ≡ true → readSlot y xs ≡ some free
+  zero-free e = read-by-zero y xs size ∙ rw e
 
-  pub taken-read : isZero xs ≡ false → readSlot (version-1 b) xs ≡ readUsed (version-1 b) xs
-  taken-read e = read-by-zero b xs size ∙ rw e
+  pub taken-read : isZero xs ≡ false → readSlot y xs ≡ readUsed y xs
+  taken-read e = read-by-zero y xs size ∙ rw e
 
   -- What is not free and not well formed reads as nothing that is well formed.
-  pub ill-read : isZero xs ≡ false → Formed b xs Ill → (s : Slot) → readSlot (version-1 b) xs ≡ some s → isWell b s ≡ false
+  pub ill-read : isZero xs ≡ false → Formed y xs Ill → (s : Slot) → readSlot y xs ≡ some s → isWell (y .b) s ≡ false
   ill-read e f s h = f s (sym (taken-read e) ∙ h)
 
-pub free-zero : (b : ℕ) (xs : List ℕ) → readSlot (version-1 b) xs ≡ some free → isZero xs ≡ true
-unfolding slotBytes entrySize
-free-zero b xs e = ap isZero (slotBytes-readSlot (version-1 b) xs e) ∙ are-zeros (slotSize (version-1 b))
+pub free-zero : (y : Layout) (xs : List ℕ) → readSlot y xs ≡ some free → isZero xs ≡ true
+unfolding slotBytes
+free-zero y xs e = ap isZero (slotBytes-readSlot y xs e) ∙ are-zeros (slotSize y)
 
 pub vacant-free : (t : Bool) → Free ≡ vacant t → t ≡ true
 vacant-free true e = refl
@@ -134,29 +136,52 @@ vacant-taken true e = clash cc
 vacant-taken false e = refl
 
 -- A slot that form_of finds well formed.
-pub well-reads : {b : ℕ} {xs : List ℕ} {k : Bucket} (W : WellRead b xs k) → Reads b xs (W .lower) (W .upper) (W .entries)
-well-reads {b} {xs} W = reads b xs (W .is) (isWell-well b (used (W .lower) (W .upper) (W .entries)) (W .well))
+pub well-reads : {y : Layout} {xs : List ℕ} {k : Bucket} (W : WellRead y xs k) → Reads y xs (W .lower) (W .upper) (W .entries)
+well-reads {y} {xs} W = reads y xs (W .is) (isWell-well (y .b) (used (W .lower) (W .upper) (W .entries)) (W .well))
 
-pub well-same : {b : ℕ} {xs : List ℕ} {k : Bucket} {l : Low} {u : Str} {es : List Entry} (W : WellRead b xs k) → readUsed (version-1 b) xs ≡ some (used l u es)
-    → (W .lower ≡ l) × (W .upper ≡ u) × (W .entries ≡ es)
-well-same W e = let f = W .is in (cc, cc, cc)
+pub count-is : {y : Layout} {xs : List ℕ} {l : Low} {u : Str} {es : List Entry} → Reads y xs l u es → countAt (y .b) xs ≡ length es
+count-is {y} {xs} {l} {u} {es} R = ap (countAt (y .b)) (R .is) ∙ countAt-slot y l u es (R .most)
 
-pub count-is : {b : ℕ} {xs : List ℕ} {l : Low} {u : Str} {es : List Entry} → Reads b xs l u es → countAt b xs ≡ length es
-count-is {b} {xs} {l} {u} {es} R = ap (countAt b) (R .is) ∙ countAt-slot b l u es (R .most)
+-- Its bounds, as their digits are read.
+pub read-lower : {y : Layout} {xs : List ℕ} {l : Low} {u : Str} {es : List Entry} → Reads y xs l u es → lowerAt xs ≡ lowDigits l
+read-lower {y} {xs} {l} {u} {es} R = ap lowerAt (R .is) ∙ lowerAt-slot y l u es (legalBound-bound (lowDigits l) (low-legal l (R .low)) .fits)
 
--- The range test of a slot as the code makes it.
-pub range-is : (l : Low) (u n : Str) (low high v : ℕ) → legalLow l ≡ true → legalBound u ≡ true → Legal n → low ≡ lowValue l → high ≡ value (continued u) → v ≡ value n
-    → (ltb low v && not (ltb high v)) ≡ (isAbove l n && atMost n u)
-range-is l u n low high v f h g i j e =
-    let a : ltb low v ≡ isAbove l n = ap₂ ltb i e ∙ name-low l n f (legal-legalFilled g) in
-    let c : not (ltb high v) ≡ atMost n u = ap not (ap₂ ltb j e ∙ name-over u n h g) ∙ Bool·not-not (atMost n u) in
-    ap₂ (λ (x y : Bool). x && y) a c
+pub read-upper : {y : Layout} {xs : List ℕ} {l : Low} {u : Str} {es : List Entry} → Reads y xs l u es → upperAt xs ≡ u
+read-upper {y} {xs} {l} {u} {es} R = ap upperAt (R .is) ∙ upperAt-slot y l u es (legalBound-bound u (R .high) .fits)
 
-pub range-holds : {b : ℕ} {xs : List ℕ} {k : Bucket} {l : Low} {u : Str} {es : List Entry} → WellRead b xs k → readUsed (version-1 b) xs ≡ some (used l u es)
-    → (n : Str) (v : ℕ) → Legal n → v ≡ value n
-    → (ltb (keyValue (k .low)) v && not (ltb (keyValue (k .high)) v)) ≡ (isAbove l n && atMost n u)
-range-holds {k = k} {l = l} {u = u} W e n v g h =
+-- The range test as the code makes it: the name is in the range, or which bound it breaks and how far it agrees with that.
+range-is : (z u n : Str) → length z ≤ length n → length u ≤ length n
+    → ranged z u n ≡ cond (isAbove (lowOf z) n && atMost n u) Holds (Lacks (broken (lowOf z) u n))
+unfolding isAbove broken lowOf
+range-is [] u n h k = rw (within-atMost n u k)
+range-is (d ∷ z) u n h k = rw (lt-ltb 0 (length (d ∷ z)) (omega arith), within-atMost n (d ∷ z) h, within-atMost n u k) (go (atMost n (d ∷ z)) (atMost n u))
+  where
+    go : (q p : Bool) → cond q (Lacks (diff n (d ∷ z))) (cond p Holds (Lacks (diff n u))) ≡ cond (not q && p) Holds (Lacks (cond q (diff n (d ∷ z)) (diff n u)))
+    go true p = refl
+    go false true = refl
+    go false false = refl
+
+pub range-told : {y : Layout} {xs : List ℕ} {k : Bucket} (W : WellRead y xs k) (n : Str) → length n ≡ 24
+    → ranged (lowerAt xs) (upperAt xs) n ≡ cond (isAbove (W .lower) n && atMost n (W .upper)) Holds (Lacks (broken (W .lower) (W .upper) n))
+range-told {xs = xs} W n h =
     let R = well-reads W in
-    let s = well-same W e in
-    range-is l u n (keyValue (k .low)) (keyValue (k .high)) v (sym (ap legalLow (s .0)) ∙ R .low) (sym (ap legalBound (s .1)) ∙ R .high) g
-    (W .low-is ∙ ap lowValue (s .0)) (W .high-is ∙ ap (λ (x : Str). value (continued x)) (s .1)) h
+    let z : Str = take (getD xs 2 0) (drop 8 xs) in
+    let l : lowOf (lowerAt xs) ≡ W .lower = ap lowOf (read-lower R ∙ sym (ap lowDigits (R .lower)) ∙ low-digits z) ∙ R .lower in
+    range-is (lowerAt xs) (upperAt xs) n
+    (omega (arith, h, ap length (read-lower R), legalBound-bound (lowDigits (W .lower)) (low-legal (W .lower) (R .low)) .fits))
+    (omega (arith, h, ap length (read-upper R), legalBound-bound (W .upper) (R .high) .fits))
+    ∙ ap₂ (λ (m : Low) (u : Str). cond (isAbove m n && atMost n u) Holds (Lacks (broken m u n))) l (read-upper R)
+
+-- The entries are those that are read behind the bounds.
+pub entries-are : {y : Layout} {xs : List ℕ} {l : Low} {u : Str} {es : List Entry} → Reads y xs l u es → Contents (entrySize y) es
+    → entriesOf (entrySize y) (length es) (drop 64 xs) ≡ es
+entries-are {y} {es = es} R c =
+    ap (entriesOf (entrySize y) (length es)) (R .behind) ∙ entries-read (entrySize y) (omega (arith, entry-size y .least)) (replicate (R .unused) 0) (R .row) c
+
+pub row-read : {y : Layout} {xs : List ℕ} {l : Low} {u : Str} {es : List Entry} → Reads y xs l u es → Contents (entrySize y) es
+    → entriesOf (entrySize y) (countAt (y .b) xs) (drop 64 xs) ≡ es
+row-read {y} {xs} R c = ap (λ (k : ℕ). entriesOf (entrySize y) k (drop 64 xs)) (count-is R) ∙ entries-are R c
+
+pub entries-fit : {y : Layout} (xs : List ℕ) {l : Low} {u : Str} {es : List Entry} → length xs ≡ 64 + entrySize y * y .b → Reads y xs l u es
+    → entrySize y * countAt (y .b) xs ≤ length (drop 64 xs)
+entries-fit {y} xs k R = omega (arith, length-drop 64 xs, part-least (entrySize y) (countAt (y .b) xs) (y .b) (omega (arith, count-is R, R .most)))

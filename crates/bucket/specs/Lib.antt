@@ -1,2 +1,3 @@
 pub mod Slots
 pub mod Forms
+pub mod Copies

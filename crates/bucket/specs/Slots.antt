@@ -1,13 +1,30 @@
--- The parts of a used slot as they are read, and the bytes of a slot that is written whole.
-use mathlib.Core.Bool.{cond}
+-- The size of a slot, and its parts as they are read.
+use mathlib.Core.Bool.{cond, true}
 use mathlib.Core.List.{List, []}
-use Prim.Native.Nat.{ℕ}
+use mathlib.Core.Path.{_≡_}
+use Prim.Native.Nat.{_*_, _+_, _-_, _≤_, ℕ}
 use lib.Dec.{ltb}
-use lib.ListN.{drop, getD, take}
+use lib.ListN.{drop, getD, length, take}
+use Rattle.model.specs.declared.Layout.{Layout}
+use Rattle.model.specs.Format.{entrySize, lowOf}
+use Rattle.digits.specs.Keys.{continued, isZero, lowValue, value}
+
+-- Bytes as many as a slot of this layout has.
+abbrev pub OfSize : List ℕ → Layout → Type 0
+OfSize xs y = (length xs ≡ 64 + entrySize y * y .b) × (y .b ≤ 16)
 
 -- A bound from `at` on, its length in byte k. A length above 24 is none that a bound has, and reads as empty.
 unfoldable pub boundAt : ℕ → ℕ → List ℕ → List ℕ
 boundAt k at xs = cond (ltb 24 (getD xs k 0)) [] (take (getD xs k 0) (drop at xs))
+
+-- The ends of a slot's range, as they are told where its bounds stand there: zeros behind them, and not above 24 digits.
+abbrev pub LowTold : List ℕ → ℕ → Type 0
+LowTold xs v =
+    getD xs 2 0 ≤ 24 → isZero (take (24 - getD xs 2 0) (drop (8 + getD xs 2 0) xs)) ≡ true → v ≡ lowValue (lowOf (take (getD xs 2 0) (drop 8 xs)))
+
+abbrev pub HighTold : List ℕ → ℕ → Type 0
+HighTold xs v =
+    getD xs 3 0 ≤ 24 → isZero (take (24 - getD xs 3 0) (drop (32 + getD xs 3 0) xs)) ≡ true → v ≡ value (continued (take (getD xs 3 0) (drop 32 xs)))
 
 -- R3.4 and R3.7: the lower bound; R3.5 and R3.9: the upper.
 abbrev pub lowerAt : List ℕ → List ℕ

@@ -1,18 +1,24 @@
 // One slot's bytes as they are read: its parts, free, well formed, its entries in order, its range.
 //
-// R3.2 to R3.17 of docs/RULES.md have the bytes: numbers and lengths first, then the two bounds, then b entries of 32
-// bytes, each a filled name and a value.
-ghost use mathlib.Core.Bool.{_&&_, not, true};
+// R3.2 to R3.17 of docs/RULES.md have the bytes: numbers and lengths first, then the two bounds, then b entries. Above this crate and
+// `slots` there are bounds and entries, and no offset inside a slot.
 ghost use mathlib.Core.Path.{_≡_};
 ghost use Prim.Native.Nat.{_≤_, _<_, _+_, _-_, _*_};
-ghost use lib.Dec.{ltb};
-ghost use lib.ListN.{drop, getD, length, take};
-ghost use Rattle.model.specs.Format.{lowOf};
-ghost use Rattle.digits.specs.Keys.{continued, isZero, keyValue, lowValue, value};
-ghost use Rattle.bucket.specs.Forms.{Formed, areEntries, holding, isClear, vacant};
-ghost use Rattle.bucket.specs.Slots.{countAt, lowerAt, upperAt};
+ghost use lib.ListN.{drop, length};
+ghost use Rattle.model.specs.Format.{entrySize, slotSize};
+ghost use Rattle.model.proofs.Format.{EntrySize};
+ghost use Rattle.model.specs.declared.Layout.{Layout};
+ghost use Rattle.digits.specs.Keys.{isZero, keyValue};
+ghost use Rattle.bucket.specs.Copies.{CopyTold, isUpperPart};
+ghost use Rattle.bucket.specs.Forms.{Formed, isClear, ranged, vacant};
+ghost use Rattle.bucket.specs.Slots.{HighTold, LowTold, OfSize, countAt, lowerAt, upperAt};
 use digits::Key;
+use digits::u64_of_usize;
 use digits::usize_of_u8;
+use model::Layout;
+
+// The bytes of the largest slot: 64, and 16 entries of 40.
+pub const SLOT: usize = 704;
 
 // The range (low, high] of a well-formed slot.
 pub struct Bucket {
@@ -30,10 +36,11 @@ pub enum Form {
     Ill,
 }
 
-// Whether a bucket's range holds a name.
+// Whether a bucket's range holds a name; if it lacks the name, the first digit number where the name differs from the bound that it
+// breaks.
 pub enum Range {
     Holds,
-    Lacks,
+    Lacks(u64),
 }
 
 // R3.1: all zero.
@@ -54,10 +61,7 @@ pub fn vacancy_of(slot: &[u8]) -> Vacancy
 // The lower end of a slot's range; an empty lower bound is no limit (R1.8).
 pub fn low_key(slot: &[u8]) -> Key
     requires { ⌜ 64 ≤ length (now slot) ⌝ }
-    ensures { λ r.
-        ⌜ (getD (now (slot .entry)) 2 0 ≤ 24
-        → isZero (take (24 - getD (now (slot .entry)) 2 0) (drop (8 + getD (now (slot .entry)) 2 0) (now (slot .entry)))) ≡ true
-        → keyValue r ≡ lowValue (lowOf (take (getD (now (slot .entry)) 2 0) (drop 8 (now (slot .entry)))))) ⌝ }
+    ensures { λ r. ⌜ LowTold (now (slot .entry)) (keyValue r) ⌝ }
 {
     let lower = usize_of_u8(slot[2]);
     if lower == 0 {
@@ -69,10 +73,7 @@ pub fn low_key(slot: &[u8]) -> Key
 // The upper end of a slot's range; an empty upper bound is above all (R1.7).
 pub fn high_key(slot: &[u8]) -> Key
     requires { ⌜ 64 ≤ length (now slot) ⌝ }
-    ensures { λ r.
-        ⌜ (getD (now (slot .entry)) 3 0 ≤ 24
-        → isZero (take (24 - getD (now (slot .entry)) 3 0) (drop (32 + getD (now (slot .entry)) 3 0) (now (slot .entry)))) ≡ true
-        → keyValue r ≡ value (continued (take (getD (now (slot .entry)) 3 0) (drop 32 (now (slot .entry)))))) ⌝ }
+    ensures { λ r. ⌜ HighTold (now (slot .entry)) (keyValue r) ⌝ }
 {
     digits::bound_key_at(slot, 32, usize_of_u8(slot[3]))
 }
@@ -115,33 +116,33 @@ pub fn count_of(slot: &[u8], b: usize) -> usize
     count
 }
 
-// Names are legal, strictly ascending and in the range: each is above the one before it, the first above the lower limit.
-fn are_entries(entries: &[u8], count: usize, low: Key, high: Key) -> bool
-    requires { ⌜ (32 * count ≤ length (now entries)) × (count ≤ 16) ⌝ }
-    ensures { λ r. ⌜ r ≡ areEntries count (now (entries .entry)) (keyValue low) (keyValue high) ⌝ }
+// The bytes of an entry follow from the version.
+pub fn entry_size(layout: Layout) -> usize
+    ensures { λ r. ⌜ (r ≡ entrySize layout) × EntrySize r ⌝ }
 {
-    let mut last = low;
-    let mut i = 0;
-    while i < count {
-        let at = 32 * i;
-        let e = at + 24;
-        if !digits::is_filled_name(&entries[at..e]) {
-            return false;
-        }
-        let name = digits::key_at(entries, at);
-        if !digits::is_below(last, name) {
-            return false;
-        }
-        last = name;
-        i += 1;
-    }
-    !digits::is_below(high, last)
+    32
 }
 
-// Whether the bytes that a used slot leaves zero are zero.
-fn is_clear(slot: &[u8], count: usize) -> bool
-    requires { ⌜ 64 + 32 * count ≤ length (now slot) ⌝ }
-    ensures { λ r. ⌜ r ≡ isClear (now (slot .entry)) count ⌝ }
+// R2.7: the bytes of a slot.
+pub fn slot_size(layout: Layout) -> usize
+    requires { ⌜ layout .b ≤ 16 ⌝ }
+    ensures { λ r. ⌜ (r ≡ slotSize layout) × (64 ≤ r) × (r ≤ 704) ⌝ }
+{
+    64 + entries::entry_at(entry_size(layout), layout.b, layout.b)
+}
+
+// The bytes of a slot behind its bounds: room for b entries.
+pub fn entries_of(slot: &[u8], layout: Layout) -> &[u8]
+    requires { ⌜ OfSize (now slot) layout ⌝ }
+    ensures { λ r. ⌜ (now r ≡ drop 64 (now (slot .entry))) × (length (now r) ≡ entrySize layout * layout .b) ⌝ }
+{
+    &slot[64..]
+}
+
+// Whether the bytes that a used slot leaves zero are zero; its entries reach to `end`.
+fn is_clear(slot: &[u8], end: usize) -> bool
+    requires { ⌜ (64 ≤ end) × (end ≤ length (now slot)) ⌝ }
+    ensures { λ r. ⌜ r ≡ isClear (now (slot .entry)) end ⌝ }
 {
     if !digits::is_zero(&slot[4..8]) {
         return false;
@@ -149,14 +150,13 @@ fn is_clear(slot: &[u8], count: usize) -> bool
     if !digits::is_zero(&slot[56..64]) {
         return false;
     }
-    let end = 64 + 32 * count;
     digits::is_zero(&slot[end..])
 }
 
-// A used slot as it is read, or that it is not well formed.
-pub fn form_of(slot: &[u8], b: usize) -> Form
-    requires { ⌜ (length (now slot) ≡ 64 + 32 * b) × (b ≤ 16) ⌝ }
-    ensures { λ r. ⌜ Formed b (now (slot .entry)) r ⌝ }
+// A used slot as it is read, or that it is not well formed, with entries of e bytes and room for b of them.
+fn form_by(slot: &[u8], e: usize, b: usize) -> Form
+    requires { ⌜ (length (now slot) ≡ 64 + e * b) × (b ≤ 16) × (24 ≤ e) × (e ≤ 40) ⌝ }
+    ensures { λ r. ⌜ ((y : Layout) → entrySize y ≡ e → y .b ≡ b → Formed y (now (slot .entry)) r) ⌝ }
 {
     if slot[0] != 1 {
         return Form::Ill;
@@ -165,7 +165,8 @@ pub fn form_of(slot: &[u8], b: usize) -> Form
     if b < count {
         return Form::Ill;
     }
-    if !is_clear(slot, count) {
+    let end = 64 + entries::entry_at(e, count, b);
+    if !is_clear(slot, end) {
         return Form::Ill;
     }
     let lower = usize_of_u8(slot[2]);
@@ -181,24 +182,68 @@ pub fn form_of(slot: &[u8], b: usize) -> Form
     if !digits::is_below(low, high) {
         return Form::Ill;
     }
-    if !are_entries(&slot[64..], count, low, high) {
+    if !entries::are_entries(&slot[64..], e, count, low, high) {
         return Form::Ill;
     }
     Form::Well(Bucket { low, high })
 }
 
-// R1.8: whether the name is in the bucket's range.
-pub fn range_of(bucket: Bucket, name: Key) -> Range
-    ensures { λ r.
-        ⌜ r ≡ holding (ltb (keyValue (bucket .low)) (keyValue name) && not (ltb (keyValue (bucket .high)) (keyValue name))) ⌝ }
+// A used slot as it is read, or that it is not well formed.
+pub fn form_of(slot: &[u8], layout: Layout) -> Form
+    requires { ⌜ OfSize (now slot) layout ⌝ }
+    ensures { λ r. ⌜ Formed layout (now (slot .entry)) r ⌝ }
 {
-    let low = bucket.low;
-    if !digits::is_below(low, name) {
-        return Range::Lacks;
+    form_by(slot, entry_size(layout), layout.b)
+}
+
+// R4.10, R4.11 and R4.13: whether N is a copy, not yet cut out, of the upper part of A.
+pub fn is_copy_of(n: &[u8], a: &[u8], layout: Layout) -> bool
+    requires { ⌜ (OfSize (now n) layout) × (OfSize (now a) layout) ⌝ }
+    ensures { λ r. ⌜ CopyTold layout (now (n .entry)) (now (a .entry)) r ⌝ }
+{
+    let b = layout.b;
+    let count = count_of(a, b);
+    if count != b {
+        return false;
     }
-    let high = bucket.high;
-    if digits::is_below(high, name) {
-        return Range::Lacks;
+    let low = low_key(n);
+    if !digits::is_below(low_key(a), low) {
+        return false;
+    }
+    is_upper_part(
+        entries_of(n, layout),
+        count_of(n, b),
+        entries_of(a, layout),
+        count,
+        low,
+        entry_size(layout),
+    )
+}
+
+// Whether the new entries are those of the old above the string, or these and one more.
+fn is_upper_part(new: &[u8], n: usize, old: &[u8], m: usize, string: Key, e: usize) -> bool
+    requires { ⌜ (e * n ≤ length (now new)) × (e * m ≤ length (now old)) × (n ≤ 16) × (m ≤ 16) × EntrySize e ⌝ }
+    ensures { λ r. ⌜ r ≡ isUpperPart e (now (new .entry)) n (now (old .entry)) m (keyValue string) ⌝ }
+{
+    let stay = entries::not_above(old, e, m, string);
+    entries::is_copied(entries::part(old, e, m, stay, m), m - stay, new, n, e)
+}
+
+// R1.8: whether the name is in the range of a slot; an empty lower bound is no limit.
+pub fn range_of(slot: &[u8], name: &[u8]) -> Range
+    requires { ⌜ 64 ≤ length (now slot) ⌝ }
+    ensures { λ r. ⌜ r ≡ ranged (lowerAt (now (slot .entry))) (upperAt (now (slot .entry))) (now (name .entry)) ⌝ }
+{
+    let lower = lower_bound(slot);
+    if 0 < lower.len() {
+        let low = digits::compared(name, lower);
+        if low.within {
+            return Range::Lacks(u64_of_usize(low.first));
+        }
+    }
+    let high = digits::compared(name, upper_bound(slot));
+    if !high.within {
+        return Range::Lacks(u64_of_usize(high.first));
     }
     Range::Holds
 }

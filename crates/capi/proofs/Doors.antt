@@ -14,6 +14,7 @@ use Rattle.model.specs.Calls.{createOf, listOf, lookUpOf, putOf, rebuildOf, rec
 use Rattle.model.specs.Checks.{Kind, is-bad, is-cut, is-sound}
 use Rattle.model.specs.Names.{filled}
 use Rattle.model.specs.Format.{checkFile}
+use Rattle.model.specs.Tries.{walkOf}
 use Rattle.file.specs.declared.survey.Kind.{Kind as Found}
 use Rattle.file.specs.declared.survey.Kind.the-variants.{Bad, Cut, Sound}
 use Rattle.whole.specs.Outcomes.{created, found, rebuilt, recovered}
@@ -22,7 +23,7 @@ use Rattle.reading.specs.Walked.{lookUpFrom}
 use Rattle.reading.proofs.LookingUp.{walked-looked}
 use Rattle.changing.specs.Outcomes.{put, removed}
 use Rattle.trie.specs.declared.Walk.{Walk}
-use Rattle.trie.specs.Walks.{Walks, walkOf}
+use Rattle.trie.specs.Walks.{Walks}
 use Rattle.image.specs.Images.{imageOf, imageSize, trieOf}
 use Rattle.capi.specs.Doors.{imageAfter, malformed, outAfter, palCheckOf, palCreateOf, palListOf, palLookUpOf, palPutOf, palRebuildOf, palRecoverOf, palRemoveOf}
 

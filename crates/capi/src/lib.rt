@@ -3,9 +3,12 @@
 // 1 to 99 is a refusal with its number (docs/RULES.md, section 10); 100 and up says what was done; 255 is an image that
 // is not 1,540 bytes long.
 ghost use mathlib.Core.Path.{_≡_};
+ghost use lib.Seq.{sets};
+ghost use Rattle.model.specs.Answers.{carried, number};
 ghost use Rattle.capi.specs.Doors.{palCheckOf, palCreateOf, palListOf, palLookUpOf, palPutOf, palRebuildOf, palRecoverOf, palRemoveOf};
 use digits::u64_of_usize;
 use file::Kind;
+use model::Cause;
 use model::ListAnswer;
 use model::LookUpAnswer;
 use model::PutAnswer;
@@ -16,6 +19,18 @@ use model::cause_number;
 
 // What refuses a trie image of another length, before everything else.
 const MALFORMED: u64 = 255;
+
+// A refusal's number. Where the trie is stale, word 0 is the digit number that the cause carries.
+fn refused(cause: Cause, out: &mut [u64; 4]) -> u64
+    ensures { λ r. ⌜ (r ≡ number cause) × (now (out .exit) ≡ sets (now (out .entry)) 0 (carried cause)) ⌝ }
+{
+    let number = cause_number(cause);
+    let Cause::StaleTrie(digit) = cause else {
+        return number;
+    };
+    out[0] = digit;
+    number
+}
 
 #[no_mangle]
 pub extern "C" fn pal_create(
@@ -66,7 +81,7 @@ pub extern "C" fn pal_recover(file: &mut [u8], limit: u64, out: &mut [u64; 4]) -
             out[0] = stores;
             112
         }
-        RecoverAnswer::Refused(cause) => cause_number(cause),
+        RecoverAnswer::Refused(cause) => refused(cause, out),
     }
 }
 
@@ -103,7 +118,7 @@ pub extern "C" fn pal_lookup(file: &[u8], trie: &[u8], name: &[u8], out: &mut [u
             100
         }
         LookUpAnswer::Absent => 101,
-        LookUpAnswer::Refused(cause) => cause_number(cause),
+        LookUpAnswer::Refused(cause) => refused(cause, out),
     }
 }
 
@@ -141,7 +156,7 @@ pub extern "C" fn pal_put(
             out[0] = stores;
             112
         }
-        PutAnswer::Refused(cause) => cause_number(cause),
+        PutAnswer::Refused(cause) => refused(cause, out),
     }
 }
 
@@ -168,7 +183,7 @@ pub extern "C" fn pal_remove(
             out[0] = stores;
             112
         }
-        RemoveAnswer::Refused(cause) => cause_number(cause),
+        RemoveAnswer::Refused(cause) => refused(cause, out),
     }
 }
 
@@ -194,6 +209,6 @@ pub extern "C" fn pal_list(
             out[0] = entries;
             152
         }
-        ListAnswer::Refused(cause) => cause_number(cause),
+        ListAnswer::Refused(cause) => refused(cause, out),
     }
 }

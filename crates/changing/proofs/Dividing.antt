@@ -1,27 +1,29 @@
 -- Put into a full bucket: what refuses the split, and its two stores.
-use Rattle.model.specs.declared.Layout.{Layout}
-use Rattle.model.specs.Places.{place-of}
-use Rattle.model.proofs.Prelude.{List, Option, [], _*_, _+_, _-_, _/_, _<_, _∙_, _≡_, _≤_, ap, ap₂, arith, clash, decLe, decLt, drop, le-ltb, length, lt-ltb, some, subst, suc, sym, take, ℕ}
+use Rattle.model.proofs.Prelude.{List, Option, [], _+_, _-_, _<_, _∙_, _≡_, _≤_, ap, ap₂, arith, clash, decLe, decLt, le-ltb, length, lt-ltb, some, subst, suc, sym, take, ℕ}
 use Rattle.model.specs.declared.Cause.the-variants.{ManyStrings, NoFreeSlot}
+use Rattle.model.specs.declared.Layout.{Layout}
 use Rattle.model.specs.declared.PutAnswer.the-variants.{Added, Refused}
 use Rattle.model.specs.declared.Trie.{Trie}
 use Rattle.model.specs.Order.{Low, Str, _⊑_, _◁_, diff}
 use Rattle.model.specs.Names.{Legal}
 use Rattle.model.specs.Entries.{Entry, Row, chosen, find, insert, name-at}
 use Rattle.model.specs.Files.{In, Slot, Sound, entries-of, first, head, slot-at, string-count, strings-of, used}
-use Rattle.model.specs.Tries.{Agrees, walk-trie}
-use Rattle.model.specs.Growth.{grown-trie, path-cells, root, spot-cells}
-use Rattle.model.specs.Changes.{Lowest, Result, call, free?, halves, holds?, put as asked, put-in, refuse, split-of, stored, stores}
-use Rattle.model.specs.Format.{headerOf, readFile, version-1}
+use Rattle.model.specs.Tries.{Agrees, root, walk-trie}
+use Rattle.model.specs.Growth.{grown-trie}
+use Rattle.model.specs.Changes.{Lowest, Store, call, free?, halves, holds?, put as asked, put-in, refuse, split-of, stored, stores}
+use Rattle.model.specs.Format.{headerOf, readFile, slotAt}
 use Rattle.model.specs.Calls.{putAnswer, refusalOf, trieAfter}
+use Rattle.model.specs.Places.{place-of}
 use Rattle.model.proofs.Entries.{chosen-no, chosen-yes, row-at, row-insert}
-use Rattle.model.proofs.Names.{legal-length}
+use Rattle.model.proofs.Files.{well-parts}
 use Rattle.model.proofs.Format.{headed-headerOf, readFile-read}
 use Rattle.model.proofs.Calls.{free-lowest}
-use Rattle.bucket.specs.Slots.{lowerAt, upperAt}
-use Rattle.writing.specs.Slots.{writtenBytes}
-use Rattle.bucket.proofs.Slots.{Reads}
-use Rattle.writing.proofs.Changing.{length-new}
+use Rattle.model.proofs.Places.{place-lt}
+use Rattle.model.proofs.Walks.{live-cells, path-cells, spot-cells, top-side}
+use Rattle.model.proofs.GrownTries.{agreed-walk}
+use Rattle.entries.proofs.Parts.{length-new}
+use Rattle.bucket.specs.Forms.{ReadAs}
+use Rattle.slots.specs.Halves.{LowerTold, UpperTold}
 use Rattle.file.specs.declared.Plan.{Plan}
 use Rattle.file.specs.declared.Room.{Room}
 use Rattle.file.specs.declared.Room.the-variants.{At, Full as NoRoom}
@@ -32,21 +34,20 @@ use Rattle.file.specs.Sizes.{Inside as RoomInside}
 use Rattle.trie.specs.Places.{Placed}
 use Rattle.trie.specs.Strung.{lengths}
 use Rattle.trie.specs.Walks.{Ended}
-use Rattle.trie.proofs.Agreed.{agreed-walk}
-use Rattle.growth.specs.Grows.{Grows, live-cells, top-side}
+use Rattle.growth.specs.Grows.{Grows}
 use Rattle.growth.proofs.Asking.{asked as grown-asked}
 use Rattle.checking.specs.declared.Checked.{Checked}
-use Rattle.splitting.specs.declared.Split.{Split}
-use Rattle.changing.specs.Full.{DivideTold, Full}
-use Rattle.splitting.specs.Divides.{Divides, Found}
-use Rattle.changing.specs.declared.PutPlan.{PutPlan}
-use Rattle.changing.specs.Plans.{PutPlanned}
 use Rattle.checking.specs.Ready.{Agreed}
+use Rattle.splitting.specs.declared.Split.{Split}
+use Rattle.splitting.specs.Divides.{Divides, Found}
 use Rattle.splitting.specs.Parts.{Parted}
-use Rattle.changing.specs.Splits.{SplitTold}
-use Rattle.splitting.proofs.Halving.{new-slot-is, old-slot-is, split-begins, split-some, string-front}
-use Rattle.changing.proofs.Spots.{NoStore, slot-reads}
 use Rattle.splitting.proofs.Counting.{split-count}
+use Rattle.splitting.proofs.Halving.{new-slot-is, old-slot-is, split-begins, split-is, split-some}
+use Rattle.changing.specs.declared.PutPlan.{PutPlan}
+use Rattle.changing.specs.Full.{DivideTold, Full}
+use Rattle.changing.specs.Plans.{PutPlanned}
+use Rattle.changing.specs.Splits.{PutAsked, SplitTold}
+use Rattle.changing.proofs.Homes.{NoStore, slot-read}
 
 -- What the plan of two stores ensures; its slots are the file's.
 abbrev TwoStores : Plan → ℕ → List ℕ → ℕ → List ℕ → Type 0
@@ -61,115 +62,112 @@ room-inside {r} {k} {n} e t = subst (λ (x : Room). RoomInside x n) e t
 
 -- What the checks found, said of the slots that are read.
 record Known (c : Checked) (xs : List ℕ) (t : Trie) (fs : List Slot) : Type 0 where
-  sound : Sound (c .size .b) fs
+  sound : Sound (c .size .layout .b) fs
   agrees : Agrees fs t
   lens-are : take (length (strings-of fs)) (c .strings .lens) ≡ lengths (strings-of fs)
   map-is : c .survey .used ≡ map-of fs
 
-known : {c : Checked} {xs : List ℕ} {t : Trie} {fs : List Slot} → Agreed c xs t → readFile xs ≡ some (version-1 (c .size .b), fs) → Known c xs t fs
+known : {c : Checked} {xs : List ℕ} {t : Trie} {fs : List Slot} → Agreed c xs t → readFile xs ≡ some (c .size .layout, fs) → Known c xs t fs
 known {c} {xs} {t} {fs} G e =
-    let f : _≡_ {A = Option (Layout × List Slot)} (some (version-1 (c .size .b), G .ready .slots)) (some (version-1 (c .size .b), fs)) = sym (G .ready .is) ∙ e in
-    let g : _≡_ {A = Layout × List Slot} (version-1 (c .size .b), G .ready .slots) (version-1 (c .size .b), fs) = cc in
+    let f : _≡_ {A = Option (Layout × List Slot)} (some (c .size .layout, G .ready .slots)) (some (c .size .layout, fs)) = sym (G .ready .is) ∙ e in
+    let g : _≡_ {A = Layout × List Slot} (c .size .layout, G .ready .slots) (c .size .layout, fs) = cc in
     subst (Known c xs t) (ap (λ (x : Layout × List Slot). x .1) g)
     (record { sound = G .ready .sound; agrees = G .agrees; lens-are = G .ready .strings-held .lens-are; map-is = G .ready .used-is })
 
 -- As many slots as the header says.
-slots-are : (xs : List ℕ) {b slots : ℕ} {fs : List Slot} → readFile xs ≡ some (version-1 b, fs) → headerOf xs ≡ some (version-1 b, slots) → length fs ≡ slots
-slots-are xs {b} {slots} {fs} e h =
-    let q : _≡_ {A = Option (Layout × ℕ)} (some (version-1 b, length fs)) (some (version-1 b, slots)) = sym (headed-headerOf (readFile-read xs e .headed)) ∙ h in
-    let p : _≡_ {A = Layout × ℕ} (version-1 b, length fs) (version-1 b, slots) = cc in
+slots-are : (xs : List ℕ) {y : Layout} {slots : ℕ} {fs : List Slot} → readFile xs ≡ some (y, fs) → headerOf xs ≡ some (y, slots) → length fs ≡ slots
+slots-are xs {y} {slots} {fs} e h =
+    let q : _≡_ {A = Option (Layout × ℕ)} (some (y, length fs)) (some (y, slots)) = sym (headed-headerOf (readFile-read xs e .headed)) ∙ h in
+    let p : _≡_ {A = Layout × ℕ} (y, length fs) (y, slots) = cc in
     ap (λ (x : Layout × ℕ). x .1) p
 
 -- A new name of a full bucket, in a file whose slots are fs.
-module _ (b : ℕ) (two : 2 ≤ b) (few : b ≤ 16) (xs : List ℕ) {fs : List Slot} (e : readFile xs ≡ some (version-1 b, fs)) (S : Sound b fs) (t : Trie)
-    {A : ℕ} {n : Str} {v : ℕ} {l : Low} {u : Str} {es : List Entry} {entries : List ℕ} (F : Full b fs A n v l u es entries) where
+module _ (y : Layout) (two : 2 ≤ y .b) (few : y .b ≤ 16) (xs : List ℕ) {fs : List Slot} (e : readFile xs ≡ some (y, fs)) (S : Sound (y .b) fs) (t : Trie)
+    {A : ℕ} {n : Str} {v : ℕ} {l : Low} {u : Str} {es : List Entry} {row : List ℕ} (F : Full y fs A n v l u es row) where
   abbrev ws : List Entry
   ws = insert n v es
 
-  at-a : Reads b (take (64 + 32 * b) (drop (16 + A * (64 + 32 * b)) xs)) l u es
-  at-a = slot-reads xs e S A (F .is)
+  -- The split string and the place of the split key.
+  abbrev string : Str
+  string = split-of (y .b) (place-of y) ws
+
+  at-a : ReadAs y (slotAt y A xs) l u es
+  at-a = slot-read xs e S A (F .home .is)
 
   pub row-all : Row l ws u
-  row-all = row-insert n v (F .legal) (F .above) (F .within) (at-a .row)
+  row-all = row-insert n v (F .legal) (F .home .above) (F .home .within) (well-parts (y .b) (at-a .1) .3)
 
-  pub length-all : length ws ≡ b + 1
+  pub length-all : length ws ≡ y .b + 1
   length-all = omega (arith, length-new n v es (F .new), F .counted)
 
   -- The stores of a split, planned.
-  both-planned : {s : Split} → Divides s b t ws → (N : ℕ) (r : PutPlan) (p : Plan) (slot new old : List ℕ) → slot ≡ take (64 + 32 * b) (drop (16 + A * (64 + 32 * b)) xs)
-      → new ≡ writtenBytes (take (s .len) (s .string)) (upperAt slot) (take (32 * (b + 1) - 32 * s .stay) (drop (32 * s .stay) entries))
-      → old ≡ writtenBytes (lowerAt slot) (take (s .len) (s .string)) (take (32 * s .stay) entries) → TwoStores p N new A old
-      → (r .plan ≡ p) × (r .answer ≡ Added) × (r .trie ≡ grown-trie t (name-at ws (b / 2)) (split-of b (place-of (version-1 b)) ws) A N)
-      → PutPlanned r t (version-1 b) fs n v (stores (halves b (place-of (version-1 b)) N A l u ws))
+  both-planned : {s : Split} → Divides s y t ws → (N : ℕ) (r : PutPlan) (p : Plan) (slot new old : List ℕ) → slot ≡ slotAt y A xs
+      → UpperTold new y slot row (take (s .len) (s .string)) (s .stay) → LowerTold old y slot row (take (s .len) (s .string)) (s .stay) → TwoStores p N new A old
+      → (r .plan ≡ p) × (r .answer ≡ Added) × (r .trie ≡ grown-trie t (name-at ws (place-of y ws)) string A N)
+      → PutPlanned r t y fs n v (stores (halves (y .b) (place-of y) N A l u ws))
   unfolding trieAfter
   both-planned {s} D N r p slot new old here new-is old-is q g =
-      let at-slot : Reads b slot l u es = subst (λ (z : List ℕ). Reads b z l u es) (sym here) at-a in
-      let x = new-slot-is row-all b two few length-all entries (F .entries-are) slot at-slot (s .string) (s .len) (s .stay) (D .string-is) (D .len-is) (D .stay-is) new new-is in
-      let z = old-slot-is row-all b two few length-all entries (F .entries-are) slot at-slot (s .string) (s .len) (s .stay) (D .string-is) (D .len-is) (D .stay-is) old old-is in
-      let a : r .answer ≡ putAnswer (find n (entries-of (slot-at fs (first (holds? n) fs)))) = rw (← F .slot-is, F .is, F .new) (g .1) in
-      (rw (g .0) (q .0, (q .1, rw (q .2) x), (q .3, rw (q .4) z)), a, rw (F .is) (g .2))
+      let at-slot : ReadAs y slot l u es = subst (λ (z : List ℕ). ReadAs y z l u es) (sym here) at-a in
+      let x = new-slot-is row-all y two length-all D slot row at-slot (F .row-is) new new-is in
+      let z = old-slot-is row-all y two length-all D slot row at-slot (F .row-is) old old-is in
+      let a : r .answer ≡ putAnswer (find n (entries-of (slot-at fs (first (holds? n) fs)))) = rw (← F .home .slot-is, F .home .is, F .new) (g .1) in
+      (rw (g .0) (q .0, (q .1, rw (q .2) x), (q .3, rw (q .4) z)), a, rw (F .home .is) (g .2))
 
   -- The split key is a name of A's range, and its walk over a trie that agrees ends.
   abbrev c : Str
-  c = name-at ws (b / 2)
+  c = name-at ws (place-of y ws)
 
   c-in : Legal c × (l ◁ c) × (c ⊑ u)
-  c-in = row-at row-all (b / 2) (omega (arith, length-all))
+  c-in = row-at row-all (place-of y ws) (omega (arith, length-all, place-lt y two ws))
 
-  c-length : length c ≡ 24
-  c-length = legal-length (c-in .0)
-
-  module _ (G : Agrees fs t) {s : Split} (D : Divides s b t ws) where
+  module _ (G : Agrees fs t) {s : Split} (D : Divides s y t ws) where
     abbrev path : Str
     path = path-cells (live-cells t) c (suc (length (live-cells t))) [] (top-side t)
 
     walk-ended : Ended (s .walk) path (spot-cells (live-cells t) c (suc (length (live-cells t))) [] root (top-side t)) (walk-trie t c)
-    walk-ended = rw (agreed-walk S G c c-length) at (D .walked)
+    walk-ended = rw (agreed-walk S G c) at (D .walked)
 
     pub grown-is : {places lens : List ℕ} → Placed t places → take (length (strings-of fs)) lens ≡ lengths (strings-of fs) → (N : ℕ) (r : Trie)
-        → Grows t places lens (s .walk) (take (s .len) (s .string)) (s .shared) A N r → r ≡ grown-trie t c (split-of b (place-of (version-1 b)) ws) A N
+        → Grows t places lens (s .walk) (take (s .len) (s .string)) (s .shared) A N r → r ≡ grown-trie t c string A N
     grown-is {places} {lens} P k N r g =
-        let q : take (s .len) (s .string) ≡ split-of b (place-of (version-1 b)) ws = rw (D .len-is, D .string-is) (string-front row-all b two few length-all entries (F .entries-are)) in
-        let i : In (head (slot-at fs A)) c = rw (F .is) (tt, c-in .1, c-in .2) in
+        let q : take (s .len) (s .string) ≡ string = split-is row-all y two length-all D in
+        let i : In (head (slot-at fs A)) c = rw (F .home .is) (tt, c-in .1, c-in .2) in
         subst (λ (z : Str). Grows t places lens (s .walk) z (s .shared) A N r) q g c
-        (grown-asked S G (s .walk) P k c-length (split-some row-all b two few length-all entries (F .entries-are)) (split-begins row-all b two few length-all entries (F .entries-are)) i (D .walked) (D .shares))
+        (grown-asked S G (s .walk) P k (split-some row-all (y .b) (place-of y ws) (place-lt y two ws) length-all) (split-begins row-all (y .b) (place-of y ws) (place-lt y two ws) length-all) i (D .walked) (D .shares))
 
-    pub count-after : (N : ℕ) → Lowest fs N → string-count (stored (halves b (place-of (version-1 b)) N A l u ws) fs) ≡ t .count + (s .len - s .shared)
+    pub count-after : (N : ℕ) → Lowest fs N → string-count (stored (halves (y .b) (place-of y) N A l u ws) fs) ≡ t .count + (s .len - s .shared)
     count-after N L =
-        let h : s .shared ≡ diff (split-of b (place-of (version-1 b)) ws) path = D .shares ∙ ap (diff (split-of b (place-of (version-1 b)) ws)) (walk-ended .path) in
-        split-count b fs S G A l u es (F .is) n v (F .legal) (F .above) (F .within) (omega (arith, length-all)) (b / 2) (omega arith) N L
-        ∙ ap₂ (λ (x y : ℕ). t .count + (x - y)) (sym (D .len-is)) (sym h)
+        let h : s .shared ≡ diff string path = D .shares ∙ ap (diff string) (walk-ended .path) in
+        split-count (y .b) fs S G A l u es (F .home .is) n v (F .legal) (F .home .above) (F .home .within) (omega (arith, length-all)) (place-of y ws) (place-lt y two ws) N L
+        ∙ ap₂ (λ (i j : ℕ). t .count + (i - j)) (sym (D .len-is)) (sym h)
 
   -- What is asked of a full bucket.
   abbrev N : ℕ
   N = first free? fs
 
-  abbrev two-stores : Result
-  two-stores = stores (halves b (place-of (version-1 b)) N A l u ws)
+  abbrev both : List Store
+  both = halves (y .b) (place-of y) N A l u ws
 
-  call-split : call b (place-of (version-1 b)) fs (asked n v)
-      ≡ chosen (decLt N (length fs)) (chosen (decLe (string-count (stored (halves b (place-of (version-1 b)) N A l u ws) fs)) 256) two-stores (refuse 6)) (refuse 5)
+  call-split : call (y .b) (place-of y) fs (asked n v) ≡ chosen (decLt N (length fs)) (chosen (decLe (string-count (stored both fs)) 256) (stores both) (refuse 6)) (refuse 5)
   unfolding call put-in
-  call-split = rw (← F .slot-is, F .is) (chosen-no (decLe (length ws) b) (λ h. omega (arith, h, length-all)) _ _)
+  call-split = rw (← F .home .slot-is, F .home .is) (chosen-no (decLe (length ws) (y .b)) (λ h. omega (arith, h, length-all)) _ _)
 
-  pub no-room : (r : PutPlan) (p : Plan) → length fs ≤ N → NoStore p → (r .plan ≡ p) × (r .answer ≡ Refused NoFreeSlot) × (r .trie ≡ t)
-      → PutPlanned r t (version-1 b) fs n v (call b (place-of (version-1 b)) fs (asked n v))
+  pub no-room : (r : PutPlan) (p : Plan) → length fs ≤ N → NoStore p → (r .plan ≡ p) × (r .answer ≡ Refused NoFreeSlot) × (r .trie ≡ t) → PutAsked r t y fs n v
   unfolding refusalOf
   no-room r p h q g =
-      let e : call b (place-of (version-1 b)) fs (asked n v) ≡ refuse 5 = call-split ∙ chosen-no (decLt N (length fs)) (λ k. omega (arith, h, k)) _ _ in
-      subst (PutPlanned r t (version-1 b) fs n v) (sym e) (rw (g .0) (q .0), g .1, g .2)
+      let i : call (y .b) (place-of y) fs (asked n v) ≡ refuse 5 = call-split ∙ chosen-no (decLt N (length fs)) (λ k. omega (arith, h, k)) _ _ in
+      subst (PutPlanned r t y fs n v) (sym i) (rw (g .0) (q .0), g .1, g .2)
 
-  pub too-many : (r : PutPlan) (p : Plan) → N < length fs → 256 < string-count (stored (halves b (place-of (version-1 b)) N A l u ws) fs) → NoStore p
-      → (r .plan ≡ p) × (r .answer ≡ Refused ManyStrings) × (r .trie ≡ t) → PutPlanned r t (version-1 b) fs n v (call b (place-of (version-1 b)) fs (asked n v))
+  pub too-many : (r : PutPlan) (p : Plan) → N < length fs → 256 < string-count (stored both fs) → NoStore p
+      → (r .plan ≡ p) × (r .answer ≡ Refused ManyStrings) × (r .trie ≡ t) → PutAsked r t y fs n v
   unfolding refusalOf
   too-many r p h k q g =
-      let e : call b (place-of (version-1 b)) fs (asked n v) ≡ refuse 6 =
-      call-split ∙ chosen-yes (decLt N (length fs)) h _ _ ∙ chosen-no (decLe (string-count (stored (halves b (place-of (version-1 b)) N A l u ws) fs)) 256) (λ i. omega (arith, i, k)) _ _ in
-      subst (PutPlanned r t (version-1 b) fs n v) (sym e) (rw (g .0) (q .0), g .1, g .2)
+      let i : call (y .b) (place-of y) fs (asked n v) ≡ refuse 6 =
+      call-split ∙ chosen-yes (decLt N (length fs)) h _ _ ∙ chosen-no (decLe (string-count (stored both fs)) 256) (λ i. omega (arith, i, k)) _ _ in
+      subst (PutPlanned r t y fs n v) (sym i) (rw (g .0) (q .0), g .1, g .2)
 
-  pub both-made : N < length fs → string-count (stored (halves b (place-of (version-1 b)) N A l u ws) fs) ≤ 256 → call b (place-of (version-1 b)) fs (asked n v) ≡ two-stores
-  both-made h k =
-      call-split ∙ chosen-yes (decLt N (length fs)) h _ _ ∙ chosen-yes (decLe (string-count (stored (halves b (place-of (version-1 b)) N A l u ws) fs)) 256) k _ _
+  pub both-made : N < length fs → string-count (stored both fs) ≤ 256 → call (y .b) (place-of y) fs (asked n v) ≡ stores both
+  both-made h k = call-split ∙ chosen-yes (decLt N (length fs)) h _ _ ∙ chosen-yes (decLe (string-count (stored both fs)) 256) k _ _
 
 -- The room that was found.
 room-full : (fs : List Slot) → room-of fs ≡ NoRoom → length fs ≤ first free? fs
@@ -191,53 +189,57 @@ room-at fs k e = elim (decLt (first free? fs) (length fs)) [
 
 -- Of a file and a trie that passed the checks.
 module _ {c : Checked} {xs : List ℕ} {t : Trie} (G : Agreed c xs t) where
-  two : 2 ≤ c .size .b
+  two : 2 ≤ c .size .layout .b
   two = G .ready .said .sized .legal .b-least
 
-  few : c .size .b ≤ 16
+  few : c .size .layout .b ≤ 16
   few = G .ready .said .sized .legal .b-most
 
-  lowest : {room : Room} → RoomTold (c .survey .used) (c .size .slots) room → {fs : List Slot} → readFile xs ≡ some (version-1 (c .size .b), fs) → room ≡ room-of fs
+  lowest : {room : Room} → RoomTold (c .survey .used) (c .size .slots) room → {fs : List Slot} → readFile xs ≡ some (c .size .layout, fs) → room ≡ room-of fs
   lowest R {fs} e = R .lowest fs (slots-are xs e (G .ready .said .header)) (G .ready .said .sized .legal .slots-most) (known G e .map-is)
 
-module _ {c : Checked} {xs : List ℕ} {t : Trie} (G : Agreed c xs t) (A : ℕ) (entries : List ℕ) (r : PutPlan) where
+module _ {c : Checked} {xs : List ℕ} {t : Trie} (G : Agreed c xs t) (A : ℕ) (row : List ℕ) (r : PutPlan) where
   -- The two stores.
-  pub divide-told : {p : Plan} {N : ℕ} {s : Split} {slot new old : List ℕ} {w : Trie} → slot ≡ take (64 + 32 * c .size .b) (drop (16 + A * (64 + 32 * c .size .b)) xs)
-      → new ≡ writtenBytes (take (s .len) (s .string)) (upperAt slot) (take (32 * (c .size .b + 1) - 32 * s .stay) (drop (32 * s .stay) entries))
-      → old ≡ writtenBytes (lowerAt slot) (take (s .len) (s .string)) (take (32 * s .stay) entries)
+  pub divide-told : {p : Plan} {N : ℕ} {s : Split} {slot new old : List ℕ} {w : Trie} → slot ≡ slotAt (c .size .layout) A xs
+      → UpperTold new (c .size .layout) slot row (take (s .len) (s .string)) (s .stay)
+      → LowerTold old (c .size .layout) slot row (take (s .len) (s .string)) (s .stay)
       → Grows t (c .places) (c .strings .lens) (s .walk) (take (s .len) (s .string)) (s .shared) A N w → TwoStores p N new A old
-      → (r .plan ≡ p) × (r .answer ≡ Added) × (r .trie ≡ w) → DivideTold c xs t A N entries s r
+      → (r .plan ≡ p) × (r .answer ≡ Added) × (r .trie ≡ w) → DivideTold r c xs t A N row s
   divide-told {p} {N} {s} {slot} {new} {old} {w} here new-is old-is k q g fs e n v l u es F D =
       let K = known G e in
-      both-planned (c .size .b) (two G) (few G) xs e (K .sound) t F D N r p slot new old here new-is old-is q
-      (g .0, g .1, g .2 ∙ grown-is (c .size .b) (two G) (few G) xs e (K .sound) t F (K .agrees) D (G .placed) (K .lens-are) N w k)
+      both-planned (c .size .layout) (two G) (few G) xs e (K .sound) t F D N r p slot new old here new-is old-is q
+      (g .0, g .1, g .2 ∙ grown-is (c .size .layout) (two G) (few G) xs e (K .sound) t F (K .agrees) D (G .placed) (K .lens-are) N w k)
 
   -- The room for the new slot.
   module _ {room : Room} (R : RoomTold (c .survey .used) (c .size .slots) room) where
-    pub full-told : {p : Plan} → room ≡ NoRoom → NoStore p → (r .plan ≡ p) × (r .answer ≡ Refused NoFreeSlot) × (r .trie ≡ t) → SplitTold xs t (c .size) A entries r
-    full-told {p} q o g fs e n v a l u es i j lo up w k z =
-        no-room (c .size .b) (two G) (few G) xs e (known G e .sound) t
-        (record { legal = a; is = i; slot-is = j; above = lo; within = up; new = w; counted = k; entries-are = z }) r p
-        (room-full fs (sym (lowest G R e) ∙ q)) o g
+    pub full-told : {p : Plan} → room ≡ NoRoom → NoStore p → (r .plan ≡ p) × (r .answer ≡ Refused NoFreeSlot) × (r .trie ≡ t) → SplitTold r xs t (c .size) A row
+    full-told {p} q o g fs e n v l u es F =
+        no-room (c .size .layout) (two G) (few G) xs e (known G e .sound) t F r p (room-full fs (sym (lowest G R e) ∙ q)) o g
 
-    module _ {N : ℕ} (q : room ≡ At N) {s : Split} (m : Parted s (c .size .b)) (f : Found s (c .size .b) t entries) where
-      pub many-told : {p : Plan} → 256 + s .shared < t .count + s .len → NoStore p → (r .plan ≡ p) × (r .answer ≡ Refused ManyStrings) × (r .trie ≡ t) → SplitTold xs t (c .size) A entries r
-      many-told {p} h o g fs e n v a l u es i j lo up w k z =
-          let S = known G e .sound in
-          let F : Full (c .size .b) fs A n v l u es entries = record { legal = a; is = i; slot-is = j; above = lo; within = up; new = w; counted = k; entries-are = z } in
-          let D = f l u (insert n v es) (row-all (c .size .b) (two G) (few G) xs e S t F) (length-all (c .size .b) (two G) (few G) xs e S t F) z in
-          let x = room-at fs N (sym (lowest G R e) ∙ q) in
-          too-many (c .size .b) (two G) (few G) xs e S t F r p (x .1)
-          (omega (arith, m .shared-most, h, count-after (c .size .b) (two G) (few G) xs e S t F (known G e .agrees) D (first free? fs) (free-lowest fs (x .1)))) o g
+    module _ {N : ℕ} (q : room ≡ At N) {s : Split} (m : Parted s (c .size .layout .b)) (f : Found s (c .size .layout) t row) where
+      -- What the split is of, and how many strings there are then.
+      module _ {fs : List Slot} (e : readFile xs ≡ some (c .size .layout, fs)) {n : Str} {v : ℕ} {l : Low} {u : Str} {es : List Entry}
+          (F : Full (c .size .layout) fs A n v l u es row) where
+        divides : Divides s (c .size .layout) t (insert n v es)
+        divides =
+            let S = known G e .sound in
+            f l u (insert n v es) (row-all (c .size .layout) (two G) (few G) xs e S t F) (length-all (c .size .layout) (two G) (few G) xs e S t F) (F .row-is)
 
-      pub split-told : t .count + s .len ≤ 256 + s .shared → DivideTold c xs t A N entries s r → SplitTold xs t (c .size) A entries r
-      split-told h d fs e n v a l u es i j lo up w k z =
-          let S = known G e .sound in
-          let F : Full (c .size .b) fs A n v l u es entries = record { legal = a; is = i; slot-is = j; above = lo; within = up; new = w; counted = k; entries-are = z } in
-          let D = f l u (insert n v es) (row-all (c .size .b) (two G) (few G) xs e S t F) (length-all (c .size .b) (two G) (few G) xs e S t F) z in
-          let x = room-at fs N (sym (lowest G R e) ∙ q) in
-          let y = both-made (c .size .b) (two G) (few G) xs e S t F (x .1)
-          (omega (arith, m .shared-most, h, count-after (c .size .b) (two G) (few G) xs e S t F (known G e .agrees) D (first free? fs) (free-lowest fs (x .1)))) in
-          subst (PutPlanned r t (version-1 (c .size .b)) fs n v)
-          (ap (λ (k : ℕ). stores (halves (c .size .b) (place-of (version-1 (c .size .b))) k A l u (insert n v es))) (x .0) ∙ sym y)
-          (d fs e n v l u es F D)
+        found : (N ≡ first free? fs) × (first free? fs < length fs)
+        found = room-at fs N (sym (lowest G R e) ∙ q)
+
+        counted : string-count (stored (halves (c .size .layout .b) (place-of (c .size .layout)) (first free? fs) A l u (insert n v es)) fs) ≡ t .count + (s .len - s .shared)
+        counted =
+            count-after (c .size .layout) (two G) (few G) xs e (known G e .sound) t F (known G e .agrees) divides (first free? fs) (free-lowest fs (found .1))
+
+      pub many-told : {p : Plan} → 256 + s .shared < t .count + s .len → NoStore p → (r .plan ≡ p) × (r .answer ≡ Refused ManyStrings) × (r .trie ≡ t)
+          → SplitTold r xs t (c .size) A row
+      many-told {p} h o g fs e n v l u es F =
+          too-many (c .size .layout) (two G) (few G) xs e (known G e .sound) t F r p (found e F .1) (omega (arith, m .shared-most, h, counted e F)) o g
+
+      pub split-told : t .count + s .len ≤ 256 + s .shared → DivideTold r c xs t A N row s → SplitTold r xs t (c .size) A row
+      split-told h d fs e n v l u es F =
+          let z = both-made (c .size .layout) (two G) (few G) xs e (known G e .sound) t F (found e F .1) (omega (arith, m .shared-most, h, counted e F)) in
+          subst (PutPlanned r t (c .size .layout) fs n v)
+          (ap (λ (k : ℕ). stores (halves (c .size .layout .b) (place-of (c .size .layout)) k A l u (insert n v es))) (found e F .0) ∙ sym z)
+          (d fs e n v l u es F (divides e F))

@@ -1,4 +1,4 @@
-pub mod Spots
-pub mod Removing
-pub mod Putting
+pub mod Homes
 pub mod Dividing
+pub mod Putting
+pub mod Removing

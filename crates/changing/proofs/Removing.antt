@@ -1,40 +1,38 @@
--- Remove, put together from the spot of the name.
+-- Remove, put together from the home of the name.
 use Rattle.model.specs.Places.{place-of}
-use Rattle.model.proofs.Prelude.{Bool, List, [], _<_, _∙_, _∷_, _≡_, _≤_, arith, false, le-ltb, length, lt-ltb, ltb, ltb-false, nothing, some, sym, take, take-all, take-nil, true, ℕ}
+use Rattle.model.proofs.Prelude.{Bool, List, [], _<_, _∙_, _∷_, _≡_, _≤_, arith, false, le-ltb, length, lt-ltb, ltb, ltb-false, nothing, some, sym, take-all, take-nil, true, ℕ}
 use Rattle.model.specs.declared.Cause.{Cause}
 use Rattle.model.specs.declared.Cause.the-variants.{IllegalName, WrongSize}
 use Rattle.model.specs.declared.Layout.{Layout}
 use Rattle.model.specs.declared.RemoveAnswer.{RemoveAnswer}
 use Rattle.model.specs.declared.RemoveAnswer.the-variants.{Absent, Refused, Removed, Stopped}
 use Rattle.model.specs.declared.Trie.{Trie}
-use Rattle.model.specs.Order.{Str}
+use Rattle.model.specs.Order.{Low, Str}
 use Rattle.model.specs.Names.{filled, legalName}
-use Rattle.model.specs.Entries.{find, without}
+use Rattle.model.specs.Entries.{Entry, find, without}
 use Rattle.model.specs.Files.{Slot, used}
 use Rattle.model.specs.Changes.{Result, call, refuse, remove, remove-in, stores, stores-if}
-use Rattle.model.specs.Format.{slotBytes, slotSize, version-1}
 use Rattle.model.specs.Calls.{fine, lookedOf, refusing, removeLooked, removeMade, removeOf, storesBytes}
 use Rattle.file.specs.declared.Plan.{Plan}
 use Rattle.file.specs.Plans.{Committed}
-use Rattle.changing.specs.declared.Spot.{Spot}
+use Rattle.slots.specs.Spots.{Begins}
 use Rattle.changing.specs.Plans.{RemovePlanned}
 use Rattle.changing.specs.Outcomes.{removed}
-use Rattle.changing.specs.Spots.{SpotIn}
-use Rattle.changing.proofs.Spots.{OneStore}
+use Rattle.changing.specs.Homes.{Home}
+use Rattle.changing.proofs.Homes.{OneStore}
 
 -- Of a file that passed the checks.
-module _ (b : ℕ) {fs : List Slot} {s : Spot} {n : Str} (P : SpotIn s fs n) where
-  call-remove : call b (place-of (version-1 b)) fs (remove n) ≡ stores (stores-if (find n (P .entries)) ((s .slot, used (P .low) (P .up) (without n (P .entries))) ∷ []))
+module _ (y : Layout) {fs : List Slot} {A : ℕ} {n : Str} {l : Low} {u : Str} {es : List Entry} (H : Home A fs n l u es) where
+  call-remove : call (y .b) (place-of y) fs (remove n) ≡ stores (stores-if (find n es) ((A, used l u (without n es)) ∷ []))
   unfolding call remove-in
-  call-remove = rw (← P .slot-is, P .is)
+  call-remove = rw (← H .slot-is, H .is)
 
-  pub remove-absent : (p : Plan) → find n (P .entries) ≡ nothing → p .stores ≡ 0 → RemovePlanned p (version-1 b) (call b (place-of (version-1 b)) fs (remove n))
+  pub remove-absent : (p : Plan) → find n es ≡ nothing → p .stores ≡ 0 → RemovePlanned p y (call (y .b) (place-of y) fs (remove n))
   unfolding stores-if
   remove-absent p h q = rw (call-remove, h) q
 
-  pub remove-held : (p : Plan) (bytes : List ℕ) (w : ℕ) → find n (P .entries) ≡ some w
-      → take (slotSize (version-1 b)) bytes ≡ slotBytes (version-1 b) (used (P .low) (P .up) (without n (P .entries))) → OneStore p (s .slot) bytes
-      → RemovePlanned p (version-1 b) (call b (place-of (version-1 b)) fs (remove n))
+  pub remove-held : (p : Plan) (bytes : List ℕ) (w : ℕ) → find n es ≡ some w → Begins bytes y (used l u (without n es)) → OneStore p A bytes
+      → RemovePlanned p y (call (y .b) (place-of y) fs (remove n))
   unfolding stores-if
   remove-held p bytes w h z q = rw (call-remove, h) (q .0, (q .1, rw (q .2) z))
 
@@ -76,7 +74,7 @@ module _ (xs : List ℕ) (t : Trie) (name : List ℕ) (limit : ℕ) where
   unfolding removeOf removeLooked
   file-refused cause h e f = rw (le-ltb 2 limit h, e, f)
 
-  pub remove-fine : (r : RemoveAnswer) (ys : List ℕ) (b : ℕ) (fs : List Slot) → limit ≤ 2 → legalName name ≡ true → lookedOf xs t ≡ fine (version-1 b) fs
-      → removed r ys ≡ removeMade xs (version-1 b) limit (call b (place-of (version-1 b)) fs (remove (filled name))) → removed r ys ≡ removeOf xs t name limit
+  pub remove-fine : (r : RemoveAnswer) (ys : List ℕ) (y : Layout) (fs : List Slot) → limit ≤ 2 → legalName name ≡ true → lookedOf xs t ≡ fine y fs
+      → removed r ys ≡ removeMade xs y limit (call (y .b) (place-of y) fs (remove (filled name))) → removed r ys ≡ removeOf xs t name limit
   unfolding removeOf removeLooked
-  remove-fine r ys b fs h e f m = rw (le-ltb 2 limit h, e, f) m
+  remove-fine r ys y fs h e f m = rw (le-ltb 2 limit h, e, f) m

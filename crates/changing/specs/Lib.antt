@@ -1,5 +1,5 @@
 pub mod Outcomes
-pub mod Spots
-pub mod Splits
-pub mod Full
+pub mod Homes
 pub mod Plans
+pub mod Full
+pub mod Splits

@@ -1,56 +1,57 @@
 -- What is planned for a put or a remove of a file that is read: the definitions' stores, for the slots read and the name looked for.
-use Rattle.model.specs.Places.{place-of}
 use mathlib.Core.Path.{_≡_}
 use mathlib.Core.Option.{none as nothing, some}
 use mathlib.Core.List.{List}
 use Prim.Native.Nat.{ℕ}
-use lib.ListN.{length}
+use Rattle.model.specs.declared.Layout.{Layout}
 use Rattle.model.specs.declared.Trie.{Trie}
-use Rattle.model.specs.Order.{Low, Str, _⊑_, _◁_}
+use Rattle.model.specs.Order.{Low, Str}
 use Rattle.model.specs.Names.{Legal}
-use Rattle.model.specs.Entries.{Entry, find, insert}
-use Rattle.model.specs.Files.{Slot, Sound, first, slot-at, used}
-use Rattle.model.specs.Changes.{call, holds?, put as asked, remove}
-use Rattle.model.specs.Format.{entriesBytes, padded, readFile, version-1}
-use Rattle.digits.specs.declared.Key.{Key}
-use Rattle.digits.specs.Keys.{keyValue, value}
-use Rattle.file.specs.declared.Size.{Size}
-use Rattle.changing.specs.declared.Spot.{Spot}
-use Rattle.changing.specs.Spots.{SpotIn}
+use Rattle.model.specs.Entries.{Entry, find}
+use Rattle.model.specs.Files.{Slot, Sound}
+use Rattle.model.specs.Changes.{call, put as asked, remove}
+use Rattle.model.specs.Format.{readFile}
+use Rattle.model.specs.Places.{place-of}
+use Rattle.entries.specs.declared.Content.{Content}
+use Rattle.entries.specs.Rows.{contentNumber}
 use Rattle.file.specs.declared.Plan.{Plan}
+use Rattle.file.specs.declared.Size.{Size}
+use Rattle.slots.specs.declared.Spot.{Spot}
+use Rattle.slots.specs.Spots.{Fits, SpotIn}
 use Rattle.changing.specs.declared.PutPlan.{PutPlan}
+use Rattle.changing.specs.Full.{Full}
+use Rattle.changing.specs.Homes.{Home}
 use Rattle.changing.specs.Plans.{PutPlanned, RemovePlanned}
 
 -- Remove.
-abbrev pub RemoveTold : List ℕ → Size → Key → Plan → Type 0
-RemoveTold xs size name r =
-    (fs : List Slot) → readFile xs ≡ some (version-1 (size .b), fs) → (n : Str) → Legal n → keyValue name ≡ value n
-    → RemovePlanned r (version-1 (size .b)) (call (size .b) (place-of (version-1 (size .b))) fs (remove n))
+abbrev pub RemoveTold : Plan → List ℕ → Size → Str → Type 0
+RemoveTold r xs size n =
+    (fs : List Slot) → readFile xs ≡ some (size .layout, fs) → Legal n
+    → RemovePlanned r (size .layout) (call (size .layout .b) (place-of (size .layout)) fs (remove n))
 
--- Put, of the name n with the value v.
-abbrev pub PutAsked : Trie → ℕ → List Slot → Str → ℕ → PutPlan → Type 0
-PutAsked t b fs n v r = PutPlanned r t (version-1 b) fs n v (call b (place-of (version-1 b)) fs (asked n v))
+-- Put, of the name n with the content c.
+abbrev pub PutAsked : PutPlan → Trie → Layout → List Slot → Str → ℕ → Type 0
+PutAsked r t y fs n c = PutPlanned r t y fs n c (call (y .b) (place-of y) fs (asked n c))
 
-abbrev pub PutTold : List ℕ → Trie → Size → Str → ℕ → PutPlan → Type 0
-PutTold xs t size n v r =
-    (fs : List Slot) → readFile xs ≡ some (version-1 (size .b), fs) → Legal n → PutAsked t (size .b) fs n v r
+abbrev pub PutTold : PutPlan → List ℕ → Trie → Size → Str → ℕ → Type 0
+PutTold r xs t size n v = (fs : List Slot) → readFile xs ≡ some (size .layout, fs) → Legal n → PutAsked r t (size .layout) fs n v
 
--- On a held name.
-abbrev pub ReplaceTold : List ℕ → Trie → Size → Spot → ℕ → PutPlan → Type 0
-ReplaceTold xs t size s v r =
-    (fs : List Slot) → readFile xs ≡ some (version-1 (size .b), fs) → Sound (size .b) fs → (n : Str) → Legal n → (p : SpotIn s fs n)
-    → (w : ℕ) → find n (p .entries) ≡ some w → PutAsked t (size .b) fs n v r
+-- On a name that slot A holds.
+abbrev pub ReplaceTold : PutPlan → List ℕ → Trie → Size → ℕ → Spot → Str → Content → Type 0
+ReplaceTold r xs t size A s n c =
+    (fs : List Slot) → readFile xs ≡ some (size .layout, fs) → Sound (size .layout .b) fs → Legal n → (l : Low) (u : Str) (es : List Entry)
+    → Home A fs n l u es → SpotIn s n es → Fits (size .layout) c → (w : ℕ) → find n es ≡ some w
+    → PutAsked r t (size .layout) fs n (contentNumber c)
 
--- Of a new name that fits; `entries` has the bucket's entries and the new one.
-abbrev pub AddTold : List ℕ → Trie → Size → Spot → List ℕ → PutPlan → Type 0
-AddTold xs t size s entries r =
-    (fs : List Slot) → readFile xs ≡ some (version-1 (size .b), fs) → Sound (size .b) fs → (n : Str) (v : ℕ) → Legal n → (p : SpotIn s fs n)
-    → find n (p .entries) ≡ nothing → entries ≡ padded 544 (entriesBytes 32 (insert n v (p .entries)))
-    → PutAsked t (size .b) fs n v r
+-- Of a new name that fits into slot A.
+abbrev pub AddTold : PutPlan → List ℕ → Trie → Size → ℕ → Spot → Str → Content → Type 0
+AddTold r xs t size A s n c =
+    (fs : List Slot) → readFile xs ≡ some (size .layout, fs) → Sound (size .layout .b) fs → Legal n → (l : Low) (u : Str) (es : List Entry)
+    → Home A fs n l u es → SpotIn s n es → Fits (size .layout) c → find n es ≡ nothing
+    → PutAsked r t (size .layout) fs n (contentNumber c)
 
 -- Of a new name whose bucket, slot A, is full.
-abbrev pub SplitTold : List ℕ → Trie → Size → ℕ → List ℕ → PutPlan → Type 0
-SplitTold xs t size A entries r =
-    (fs : List Slot) → readFile xs ≡ some (version-1 (size .b), fs) → (n : Str) (v : ℕ) → Legal n → (l : Low) (u : Str) (es : List Entry)
-    → slot-at fs A ≡ used l u es → A ≡ first (holds? n) fs → l ◁ n → n ⊑ u → find n es ≡ nothing → length es ≡ size .b
-    → entries ≡ padded 544 (entriesBytes 32 (insert n v es)) → PutAsked t (size .b) fs n v r
+abbrev pub SplitTold : PutPlan → List ℕ → Trie → Size → ℕ → List ℕ → Type 0
+SplitTold r xs t size A row =
+    (fs : List Slot) → readFile xs ≡ some (size .layout, fs) → (n : Str) (c : ℕ) (l : Low) (u : Str) (es : List Entry)
+    → Full (size .layout) fs A n c l u es row → PutAsked r t (size .layout) fs n c

@@ -1,30 +1,27 @@
 // The calls that change a file: put and remove. Neither has a `requires`: each checks for itself, in the order of
 // refusals R10.9, and then plans its stores, without the limit and without writing, before it commits them.
 ghost use mathlib.Core.Path.{_≡_};
-ghost use Prim.Native.Nat.{_≤_, _<_, _+_, _-_, _*_};
-ghost use lib.ListN.{drop, length, take};
-ghost use Rattle.model.specs.Format.{padded};
-ghost use Rattle.digits.specs.Keys.{keyValue};
+ghost use Prim.Native.Nat.{_≤_, _<_, _+_};
+ghost use lib.ListN.{length, take};
 ghost use Rattle.model.specs.Calls.{putOf, removeOf};
-ghost use Rattle.writing.specs.Entries.{changedValue, withoutEntry};
-ghost use Rattle.bucket.specs.Slots.{lowerAt, upperAt};
-ghost use Rattle.writing.specs.Slots.{writtenBytes};
+ghost use Rattle.slots.specs.Spots.{Spotted};
 ghost use Rattle.file.specs.Plans.{Fits};
 ghost use Rattle.file.specs.Sizes.{Sized};
 ghost use Rattle.growth.specs.Grows.{Grows};
-ghost use Rattle.changing.specs.Full.{DivideTold};
-ghost use Rattle.changing.specs.Outcomes.{put as putDone, removed as removeDone};
 ghost use Rattle.checking.specs.Ready.{Agreed, Ready};
 ghost use Rattle.splitting.specs.Parts.{Parted};
+ghost use Rattle.changing.specs.Full.{DivideTold};
+ghost use Rattle.changing.specs.Outcomes.{put as putDone, removed as removeDone};
 ghost use Rattle.changing.specs.Splits.{AddTold, PutTold, RemoveTold, ReplaceTold, SplitTold};
-ghost use Rattle.changing.specs.Spots.{SpotTold, Spotted, isHeld};
+ghost use Rattle.changing.specs.Homes.{HomeTold};
 use checking::Checked;
 use checking::Verdict;
 use checking::checks_of;
-use digits::Key;
 use digits::Naming;
 use digits::u16_of_usize;
 use digits::usize_of_u8;
+use entries::Content;
+use entries::ROOM;
 use file::Plan;
 use file::Room;
 use file::Size;
@@ -33,6 +30,7 @@ use model::PutAnswer;
 use model::PutGiven;
 use model::RemoveAnswer;
 use model::Trie;
+use slots::Spot;
 use splitting::Split;
 
 fn given(answer: PutAnswer, trie: Trie) -> PutGiven
@@ -60,77 +58,60 @@ fn planned(plan: Plan, answer: PutAnswer, trie: Trie) -> PutPlan
     PutPlan { plan, answer, trie }
 }
 
-// Where in its bucket a name is or would be: the slot, how many entries it has, and how many of them are below the name.
-pub struct Spot {
-    pub slot: usize,
-    pub count: usize,
-    pub place: usize,
-}
-
-// The place of a name in a file that passed the checks.
-fn spot_of(file: &[u8], checked: Checked, name: Key) -> Spot
+// The slot whose range holds a name, in a file that passed the checks.
+fn home_of(file: &[u8], checked: Checked, name: &[u8; 24]) -> usize
     requires { ⌜ Ready checked (now file) ⌝ }
-    ensures { λ r. ⌜ SpotTold r (checked .size) (now (file .entry)) name ⌝ }
+    ensures { λ r. ⌜ HomeTold r (checked .size) (now (file .entry)) (now (name .entry)) ⌝ }
 {
-    let size = checked.size;
     let survey = checked.survey;
     let order = survey.order;
-    let place = file::holder(file, size, &order, survey.count, name);
-    let k = usize_of_u8(order[place]);
+    let place = file::holder(file, checked.size, &order, survey.count, name);
+    usize_of_u8(order[place])
+}
+
+// R7.9: another content for a name that is held, in one store.
+fn replace(
+    file: &[u8],
+    size: Size,
+    k: usize,
+    spot: Spot,
+    name: &[u8; 24],
+    content: Content,
+    trie: Trie,
+) -> PutPlan
+    requires { ⌜ (Sized (length (now file)) size) × (k < size .slots) × (Spotted spot (size .layout)) × (spot .place < spot .count) ⌝ }
+    ensures { λ r. ⌜ (Fits (r .plan) size) × (ReplaceTold r (now (file .entry)) trie size k spot (now (name .entry)) content) ⌝ }
+{
     let slot = file::slot_at(file, size, k);
-    let count = bucket::count_of(slot, size.b);
-    Spot {
-        slot: k,
-        count,
-        place: entries::rank(&slot[64..], count, name),
-    }
-}
-
-// Whether the slot holds the name: it stands at its place.
-fn is_held(slot: &[u8], spot: Spot, name: Key) -> bool
-    requires { ⌜ (64 + 32 * spot .count ≤ length (now slot)) × (spot .count ≤ 16) ⌝ }
-    ensures { λ r. ⌜ r ≡ isHeld (now (slot .entry)) (spot .count) (spot .place) (keyValue name) ⌝ }
-{
-    let place = spot.place;
-    if spot.count <= place {
-        return false;
-    }
-    digits::is_same(digits::key_at(slot, 64 + 32 * place), name)
-}
-
-// The slot with its entry at the place replaced.
-fn replaced(slot: &[u8], b: usize, spot: Spot, value: u64) -> [u8; 576]
-    requires { ⌜ (length (now slot) ≡ 64 + 32 * b) × (b ≤ 16) × (spot .count ≤ b) × (spot .place < spot .count) ⌝ }
-    ensures { λ r. ⌜ r ≡ writtenBytes (lowerAt (now (slot .entry))) (upperAt (now (slot .entry)))
-        (take (32 * spot .count) (padded 544 (changedValue (drop 64 (now (slot .entry))) (spot .count) (spot .place) value))) ⌝ }
-{
-    let count = spot.count;
-    let entries = writing::changed_value(&slot[64..], count, spot.place, value);
-    let end = 32 * count;
-    writing::rewritten(slot, &entries[0..end])
-}
-
-// R7.9: a new value for a name that is held, in one store.
-fn replace(file: &[u8], size: Size, spot: Spot, value: u64, trie: Trie) -> PutPlan
-    requires { ⌜ (Sized (length (now file)) size) × (Spotted spot size) × (spot .place < spot .count) ⌝ }
-    ensures { λ r. ⌜ (Fits (r .plan) size) × (ReplaceTold (now (file .entry)) trie size spot value r) ⌝ }
-{
-    let k = spot.slot;
-    let slot = file::slot_at(file, size, k);
-    let old = entries::value_at(&slot[64..], spot.place);
-    let new = replaced(slot, size.b, spot, value);
-    planned(file::one_store(k, &new), PutAnswer::Replaced(old), trie)
+    let old = slots::content_of(slot, size.layout, spot);
+    let new = slots::replaced(slot, size.layout, spot, name, content);
+    planned(
+        file::one_store(k, &new),
+        PutAnswer::Replaced(old.value),
+        trie,
+    )
 }
 
 // A new name that fits into its bucket, one store.
-fn add(file: &[u8], size: Size, spot: Spot, entries: &[u8; 544], trie: Trie) -> PutPlan
-    requires { ⌜ (Sized (length (now file)) size) × (Spotted spot size) × (spot .count < size .b) ⌝ }
-    ensures { λ r. ⌜ (Fits (r .plan) size) × (AddTold (now (file .entry)) trie size spot (now (entries .entry)) r) ⌝ }
+fn add(
+    file: &[u8],
+    size: Size,
+    k: usize,
+    spot: Spot,
+    name: &[u8; 24],
+    content: Content,
+    trie: Trie,
+) -> PutPlan
+    requires { ⌜ (Sized (length (now file)) size) × (k < size .slots) × (Spotted spot (size .layout)) × (spot .count < size .layout .b) ⌝ }
+    ensures { λ r. ⌜ (Fits (r .plan) size) × (AddTold r (now (file .entry)) trie size k spot (now (name .entry)) content) ⌝ }
 {
-    let k = spot.slot;
-    let end = 32 * (spot.count + 1);
-    let whole = &entries[..];
-    let new = writing::rewritten(file::slot_at(file, size, k), &whole[0..end]);
+    let new = slots::added(
+        file::slot_at(file, size, k),
+        size.layout,
+        spot,
+        name,
+        content,
+    );
     planned(file::one_store(k, &new), PutAnswer::Added, trie)
 }
 
@@ -162,18 +143,18 @@ fn divide(
     checked: Checked,
     a: usize,
     n: usize,
-    entries: &[u8; 544],
+    row: &[u8; ROOM],
     split: Split,
     trie: Trie,
 ) -> PutPlan
-    requires { ⌜ (Agreed checked (now file) trie) × (a < checked .size .slots) × (n < checked .size .slots) × (Parted split (checked .size .b))
+    requires { ⌜ (Agreed checked (now file) trie) × (a < checked .size .slots) × (n < checked .size .slots) × (Parted split (checked .size .layout .b))
         × (trie .count + split .len ≤ 256 + split .shared) ⌝ }
-    ensures { λ r. ⌜ (Fits (r .plan) (checked .size)) × (DivideTold checked (now (file .entry)) trie a n (now (entries .entry)) split r) ⌝ }
+    ensures { λ r. ⌜ (Fits (r .plan) (checked .size)) × (DivideTold r checked (now (file .entry)) trie a n (now (row .entry)) split) ⌝ }
 {
     let size = checked.size;
     let slot = file::slot_at(file, size, a);
-    let new = splitting::new_slot(slot, size.b, entries, split);
-    let old = splitting::old_slot(slot, size.b, entries, split);
+    let new = splitting::new_slot(slot, size.layout, row, split);
+    let old = splitting::old_slot(slot, size.layout, row, split);
     planned(
         file::two_stores(n, &new, a, &old),
         PutAnswer::Added,
@@ -182,9 +163,9 @@ fn divide(
 }
 
 // A new name whose bucket is full: refused where no slot is free or the strings would be too many.
-fn split(file: &[u8], checked: Checked, a: usize, entries: &[u8; 544], trie: Trie) -> PutPlan
+fn split(file: &[u8], checked: Checked, a: usize, row: &[u8; ROOM], trie: Trie) -> PutPlan
     requires { ⌜ (Agreed checked (now file) trie) × (a < checked .size .slots) ⌝ }
-    ensures { λ r. ⌜ (Fits (r .plan) (checked .size)) × (SplitTold (now (file .entry)) trie (checked .size) a (now (entries .entry)) r) ⌝ }
+    ensures { λ r. ⌜ (Fits (r .plan) (checked .size)) × (SplitTold r (now (file .entry)) trie (checked .size) a (now (row .entry))) ⌝ }
 {
     let size = checked.size;
     let survey = checked.survey;
@@ -195,7 +176,7 @@ fn split(file: &[u8], checked: Checked, a: usize, entries: &[u8; 544], trie: Tri
             trie,
         );
     };
-    let split = splitting::split_of(entries, size.b, trie);
+    let split = splitting::split_of(row, size.layout, trie);
     if 256 + split.shared < digits::usize_of_u16(trie.count) + split.len {
         return planned(
             file::no_store(),
@@ -203,27 +184,29 @@ fn split(file: &[u8], checked: Checked, a: usize, entries: &[u8; 544], trie: Tri
             trie,
         );
     }
-    divide(file, checked, a, n, entries, split, trie)
+    divide(file, checked, a, n, row, split, trie)
 }
 
 // Put into a file that passed the checks.
 fn put_plan(file: &[u8], checked: Checked, name: &[u8; 24], value: u64, trie: Trie) -> PutPlan
     requires { ⌜ Agreed checked (now file) trie ⌝ }
-    ensures { λ r. ⌜ (Fits (r .plan) (checked .size)) × (PutTold (now (file .entry)) trie (checked .size) (now (name .entry)) value r) ⌝ }
+    ensures { λ r. ⌜ (Fits (r .plan) (checked .size)) × (PutTold r (now (file .entry)) trie (checked .size) (now (name .entry)) value) ⌝ }
 {
     let size = checked.size;
+    let layout = size.layout;
+    let content = Content { value, run: 0 };
     let key = digits::key_at(name, 0);
-    let spot = spot_of(file, checked, key);
-    let count = spot.count;
-    let slot = file::slot_at(file, size, spot.slot);
-    if is_held(slot, spot, key) {
-        return replace(file, size, spot, value, trie);
+    let k = home_of(file, checked, name);
+    let slot = file::slot_at(file, size, k);
+    let spot = slots::spot_in(slot, layout, key);
+    if spot.held {
+        return replace(file, size, k, spot, name, content, trie);
     }
-    let entries = writing::with_entry(&slot[64..], count, spot.place, name, value);
-    if count < size.b {
-        return add(file, size, spot, &entries, trie);
+    if spot.count < layout.b {
+        return add(file, size, k, spot, name, content, trie);
     }
-    split(file, checked, spot.slot, &entries, trie)
+    let row = slots::overfull(slot, layout, spot, name, content);
+    split(file, checked, k, &row, trie)
 }
 
 // Puts a name with its value.
@@ -253,31 +236,20 @@ pub fn put(file: &mut [u8], trie: Trie, name: &[u8], value: u64, limit: u64) -> 
     }
 }
 
-// The slot without its entry at the place.
-fn lessened(slot: &[u8], b: usize, spot: Spot) -> [u8; 576]
-    requires { ⌜ (length (now slot) ≡ 64 + 32 * b) × (b ≤ 16) × (spot .count ≤ b) × (spot .place < spot .count) ⌝ }
-    ensures { λ r. ⌜ r ≡ writtenBytes (lowerAt (now (slot .entry))) (upperAt (now (slot .entry)))
-        (take (32 * (spot .count - 1)) (padded 544 (withoutEntry (drop 64 (now (slot .entry))) (spot .count) (spot .place)))) ⌝ }
-{
-    let count = spot.count;
-    let entries = writing::without_entry(&slot[64..], count, spot.place);
-    let end = 32 * (count - 1);
-    writing::rewritten(slot, &entries[0..end])
-}
-
 // R7.10: remove from a file that passed the checks. A bucket that becomes empty keeps its range; an absent name needs no store.
-fn remove_plan(file: &[u8], checked: Checked, name: Key) -> Plan
+fn remove_plan(file: &[u8], checked: Checked, name: &[u8; 24]) -> Plan
     requires { ⌜ Ready checked (now file) ⌝ }
-    ensures { λ r. ⌜ (Fits r (checked .size)) × (RemoveTold (now (file .entry)) (checked .size) name r) ⌝ }
+    ensures { λ r. ⌜ (Fits r (checked .size)) × (RemoveTold r (now (file .entry)) (checked .size) (now (name .entry))) ⌝ }
 {
     let size = checked.size;
-    let spot = spot_of(file, checked, name);
-    let k = spot.slot;
+    let key = digits::key_at(name, 0);
+    let k = home_of(file, checked, name);
     let slot = file::slot_at(file, size, k);
-    if !is_held(slot, spot, name) {
+    let spot = slots::spot_in(slot, size.layout, key);
+    if !spot.held {
         return file::no_store();
     }
-    let new = lessened(slot, size.b, spot);
+    let new = slots::lessened(slot, size.layout, spot);
     file::one_store(k, &new)
 }
 
@@ -297,7 +269,7 @@ pub fn remove(file: &mut [u8], trie: Trie, name: &[u8], limit: u64) -> RemoveAns
         Verdict::Refused(cause) => RemoveAnswer::Refused(cause),
         Verdict::Fine => {
             let filled = digits::filled(name);
-            let plan = remove_plan(file, checked, digits::key_at(&filled, 0));
+            let plan = remove_plan(file, checked, &filled);
             if file::commit(file, checked.size, plan, limit) {
                 return RemoveAnswer::Stopped(limit);
             }

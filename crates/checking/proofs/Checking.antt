@@ -1,11 +1,13 @@
 -- The checks that put, remove and list make alike: what a sound file's survey, strings and agreement say together.
 use Rattle.model.proofs.Prelude.{Bool, List, _∙_, _≡_, _≤_, ap, arith, cond, false, length, some, sym, true, ℕ}
-use Rattle.model.specs.declared.Cause.the-variants.{BadFile, CutFile, StaleTrie}
+use Rattle.model.specs.declared.Cause.the-variants.{BadFile, CutFile}
+use Rattle.model.specs.declared.Layout.{Layout}
 use Rattle.model.specs.declared.Trie.{Trie}
 use Rattle.model.specs.Files.{Slot, strings-of}
 use Rattle.model.specs.Checks.{is-bad, is-cut, is-sound}
 use Rattle.model.specs.Agreeing.{isAgreeing}
-use Rattle.model.specs.Format.{checkFile, readFile, version-1}
+use Rattle.model.specs.Format.{checkFile, readFile}
+use Rattle.model.specs.Answers.{stale-trie}
 use Rattle.model.specs.Calls.{fine, lookedBy, lookedOf, refusing}
 use Rattle.model.proofs.Agreeing.{isAgreeing-agrees}
 use Rattle.file.specs.declared.Size.{Size}
@@ -31,8 +33,8 @@ pub looked-cut : (xs : List ℕ) (t : Trie) {N : ℕ} → checkFile xs ≡ is-cu
 unfolding lookedOf lookedBy
 looked-cut xs t e = rw e
 
-looked-by : (xs : List ℕ) (t : Trie) {b : ℕ} {fs : List Slot} → checkFile xs ≡ is-sound → readFile xs ≡ some (version-1 b, fs)
-    → lookedOf xs t ≡ cond (isAgreeing fs t) (fine (version-1 b) fs) (refusing StaleTrie)
+looked-by : (xs : List ℕ) (t : Trie) {y : Layout} {fs : List Slot} → checkFile xs ≡ is-sound → readFile xs ≡ some (y, fs)
+    → lookedOf xs t ≡ cond (isAgreeing fs t) (fine y fs) (refusing stale-trie)
 unfolding lookedOf lookedBy
 looked-by xs t e f = rw (e, f)
 
@@ -43,16 +45,16 @@ module _ (xs : List ℕ) (t : Trie) (s : Size) (v : Survey) (g : Strings) (a : A
   R = sound-read xs s h e
 
   decided : Decided (R .slots) t a
-  decided = d (s .b) (R .slots) (R .sound) (strung R z l)
+  decided = d (s .layout .b) (R .slots) (R .sound) (strung R z l)
 
-  pub agreed-not : a .agrees ≡ false → lookedOf xs t ≡ refusing StaleTrie
-  agreed-not f = looked-by xs t e (R .is) ∙ ap (λ (x : Bool). cond x (fine (version-1 (s .b)) (R .slots)) (refusing StaleTrie)) (sym (decided .agrees-is) ∙ f)
+  pub agreed-not : a .agrees ≡ false → lookedOf xs t ≡ refusing stale-trie
+  agreed-not f = looked-by xs t e (R .is) ∙ ap (λ (x : Bool). cond x (fine (s .layout) (R .slots)) (refusing stale-trie)) (sym (decided .agrees-is) ∙ f)
 
   pub agreed-all : (c : Checked) → a .agrees ≡ true → c .size ≡ s → c .survey ≡ v → c .strings ≡ g → c .places ≡ a .places → Agreed c xs t
   agreed-all c f p q r u =
       let y : isAgreeing (R .slots) t ≡ true = sym (decided .agrees-is) ∙ f in
-      let A = isAgreeing-agrees (s .b) (R .sound) t y in
-      let few : length (strings-of (R .slots)) ≤ 256 = omega (arith, agreed-count (s .b) (R .sound) t A, A .few) in
+      let A = isAgreeing-agrees (s .layout .b) (R .sound) t y in
+      let few : length (strings-of (R .slots)) ≤ 256 = omega (arith, agreed-count (s .layout .b) (R .sound) t A, A .few) in
       record {
         ready = record {
           said = rw p h;
@@ -70,5 +72,5 @@ module _ (xs : List ℕ) (t : Trie) (s : Size) (v : Survey) (g : Strings) (a : A
         };
         agrees = A;
         placed = rw u (decided .placed f);
-        looked = rw p (looked-by xs t e (R .is) ∙ ap (λ (x : Bool). cond x (fine (version-1 (s .b)) (R .slots)) (refusing StaleTrie)) y);
+        looked = rw p (looked-by xs t e (R .is) ∙ ap (λ (x : Bool). cond x (fine (s .layout) (R .slots)) (refusing stale-trie)) y);
       }

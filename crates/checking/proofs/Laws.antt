@@ -1,7 +1,8 @@
 -- What the answers of the crates below say, once it is known which answer was given.
 use Rattle.model.proofs.Prelude.{Bool, List, _∙_, _≡_, ap, arith, clash, drop, false, refl, subst, take, take-all, true, ℕ}
-use Rattle.model.specs.Names.{filled}
-use Rattle.model.proofs.Names.{length-filled}
+use Rattle.model.specs.Order.{Str}
+use Rattle.model.specs.Names.{Legal}
+use Rattle.model.proofs.Names.{legal-length}
 use Rattle.digits.specs.declared.Naming.the-variants.{Illegal, Legal as LegalName}
 use Rattle.digits.specs.Keys.{naming, value}
 use Rattle.checking.specs.declared.Checked.{Checked}
@@ -31,6 +32,6 @@ pub naming-illegal : (t : Bool) → Illegal ≡ naming t → t ≡ false
 naming-illegal true e = clash cc
 naming-illegal false e = refl
 
--- the key of a filled name
-pub filled-value : (name : List ℕ) (xs : List ℕ) (v : ℕ) → xs ≡ filled name → v ≡ value (take 24 (drop 0 xs)) → v ≡ value (filled name)
-filled-value name xs v e h = h ∙ ap (λ (x : List ℕ). value (take 24 x)) e ∙ ap value (take-all 24 (filled name) (omega (arith, length-filled name)))
+-- the key of a name of 24 digits
+pub key-whole : (n : Str) (v : ℕ) → Legal n → v ≡ value (take 24 (drop 0 n)) → v ≡ value n
+key-whole n v g e = e ∙ ap value (take-all 24 n (omega (arith, legal-length g)))

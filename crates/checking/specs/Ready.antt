@@ -9,7 +9,7 @@ use Rattle.model.specs.Order.{none}
 use Rattle.model.specs.Files.{Slot, Sound, order-of, strings-of}
 use Rattle.model.specs.Tries.{Agrees}
 use Rattle.model.specs.Agreeing.{slotsBetween}
-use Rattle.model.specs.Format.{readFile, version-1}
+use Rattle.model.specs.Format.{readFile}
 use Rattle.model.specs.Calls.{fine, lookedOf, refusing}
 use Rattle.file.specs.Sizes.{Below, Said}
 use Rattle.file.specs.Maps.{map-of}
@@ -23,8 +23,8 @@ use Rattle.checking.specs.declared.Verdict.the-variants.{Fine, Refused}
 pub record Ready (c : Checked) (xs : List ℕ) : Type 0 where
   pub said : Said (c .size) xs
   pub slots : List Slot
-  pub is : readFile xs ≡ some (version-1 (c .size .b), slots)
-  pub sound : Sound (c .size .b) slots
+  pub is : readFile xs ≡ some (c .size .layout, slots)
+  pub sound : Sound (c .size .layout .b) slots
   pub slots-inside : Below (c .survey .order) (c .size .slots)
   pub count-most : c .survey .count ≤ 64
   pub count-is : c .survey .count ≡ length (order-of slots)
@@ -39,7 +39,7 @@ pub record Agreed (c : Checked) (xs : List ℕ) (t : Trie) : Type 0 where
   pub ready : Ready c xs
   pub agrees : Agrees (ready .slots) t
   pub placed : Placed t (c .places)
-  pub looked : lookedOf xs t ≡ fine (version-1 (c .size .b)) (ready .slots)
+  pub looked : lookedOf xs t ≡ fine (c .size .layout) (ready .slots)
 
 abbrev pub AgreedWhere : Verdict → Checked → List ℕ → Trie → Type 0
 AgreedWhere Fine c xs t = Agreed c xs t

@@ -10,6 +10,8 @@ use file::Kind;
 use file::Size;
 use file::Survey;
 use model::Cause;
+use model::Layout;
+use model::NO_DIGIT;
 use model::Trie;
 use trie::Strings;
 
@@ -33,7 +35,10 @@ fn refused(cause: Cause) -> Checked
 {
     Checked {
         verdict: Verdict::Refused(cause),
-        size: Size { b: 0, slots: 0 },
+        size: Size {
+            layout: Layout { version: 0, b: 0 },
+            slots: 0,
+        },
         survey: Survey {
             kind: Kind::Bad,
             used: 0,
@@ -61,7 +66,7 @@ fn agreed(file: &[u8], trie: Trie, size: Size, survey: Survey) -> Checked
     let strings = strings::strings_of(file, size, &order, survey.count);
     let agreement = agreement::agreement_of(trie, strings);
     if !agreement.agrees {
-        return refused(Cause::StaleTrie);
+        return refused(Cause::StaleTrie(NO_DIGIT));
     }
     let places = agreement.places;
     Checked {

@@ -1,12 +1,12 @@
 -- What one turn of each loop does to the definition that its function meets.
-use Rattle.model.proofs.Prelude.{Bool, List, [], _&&_, _*_, _++_, _+_, _<_, _^_, _∙_, _∷_, _≡_, _≤_, _⊎_, add-one, and-assoc, and-false, append-nil, arith, cond, decLt, drop, drop-cons, drop-of-length-le, eq-eqb, eqb, false, getD, le-leb, le-ltb, leb, length, length-take, lt-leb, lt-ltb, ltb, mul-le-mul-right, ne-eqb, paste-suc, refl, replicate, set, suc, suc-mul, sym, take, take-all, take-append-le, take-nil, true, zero-add, ℕ, ℕ-discrete, ⊎-elim}
-use Rattle.model.specs.Names.{areDigits, blankEnded, blanks, filled, legalBound, legalFilled, notGreater, within}
+use Rattle.model.proofs.Prelude.{Bool, List, [], _&&_, _*_, _++_, _+_, _<_, _^_, _∙_, _∷_, _≡_, _≤_, _⊎_, add-one, and-false, and-true, append-nil, arith, decLt, drop, drop-cons, drop-of-length-le, eq-eqb, eqb, false, getD, le-leb, le-ltb, leb, length, length-take, lt-leb, lt-ltb, ltb, mul-le-mul-right, ne-eqb, not, paste-suc, refl, replicate, set, suc, suc-mul, sym, take, take-all, take-append-le, take-nil, true, zero-add, ℕ, ℕ-discrete, ⊎-elim}
+use Rattle.model.specs.Names.{areDigits, filled, firstOf, isBlank, lastOf, legalBound, legalFilled, legalName, notGreater, within}
 use Rattle.model.specs.Order.{diff, diff-at}
 use Rattle.model.proofs.Lists.{drop-replicate}
-use Rattle.model.proofs.Names.{filled-short}
+use Rattle.model.proofs.Order.{diff-apart}
+use Rattle.model.proofs.Names.{filled-short, no-blank}
 use Rattle.digits.specs.declared.Key.{Key}
 use Rattle.digits.specs.Keys.{isZero, keyValue}
-use Rattle.digits.specs.Words.{after}
 
 -- A check that gathers: w of the whole is a so far and b of what is left.
 pub gathers : (w a b c d r : Bool) → w ≡ (a && b) → b ≡ (c && d) → r ≡ (a && c) → w ≡ (r && d)
@@ -42,25 +42,53 @@ module _ (s : List ℕ) (i : ℕ) where
 
 -- A name within a bound, decided by the digits at i.
 module _ (n p : List ℕ) (i : ℕ) where
-  pub within-less : i < length n → i < length p → getD n i 0 < getD p i 0 → within (drop i n) (drop i p) ≡ true
+  within-less : i < length n → i < length p → getD n i 0 < getD p i 0 → within (drop i n) (drop i p) ≡ true
   unfolding within notGreater
   within-less hn hp h = rw (drop-cons n i 0 hn, drop-cons p i 0 hp, lt-ltb (getD n i 0) (getD p i 0) h)
 
-  pub within-more : i < length n → i < length p → getD p i 0 < getD n i 0 → within (drop i n) (drop i p) ≡ false
+  within-more : i < length n → i < length p → getD p i 0 < getD n i 0 → within (drop i n) (drop i p) ≡ false
   unfolding within notGreater
   within-more hn hp h = rw (drop-cons n i 0 hn, drop-cons p i 0 hp, le-ltb (getD n i 0) (getD p i 0) (omega arith), ne-eqb (getD n i 0) (getD p i 0) (λ e. omega arith))
 
-  pub within-equal : i < length n → i < length p → getD n i 0 ≡ getD p i 0 → within (drop i n) (drop i p) ≡ within (drop (i + 1) n) (drop (i + 1) p)
-  unfolding within notGreater
-  within-equal hn hp h = rw (add-one, drop-cons n i 0 hn, drop-cons p i 0 hp, le-ltb (getD n i 0) (getD p i 0) (omega arith), eq-eqb (getD n i 0) (getD p i 0) h)
-
-  pub within-short : length n ≤ i → within (drop i n) (drop i p) ≡ true
+  within-short : length n ≤ i → within (drop i n) (drop i p) ≡ true
   unfolding within notGreater
   within-short h = rw (drop-of-length-le n h, take-nil)
 
-  pub within-end : length p ≤ i → within (drop i n) (drop i p) ≡ true
+  within-end : length p ≤ i → within (drop i n) (drop i p) ≡ true
   unfolding within notGreater
   within-end h = rw (drop-of-length-le p h)
+
+-- The digits that a name and a bound share decide nothing.
+within-shared : (n p : List ℕ) → within n p ≡ within (drop (diff n p) n) (drop (diff n p) p)
+unfolding within notGreater
+within-shared [] p = refl
+within-shared (a ∷ n) [] = refl
+within-shared (a ∷ n) (b ∷ p) = go (ℕ-discrete a b) (within-shared n p)
+  where
+    go : (d : Dec (a ≡ b)) → within n p ≡ within (drop (diff n p) n) (drop (diff n p) p)
+        → within (a ∷ n) (b ∷ p) ≡ within (drop (diff-at d (diff n p)) (a ∷ n)) (drop (diff-at d (diff n p)) (b ∷ p))
+    go (yes e) r = rw (le-ltb a b (omega arith), eq-eqb a b e) r
+    go (no m) r = refl
+
+-- So the first difference decides.
+module _ (n p : List ℕ) (i : ℕ) (e : i ≡ diff n p) where
+  first-drops : within n p ≡ within (drop i n) (drop i p)
+  first-drops = rw e (within-shared n p)
+
+  pub within-all : length p ≤ i → true ≡ within n p
+  within-all h = sym (first-drops ∙ within-end n p i h)
+
+  pub within-none : length n ≤ i → true ≡ within n p
+  within-none h = sym (first-drops ∙ within-short n p i h)
+
+  pub within-there : i < length n → i < length p → ltb (getD n i 0) (getD p i 0) ≡ within n p
+  within-there h k = elim (decLt (getD n i 0) (getD p i 0)) [
+    | yes l ↦ lt-ltb (getD n i 0) (getD p i 0) l ∙ sym (first-drops ∙ within-less n p i h k l)
+    | no l ↦ le-ltb (getD n i 0) (getD p i 0) (omega arith) ∙ sym (first-drops ∙ within-more n p i h k (omega (arith, l, apart)))
+  ]
+    where
+      apart : ¬ (getD n i 0 ≡ getD p i 0)
+      apart = rw e (diff-apart n p (omega arith) (omega arith))
 
 -- What two strings share, from i on.
 module _ (x y : List ℕ) (i : ℕ) where
@@ -163,47 +191,36 @@ module _ (x y : Key) (xc : x .c < 2 ^ 64) (yc : y .c < 2 ^ 64) (e : keyValue x �
     | no h ↦ elim (decLt (y .b) (x .b)) [ yes k ↦ absurd (omega (arith, lt-second y x (sym a) k yc)) | no k ↦ omega arith ]
   ]
 
--- A blank is followed by blanks alone; any other digit, by an end of blanks.
-blanks-is : (n : List ℕ) → blanks n ≡ (areDigits 0x20 n && after 0x20 n)
-unfolding areDigits blanks
-blanks-is [] = refl
-blanks-is (e ∷ n) = go (ℕ-discrete e 0x20) (decLt e 0x20) (blanks-is n)
-  where
-    go : Dec (e ≡ 0x20) → Dec (e < 0x20) → blanks n ≡ (areDigits 0x20 n && after 0x20 n)
-        → (eqb e 0x20 && blanks n) ≡ (leb 0x20 e && leb e 0x7D && areDigits 0x20 n && (ltb e 0x21 && after e n))
-    go (yes q) d r = rw (eq-eqb e 0x20 q, le-leb 0x20 e (omega arith), le-leb e 0x7D (omega arith), lt-ltb e 0x21 (omega arith), q) r
-    go (no q) (yes h) r = rw (ne-eqb e 0x20 q, lt-leb 0x20 e h)
-    go (no q) (no h) r = rw (ne-eqb e 0x20 q, le-ltb e 0x21 (omega arith)) (sym (and-false (leb 0x20 e && leb e 0x7D && areDigits 0x20 n)))
+-- A name is legal where neither its first nor its last digit is a blank and all are digits.
+pub no-name : (n : List ℕ) → length n < 1 → legalName n ≡ false
+unfolding legalName
+no-name n h = rw (lt-leb 1 (length n) h)
 
-ended-is : (d : ℕ) (n : List ℕ) → 0x20 < d → blankEnded n ≡ (areDigits 0x20 n && after d n)
-unfolding areDigits blankEnded
-ended-is d [] k = refl
-ended-is d (e ∷ n) k = rw (lt-ltb 0x20 d k) (go (ℕ-discrete e 0x20) (decLt e 0x20) (ended-is e n))
-  where
-    go : Dec (e ≡ 0x20) → Dec (e < 0x20) → (0x20 < e → blankEnded n ≡ (areDigits 0x20 n && after e n))
-        → cond (eqb e 0x20) (blanks n) (leb 0x21 e && leb e 0x7D && blankEnded n) ≡ (leb 0x20 e && leb e 0x7D && areDigits 0x20 n && after e n)
-    go (yes q) d r = rw (eq-eqb e 0x20 q, le-leb 0x20 e (omega arith), le-leb e 0x7D (omega arith), q) (blanks-is n)
-    go (no q) (yes h) r = rw (ne-eqb e 0x20 q, lt-leb 0x20 e h, lt-leb 0x21 e (omega arith))
-    go (no q) (no h) r =
-        rw (ne-eqb e 0x20 q, le-leb 0x20 e (omega arith), le-leb 0x21 e (omega arith), r (omega arith))
-        (sym (and-assoc (leb e 0x7D) (areDigits 0x20 n) (after e n)))
+pub long-name : (n : List ℕ) → 24 < length n → legalName n ≡ false
+unfolding legalName
+long-name n h = rw (lt-leb (length n) 24 h, and-false (leb 1 (length n)))
 
-pub not-blank : (s : List ℕ) → getD s 0 0 ≡ 0x20 → length s ≡ 24 → legalFilled s ≡ false
+pub blank-first : (n : List ℕ) → firstOf n ≡ 0x20 → legalName n ≡ false
+unfolding legalName
+blank-first n e = rw (eq-eqb (firstOf n) 0x20 e, and-false (leb 1 (length n) && leb (length n) 24 && areDigits 0x20 n))
+
+pub blank-last : (n : List ℕ) → lastOf n ≡ 0x20 → legalName n ≡ false
+unfolding legalName
+blank-last n e = rw (eq-eqb (lastOf n) 0x20 e) (and-false (leb 1 (length n) && leb (length n) 24 && areDigits 0x20 n && not (isBlank (firstOf n))))
+
+pub legal-name : (n : List ℕ) → 1 ≤ length n → length n ≤ 24 → (firstOf n ≡ 0x20 → ⊥) → (lastOf n ≡ 0x20 → ⊥) → legalName n ≡ areDigits 0x20 n
+unfolding legalName
+legal-name n h k f l =
+    rw (le-leb 1 (length n) h, le-leb (length n) 24 k, no-blank (firstOf n) f, no-blank (lastOf n) l, and-true (areDigits 0x20 n)) (and-true (areDigits 0x20 n))
+
+-- 24 bytes are a filled name where the first is no blank and all are digits.
+pub not-blank : (s : List ℕ) → firstOf s ≡ 0x20 → legalFilled s ≡ false
 unfolding legalFilled
-not-blank [] e h = refl
-not-blank (d ∷ n) e h = rw (eq-eqb (length n) 23 (omega arith), lt-leb 0x21 d (omega arith))
+not-blank s e = rw (eq-eqb (firstOf s) 0x20 e) (and-false (eqb (length s) 24 && areDigits 0x20 s))
 
-pub filled-name : (s : List ℕ) → (getD s 0 0 ≡ 0x20 → ⊥) → length s ≡ 24 → legalFilled s ≡ (areDigits 0x20 s && after 0x21 s)
-unfolding areDigits legalFilled
-filled-name [] e h = absurd (omega arith)
-filled-name (d ∷ n) e h = elim (decLt d 0x20) [
-  | yes k ↦ rw (eq-eqb (length n) 23 (omega arith), lt-leb 0x20 d k, lt-leb 0x21 d (omega arith))
-  | no k ↦ let g : 0x21 ≤ d = above e k in
-      rw (eq-eqb (length n) 23 (omega arith), le-leb 0x20 d (omega arith), le-leb 0x21 d g, ended-is d n g) (sym (and-assoc (leb d 0x7D) (areDigits 0x20 n) (after d n)))
-]
-  where
-    above : (d ≡ 0x20 → ⊥) → (d < 0x20 → ⊥) → 0x21 ≤ d
-    above e k = elim (ℕ-discrete d 0x20) [ yes q ↦ absurd (e q) | no q ↦ omega arith ]
+pub filled-name : (s : List ℕ) → (firstOf s ≡ 0x20 → ⊥) → length s ≡ 24 → legalFilled s ≡ areDigits 0x20 s
+unfolding legalFilled
+filled-name s e h = rw (eq-eqb (length s) 24 h, no-blank (firstOf s) e) (and-true (areDigits 0x20 s))
 
 -- A bound's beginning fits.
 pub legal-part : (len : ℕ) (s : List ℕ) → len ≤ 24 → legalBound (take len s) ≡ areDigits 0x20 (take len s)

@@ -1,12 +1,12 @@
--- Eight digits in one word: sums and marks that work on each byte apart.
-use Rattle.model.proofs.Prelude.{Bool, List, [], _%_, _&&_, _*_, _++_, _+_, _/_, _<_, _^_, _||_, _∙_, _∷_, _≡_, _≤_, add-mul, and-assoc, and-false, and-true, ap, ap₂, arith, clash, cond, decLe, decLt, drop, drop-drop, eq-eqb, eqb, false, getD, le-leb, le-ltb, leb, leb-true, length, length-drop, lt-leb, lt-ltb, ltb, ltb-true, mul-assoc, ne-eqb, pow-suc, refl, replicate, suc, sym, take, take-all, take-append-drop, true, zero, ℕ, ℕ-discrete}
+-- Eight digits in one word: sums and tests that work on each byte apart.
+use Rattle.model.proofs.Prelude.{Bool, List, [], _%_, _&&_, _*_, _++_, _+_, _<_, _^_, _∙_, _∷_, _≡_, _≤_, add-mul, and-assoc, and-false, and-true, ap, ap₂, arith, clash, decLe, decLt, drop, drop-drop, eq-eqb, eqb, false, getD, le-leb, le-ltb, leb, leb-true, length, length-drop, lt-leb, lt-ltb, ltb, ltb-true, ne-eqb, pow-suc, refl, replicate, suc, sym, take, take-all, take-append-drop, true, zero, ℕ, ℕ-discrete}
 use lib.Bits.{and-block, and-high, and-le-l, bitAnd}
 use lib.Pow.{pow-add}
 use Rattle.model.specs.Names.{areDigits, legalFilled}
 use Rattle.model.specs.Format.{Bytes}
 use Rattle.model.proofs.Names.{both-true}
 use Rattle.digits.specs.Keys.{value}
-use Rattle.digits.specs.Words.{Word, after, mark, marked}
+use Rattle.digits.specs.Words.{Word}
 use Rattle.digits.proofs.Keys.{bytes-part, length-part, value-lt}
 use Rattle.digits.proofs.Laws.{filled-name, pair-lt}
 
@@ -126,10 +126,6 @@ twos = refl
 sixties : value (replicate 8 0x60) ≡ 0x6060606060606060
 unfolding value
 sixties = refl
-
-blanks : value (replicate 8 0x5F) ≡ 0x5F5F5F5F5F5F5F5F
-unfolding value
-blanks = refl
 
 -- A byte's highest bit.
 top-low : (d : ℕ) → d < 0x80 → bitAnd d 0x80 ≡ 0
@@ -265,124 +261,11 @@ module _ (x : List ℕ) (W : Word x) where
           let o : mosts x ≡ true = sym (are-most is-low m) ∙ eq-eqb (bitAnd r 0x8080808080808080) 0 z in
           are-least is-low n ∙ sym (digits-are x ∙ rw o (and-true (leasts x)))
 
--- The marks of a word of digits.
-mark-test : (x : List ℕ) → areDigits 0x20 x ≡ true → ands (raised 0x5F x) (times 0x80 x) ≡ marked x
-unfolding areDigits
-mark-test [] h = refl
-mark-test (d ∷ x) h =
-    let p = both-true (leb 0x20 d && leb d 0x7D) (areDigits 0x20 x) h in
-    let q = both-true (leb 0x20 d) (leb d 0x7D) (p .0) in
-    ap₂ (λ (m : ℕ) (r : List ℕ). m ∷ r) (go (decLt d 0x21) (leb-true 0x20 d (q .0)) (leb-true d 0x7D (q .1))) (mark-test x (p .1))
-  where
-    go : Dec (d < 0x21) → 0x20 ≤ d → d ≤ 0x7D → bitAnd (d + 0x5F) 0x80 ≡ mark d
-    go (yes h) l m = rw (top-low (d + 0x5F) (omega arith), lt-ltb d 0x21 h)
-    go (no h) l m = rw (top-high (d + 0x5F) (omega arith) (omega arith), le-ltb d 0x21 (omega arith))
-
-digits-low : (x : List ℕ) → areDigits 0x20 x ≡ true → lows x ≡ true
-digits-low x h = most-low x (both-true (leasts x) (mosts x) (sym (digits-are x) ∙ h) .1)
-
-pub marks-are : (x : List ℕ) → Word x → areDigits 0x20 x ≡ true → {w r m : ℕ} → w ≡ value x → r ≡ (w + 0x5F5F5F5F5F5F5F5F) % 2 ^ 64 → m ≡ bitAnd r 0x8080808080808080
-    → m ≡ value (marked x)
-marks-are x W h {w} {r} e q g =
-    let l = digits-low x h in
-    let k = raised-word x W 0x5F 0x5F5F5F5F5F5F5F5F w r (omega arith) l (sym (times-word 0x5F x (W .eight) ∙ blanks)) e q in
-    g
-    ∙ ap₂ bitAnd k (top-bits x W)
-    ∙ value-ands (raised 0x5F x) (times 0x80 x) (bytes-raised 0x5F x (omega arith) l) (bytes-times 0x80 x (omega arith)) (length-raised 0x5F x ∙ sym (length-times 0x80 x))
-    ∙ ap value (mark-test x h)
-
--- The marks moved on by one byte, behind another.
-abbrev shifted : ℕ → List ℕ → List ℕ
-shifted p [] = []
-shifted p (d ∷ x) = p ∷ shifted d x
-
-length-shifted : (p : ℕ) (x : List ℕ) → length (shifted p x) ≡ length x
-length-shifted p [] = refl
-length-shifted p (d ∷ x) = ap suc (length-shifted d x)
-
-bytes-shifted : (p : ℕ) (x : List ℕ) → p < 256 → Bytes x → Bytes (shifted p x)
-bytes-shifted p [] h f = tt
-bytes-shifted p (d ∷ x) h f = (h, bytes-shifted d x (f .0) (f .1))
-
-first-part : (d n : ℕ) → d * 256 ^ suc n ≡ 256 * (d * 256 ^ n)
-first-part d n = rw (pow-suc 256 n) (omega (arith, mul-assoc d 256 (256 ^ n), mul-assoc d (256 ^ n) 256))
-
-value-shifted : (p d : ℕ) (x : List ℕ) → Bytes (d ∷ x) → value (shifted p (d ∷ x)) ≡ value (d ∷ x) / 256 + p * 256 ^ length x
-unfolding value
-value-shifted p d [] f = omega (arith, f .0)
-value-shifted p d (e ∷ x) f = go (length (shifted e x)) (length-shifted e x) (value-shifted d e x (f .1))
-  where
-    go : (n : ℕ) → n ≡ length x → value (shifted d (e ∷ x)) ≡ value (e ∷ x) / 256 + d * 256 ^ length x
-        → p * 256 ^ suc n + value (shifted d (e ∷ x)) ≡ (d * 256 ^ suc (length x) + value (e ∷ x)) / 256 + p * 256 ^ suc (length x)
-    go n q r = rw q (omega (arith, r, first-part d (length x)))
-
--- The last of them.
-abbrev pub last-from : ℕ → List ℕ → ℕ
-last-from q [] = q
-last-from q (d ∷ x) = last-from d x
-
-value-last : (d : ℕ) (x : List ℕ) → Bytes (d ∷ x) → value (d ∷ x) % 256 ≡ last-from d x
-unfolding value
-value-last d [] f = omega (arith, f .0)
-value-last d (e ∷ x) f = let r = value-last e x (f .1) in omega (arith, r, first-part d (length x))
-
-last-marked : (q : ℕ) (x : List ℕ) → last-from (mark q) (marked x) ≡ mark (last-from q x)
-last-marked q [] = refl
-last-marked q (d ∷ x) = last-marked d x
-
-length-marked : (x : List ℕ) → length (marked x) ≡ length x
-length-marked [] = refl
-length-marked (d ∷ x) = ap suc (length-marked x)
-
-mark-byte : (d : ℕ) → mark d < 256
-mark-byte d = go (ltb d 0x21)
-  where
-    go : (t : Bool) → cond t 0 0x80 < 256
-    go true = omega arith
-    go false = omega arith
-
-bytes-marked : (x : List ℕ) → Bytes (marked x)
-bytes-marked [] = tt
-bytes-marked (d ∷ x) = (mark-byte d, bytes-marked x)
-
-pub marks-last : (q : ℕ) (x : List ℕ) → Word x → {m : ℕ} → m ≡ value (marked x) → m % 256 ≡ mark (last-from q x)
-marks-last q [] W e = let h : _≡_ {A = ℕ} 0 8 = W .eight in absurd (omega arith)
-marks-last q (d ∷ x) W e = rw e (value-last (mark d) (marked x) (bytes-marked (d ∷ x)) ∙ last-marked d x)
-
--- Each mark has one before it.
-follow-test : (q : ℕ) (x : List ℕ) → sames (ands (marked x) (shifted (mark q) (marked x))) (marked x) ≡ after q x
-follow-test q [] = refl
-follow-test q (d ∷ x) = ap₂ _&&_ (go (decLt d 0x21) (decLt q 0x21)) (follow-test d x)
-  where
-    go : Dec (d < 0x21) → Dec (q < 0x21) → eqb (bitAnd (mark d) (mark q)) (mark d) ≡ (ltb 0x20 q || ltb d 0x21)
-    go (yes h) (yes k) = rw (lt-ltb d 0x21 h, le-ltb 0x20 q (omega arith))
-    go (yes h) (no k) = rw (lt-ltb d 0x21 h, lt-ltb 0x20 q (omega arith))
-    go (no h) (yes k) = rw (le-ltb d 0x21 (omega arith), lt-ltb q 0x21 k, le-ltb 0x20 q (omega arith))
-    go (no h) (no k) = rw (le-ltb d 0x21 (omega arith), le-ltb q 0x21 (omega arith), lt-ltb 0x20 q (omega arith))
-
-pub marks-follow : (q : ℕ) (x : List ℕ) → Word x → {b m s r : ℕ} → b ≡ mark q → m ≡ value (marked x) → s ≡ m / 256 + b * 2 ^ 56 → r ≡ bitAnd m s → eqb r m ≡ after q x
-marks-follow q [] W e g h k = let z : _≡_ {A = ℕ} 0 8 = W .eight in absurd (omega arith)
-marks-follow q (d ∷ x) W {b} {m} {s} {r} e g h k =
-    let ms = marked (d ∷ x) in
-    let n : length x ≡ 7 = omega (arith, W .eight) in
-    let v : value (shifted (mark q) ms) ≡ value ms / 256 + mark q * 256 ^ length (marked x) = value-shifted (mark q) (mark d) (marked x) (bytes-marked (d ∷ x)) in
-    let v′ : value (shifted (mark q) ms) ≡ value ms / 256 + mark q * 2 ^ 56 = rw (length-marked x, n) at v in
-    let i : s ≡ value (shifted (mark q) ms) = h ∙ rw (g, e) (sym v′) in
-    rw (k, g, i, value-ands ms (shifted (mark q) ms) (bytes-marked (d ∷ x)) (bytes-shifted (mark q) ms (mark-byte q) (bytes-marked (d ∷ x))) (sym (length-shifted (mark q) ms)))
-    (value-sames (ands ms (shifted (mark q) ms)) ms (bytes-ands ms (shifted (mark q) ms) (bytes-marked (d ∷ x))) (bytes-marked (d ∷ x)) (length-ands ms (shifted (mark q) ms) (sym (length-shifted (mark q) ms))) ∙ follow-test q (d ∷ x))
-
 -- A string of three words.
 pub digits-append : (x y : List ℕ) → areDigits 0x20 (x ++ y) ≡ (areDigits 0x20 x && areDigits 0x20 y)
 unfolding areDigits
 digits-append [] y = refl
 digits-append (d ∷ x) y = rw (digits-append x y) (sym (and-assoc (leb 0x20 d && leb d 0x7D) (areDigits 0x20 x) (areDigits 0x20 y)))
-
-after-append : (q : ℕ) (x y : List ℕ) → after q (x ++ y) ≡ (after q x && after (last-from q x) y)
-after-append q [] y = refl
-after-append q (d ∷ x) y = rw (after-append d x y) (sym (and-assoc (ltb 0x20 q || ltb d 0x21) (after d x) (after (last-from d x) y)))
-
-pub three-after : (q : ℕ) (x y z : List ℕ) → after q (x ++ (y ++ z)) ≡ (after q x && (after (last-from q x) y && after (last-from (last-from q x) y) z))
-three-after q x y z = after-append q x (y ++ z) ∙ rw (after-append (last-from q x) y z)
 
 -- 24 bytes as three words.
 pub word-part : (s : List ℕ) (at : ℕ) → at + 8 ≤ length s → ((i : ℕ) → getD s i 0 < 256) → Word (take 8 (drop at s))
@@ -403,11 +286,9 @@ module _ (s : List ℕ) (full : length s ≡ 24) (first : getD s 0 0 ≡ 0x20 �
       sym (take-append-drop 8 s)
       ∙ ap (λ (r : List ℕ). take 8 s ++ r) (sym (take-append-drop 8 (drop 8 s)) ∙ rw (drop-drop 8 8 s) (ap (λ (r : List ℕ). y ++ r) (sym (take-all 8 (drop 16 s) (omega (arith, length-drop 16 s))))))
 
-  name-words : legalFilled s ≡ ((areDigits 0x20 x && (areDigits 0x20 y && areDigits 0x20 z)) && after 0x21 (x ++ (y ++ z)))
+  name-words : legalFilled s ≡ (areDigits 0x20 x && (areDigits 0x20 y && areDigits 0x20 z))
   name-words =
-      filled-name s first full
-      ∙ ap (λ (r : List ℕ). areDigits 0x20 r && after 0x21 r) three
-      ∙ rw (digits-append x (y ++ z), digits-append y z)
+      filled-name s first full ∙ ap (areDigits 0x20) three ∙ digits-append x (y ++ z) ∙ rw (digits-append y z)
 
   pub first-ill : areDigits 0x20 x ≡ false → false ≡ legalFilled s
   first-ill h = sym (name-words ∙ rw h)
@@ -415,8 +296,5 @@ module _ (s : List ℕ) (full : length s ≡ 24) (first : getD s 0 0 ≡ 0x20 �
   pub second-ill : areDigits 0x20 y ≡ false → false ≡ legalFilled s
   second-ill h = sym (name-words ∙ rw (h, and-false (areDigits 0x20 x)))
 
-  pub third-ill : areDigits 0x20 z ≡ false → false ≡ legalFilled s
-  third-ill h = sym (name-words ∙ rw (h, and-false (areDigits 0x20 y), and-false (areDigits 0x20 x)))
-
-  pub name-filled : areDigits 0x20 x ≡ true → areDigits 0x20 y ≡ true → areDigits 0x20 z ≡ true → {r : Bool} → r ≡ after 0x21 (x ++ (y ++ z)) → r ≡ legalFilled s
-  name-filled f g h e = e ∙ sym (name-words ∙ rw (f, g, h))
+  pub third-says : areDigits 0x20 x ≡ true → areDigits 0x20 y ≡ true → {r : Bool} → r ≡ areDigits 0x20 z → r ≡ legalFilled s
+  third-says f g e = e ∙ sym (name-words ∙ rw (f, g))

@@ -12,7 +12,7 @@ ghost use lib.ListN.{drop, length, take};
 ghost use Rattle.model.specs.Format.{Bytes, valueOf};
 ghost use Rattle.model.specs.Names as names;
 ghost use Rattle.model.specs.Order.{Str, diff};
-ghost use Rattle.digits.specs.Words.{Word, after, mark, marked};
+ghost use Rattle.digits.specs.Words.{Word};
 ghost use Rattle.digits.specs.Keys.{continued, isZero, keyValue, naming, value};
 
 mod numbers;
@@ -31,6 +31,12 @@ pub struct Key {
     pub a: u64,
     pub b: u64,
     pub c: u64,
+}
+
+// How a name stands to a bound.
+pub struct Comparison {
+    pub within: bool,
+    pub first: usize,
 }
 
 // What stands before a name is looked for: whether it is one.
@@ -225,11 +231,11 @@ pub fn is_zero(s: &[u8]) -> bool
     most == 0
 }
 
-// 1 where x is no digit from `least` to 0x7D, else 0.
-fn fault(x: u8, least: u8) -> u8
-    ensures { λ r. ⌜ eqb r 0 ≡ (leb least x && leb x 0x7D) ⌝ }
+// 1 where x is no digit, 0x20 to 0x7D, else 0.
+fn fault(x: u8) -> u8
+    ensures { λ r. ⌜ eqb r 0 ≡ (leb 0x20 x && leb x 0x7D) ⌝ }
 {
-    if x < least {
+    if x < 0x20 {
         return 1;
     }
     if 0x7D < x {
@@ -238,14 +244,14 @@ fn fault(x: u8, least: u8) -> u8
     0
 }
 
-// Whether each byte is a digit, `least` or above.
-fn are_digits(s: &[u8], least: u8) -> bool
-    ensures { λ r. ⌜ r ≡ names.areDigits least (now (s .entry)) ⌝ }
+// Whether each byte is a digit.
+fn are_digits(s: &[u8]) -> bool
+    ensures { λ r. ⌜ r ≡ names.areDigits 0x20 (now (s .entry)) ⌝ }
 {
     let mut most = 0u8;
     let mut i = 0;
     while i < s.len() {
-        most = larger(most, fault(s[i], least));
+        most = larger(most, fault(s[i]));
         i += 1;
     }
     most == 0
@@ -261,7 +267,13 @@ pub fn named(name: &[u8]) -> Naming
     if 24 < name.len() {
         return Naming::Illegal;
     }
-    if !are_digits(name, 0x21) {
+    if name[0] == 0x20 {
+        return Naming::Illegal;
+    }
+    if name[name.len() - 1] == 0x20 {
+        return Naming::Illegal;
+    }
+    if !are_digits(name) {
         return Naming::Illegal;
     }
     Naming::Legal
@@ -299,40 +311,7 @@ fn is_of_digits(word: u64) -> bool
     from & 0x8080_8080_8080_8080 == 0x8080_8080_8080_8080
 }
 
-// The highest bit of each byte that is more than a blank.
-fn marks_of(word: u64) -> u64
-    ensures { λ r. ⌜ ((x : Str) → Word x → names.areDigits 0x20 x ≡ true → word ≡ value x → r ≡ value (marked x)) ⌝ }
-{
-    std::num::wrapping_add_u64(word, 0x5F5F_5F5F_5F5F_5F5F) & 0x8080_8080_8080_8080
-}
-
-// Whether each byte that is marked has one that is marked before it; the byte before the first is given.
-fn follow(before: u64, marks: u64) -> bool
-    requires { ⌜ before < 256 ⌝ }
-    ensures { λ r. ⌜ ((q : ℕ) (x : Str) → Word x → before ≡ mark q → marks ≡ value (marked x) → r ≡ after q x) ⌝ }
-{
-    let moved = marks / 256 + before * 0x100_0000_0000_0000;
-    marks & moved == marks
-}
-
-// Whether no blank is followed by more than a blank, in three words of digits. What stands before them is no blank.
-fn is_filled(a: u64, b: u64, c: u64) -> bool
-    ensures { λ r.
-        ⌜ ((x y z : Str) → Word x → Word y → Word z → names.areDigits 0x20 x ≡ true → names.areDigits 0x20 y ≡ true → names.areDigits 0x20 z ≡ true
-        → a ≡ value x → b ≡ value y → c ≡ value z → r ≡ after 0x21 (x ++ (y ++ z))) ⌝ }
-{
-    let first = marks_of(a);
-    if !follow(0x80, first) {
-        return false;
-    }
-    let second = marks_of(b);
-    if !follow(first % 256, second) {
-        return false;
-    }
-    follow(second % 256, marks_of(c))
-}
-
-// Whether these 24 bytes are a legal name, filled. Eight bytes at a time: no other function has as large a part in a put.
+// Whether these 24 bytes are a legal name, filled: digits, of which the first is no blank. Eight bytes at a time: no other function has as large a part in a put.
 pub fn is_filled_name(s: &[u8]) -> bool
     requires { ⌜ length (now s) ≡ 24 ⌝ }
     ensures { λ r. ⌜ r ≡ names.legalFilled (now (s .entry)) ⌝ }
@@ -340,19 +319,13 @@ pub fn is_filled_name(s: &[u8]) -> bool
     if s[0] == 0x20 {
         return false;
     }
-    let a = word(s, 0);
-    if !is_of_digits(a) {
+    if !is_of_digits(word(s, 0)) {
         return false;
     }
-    let b = word(s, 8);
-    if !is_of_digits(b) {
+    if !is_of_digits(word(s, 8)) {
         return false;
     }
-    let c = word(s, 16);
-    if !is_of_digits(c) {
-        return false;
-    }
-    is_filled(a, b, c)
+    is_of_digits(word(s, 16))
 }
 
 // Whether these 24 bytes are a bound of `len` digits: each 0x20 to 0x7D, and zero behind them.
@@ -364,32 +337,10 @@ pub fn is_bound(s: &[u8], len: usize) -> bool
     if 24 < len {
         return false;
     }
-    if !are_digits(&s[0..len], 0x20) {
+    if !are_digits(&s[0..len]) {
         return false;
     }
     is_zero(&s[len..])
-}
-
-// R1.6: whether the name is within p.
-pub fn within(name: &[u8], p: &[u8]) -> bool
-    ensures { λ r. ⌜ r ≡ names.within (now (name .entry)) (now (p .entry)) ⌝ }
-{
-    let mut i = 0;
-    while i < p.len() {
-        if name.len() <= i {
-            return true;
-        }
-        let d = name[i];
-        let e = p[i];
-        if d < e {
-            return true;
-        }
-        if e < d {
-            return false;
-        }
-        i += 1;
-    }
-    true
 }
 
 // How many digits the two strings share before the first difference.
@@ -408,4 +359,27 @@ pub fn shared(x: &[u8], y: &[u8]) -> usize
         count += 1;
     }
     count
+}
+
+// R1.6: whether the name is within p. R1.9: the first digit number where the two differ, or p's length if they don't.
+pub fn compared(name: &[u8], p: &[u8]) -> Comparison
+    ensures { λ r. ⌜ (r .within ≡ names.within (now (name .entry)) (now (p .entry))) × (r .first ≡ diff (now (name .entry)) (now (p .entry))) ⌝ }
+{
+    let first = shared(name, p);
+    if p.len() <= first {
+        return Comparison {
+            within: true,
+            first,
+        };
+    }
+    if name.len() <= first {
+        return Comparison {
+            within: true,
+            first,
+        };
+    }
+    Comparison {
+        within: name[first] < p[first],
+        first,
+    }
 }

@@ -1,4 +1,13 @@
-pub mod Steps
-pub mod Rows
 pub mod Places
 pub mod Copies
+pub mod Products
+pub mod Padding
+pub mod Contents
+pub mod Searches
+pub mod Splices
+pub mod Sames
+pub mod Parts
+pub mod Lists
+pub mod Among
+pub mod Tested
+pub mod Copied

@@ -1,18 +1,22 @@
 -- The place of a name in a row, and the entries from one name to another.
-use Rattle.model.proofs.Prelude.{Bool, List, Option, [], _-_, _<_, _∙_, _∷_, _≡_, _≤_, and-false, ap, ap₂, arith, clash, cond, drop, false, getD, length, ltb, not, nothing, refl, some, suc, sym, take, true, ℕ}
+use Rattle.model.proofs.Prelude.{Bool, List, Option, [], _-_, _<_, _||_, _∙_, _∷_, _≡_, _≤_, and-false, ap, ap₂, arith, clash, cond, drop, false, getD, length, ltb, not, nothing, refl, some, suc, sym, take, true, ℕ}
+use mathlib.Core.Bool.{or-true}
 use Rattle.model.specs.Calls.{between}
 use Rattle.model.specs.Entries.{Entry, Row, entry, find, name-at, no-entries}
 use Rattle.model.specs.Names.{Legal, atMost}
-use Rattle.model.specs.Order.{Low, Str, _⊑_, _◁_, at, at as after, le?, over, str?}
+use Rattle.model.specs.Order.{Low, Str, _⊑_, _◁_, at, at as after}
+use Rattle.model.specs.Deciding.{le?, over, str?}
 use Rattle.model.proofs.Entries.{at-find, chosen-no, chosen-yes}
 use Rattle.model.proofs.Names.{le-atMost, lt-atMost}
 use Rattle.model.proofs.Order.{le-refl, le-trans, low-at, low-lower, lt-le}
 use Rattle.digits.proofs.Bounds.{names-over}
 use Rattle.digits.specs.Keys.{value}
-use Rattle.entries.proofs.Rows.{numbers}
-use Rattle.entries.specs.Rows.{below, notAbove, place}
-use Rattle.entries.specs.declared.Held.{Held}
-use Rattle.entries.specs.declared.Held.the-variants.{Absent, Value}
+use Rattle.entries.specs.Rows.{notAbove, place}
+
+-- The numbers of the names.
+abbrev pub numbers : List Entry → List ℕ
+numbers [] = []
+numbers (e ∷ es) = value (e .0) ∷ numbers es
 
 -- A name that is not above a row's lower limit is not held.
 pub find-not-over : {l : Low} {u : Str} {es : List Entry} (n : Str) → Row l es u → ¬ (l ◁ n) → find n es ≡ nothing
@@ -34,17 +38,7 @@ find-first n e {w = w} r q h = elim (str? n (e .0)) [
       clash cc
 ]
 
--- The place of a name: how many names' numbers are below its own.
-pub below-row : {l : Low} {u : Str} {es : List Entry} (n : Str) → Row l es u → Legal n → below (value n) (numbers es) ≡ place n es
-unfolding below place
-below-row n no-entries g = refl
-below-row n (entry {e = e} f a c r) g = elim (le? n (e .0)) [
-  | yes p ↦ let t : ltb (value (e .0)) (value n) ≡ false = names-over (e .0) n f g ∙ ap not (le-atMost n (e .0) p) in
-      rw (t, chosen-yes (le? n (e .0)) p)
-  | no p ↦ let t : ltb (value (e .0)) (value n) ≡ true = names-over (e .0) n f g ∙ ap not (lt-atMost n (e .0) p) in
-      rw (t, chosen-no (le? n (e .0)) p, below-row n r g)
-]
-
+-- The place of a name.
 pub place-most : (n : Str) (es : List Entry) → place n es ≤ length es
 unfolding place
 place-most n [] = omega arith
@@ -73,11 +67,6 @@ place-lost n es h i k q =
     let z : _≡_ {A = Option ℕ} nothing (some (f .0)) = sym h ∙ ap (λ (x : Str). find x es) (sym q) ∙ f .1 in
     clash cc
 
--- What is found, in the code's words.
-abbrev pub held : Option ℕ → Held
-held nothing = Absent
-held (some w) = Value w
-
 -- The entries from one name to another stand together.
 between-none : {u x : Str} {es : List Entry} (n m : Str) → Row (at x) es u → ¬ (x ⊑ m) → between n m es ≡ []
 unfolding between
@@ -86,7 +75,7 @@ between-none n m (entry {e = e} g a c r) h =
     let k : ¬ (e .0 ⊑ m) = λ p. h (le-trans (lt-le (over a)) p) in
     rw (lt-atMost (e .0) m k, and-false (atMost n (e .0))) (between-none n m r k)
 
-place-first : {u x : Str} {es : List Entry} (n : Str) → Row (at x) es u → n ⊑ x → place n es ≡ 0
+pub place-first : {u x : Str} {es : List Entry} (n : Str) → Row (at x) es u → n ⊑ x → place n es ≡ 0
 unfolding place
 place-first n no-entries h = refl
 place-first n (entry {e = e} g a c r) h = chosen-yes (le? n (e .0)) (le-trans h (lt-le (over a))) _ _
@@ -94,11 +83,20 @@ place-first n (entry {e = e} g a c r) h = chosen-yes (le? n (e .0)) (le-trans h 
 pub notAbove-most : (w : ℕ) (es : List Entry) → notAbove w (numbers es) ≤ length es
 unfolding notAbove
 notAbove-most w [] = omega arith
-notAbove-most w (e ∷ es) = go (ltb w (value (e .0))) (notAbove-most w es)
+notAbove-most w (e ∷ es) = go (ltb 0 (notAbove w (numbers es)) || not (ltb w (value (e .0)))) (notAbove-most w es)
   where
-    go : (t : Bool) → notAbove w (numbers es) ≤ length es → cond t 0 (suc (notAbove w (numbers es))) ≤ suc (length es)
+    go : (t : Bool) → notAbove w (numbers es) ≤ length es → cond t (suc (notAbove w (numbers es))) 0 ≤ suc (length es)
     go true h = omega arith
     go false h = omega arith
+
+-- Behind a name that is above m all are.
+all-above : {u x : Str} {es : List Entry} (m : Str) → Legal m → Row (at x) es u → ¬ (x ⊑ m) → notAbove (value m) (numbers es) ≡ 0
+unfolding notAbove
+all-above m g no-entries h = refl
+all-above m g (entry {e = e} k a c r) h =
+    let i : ¬ (e .0 ⊑ m) = λ p. h (le-trans (lt-le (over a)) p) in
+    let t : ltb (value m) (value (e .0)) ≡ true = names-over m (e .0) g k ∙ ap not (lt-atMost (e .0) m i) in
+    rw (all-above m g r i, t)
 
 take-none : (k : ℕ) (es : List Entry) → take (0 - k) es ≡ []
 take-none k es = let z : 0 - k ≡ 0 = omega arith in rw z
@@ -109,7 +107,7 @@ unfolding notAbove place between
 between-part n m no-entries f g = refl
 between-part n m (entry {e = e} {es = es} k a c r) f g = elim (le? (e .0) m) [
   | no p ↦ let t : ltb (value m) (value (e .0)) ≡ true = names-over m (e .0) g k ∙ ap not (lt-atMost (e .0) m p) in
-      rw (t, lt-atMost (e .0) m p, and-false (atMost n (e .0))) (take-none (place n (e ∷ es)) (drop (place n (e ∷ es)) (e ∷ es)) ∙ sym (between-none n m r p))
+      rw (all-above m g r p, t, lt-atMost (e .0) m p, and-false (atMost n (e .0))) (take-none (place n (e ∷ es)) (drop (place n (e ∷ es)) (e ∷ es)) ∙ sym (between-none n m r p))
   | yes p ↦ let t : ltb (value m) (value (e .0)) ≡ false = names-over m (e .0) g k ∙ ap not (le-atMost (e .0) m p) in
       let j = notAbove (value m) (numbers es) in
       let i : take (j - place n es) (drop (place n es) es) ≡ between n m es = between-part n m r f g in
@@ -117,8 +115,8 @@ between-part n m (entry {e = e} {es = es} k a c r) f g = elim (le? (e .0) m) [
         | yes q ↦ let z : j - place n es ≡ j = omega (arith, place-first n r q) in
             let w : suc j - 0 ≡ suc j = omega arith in
             let y : take j es ≡ between n m es = ap₂ (λ (x y : ℕ). take x (drop y es)) (sym z) (sym (place-first n r q)) ∙ i in
-            rw (t, chosen-yes (le? n (e .0)) q, le-atMost n (e .0) q, le-atMost (e .0) m p, w) (ap (λ (x : List Entry). e ∷ x) y)
+            rw (t, or-true (ltb 0 j), chosen-yes (le? n (e .0)) q, le-atMost n (e .0) q, le-atMost (e .0) m p, w) (ap (λ (x : List Entry). e ∷ x) y)
         | no q ↦ let z : suc j - suc (place n es) ≡ j - place n es = omega arith in
-            rw (t, chosen-no (le? n (e .0)) q, lt-atMost n (e .0) q, z) i
+            rw (t, or-true (ltb 0 j), chosen-no (le? n (e .0)) q, lt-atMost n (e .0) q, z) i
       ]
 ]

@@ -1,16 +1,55 @@
--- Rows of entries in bytes: the numbers of their names, the place of a name, what is held under it, and which entries are met among others.
-use mathlib.Core.Bool.{Bool, _&&_, cond, false, true}
-use mathlib.Core.List.{List, [], _∷_}
-use Prim.Native.Nat.{_*_, _+_, suc, zero, ℕ}
+-- Rows of entries of e bytes each: where one stands, its content, the place of a name, what is held under it, which entries are met
+-- among others, and a row of which a part is replaced.
+use mathlib.Core.Bool.{Bool, _&&_, _||_, cond, false, not, true}
+use mathlib.Core.List.{List, [], _++_, _∷_}
+use mathlib.Core.Option.{Option, none as nothing, some}
+use mathlib.Core.Path.{_≡_}
+use Prim.Native.Nat.{_%_, _*_, _+_, _-_, _/_, _<_, _^_, _≤_, suc, zero, ℕ}
 use lib.Dec.{eqb, ltb}
 use lib.ListN.{drop, take}
 use Rattle.model.specs.Checks.{sameStr}
 use Rattle.model.specs.Entries.{Entry, chosen}
 use Rattle.model.specs.Format.{valueOf}
-use Rattle.model.specs.Order.{Str, le?}
+use Rattle.model.specs.Names.{legalFilled}
+use Rattle.model.specs.Order.{Str}
+use Rattle.model.specs.Deciding.{le?}
 use Rattle.digits.specs.Keys.{value}
+use Rattle.entries.specs.declared.Content.{Content}
 use Rattle.entries.specs.declared.Held.{Held}
-use Rattle.entries.specs.declared.Held.the-variants.{Absent, Value}
+use Rattle.entries.specs.declared.Held.the-variants.{Absent, Holds}
+
+-- The most bytes that the entries of one bucket and one more have: 17 of 40.
+abbrev pub room : ℕ
+room = 680
+
+-- Where entry i of so many begins.
+pub record Stands (e i count r : ℕ) : Type 0 where
+  pub is : r ≡ e * i
+  pub inside : r ≤ e * count
+  pub each : e * count ≤ 40 * count
+  pub most : e * count ≤ room
+  pub whole : i < count → r + e ≤ e * count
+
+-- The same of an entry that is one of them: it stands whole before the end.
+pub record Whole (e i count r : ℕ) : Type 0 where
+  pub is : r ≡ e * i
+  pub fits : r + e ≤ e * count
+  pub most : e * count ≤ room
+
+-- Value and run as one number, the content, and its two parts.
+unfoldable pub contentNumber : Content → ℕ
+contentNumber c = c .value + 2 ^ 64 * c .run
+
+unfoldable pub valuePart : ℕ → ℕ
+valuePart c = c % 2 ^ 64
+
+unfoldable pub runPart : ℕ → ℕ
+runPart c = c / 2 ^ 64
+
+-- What is held, as a number.
+abbrev pub heldNumber : Held → Option ℕ
+heldNumber (Holds c) = some (contentNumber c)
+heldNumber Absent = nothing
 
 -- The place of a name: how many entries are below it.
 unfoldable pub place : Str → List Entry → ℕ
@@ -18,31 +57,49 @@ place n [] = 0
 place n (e ∷ es) = chosen (le? n (e .0)) 0 (suc (place n es))
 
 -- The numbers of the first names.
-unfoldable pub values : ℕ → List ℕ → List ℕ
-values zero xs = []
-values (suc n) xs = value (take 24 xs) ∷ values n (drop 32 xs)
+unfoldable pub values : ℕ → ℕ → List ℕ → List ℕ
+values e zero xs = []
+values e (suc n) xs = value (take 24 xs) ∷ values e n (drop e xs)
 
--- How many in front are below v, and how many are not above it.
+-- How many there are up to the last that is below v.
 unfoldable pub below : ℕ → List ℕ → ℕ
 below v [] = 0
-below v (w ∷ ws) = let r = below v ws in cond (ltb w v) (suc r) 0
+below v (w ∷ ws) = let r = below v ws in cond (ltb 0 r || ltb w v) (suc r) 0
 
+-- How many there are up to the last that is not above v.
 unfoldable pub notAbove : ℕ → List ℕ → ℕ
 notAbove v [] = 0
-notAbove v (w ∷ ws) = let r = notAbove v ws in cond (ltb v w) 0 (suc r)
+notAbove v (w ∷ ws) = let r = notAbove v ws in cond (ltb 0 r || not (ltb v w)) (suc r) 0
 
--- The value of the entry at a place, where its name is the one looked for.
-unfoldable pub heldAt : ℕ → List ℕ → ℕ → ℕ → Held
-heldAt i xs count v =
-    cond (ltb i count && eqb (value (take 24 (drop (32 * i) xs))) v) (Value (valueOf (take 8 (drop (32 * i + 24) xs)))) Absent
+-- Of so many entries, the one at a place is there and has the name looked for.
+unfoldable pub isAt : ℕ → List ℕ → ℕ → ℕ → ℕ → Bool
+isAt e xs count i v = ltb i count && eqb (value (take 24 (drop (e * i) xs))) v
 
-abbrev pub heldUnder : List ℕ → ℕ → ℕ → Held
-heldUnder xs count v = heldAt (below v (values count xs)) xs count v
+-- The content of the entry at a place, where its name is the one looked for.
+unfoldable pub heldAt : ℕ → ℕ → List ℕ → ℕ → ℕ → Option ℕ
+heldAt e i xs count v =
+    cond (ltb i count && eqb (value (take 24 (drop (e * i) xs))) v) (some (valueOf (take (e - 24) (drop (e * i + 24) xs)))) nothing
 
--- Entries, 32 bytes each.
-unfoldable pub pieces : ℕ → List ℕ → List (List ℕ)
-pieces zero xs = []
-pieces (suc n) xs = take 32 xs ∷ pieces n (drop 32 xs)
+abbrev pub heldUnder : ℕ → List ℕ → ℕ → ℕ → Option ℕ
+heldUnder e xs count v = heldAt e (below v (values e count xs)) xs count v
+
+-- Names are legal, strictly ascending and in the range: above `last`, and the last not above `high`.
+unfoldable pub areEntries : ℕ → ℕ → List ℕ → ℕ → ℕ → Bool
+areEntries e zero xs last high = not (ltb high last)
+areEntries e (suc n) xs last high =
+    legalFilled (take 24 xs) && ltb last (value (take 24 xs)) && areEntries e n (drop e xs) (value (take 24 xs)) high
+
+-- The bytes of the entries from one place on to another, and from one name to another.
+unfoldable pub entriesFrom : ℕ → ℕ → ℕ → List ℕ → List ℕ
+entriesFrom e i j xs = take (e * (j - i)) (drop (e * i) xs)
+
+abbrev pub partBetween : ℕ → List ℕ → ℕ → ℕ → ℕ → List ℕ
+partBetween e xs count v w = entriesFrom e (below v (values e count xs)) (notAbove w (values e count xs)) xs
+
+-- Entries, each by its bytes.
+unfoldable pub pieces : ℕ → ℕ → List ℕ → List (List ℕ)
+pieces e zero xs = []
+pieces e (suc n) xs = take e xs ∷ pieces e n (drop e xs)
 
 -- Whether the second entries are all met among the first, in order.
 unfoldable pub areAmong : List (List ℕ) → List (List ℕ) → Bool
@@ -53,3 +110,8 @@ areAmong (n ∷ ns) (e ∷ es) =
     let r = areAmong ns es in
     let s = areAmong ns (e ∷ es) in
     cond (sameStr e n) r s
+
+-- Of so many entries, those before place i, the middle, and those behind the ones that are taken out.
+unfoldable pub splicedBytes : ℕ → List ℕ → ℕ → ℕ → ℕ → List ℕ → List ℕ
+splicedBytes e xs count i taken middle =
+    take (e * i) xs ++ (middle ++ take (e * (count - (i + taken))) (drop (e * (i + taken)) xs))

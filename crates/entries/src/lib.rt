@@ -1,112 +1,297 @@
-// Rows of entries, 32 bytes each: a filled name (24) and a value (8, little-endian). The place of a name, what is held under it, and
-// whether one row is a copy of another.
+// Rows of entries of e bytes each: a filled name (24), a value (8) and, where e is 40, a run (8), both little-endian.
+//
+// Only `entry_at` has a product; its contract gives the callers what they need of it, so their own sums are linear. Only
+// `content_at`, `entry_of` and `is_same_entry` tell the two sizes apart.
 ghost use mathlib.Core.Bool.{_&&_, cond};
+ghost use mathlib.Core.List.{[]};
 ghost use mathlib.Core.Path.{_≡_};
-ghost use Prim.Native.Nat.{_≤_, _<_, _+_, _*_};
+ghost use Prim.Native.Nat.{_≤_, _<_, _+_, _-_, _*_};
 ghost use lib.Dec.{leb, ltb};
 ghost use lib.ListN.{drop, length, take};
 ghost use lib.Seq.{paste};
 ghost use Rattle.model.specs.Checks.{sameStr};
-ghost use Rattle.model.specs.Format.{valueOf};
+ghost use Rattle.model.specs.Format.{entryBytes, littleEndian, padded, valueOf};
+ghost use Rattle.model.proofs.Format.{EntrySize};
 ghost use Rattle.digits.specs.Keys.{keyValue};
-ghost use Rattle.entries.specs.Rows.{areAmong, below, heldUnder, notAbove, pieces, values};
+ghost use Rattle.entries.specs.Rows.{Stands, Whole, areAmong, areEntries, below, contentNumber, entriesFrom, heldNumber, heldUnder, isAt, notAbove, partBetween, pieces, room, splicedBytes, values};
 use digits::Key;
+
+// The most bytes that the entries of one bucket and one more have: 17 of 40.
+pub const ROOM: usize = 680;
+
+// What stands under a name: its value, and the run that wrote it.
+pub struct Content {
+    pub value: u64,
+    pub run: u64,
+}
 
 // What is held under a name.
 pub enum Held {
-    Value(u64),
+    Holds(Content),
     Absent,
 }
 
-// How many of the first entries are below the name.
-pub fn rank(entries: &[u8], count: usize, name: Key) -> usize
-    requires { ⌜ (32 * count ≤ length (now entries)) × (count ≤ 17) ⌝ }
-    ensures { λ r. ⌜ (r ≤ count) × (r ≡ below (keyValue name) (values count (now (entries .entry)))) ⌝ }
+// Where entry i of so many begins.
+pub fn entry_at(e: usize, i: usize, count: usize) -> usize
+    requires { ⌜ (i ≤ count) × (count ≤ 17) × (24 ≤ e) × (e ≤ 40) ⌝ }
+    ensures { λ r. ⌜ Stands e i count r ⌝ }
 {
-    let mut i = 0;
-    while i < count {
-        if !digits::is_below(digits::key_at(entries, 32 * i), name) {
+    e * i
+}
+
+// Where entry i of so many begins, one that is there.
+pub fn whole_at(e: usize, i: usize, count: usize) -> usize
+    requires { ⌜ (i < count) × (count ≤ 17) × (24 ≤ e) × (e ≤ 40) ⌝ }
+    ensures { λ r. ⌜ Whole e i count r ⌝ }
+{
+    entry_at(e, i, count)
+}
+
+// How many entries there are up to the last that is below the name. It begins at the last entry.
+pub fn rank(entries: &[u8], e: usize, count: usize, name: Key) -> usize
+    requires { ⌜ (e * count ≤ length (now entries)) × (count ≤ 17) × (24 ≤ e) × (e ≤ 40) ⌝ }
+    ensures { λ r. ⌜ (r ≤ count) × (r ≡ below (keyValue name) (values e count (now (entries .entry)))) ⌝ }
+{
+    let mut i = count;
+    while 0 < i {
+        let at = whole_at(e, i - 1, count);
+        if digits::is_below(digits::key_at(entries, at), name) {
             return i;
         }
-        i += 1;
+        i -= 1;
     }
-    count
+    0
 }
 
-// How many of the first entries are not above the string.
-pub fn not_above(entries: &[u8], count: usize, string: Key) -> usize
-    requires { ⌜ (32 * count ≤ length (now entries)) × (count ≤ 17) ⌝ }
-    ensures { λ r. ⌜ (r ≤ count) × (r ≡ notAbove (keyValue string) (values count (now (entries .entry)))) ⌝ }
+// How many entries there are up to the last that is not above the string. It begins at the last entry.
+pub fn not_above(entries: &[u8], e: usize, count: usize, string: Key) -> usize
+    requires { ⌜ (e * count ≤ length (now entries)) × (count ≤ 17) × (24 ≤ e) × (e ≤ 40) ⌝ }
+    ensures { λ r. ⌜ (r ≤ count) × (r ≡ notAbove (keyValue string) (values e count (now (entries .entry)))) ⌝ }
 {
+    let mut n = count;
+    while 0 < n {
+        let at = whole_at(e, n - 1, count);
+        if !digits::is_below(string, digits::key_at(entries, at)) {
+            return n;
+        }
+        n -= 1;
+    }
+    0
+}
+
+// Names are legal, strictly ascending and in the range: each is above the one before it, the first above the lower limit.
+pub fn are_entries(entries: &[u8], e: usize, count: usize, low: Key, high: Key) -> bool
+    requires { ⌜ (e * count ≤ length (now entries)) × (count ≤ 17) × (24 ≤ e) × (e ≤ 40) ⌝ }
+    ensures { λ r. ⌜ r ≡ areEntries e count (now (entries .entry)) (keyValue low) (keyValue high) ⌝ }
+{
+    let mut last = low;
     let mut i = 0;
     while i < count {
-        if digits::is_below(string, digits::key_at(entries, 32 * i)) {
-            return i;
+        let at = whole_at(e, i, count);
+        let end = at + 24;
+        if !digits::is_filled_name(&entries[at..end]) {
+            return false;
         }
+        let name = digits::key_at(entries, at);
+        if !digits::is_below(last, name) {
+            return false;
+        }
+        last = name;
         i += 1;
     }
-    count
+    !digits::is_below(high, last)
 }
 
-// The value of entry i.
-pub fn value_at(entries: &[u8], i: usize) -> u64
-    requires { ⌜ (32 * i + 32 ≤ length (now entries)) × (i < 17) ⌝ }
-    ensures { λ r. ⌜ r ≡ valueOf (take 8 (drop (32 * i + 24) (now (entries .entry)))) ⌝ }
+// The content of entry i of so many.
+pub fn content_at(entries: &[u8], e: usize, i: usize, count: usize) -> Content
+    requires { ⌜ (e * count ≤ length (now entries)) × (i < count) × (count ≤ 17) × EntrySize e ⌝ }
+    ensures { λ r. ⌜ contentNumber r ≡ valueOf (take (e - 24) (drop (e * i + 24) (now (entries .entry)))) ⌝ }
 {
-    digits::little_endian(entries, 32 * i + 24)
+    let at = whole_at(e, i, count);
+    let value = digits::little_endian(entries, at + 24);
+    if e < 40 {
+        return Content { value, run: 0 };
+    }
+    let run = digits::little_endian(entries, at + 32);
+    Content { value, run }
 }
 
-// The value under a name.
-pub fn held_under(entries: &[u8], count: usize, name: Key) -> Held
-    requires { ⌜ (32 * count ≤ length (now entries)) × (count ≤ 16) ⌝ }
-    ensures { λ r. ⌜ r ≡ heldUnder (now (entries .entry)) count (keyValue name) ⌝ }
+// Whether the entry at place i of so many is there and has the name.
+pub fn is_at(entries: &[u8], e: usize, count: usize, i: usize, name: Key) -> bool
+    requires { ⌜ (e * count ≤ length (now entries)) × (count ≤ 16) × (24 ≤ e) × (e ≤ 40) ⌝ }
+    ensures { λ r. ⌜ r ≡ isAt e (now (entries .entry)) count i (keyValue name) ⌝ }
 {
-    let i = rank(entries, count, name);
+    if count <= i {
+        return false;
+    }
+    let at = whole_at(e, i, count);
+    digits::is_same(digits::key_at(entries, at), name)
+}
+
+// The content under a name.
+pub fn held_under(entries: &[u8], e: usize, count: usize, name: Key) -> Held
+    requires { ⌜ (e * count ≤ length (now entries)) × (count ≤ 16) × EntrySize e ⌝ }
+    ensures { λ r. ⌜ heldNumber r ≡ heldUnder e (now (entries .entry)) count (keyValue name) ⌝ }
+{
+    let i = rank(entries, e, count, name);
     if count <= i {
         return Held::Absent;
     }
-    if !digits::is_same(digits::key_at(entries, 32 * i), name) {
+    let at = whole_at(e, i, count);
+    if !digits::is_same(digits::key_at(entries, at), name) {
         return Held::Absent;
     }
-    Held::Value(value_at(entries, i))
+    Held::Holds(content_at(entries, e, i, count))
 }
 
-// Whether the 32 bytes from `at` on in x are those from `to` on in y.
-fn is_same_entry(x: &[u8], at: usize, y: &[u8], to: usize) -> bool
-    requires { ⌜ (at + 32 ≤ length (now x)) × (to + 32 ≤ length (now y)) ⌝ }
-    ensures { λ r. ⌜ r ≡ sameStr (take 32 (drop at (now (x .entry)))) (take 32 (drop to (now (y .entry)))) ⌝ }
+// The bytes of the entries from one place on to another. The second place is the first one's bound, so that the part's start is
+// not behind its end.
+pub fn part(entries: &[u8], e: usize, count: usize, from: usize, to: usize) -> &[u8]
+    requires { ⌜ (e * count ≤ length (now entries)) × (count ≤ 17) × (24 ≤ e) × (e ≤ 40) × (from ≤ to) × (to ≤ count) ⌝ }
+    ensures { λ r. ⌜ (now r ≡ entriesFrom e from to (now (entries .entry))) × (length (now r) ≡ e * (to - from)) × (length (now r) ≤ e * count) ⌝ }
+{
+    let at = entry_at(e, from, to);
+    let end = entry_at(e, to, count);
+    &entries[at..end]
+}
+
+// The bytes of the entries from the first name to the second, both included (R9.8).
+pub fn part_between(entries: &[u8], e: usize, count: usize, first: Key, second: Key) -> &[u8]
+    requires { ⌜ (e * count ≤ length (now entries)) × (count ≤ 17) × (24 ≤ e) × (e ≤ 40) ⌝ }
+    ensures { λ r. ⌜ (length (now r) ≤ e * count)
+        × (now r ≡ partBetween e (now (entries .entry)) count (keyValue first) (keyValue second)) ⌝ }
+{
+    let from = rank(entries, e, count, first);
+    let to = not_above(entries, e, count, second);
+    if to <= from {
+        return &entries[0..0];
+    }
+    part(entries, e, count, from, to)
+}
+
+// The entries with so many of them, from place i on, taken out, and the middle put there.
+fn spliced(
+    entries: &[u8],
+    e: usize,
+    count: usize,
+    i: usize,
+    taken: usize,
+    middle: &[u8],
+) -> [u8; ROOM]
+    requires { ⌜ (e * count ≤ length (now entries)) × (count ≤ 16) × (24 ≤ e) × (e ≤ 40)
+        × (i + taken ≤ count) × (length (now middle) ≤ 40) ⌝ }
+    ensures { λ r. ⌜ r ≡ padded room (splicedBytes e (now (entries .entry)) count i taken (now (middle .entry))) ⌝ }
+{
+    let mut all = [0u8; ROOM];
+    let at = entry_at(e, i, count);
+    let next = entry_at(e, i + taken, count);
+    let end = entry_at(e, count, count);
+    copy(&mut all, 0, &entries[0..at]);
+    copy(&mut all, at, middle);
+    copy(&mut all, at + middle.len(), &entries[next..end]);
+    all
+}
+
+// The eight bytes of a number, the lowest first.
+fn bytes_of(v: u64) -> [u8; 8]
+    ensures { λ r. ⌜ r ≡ littleEndian 8 v ⌝ }
+{
+    [
+        (v % 256) as u8,
+        (v / 256 % 256) as u8,
+        (v / 65536 % 256) as u8,
+        (v / 16777216 % 256) as u8,
+        (v / 4294967296 % 256) as u8,
+        (v / 1099511627776 % 256) as u8,
+        (v / 281474976710656 % 256) as u8,
+        (v / 72057594037927936 % 256) as u8,
+    ]
+}
+
+// The bytes of an entry, and zero behind them. Entries of 32 bytes have no run, and the one given is not written.
+fn entry_of(e: usize, name: &[u8; 24], content: Content) -> [u8; 40]
+    requires { ⌜ EntrySize e ⌝ }
+    ensures { λ r. ⌜ (r ≡ padded 40 (entryBytes e (now (name .entry), contentNumber content))) × (length (now (name .entry)) ≡ 24) ⌝ }
+{
+    let mut entry = [0u8; 40];
+    copy(&mut entry, 0, name);
+    copy(&mut entry, 24, &bytes_of(content.value));
+    if e < 40 {
+        return entry;
+    }
+    copy(&mut entry, 32, &bytes_of(content.run));
+    entry
+}
+
+// The entries with one at place i: one more where nothing is taken, another where one is.
+pub fn with_entry(
+    entries: &[u8],
+    e: usize,
+    count: usize,
+    i: usize,
+    taken: usize,
+    name: &[u8; 24],
+    content: Content,
+) -> [u8; ROOM]
+    requires { ⌜ (e * count ≤ length (now entries)) × (count ≤ 16) × EntrySize e × (i + taken ≤ count) ⌝ }
+    ensures { λ r. ⌜ r ≡ padded room (splicedBytes e (now (entries .entry)) count i taken (entryBytes e (now (name .entry), contentNumber content))) ⌝ }
+{
+    let entry = entry_of(e, name, content);
+    spliced(entries, e, count, i, taken, &entry[0..e])
+}
+
+// The entries without that at place i.
+pub fn without_entry(entries: &[u8], e: usize, count: usize, i: usize) -> [u8; ROOM]
+    requires { ⌜ (e * count ≤ length (now entries)) × (count ≤ 16) × (24 ≤ e) × (e ≤ 40) × (i < count) ⌝ }
+    ensures { λ r. ⌜ r ≡ padded room (splicedBytes e (now (entries .entry)) count i 1 []) ⌝ }
+{
+    spliced(entries, e, count, i, 1, &entries[0..0])
+}
+
+// Whether the entry from `at` on in x is that from `to` on in y.
+fn is_same_entry(x: &[u8], at: usize, y: &[u8], to: usize, e: usize) -> bool
+    requires { ⌜ (at + e ≤ length (now x)) × (to + e ≤ length (now y)) × EntrySize e ⌝ }
+    ensures { λ r. ⌜ r ≡ sameStr (take e (drop at (now (x .entry)))) (take e (drop to (now (y .entry)))) ⌝ }
 {
     if !digits::is_same(digits::key_at(x, at), digits::key_at(y, to)) {
         return false;
     }
-    digits::word(x, at + 24) == digits::word(y, to + 24)
+    if digits::word(x, at + 24) != digits::word(y, to + 24) {
+        return false;
+    }
+    if e < 40 {
+        return true;
+    }
+    digits::word(x, at + 32) == digits::word(y, to + 32)
 }
 
-// 1 where the entry i of the first, of which there are m, is the entry j of the second, else 0.
-fn step(first: &[u8], i: usize, m: usize, second: &[u8], j: usize) -> usize
-    requires { ⌜ (32 * m ≤ length (now first)) × (32 * j + 32 ≤ length (now second)) × (m ≤ 16) × (j < 16) ⌝ }
+// 1 where the entry i of the first, of which there are m, is the entry j of the second, of which there are n, else 0.
+fn step(first: &[u8], i: usize, m: usize, second: &[u8], j: usize, n: usize, e: usize) -> usize
+    requires { ⌜ (e * m ≤ length (now first)) × (e * n ≤ length (now second)) × (m ≤ 16) × (n ≤ 16) × (j < n) × EntrySize e ⌝ }
     ensures { λ r. ⌜ (r ≤ 1) × (i + r ≤ i + m)
-        × (r ≡ cond (ltb i m && sameStr (take 32 (drop (32 * i) (now (first .entry)))) (take 32 (drop (32 * j) (now (second .entry))))) 1 0) ⌝ }
+        × (r ≡ cond (ltb i m && sameStr (take e (drop (e * i) (now (first .entry)))) (take e (drop (e * j) (now (second .entry))))) 1 0) ⌝ }
 {
     if m <= i {
         return 0;
     }
-    if !is_same_entry(first, 32 * i, second, 32 * j) {
+    let at = whole_at(e, i, m);
+    let to = whole_at(e, j, n);
+    if !is_same_entry(first, at, second, to, e) {
         return 0;
     }
     1
 }
 
 // Whether the second entries are exactly the first, or those and one more.
-pub fn is_copied(first: &[u8], m: usize, second: &[u8], n: usize) -> bool
-    requires { ⌜ (32 * m ≤ length (now first)) × (32 * n ≤ length (now second)) × (m ≤ 16) × (n ≤ 16) ⌝ }
+pub fn is_copied(first: &[u8], m: usize, second: &[u8], n: usize, e: usize) -> bool
+    requires { ⌜ (e * m ≤ length (now first)) × (e * n ≤ length (now second)) × (m ≤ 16) × (n ≤ 16) × EntrySize e ⌝ }
     ensures { λ r.
-        ⌜ r ≡ (areAmong (pieces n (now (second .entry))) (pieces m (now (first .entry))) && leb n (m + 1)) ⌝ }
+        ⌜ r ≡ (areAmong (pieces e n (now (second .entry))) (pieces e m (now (first .entry))) && leb n (m + 1)) ⌝ }
 {
     let mut i = 0usize;
     let mut j = 0usize;
     while j < n {
-        i += step(first, i, m, second, j);
+        i += step(first, i, m, second, j, n, e);
         j += 1;
     }
     i == m && n <= m + 1

@@ -1,5 +1,6 @@
 -- Slots in order, read one after the other: whether they follow on each other, and which neighbours have one upper bound.
 use Rattle.model.proofs.Prelude.{Bool, List, List·Memᴰ, [], _+_, _<_, _∙_, _∷_, _≡_, _≤_, add-one, ap, arith, clash, drop, drop-cons, drop-of-length-le, eqb, eqb-false, eqb-true, false, getD, getD-take, length, length-take-le, subst, suc, sym, take, true, ℕ}
+use Rattle.model.specs.declared.Layout.{Layout}
 use Rattle.model.specs.Order.{Low, at, none}
 use Rattle.model.specs.Names.{Bound, BoundLow, limit, unlimited}
 use Rattle.model.specs.Files.{IsUsed, Slot, Well, free, head, lower-of, ranges, slot-at, upper-of, used}
@@ -54,7 +55,7 @@ pub ended-start : (fs : List Slot) (Bs : List ℕ) (v : ℕ) → v ≡ 0 → End
 unfolding lowValue
 ended-start fs Bs v e = record { low = none; bound = unlimited; is = e; onward = λ h. h; back = λ h. h }
 
-module _ {b : ℕ} {xs : List ℕ} {fs : List Slot} (K : Known b xs fs) (order : List ℕ) (count : ℕ) (short : count ≤ length order) (L : Listed fs order count) where
+module _ {y : Layout} {xs : List ℕ} {fs : List Slot} (K : Known y xs fs) (order : List ℕ) (count : ℕ) (short : count ≤ length order) (L : Listed fs order count) where
   next-is : (j : ℕ) → j < count → drop j (take count order) ≡ getD order j 0 ∷ drop (j + 1) (take count order)
   next-is j h =
       drop-cons (take count order) j 0 (omega (arith, length-take-le count order short))
@@ -66,10 +67,10 @@ module _ {b : ℕ} {xs : List ℕ} {fs : List Slot} (K : Known b xs fs) (order :
       unfolding lowValue
       ended-next t hv g =
           let q : lower-of (head (placed fs order j)) ≡ E .low =
-          low-same (lower-bound b (K .well (getD order j 0)) (L j h)) (E .bound) (sym f ∙ eqb-true lv v (sym e ∙ t) ∙ E .is) in
+          low-same (lower-bound (y .b) (K .well (getD order j 0)) (L j h)) (E .bound) (sym f ∙ eqb-true lv v (sym e ∙ t) ∙ E .is) in
           record {
             low = at (upper-of (head (placed fs order j)));
-            bound = limit (upper-bound b (K .well (getD order j 0)) (L j h));
+            bound = limit (upper-bound (y .b) (K .well (getD order j 0)) (L j h));
             is = g;
             onward = λ k. subst (λ Cs. Follows (ranges fs) (E .low) Cs) (next-is j h) (E .onward k) .1;
             back = λ k. E .back (subst (λ Cs. Follows (ranges fs) (E .low) Cs) (sym (next-is j h)) (q, k));
@@ -86,7 +87,7 @@ module _ {b : ℕ} {xs : List ℕ} {fs : List Slot} (K : Known b xs fs) (order :
     ended-end h r w e f =
         let n : drop j (take count order) ≡ [] = drop-of-length-le (take count order) {i = j} (omega (arith, length-take-le count order short)) in
         record {
-          chained = λ t. follows-chain b fs (K .well) (take count order) (mem-listed fs order count short L)
+          chained = λ t. follows-chain (y .b) fs (K .well) (take count order) (mem-listed fs order count short L)
               (E .back (subst (λ Cs. Follows (ranges fs) (E .low) Cs) (sym n) (low-same (E .bound) (limit (record { fits = omega arith; digits = tt })) (sym (E .is) ∙ eqb-true v w (sym e ∙ t) ∙ f))));
           refused = λ t c.
               (let g : E .low ≡ at [] = subst (λ Cs. Follows (ranges fs) (E .low) Cs) n (E .onward (chain-follows (ranges fs) (take count order) c)) in
@@ -97,7 +98,7 @@ module _ {b : ℕ} {xs : List ℕ} {fs : List Slot} (K : Known b xs fs) (order :
   module _ (i j : ℕ) (h : i < count) (k : j < count) (p q : ℕ) (e : p ≡ value (continued (upper-of (head (placed fs order i))))) (f : q ≡ value (continued (upper-of (head (placed fs order j)))))
       (r : Bool) (g : r ≡ eqb p q) where
     pub same-upper : r ≡ true → upper-of (head (placed fs order i)) ≡ upper-of (head (placed fs order j))
-    same-upper t = high-same (upper-bound b (K .well (getD order i 0)) (L i h)) (upper-bound b (K .well (getD order j 0)) (L j k)) (sym e ∙ eqb-true p q (sym g ∙ t) ∙ f)
+    same-upper t = high-same (upper-bound (y .b) (K .well (getD order i 0)) (L i h)) (upper-bound (y .b) (K .well (getD order j 0)) (L j k)) (sym e ∙ eqb-true p q (sym g ∙ t) ∙ f)
 
     pub other-upper : r ≡ false → upper-of (head (placed fs order i)) ≡ upper-of (head (placed fs order j)) → ⊥
     other-upper t d = eqb-false p q (sym g ∙ t) (e ∙ ap (λ u. value (continued u)) d ∙ sym f)

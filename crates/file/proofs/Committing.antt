@@ -1,55 +1,79 @@
--- A plan committed: what each way out of `commit` leaves.
-use Rattle.model.proofs.Prelude.{List, [], _*_, _+_, _<_, _∷_, _≡_, _≤_, arith, false, le-ltb, length, lt-ltb, paste, refl, take, take-all, take-nil, true, ℕ}
+-- A plan committed: the file after so many of its stores, and what each way out of `commit` leaves.
+use Rattle.model.proofs.Prelude.{List, [], _*_, _+_, _-_, _<_, _∙_, _∷_, _≡_, _≤_, ap, arith, false, le-ltb, length, lt-ltb, mul-le-mul, paste, refl, replicate, sym, take, take-all, true, ℕ}
+use Rattle.model.specs.declared.Layout.{Layout}
 use Rattle.model.specs.Changes.{Store}
-use Rattle.model.specs.Format.{entrySize, slotSize, storeBytes, version-1}
+use Rattle.model.specs.Files.{free}
+use Rattle.model.specs.Format.{entrySize, slotBytes, slotSize, storeBytes}
 use Rattle.model.specs.Calls.{storesBytes}
+use Rattle.model.proofs.Format.{entry-size}
+use Rattle.model.proofs.Lists.{take-replicate}
 use Rattle.file.specs.declared.Plan.{Plan}
-use Rattle.file.specs.Plans.{Committed, Holds}
+use Rattle.file.specs.Plans.{Committed, Holds, Planned}
+
+-- An array of zeros as long as the largest slot begins with the bytes of a free one.
+slotSize-most : (y : Layout) → y .b ≤ 16 → slotSize y ≤ 704
+unfolding slotSize
+slotSize-most y h =
+    let m : entrySize y * y .b ≤ 40 * 16 = mul-le-mul (entry-size y .most) h in
+    omega arith
+
+pub free-begins : (y : Layout) → y .b ≤ 16 → take (slotSize y) (replicate 704 0) ≡ slotBytes y free
+unfolding slotBytes
+free-begins y h = take-replicate {A = ℕ} (slotSize y) 704 0 (slotSize-most y h)
 
 -- The bytes of one store.
-store-is : (b k : ℕ) (bytes xs ys : List ℕ) (s : Store) → Holds (version-1 b) k bytes s
-    → ys ≡ paste xs (16 + k * (64 + 32 * b)) (take (64 + 32 * b) bytes) (64 + 32 * b) → ys ≡ storeBytes (version-1 b) (s .0) (s .1) xs
-unfolding storeBytes slotSize entrySize
-store-is b k bytes xs ys s h e = rw (← h .0, ← h .1) e
+store-is : (y : Layout) (k : ℕ) (bytes xs ys : List ℕ) (s : Store) → Holds y k bytes s
+    → ys ≡ paste xs (16 + k * slotSize y) (take (slotSize y) bytes) (slotSize y) → ys ≡ storeBytes y (s .0) (s .1) xs
+unfolding storeBytes
+store-is y k bytes xs ys s h e = rw (← h .0, ← h .1) e
 
-module _ (b : ℕ) (p : Plan) (limit : ℕ) (xs : List ℕ) where
-  pub none-planned : p .stores < 1 → Committed false xs xs (version-1 b) p limit
+planned-length : (y : Layout) (p : Plan) (ss : List Store) → Planned p y ss → length ss ≡ p .stores
+planned-length y p [] q = sym q
+planned-length y p (s ∷ []) q = sym (q .0)
+planned-length y p (s ∷ t ∷ []) q = sym (q .0)
+planned-length y p (s ∷ t ∷ u ∷ ss) q = absurd q
+
+-- The file is that of the first stores of a plan.
+abbrev pub Made : Layout → Plan → ℕ → List ℕ → List ℕ → Type 0
+Made y p made xs ys = (ss : List Store) → Planned p y ss → ys ≡ storesBytes y (take made ss) xs
+
+module _ (y : Layout) (p : Plan) (xs : List ℕ) where
+  pub made-none : Made y p 0 xs xs
   unfolding storesBytes
-  none-planned h [] q = rw (take-nil limit, le-ltb limit 0 (omega arith)) (refl, refl)
-  none-planned h (s ∷ []) q = absurd (omega (arith, h, q .0))
-  none-planned h (s ∷ t ∷ []) q = absurd (omega (arith, h, q .0))
-  none-planned h (s ∷ t ∷ u ∷ ss) q = absurd q
+  made-none ss q = refl
 
-  pub none-made : 1 ≤ p .stores → limit < 1 → Committed true xs xs (version-1 b) p limit
-  unfolding storesBytes
-  none-made h i [] q = absurd (omega (arith, h, q))
-  none-made h i (s ∷ ss) q =
-      let z : limit ≡ 0 = omega arith in rw (z, lt-ltb 0 (length (s ∷ ss)) (omega arith)) (refl, refl)
-
-  module _ (ys : List ℕ) (first : ys ≡ paste xs (16 + p .first * (64 + 32 * b)) (take (64 + 32 * b) (p .one)) (64 + 32 * b)) where
-    pub one-planned : 1 ≤ p .stores → p .stores < 2 → 1 ≤ limit → Committed false xs ys (version-1 b) p limit
+  module _ (made : ℕ) (ys zs : List ℕ) (more : made < p .stores) (M : Made y p made xs ys) where
+    pub made-first : made + 1 ≡ 1 → zs ≡ paste ys (16 + p .first * slotSize y) (take (slotSize y) (p .one)) (slotSize y) → Made y p (made + 1) xs zs
     unfolding storesBytes
-    one-planned h i l [] q = absurd (omega (arith, h, q))
-    one-planned h i l (s ∷ []) q =
-        rw (take-all limit (s ∷ []) l, le-ltb limit 1 l) (store-is b (p .first) (p .one) xs ys s (q .1) first, refl)
-    one-planned h i l (s ∷ t ∷ []) q = absurd (omega (arith, i, q .0))
-    one-planned h i l (s ∷ t ∷ u ∷ ss) q = absurd q
+    made-first h e [] q = absurd (omega (arith, more, q))
+    made-first h e (s ∷ []) q =
+        let z : made ≡ 0 = omega arith in
+        let f : ys ≡ xs = rw z at (M (s ∷ []) q) in
+        rw (z, ← f) (store-is y (p .first) (p .one) ys zs s (q .1) e)
+    made-first h e (s ∷ t ∷ []) q =
+        let z : made ≡ 0 = omega arith in
+        let f : ys ≡ xs = rw z at (M (s ∷ t ∷ []) q) in
+        rw (z, ← f) (store-is y (p .first) (p .one) ys zs s (q .1) e)
+    made-first h e (s ∷ t ∷ u ∷ ss) q = absurd q
 
-    pub one-made : 2 ≤ p .stores → 1 ≤ limit → limit < 2 → Committed true xs ys (version-1 b) p limit
+    pub made-second : (made + 1 ≡ 1 → ⊥) → zs ≡ paste ys (16 + p .second * slotSize y) (take (slotSize y) (p .two)) (slotSize y) → Made y p (made + 1) xs zs
     unfolding storesBytes
-    one-made h l i [] q = absurd (omega (arith, h, q))
-    one-made h l i (s ∷ []) q = absurd (omega (arith, h, q .0))
-    one-made h l i (s ∷ t ∷ []) q =
-        let z : limit ≡ 1 = omega arith in
-        rw (z, lt-ltb 1 2 (omega arith)) (store-is b (p .first) (p .one) xs ys s (q .1) first, refl)
-    one-made h l i (s ∷ t ∷ u ∷ ss) q = absurd q
+    made-second h e [] q = absurd (omega (arith, more, q))
+    made-second h e (s ∷ []) q = absurd (h (omega (arith, more, q .0)))
+    made-second h e (s ∷ t ∷ []) q =
+        let z : made ≡ 1 = omega (arith, h, more, q .0) in
+        let f : ys ≡ storeBytes y (s .0) (s .1) xs = rw z at (M (s ∷ t ∷ []) q) in
+        rw (z, ← f) (store-is y (p .second) (p .two) ys zs t (q .2) e)
+    made-second h e (s ∷ t ∷ u ∷ ss) q = absurd q
 
-    pub two-made : (zs : List ℕ) → 2 ≤ p .stores → 2 ≤ limit → zs ≡ paste ys (16 + p .second * (64 + 32 * b)) (take (64 + 32 * b) (p .two)) (64 + 32 * b)
-        → Committed false xs zs (version-1 b) p limit
-    unfolding storesBytes
-    two-made zs h l second [] q = absurd (omega (arith, h, q))
-    two-made zs h l second (s ∷ []) q = absurd (omega (arith, h, q .0))
-    two-made zs h l second (s ∷ t ∷ []) q =
-        let f = store-is b (p .first) (p .one) xs ys s (q .1) first in
-        rw (take-all limit (s ∷ t ∷ []) l, le-ltb limit 2 l, ← f) (store-is b (p .second) (p .two) ys zs t (q .2) second, refl)
-    two-made zs h l second (s ∷ t ∷ u ∷ ss) q = absurd q
+  module _ (limit made : ℕ) (ys : List ℕ) (within : made ≤ limit) (M : Made y p made xs ys) where
+    pub made-stopped : made < p .stores → limit ≤ made → Committed true xs ys y p limit
+    made-stopped h l ss q =
+        let e : made ≡ limit = omega arith in
+        (rw e at (M ss q), sym (lt-ltb limit (length ss) (omega (arith, planned-length y p ss q))))
+
+    pub made-all : p .stores ≤ made → Committed false xs ys y p limit
+    made-all h ss q =
+        let n = planned-length y p ss q in
+        let e : take made ss ≡ take limit ss = take-all made ss (omega arith) ∙ sym (take-all limit ss (omega arith)) in
+        (M ss q ∙ ap (λ (ts : List Store). storesBytes y ts xs) e, sym (le-ltb limit (length ss) (omega arith)))

@@ -1,16 +1,18 @@
 -- Ranges compared as numbers are ranges in order.
-use Rattle.model.proofs.Prelude.{Bool, List, _&&_, _*_, _+_, _-_, _<_, _||_, _∙_, _≡_, _≤_, _⊎_, ap, arith, clash, drop, eqb, eqb-false, eqb-true, false, getD, inl, inr, le-leb, lt-ltb, ltb, ltb-false, ltb-true, not, not-true, refl, some, sym, take, true, ℕ}
+use Rattle.model.proofs.Prelude.{Bool, List, _&&_, _-_, _<_, _||_, _∙_, _≡_, _≤_, _⊎_, ap, arith, clash, eqb, eqb-false, eqb-true, false, getD, inl, inr, le-leb, lt-ltb, ltb, ltb-false, ltb-true, not, not-true, refl, some, sym, true, ℕ}
+use Rattle.model.specs.declared.Layout.{Layout}
 use Rattle.model.specs.Order.{Low, Str, _≺_, _⊑_, _⊴_, at, below, least, none}
 use Rattle.model.specs.Names.{Bound, BoundLow, atMost, limit, unlimited}
 use Rattle.model.specs.Checks.{isAbove, legalLow}
 use Rattle.model.specs.Entries.{Entry}
 use Rattle.model.specs.Files.{IsUsed, Slot, Well, entries-of, head, lower-of, slot-at, upper-of, used}
-use Rattle.model.specs.Format.{entrySize, lowOf, readSlot, slotAt, slotSize, version-1}
+use Rattle.model.specs.Format.{readSlot, slotAt}
 use Rattle.model.proofs.Names.{atMost-le, atMost-lt, bound-legalBound}
 use Rattle.model.proofs.Files.{well-parts}
-use Rattle.digits.specs.Keys.{continued, isZero, lowValue, value}
+use Rattle.digits.specs.Keys.{continued, lowValue, value}
 use Rattle.digits.proofs.Keys.{bound-atMost, bound-below, bound-same, digits-under}
 use Rattle.digits.proofs.Bounds.{low-above}
+use Rattle.bucket.specs.Slots.{HighTold, LowTold}
 use Rattle.bucket.proofs.Slots.{Reads, read-high, read-low, used-reads}
 use Rattle.file.specs.Orders.{Known, Listed, Sorts, ahead, placed, stands}
 use Rattle.file.proofs.Readings.{used-read}
@@ -82,58 +84,42 @@ module _ (b : ℕ) {l m : Low} {u v : Str} {es ns : List Entry} (w : Well b (use
     | inr h ↦ inr (high-same (well-parts b x .1) (well-parts b w .1) (h .0), low-le (well-parts b x .0) (well-parts b w .0) (h .1))
   ]
 
--- The bytes of slot B, as the code takes them.
-abbrev pub bytesAt : ℕ → ℕ → List ℕ → List ℕ
-bytesAt b B xs = take (64 + 32 * b) (drop (16 + B * (64 + 32 * b)) xs)
-
-pub bytes-at : (b B : ℕ) (xs : List ℕ) → bytesAt b B xs ≡ slotAt (version-1 b) B xs
-unfolding slotAt slotSize entrySize
-bytes-at b B xs = refl
-
 -- The ends of a used slot's range.
-module _ (b : ℕ) (ys : List ℕ) (s : Slot) (k : IsUsed (head s)) (r : readSlot (version-1 b) ys ≡ some s) (w : Well b s) (v : ℕ) where
-  slot-reads : Reads b ys (lower-of (head s)) (upper-of (head s)) (entries-of s)
-  slot-reads = used-reads b ys s k (used-read b ys s k r) w
+module _ (y : Layout) (ys : List ℕ) (s : Slot) (k : IsUsed (head s)) (r : readSlot y ys ≡ some s) (w : Well (y .b) s) (v : ℕ) where
+  slot-reads : Reads y ys (lower-of (head s)) (upper-of (head s)) (entries-of s)
+  slot-reads = used-reads y ys s k (used-read y ys s k r) w
 
-  pub slot-high : (getD ys 3 0 ≤ 24 → isZero (take (24 - getD ys 3 0) (drop (32 + getD ys 3 0) ys)) ≡ true → v ≡ value (continued (take (getD ys 3 0) (drop 32 ys))))
-      → v ≡ value (continued (upper-of (head s)))
-  slot-high f = read-high b ys v slot-reads f
+  pub slot-high : HighTold ys v → v ≡ value (continued (upper-of (head s)))
+  slot-high f = read-high y ys v slot-reads f
 
-  pub slot-low : (getD ys 2 0 ≤ 24 → isZero (take (24 - getD ys 2 0) (drop (8 + getD ys 2 0) ys)) ≡ true → v ≡ lowValue (lowOf (take (getD ys 2 0) (drop 8 ys))))
-      → v ≡ lowValue (lower-of (head s))
-  slot-low f = read-low b ys v slot-reads f
+  pub slot-low : LowTold ys v → v ≡ lowValue (lower-of (head s))
+  slot-low f = read-low y ys v slot-reads f
 
-module _ {b : ℕ} {xs : List ℕ} {fs : List Slot} (K : Known b xs fs) (B : ℕ) (ys : List ℕ) (e : ys ≡ bytesAt b B xs) where
-  known-read : IsUsed (head (slot-at fs B)) → readSlot (version-1 b) ys ≡ some (slot-at fs B)
-  known-read k = ap (readSlot (version-1 b)) (e ∙ bytes-at b B xs) ∙ K .read B k
+module _ {y : Layout} {xs : List ℕ} {fs : List Slot} (K : Known y xs fs) (B : ℕ) (ys : List ℕ) (e : ys ≡ slotAt y B xs) where
+  known-read : IsUsed (head (slot-at fs B)) → readSlot y ys ≡ some (slot-at fs B)
+  known-read k = ap (readSlot y) e ∙ K .read B k
 
-  pub known-high : (v : ℕ) → IsUsed (head (slot-at fs B))
-      → (getD ys 3 0 ≤ 24 → isZero (take (24 - getD ys 3 0) (drop (32 + getD ys 3 0) ys)) ≡ true → v ≡ value (continued (take (getD ys 3 0) (drop 32 ys))))
-      → v ≡ value (continued (upper-of (head (slot-at fs B))))
-  known-high v k f = slot-high b ys (slot-at fs B) k (known-read k) (K .well B) v f
+  pub known-high : (v : ℕ) → IsUsed (head (slot-at fs B)) → HighTold ys v → v ≡ value (continued (upper-of (head (slot-at fs B))))
+  known-high v k f = slot-high y ys (slot-at fs B) k (known-read k) (K .well B) v f
 
-  pub known-low : (v : ℕ) → IsUsed (head (slot-at fs B))
-      → (getD ys 2 0 ≤ 24 → isZero (take (24 - getD ys 2 0) (drop (8 + getD ys 2 0) ys)) ≡ true → v ≡ lowValue (lowOf (take (getD ys 2 0) (drop 8 ys))))
-      → v ≡ lowValue (lower-of (head (slot-at fs B)))
-  known-low v k f = slot-low b ys (slot-at fs B) k (known-read k) (K .well B) v f
+  pub known-low : (v : ℕ) → IsUsed (head (slot-at fs B)) → LowTold ys v → v ≡ lowValue (lower-of (head (slot-at fs B)))
+  known-low v k f = slot-low y ys (slot-at fs B) k (known-read k) (K .well B) v f
 
 pub stands-by : (r : Bool) (h l p q : ℕ) (s : Slot) → r ≡ ahead h l p q → p ≡ value (continued (upper-of (head s))) → q ≡ lowValue (lower-of (head s)) → r ≡ stands h l s
 unfolding stands
 stands-by r h l p q s e f g = rw (← f, ← g) e
 
-module _ {b : ℕ} {xs : List ℕ} {fs : List Slot} (K : Known b xs fs) (order : List ℕ) (count : ℕ) (L : Listed fs order count)
-    (j : ℕ) (i : j < count) (k : ℕ) (e : k ≡ getD order j 0) (ys : List ℕ) (f : ys ≡ bytesAt b k xs) where
+module _ {y : Layout} {xs : List ℕ} {fs : List Slot} (K : Known y xs fs) (order : List ℕ) (count : ℕ) (L : Listed fs order count)
+    (j : ℕ) (i : j < count) (k : ℕ) (e : k ≡ getD order j 0) (ys : List ℕ) (f : ys ≡ slotAt y k xs) where
   -- What the slot at a place of the order reads as, and the ends of its range.
-  pub place-read : readSlot (version-1 b) ys ≡ some (placed fs order j)
-  place-read = known-read K (getD order j 0) ys (f ∙ ap (λ B. bytesAt b B xs) e) (L j i)
+  pub place-read : readSlot y ys ≡ some (placed fs order j)
+  place-read = known-read K (getD order j 0) ys (f ∙ ap (λ B. slotAt y B xs) e) (L j i)
 
-  pub place-high : (v : ℕ) → (getD ys 3 0 ≤ 24 → isZero (take (24 - getD ys 3 0) (drop (32 + getD ys 3 0) ys)) ≡ true → v ≡ value (continued (take (getD ys 3 0) (drop 32 ys))))
-      → v ≡ value (continued (upper-of (head (placed fs order j))))
-  place-high v g = known-high K (getD order j 0) ys (f ∙ ap (λ B. bytesAt b B xs) e) v (L j i) g
+  pub place-high : (v : ℕ) → HighTold ys v → v ≡ value (continued (upper-of (head (placed fs order j))))
+  place-high v g = known-high K (getD order j 0) ys (f ∙ ap (λ B. slotAt y B xs) e) v (L j i) g
 
-  pub place-low : (v : ℕ) → (getD ys 2 0 ≤ 24 → isZero (take (24 - getD ys 2 0) (drop (8 + getD ys 2 0) ys)) ≡ true → v ≡ lowValue (lowOf (take (getD ys 2 0) (drop 8 ys))))
-      → v ≡ lowValue (lower-of (head (placed fs order j)))
-  place-low v g = known-low K (getD order j 0) ys (f ∙ ap (λ B. bytesAt b B xs) e) v (L j i) g
+  pub place-low : (v : ℕ) → LowTold ys v → v ≡ lowValue (lower-of (head (placed fs order j)))
+  place-low v g = known-low K (getD order j 0) ys (f ∙ ap (λ B. slotAt y B xs) e) v (L j i) g
 
 -- What the code's comparisons say together.
 module _ (h l p q : ℕ) where

@@ -1,19 +1,19 @@
 -- The search for the bucket that holds a name: what each probe says, and how the halves close in.
-use Rattle.model.proofs.Prelude.{Bool, List, [], _*_, _+_, _-_, _<_, _∙_, _∷_, _≡_, _≤_, ap, arith, decLt, drop, false, getD, length, ltb, not, not-false, not-true, some, suc, sym, take, true, zero, ℕ}
-use Rattle.model.specs.Order.{Low, Str, _≺_, _⊑_, _⊴_, _◁_, above, at, least as unlimited, none, over, top}
-use Rattle.model.specs.Names.{Legal, atMost}
+use Rattle.model.proofs.Prelude.{Bool, List, [], _+_, _-_, _<_, _∙_, _∷_, _≡_, _≤_, ap, arith, decLt, false, getD, length, some, suc, sym, true, zero, ℕ}
+use Rattle.model.specs.Order.{Low, Str, _≺_, _⊑_, _⊴_, _◁_, above, at, least as unlimited, none, top}
+use Rattle.model.specs.Names.{Legal, atMost, within}
 use Rattle.model.specs.Files.{Chain, IsUsed, Ranges, Slot, entries-of, head, last, lower-of, next, order-of, ranges, slot-at}
-use Rattle.model.specs.Format.{entrySize, readSlot, slotAt, slotSize, version-1}
+use Rattle.model.specs.Format.{readSlot, slotAt}
+use Rattle.model.specs.Deciding.{over}
 use Rattle.model.proofs.Lists.{at-taken}
 use Rattle.model.proofs.Order.{le-refl, le-trans, low-lower, lt-le}
-use Rattle.model.proofs.Names.{atMost-le, atMost-lt}
+use Rattle.model.proofs.Names.{atMost-le, atMost-lt, legal-length, legalBound-bound, within-atMost}
 use Rattle.model.proofs.Strings.{mem-at}
 use Rattle.model.proofs.Ranges.{chain-above, chain-length, chain-some, chain-used}
 use Rattle.model.proofs.Files.{chain-right, used-inside, well-head}
 use Rattle.model.proofs.Format.{readSlot-readFile}
-use Rattle.digits.specs.Keys.{continued, isZero, value}
-use Rattle.bucket.proofs.Slots.{Reads, read-high, used-reads}
-use Rattle.digits.proofs.Bounds.{name-over}
+use Rattle.bucket.specs.Slots.{upperAt}
+use Rattle.bucket.proofs.Slots.{Reads, read-upper, used-reads}
 use Rattle.file.specs.declared.Size.{Size}
 use Rattle.file.specs.Holders.{Holder, Ordered, placed, upper-at}
 use Rattle.file.proofs.Readings.{used-read}
@@ -44,7 +44,7 @@ module _ (F : Ranges) where
 
 module _ {xs : List ℕ} {s : Size} {order : List ℕ} {count : ℕ} {fs : List Slot} (O : Ordered xs s order count fs) where
   ordered-chain : Chain (ranges fs) none (order-of fs)
-  ordered-chain = chain-right (s .b) (O .sound)
+  ordered-chain = chain-right (s .layout .b) (O .sound)
 
   pub ordered-some : count ≡ 0 → ⊥
   ordered-some e = omega (arith, chain-length (ranges fs) ordered-chain, O .count-is)
@@ -56,15 +56,14 @@ module _ {xs : List ℕ} {s : Size} {order : List ℕ} {count : ℕ} {fs : List 
   place-number i h = at-taken count order i (O .order-is) h
 
   -- The bytes of the slot at a place read as that slot.
-  pub place-reads : (i k : ℕ) (ys : List ℕ) → i < count → k ≡ getD order i 0 → ys ≡ take (64 + 32 * s .b) (drop (16 + k * (64 + 32 * s .b)) xs)
-      → Reads (s .b) ys (lower-of (head (placed fs i))) (upper-at fs i) (entries-of (placed fs i))
-  unfolding slotAt slotSize entrySize
+  pub place-reads : (i k : ℕ) (ys : List ℕ) → i < count → k ≡ getD order i 0 → ys ≡ slotAt (s .layout) k xs
+      → Reads (s .layout) ys (lower-of (head (placed fs i))) (upper-at fs i) (entries-of (placed fs i))
   place-reads i k ys h e f =
       let B = getD (order-of fs) i 0 in
       let p : k ≡ B = e ∙ place-number i h in
       let u = place-used i h in
-      let r : readSlot (version-1 (s .b)) ys ≡ some (slot-at fs B) = rw (f, p) (readSlot-readFile xs (O .is) B (used-inside fs B u)) in
-      used-reads (s .b) ys (slot-at fs B) u (used-read (s .b) ys (slot-at fs B) u r) (O .sound .well B)
+      let r : readSlot (s .layout) ys ≡ some (slot-at fs B) = rw (f, p) (readSlot-readFile xs (O .is) B (used-inside fs B u)) in
+      used-reads (s .layout) ys (slot-at fs B) u (used-read (s .layout) ys (slot-at fs B) u r) (O .sound .well B)
 
   -- Places ascend with their bounds.
   pub places-apart : (i j : ℕ) → i < j → j < count → at (upper-at fs i) ⊴ lower-of (head (placed fs j))
@@ -72,24 +71,22 @@ module _ {xs : List ℕ} {s : Size} {order : List ℕ} {count : ℕ} {fs : List 
 
   uppers-rise : (i j : ℕ) → i ≤ j → j < count → upper-at fs i ⊑ upper-at fs j
   uppers-rise i j g h = elim (decLt i j) [
-    | yes k ↦ lt-le (over (low-lower (places-apart i j k h) (well-head (s .b) (O .sound .well (getD (order-of fs) j 0)) (place-used j h))))
+    | yes k ↦ lt-le (over (low-lower (places-apart i j k h) (well-head (s .layout .b) (O .sound .well (getD (order-of fs) j 0)) (place-used j h))))
     | no k ↦ let e : i ≡ j = omega arith in rw e (le-refl (upper-at fs j))
   ]
 
-  -- A probe: whether the name is above the upper bound at a place.
-  module _ (n : Str) (g : Legal n) (v w : ℕ) (q : w ≡ value n) (i k : ℕ) (ys : List ℕ) (h : i < count) (e : k ≡ getD order i 0)
-      (f : ys ≡ take (64 + 32 * s .b) (drop (16 + k * (64 + 32 * s .b)) xs))
-      (high : getD ys 3 0 ≤ 24 → isZero (take (24 - getD ys 3 0) (drop (32 + getD ys 3 0) ys)) ≡ true → v ≡ value (continued (take (getD ys 3 0) (drop 32 ys)))) where
-    probe : (t : Bool) → t ≡ ltb v w → t ≡ not (atMost n (upper-at fs i))
-    probe t r =
+  -- A probe: whether the name is within the upper bound at a place.
+  module _ (n : Str) (g : Legal n) (i k : ℕ) (ys : List ℕ) (h : i < count) (e : k ≡ getD order i 0) (f : ys ≡ slotAt (s .layout) k xs) where
+    probe : {t : Bool} → t ≡ within n (upperAt ys) → t ≡ atMost n (upper-at fs i)
+    probe r =
         let R = place-reads i k ys h e f in
-        r ∙ ap (λ (x : ℕ). ltb x w) (read-high (s .b) ys v R high) ∙ ap (ltb (value (continued (upper-at fs i)))) q ∙ name-over (upper-at fs i) n (R .high) g
+        r ∙ ap (within n) (read-upper R) ∙ within-atMost n (upper-at fs i) (omega (arith, legal-length g, legalBound-bound (upper-at fs i) (R .high) .fits))
 
-    pub probe-below : {t : Bool} → t ≡ ltb v w → t ≡ true → upper-at fs i ≺ n
-    probe-below {t} r d = atMost-lt n (upper-at fs i) (not-true (atMost n (upper-at fs i)) (sym (probe t r) ∙ d))
+    pub probe-upto : {t : Bool} → t ≡ within n (upperAt ys) → t ≡ true → n ⊑ upper-at fs i
+    probe-upto r d = atMost-le n (upper-at fs i) (sym (probe r) ∙ d)
 
-    pub probe-upto : {t : Bool} → t ≡ ltb v w → t ≡ false → n ⊑ upper-at fs i
-    probe-upto {t} r d = atMost-le n (upper-at fs i) (not-false (atMost n (upper-at fs i)) (sym (probe t r) ∙ d))
+    pub probe-below : {t : Bool} → t ≡ within n (upperAt ys) → t ≡ false → upper-at fs i ≺ n
+    probe-below r d = atMost-lt n (upper-at fs i) (sym (probe r) ∙ d)
 
 -- The place lies from the least to the most.
 pub record Closing (fs : List Slot) (n : Str) (least most : ℕ) : Type 0 where

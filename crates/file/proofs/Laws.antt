@@ -1,26 +1,26 @@
 -- Laws of a file's sizes, and of lists of slot numbers.
 use Rattle.model.proofs.Prelude.{List, [], _*_, _+_, _-_, _<_, _∙_, _∷_, _≡_, _≤_, add-sub-cancel-left, ap, arith, drop, le-of-eq, length, length-drop, length-take, length-take-le, mul-le-mul, paste, refl, replicate, set, suc, suc-mul, sym, take, zero, ℕ}
+use Rattle.model.specs.Format.{slotSize}
 use Rattle.file.specs.declared.Size.{Size}
 use Rattle.file.specs.Sizes.{Below, Sized}
 
 -- all the slots of a file together are small
-pub slots-fit : (k n : ℕ) → k ≤ 64 → n ≤ 576 → k * n ≤ 36864
+pub slots-fit : (k n : ℕ) → k ≤ 64 → n ≤ 704 → k * n ≤ 45056
 slots-fit k n h p = mul-le-mul h p
 
 -- slot k lies within the file, and the file is small
 pub record Within (len k n : ℕ) : Type 0 where
   pub slot-end : 16 + k * n + n ≤ len
-  pub small : len ≤ 36880
+  pub small : len ≤ 45072
 
-pub room : (len k n : ℕ) (s : Size) → Sized len s → k < s .slots → n ≡ 64 + 32 * s .b → Within len k n
+pub room : (len k n : ℕ) (s : Size) → Sized len s → k < s .slots → (n ≡ slotSize (s .layout)) × (64 ≤ n) × (n ≤ 704) → Within len k n
 room len k n s z h e =
-    let w : len ≡ 16 + s .slots * n = z .whole ∙ ap (λ (m : ℕ). 16 + s .slots * m) (sym e) in
+    let w : len ≡ 16 + s .slots * n = z .whole ∙ ap (λ (m : ℕ). 16 + s .slots * m) (sym (e .0)) in
     let l = z .legal in
-    let t : n ≤ 576 = omega arith in
     let u : suc k * n ≤ s .slots * n = mul-le-mul h (le-of-eq refl) in
     record {
       slot-end = omega (arith, suc-mul k n);
-      small = omega (arith, slots-fit (s .slots) n (l .slots-most) t);
+      small = omega (arith, slots-fit (s .slots) n (l .slots-most) (e .2));
     }
 
 -- a store of a number below n
@@ -57,7 +57,8 @@ below-zeros (suc m) n h (suc j) = below-zeros m n h j
 
 -- a file has a slot 0, and so room for its header and one slot
 pub some-slot : (len : ℕ) (s : Size) → Sized len s → (0 < s .slots) × (64 < len)
+unfolding slotSize
 some-slot len s z =
-    let l = z .legal in
-    let h = room len 0 (64 + 32 * s .b) s z (l .slots-least) refl in
-    (l .slots-least, omega arith)
+    let y = s .layout in
+    let h : 1 * slotSize y ≤ s .slots * slotSize y = mul-le-mul (z .legal .slots-least) (le-of-eq refl) in
+    (z .legal .slots-least, omega (arith, h, z .whole))

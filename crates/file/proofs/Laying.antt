@@ -5,7 +5,7 @@ use Rattle.model.specs.Entries.{Entry}
 use Rattle.model.specs.Files.{IsUsed, Slot, Well, free, head, slot-at, used, well-free}
 use Rattle.model.specs.Tries.{occ, one-if}
 use Rattle.model.specs.Checks.{is-bad, isWell}
-use Rattle.model.specs.Format.{entrySize, readSlot, readSlots, readUsed, slotAt, slotSize, version-1}
+use Rattle.model.specs.Format.{readSlot, readSlots, readUsed, slotAt, slotSize}
 use Rattle.model.proofs.Lists.{at-replicate}
 use Rattle.model.proofs.Names.{never-both}
 use Rattle.model.proofs.Cells.{occ-append, occ-mem, one-if-equal, one-if-not}
@@ -13,13 +13,14 @@ use Rattle.model.proofs.Checks.{check-bad, isWell-well, well-isWell}
 use Rattle.model.proofs.Files.{cut-well}
 use Rattle.model.proofs.Format.{readSlots-each}
 use Rattle.digits.specs.Keys.{continued, isZero, lowValue, value}
+use Rattle.bucket.specs.Slots.{OfSize}
 use Rattle.bucket.proofs.Slots.{read-by-zero}
 use Rattle.file.specs.declared.Size.{Size}
 use Rattle.file.specs.Maps.{bit-of, map-of}
 use Rattle.file.specs.Orders.{Known, Laid, Listed, Placed, Sorts, placed, stands}
 use Rattle.file.specs.Surveys.{checkSlots}
 use Rattle.file.proofs.Moves.{put-back, put-front, put-here}
-use Rattle.file.proofs.Comparing.{bytes-at, bytesAt, not-stands-sorts, stands-sorts}
+use Rattle.file.proofs.Comparing.{not-stands-sorts, stands-sorts}
 use Rattle.file.proofs.Maps.{map-lt}
 use Rattle.file.proofs.Verdicts.{Mapped, Ordered, check-none, check-slots, laid-known, laid-listed}
 
@@ -49,16 +50,16 @@ laid-start xs size = record {
 
 -- One slot more, of which the bytes are ys.
 module _ {xs : List ℕ} {size : Size} {k : ℕ} {order : List ℕ} {count map : ℕ} (L : Laid xs size (suc k) order count map) (inside : k < size .slots) (most : size .slots ≤ 64)
-    (ys : List ℕ) (is : ys ≡ bytesAt (size .b) k xs) (whole : length ys ≡ 64 + 32 * size .b) where
+    (ys : List ℕ) (is : ys ≡ slotAt (size .layout) k xs) (whole : OfSize ys (size .layout)) where
   k-free : slot-at (L .slots) k ≡ free
   k-free = L .before k (omega arith)
 
   k-inside : k < length (L .slots)
   k-inside = omega (arith, L .long)
 
-  k-read : readSlot (version-1 (size .b)) (slotAt (version-1 (size .b)) k xs) ≡ cond (isZero ys) (some free) (readUsed (version-1 (size .b)) ys)
-  unfolding slotSize entrySize
-  k-read = ap (readSlot (version-1 (size .b))) (sym (is ∙ bytes-at (size .b) k xs)) ∙ read-by-zero (size .b) ys whole
+  k-read : readSlot (size .layout) (slotAt (size .layout) k xs) ≡ cond (isZero ys) (some free) (readUsed (size .layout) ys)
+  unfolding slotSize
+  k-read = ap (readSlot (size .layout)) (sym is) ∙ read-by-zero (size .layout) ys (whole .0)
 
   pub laid-free : isZero ys ≡ true → (v : ℕ) → (2 * map + 0 < 2 ^ 64 → v ≡ 2 * map + 0) → Laid xs size k order count v
   laid-free z v f =
@@ -82,20 +83,20 @@ module _ {xs : List ℕ} {size : Size} {k : ℕ} {order : List ℕ} {count map :
       }
 
   -- A used slot that is not well formed.
-  module _ (z : isZero ys ≡ false) (ill : (s : Slot) → readUsed (version-1 (size .b)) ys ≡ some s → isWell (size .b) s ≡ false) where
-    pub ill-slot : (fs : List Slot) → readSlots (version-1 (size .b)) (size .slots) 0 xs ≡ some fs → Well (size .b) (slot-at fs k) → ⊥
+  module _ (z : isZero ys ≡ false) (ill : (s : Slot) → readUsed (size .layout) ys ≡ some s → isWell (size .layout .b) s ≡ false) where
+    pub ill-slot : (fs : List Slot) → readSlots (size .layout) (size .slots) 0 xs ≡ some fs → Well (size .layout .b) (slot-at fs k) → ⊥
     ill-slot fs e w =
-        let r : readSlot (version-1 (size .b)) (slotAt (version-1 (size .b)) k xs) ≡ some (slot-at fs k) = rw zero-add at (readSlots-each (version-1 (size .b)) (size .slots) 0 k xs inside e) in
-        let u : readUsed (version-1 (size .b)) ys ≡ some (slot-at fs k) = sym (k-read ∙ rw z) ∙ r in
-        never-both (isWell (size .b) (slot-at fs k)) (well-isWell (size .b) w) (ill (slot-at fs k) u)
+        let r : readSlot (size .layout) (slotAt (size .layout) k xs) ≡ some (slot-at fs k) = rw zero-add at (readSlots-each (size .layout) (size .slots) 0 k xs inside e) in
+        let u : readUsed (size .layout) ys ≡ some (slot-at fs k) = sym (k-read ∙ rw z) ∙ r in
+        never-both (isWell (size .layout .b) (slot-at fs k)) (well-isWell (size .layout .b) w) (ill (slot-at fs k) u)
 
-    pub ill-said : is-bad ≡ checkSlots (size .b) (size .slots) xs
-    ill-said = sym (go (readSlots (version-1 (size .b)) (size .slots) 0 xs) refl)
+    pub ill-said : is-bad ≡ checkSlots (size .layout) (size .slots) xs
+    ill-said = sym (go (readSlots (size .layout) (size .slots) 0 xs) refl)
       where
-        go : (r : Option (List Slot)) → readSlots (version-1 (size .b)) (size .slots) 0 xs ≡ r → checkSlots (size .b) (size .slots) xs ≡ is-bad
-        go nothing e = check-none (size .b) (size .slots) xs e
-        go (some fs) e = check-slots (size .b) (size .slots) xs fs e
-            ∙ check-bad (size .b) fs (λ S. ill-slot fs e (S .well k), λ N C. ill-slot fs e (cut-well (size .b) C k))
+        go : (r : Option (List Slot)) → readSlots (size .layout) (size .slots) 0 xs ≡ r → checkSlots (size .layout) (size .slots) xs ≡ is-bad
+        go nothing e = check-none (size .layout) (size .slots) xs e
+        go (some fs) e = check-slots (size .layout) (size .slots) xs fs e
+            ∙ check-bad (size .layout .b) fs (λ S. ill-slot fs e (S .well k), λ N C. ill-slot fs e (cut-well (size .layout .b) C k))
 
     pub ill-order : (cs : List ℕ) (n : ℕ) → Ordered xs size cs n
     ill-order cs n fs e S = absurd (ill-slot fs e (S .well k))
@@ -104,12 +105,12 @@ module _ {xs : List ℕ} {size : Size} {k : ℕ} {order : List ℕ} {count map :
     ill-map v fs e S = absurd (ill-slot fs e (S .well k))
 
   -- A used slot that is well formed.
-  module _ (few : count < 64) {l : Low} {u : Str} {es : List Entry} (z : isZero ys ≡ false) (r : readUsed (version-1 (size .b)) ys ≡ some (used l u es)) (w : isWell (size .b) (used l u es) ≡ true)
+  module _ (few : count < 64) {l : Low} {u : Str} {es : List Entry} (z : isZero ys ≡ false) (r : readUsed (size .layout) ys ≡ some (used l u es)) (w : isWell (size .layout .b) (used l u es) ≡ true)
       (hv lv : ℕ) (high : hv ≡ value (continued u)) (low : lv ≡ lowValue l) (place : ℕ) (fits : place ≤ count)
-      (P : (fs : List Slot) → Known (size .b) xs fs → Listed fs order count → Placed fs order count hv lv place)
+      (P : (fs : List Slot) → Known (size .layout) xs fs → Listed fs order count → Placed fs order count hv lv place)
       (n : ℕ) (n-is : n ≡ k) (new : List ℕ) (long : length new ≡ 64) (q : take (count + 1) new ≡ take place order ++ (n ∷ drop place (take count order))) where
-    k-well : Well (size .b) (used l u es)
-    k-well = isWell-well (size .b) (used l u es) w
+    k-well : Well (size .layout .b) (used l u es)
+    k-well = isWell-well (size .layout .b) (used l u es) w
 
     here : slot-at (set (L .slots) k (used l u es)) k ≡ used l u es
     here = getD-set-same (L .slots) k (used l u es) free k-inside
@@ -181,13 +182,13 @@ module _ {xs : List ℕ} {size : Size} {k : ℕ} {order : List ℕ} {count map :
     new-back : (j : ℕ) → place ≤ j → j < count → placed (set (L .slots) k (used l u es)) new (suc j) ≡ placed (L .slots) order j
     new-back j h g = ap (slot-at (set (L .slots) k (used l u es))) (put-back order new count place n (L .whole) fits few q j h g) ∙ kept j g
 
-    left-sorts : (t : Slot) → Well (size .b) t → IsUsed (head t) → stands hv lv t ≡ false → Sorts t (used l u es)
+    left-sorts : (t : Slot) → Well (size .layout .b) t → IsUsed (head t) → stands hv lv t ≡ false → Sorts t (used l u es)
     left-sorts free x v e = absurd v
-    left-sorts (used m v ns) x t e = not-stands-sorts (size .b) k-well x (rw (high, low) at e)
+    left-sorts (used m v ns) x t e = not-stands-sorts (size .layout .b) k-well x (rw (high, low) at e)
 
-    right-sorts : (t : Slot) → Well (size .b) t → IsUsed (head t) → stands hv lv t ≡ true → Sorts (used l u es) t
+    right-sorts : (t : Slot) → Well (size .layout .b) t → IsUsed (head t) → stands hv lv t ≡ true → Sorts (used l u es) t
     right-sorts free x v e = absurd v
-    right-sorts (used m v ns) x t e = stands-sorts (size .b) k-well x (rw (high, low) at e)
+    right-sorts (used m v ns) x t e = stands-sorts (size .layout .b) k-well x (rw (high, low) at e)
 
     sorted : (j : ℕ) → suc j < count + 1 → Sorts (placed (set (L .slots) k (used l u es)) new j) (placed (set (L .slots) k (used l u es)) new (suc j))
     sorted j h = elim (ℕ-discrete (suc j) place) [

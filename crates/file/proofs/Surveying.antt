@@ -2,7 +2,7 @@
 use Rattle.model.proofs.Prelude.{List, Option, _∙_, _≡_, ap, clash, length, nothing, refl, some, subst, sym, ℕ}
 use Rattle.model.specs.declared.Layout.{Layout}
 use Rattle.model.specs.Checks.{is-bad, is-sound}
-use Rattle.model.specs.Format.{SoundFile, checkFile, checkRead, headerOf, laidOut, readBy, readFile, readSlots, version-1}
+use Rattle.model.specs.Format.{SoundFile, checkFile, checkRead, headerOf, laidOut, readBy, readFile, readSlots}
 use Rattle.model.specs.Files.{Slot, Sound}
 use Rattle.model.proofs.CheckedFiles.{checkFile-right}
 use Rattle.file.specs.declared.Size.{Size}
@@ -29,7 +29,7 @@ unfolding checkFile readFile readBy checkRead
 no-header-bad xs e = rw e
 
 -- The survey's verdict is check's.
-pub said-read : (xs : List ℕ) (s : Size) → Said s xs → readFile xs ≡ laidOut (version-1 (s .b)) (readSlots (version-1 (s .b)) (s .slots) 0 xs)
+pub said-read : (xs : List ℕ) (s : Size) → Said s xs → readFile xs ≡ laidOut (s .layout) (readSlots (s .layout) (s .slots) 0 xs)
 unfolding readFile readBy
 said-read xs s h = rw (h .header)
 
@@ -44,26 +44,26 @@ surveyed-is v h z e = surveyed-check v h z ∙ ap (λ (k : Found). verdict k (v 
 -- A sound file, as it is read with its sizes.
 pub record Read (s : Size) (xs : List ℕ) : Type 0 where
   pub slots : List Slot
-  pub listed : readSlots (version-1 (s .b)) (s .slots) 0 xs ≡ some slots
-  pub is : readFile xs ≡ some (version-1 (s .b), slots)
-  pub sound : Sound (s .b) slots
+  pub listed : readSlots (s .layout) (s .slots) 0 xs ≡ some slots
+  pub is : readFile xs ≡ some (s .layout, slots)
+  pub sound : Sound (s .layout .b) slots
 
 pub sound-read : (xs : List ℕ) (s : Size) → Said s xs → checkFile xs ≡ is-sound → Read s xs
 unfolding laidOut
-sound-read xs s h e = go (readSlots (version-1 (s .b)) (s .slots) 0 xs) refl
+sound-read xs s h e = go (readSlots (s .layout) (s .slots) 0 xs) refl
   where
     file : SoundFile xs
     file = rw e at (checkFile-right xs)
 
-    go : (o : Option (List Slot)) → readSlots (version-1 (s .b)) (s .slots) 0 xs ≡ o → Read s xs
+    go : (o : Option (List Slot)) → readSlots (s .layout) (s .slots) 0 xs ≡ o → Read s xs
     go nothing f =
-        let p : readFile xs ≡ nothing = said-read xs s h ∙ ap (laidOut (version-1 (s .b))) f in
+        let p : readFile xs ≡ nothing = said-read xs s h ∙ ap (laidOut (s .layout)) f in
         let q : readFile xs ≡ some (file .layout, file .slots) = file .is in
         clash cc
     go (some fs) f =
-        let p : readFile xs ≡ some (version-1 (s .b), fs) = said-read xs s h ∙ ap (laidOut (version-1 (s .b))) f in
+        let p : readFile xs ≡ some (s .layout, fs) = said-read xs s h ∙ ap (laidOut (s .layout)) f in
         let q : readFile xs ≡ some (file .layout, file .slots) = file .is in
-        let r : _≡_ {A = Layout × List Slot} (version-1 (s .b), fs) (file .layout, file .slots) = cc in
-        let i : s .b ≡ file .layout .b = ap (λ (x : Layout × List Slot). x .0 .b) r in
+        let r : _≡_ {A = Layout × List Slot} (s .layout, fs) (file .layout, file .slots) = cc in
+        let i : s .layout ≡ file .layout = ap (λ (x : Layout × List Slot). x .0) r in
         let j : fs ≡ file .slots = ap (λ (x : Layout × List Slot). x .1) r in
         record { slots = fs; listed = f; is = p; sound = rw (i, j) (file .sound) }

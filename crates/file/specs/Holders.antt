@@ -7,15 +7,13 @@ use lib.ListN.{getD, length, take}
 use Rattle.model.specs.Order.{Str, _≺_}
 use Rattle.model.specs.Names.{Legal}
 use Rattle.model.specs.Files.{In, Slot, Sound, head, order-of, slot-at, upper-of}
-use Rattle.model.specs.Format.{readFile, version-1}
-use Rattle.digits.specs.declared.Key.{Key}
-use Rattle.digits.specs.Keys.{keyValue, value}
+use Rattle.model.specs.Format.{readFile}
 use Rattle.file.specs.declared.Size.{Size}
 
 -- A sound file, its slots as they are read, and the numbers of its used slots in range order.
 pub record Ordered (xs : List ℕ) (s : Size) (order : List ℕ) (count : ℕ) (fs : List Slot) : Type 0 where
-  pub is : readFile xs ≡ some (version-1 (s .b), fs)
-  pub sound : Sound (s .b) fs
+  pub is : readFile xs ≡ some (s .layout, fs)
+  pub sound : Sound (s .layout .b) fs
   pub order-is : take count order ≡ order-of fs
   pub count-is : count ≡ length (order-of fs)
 
@@ -33,6 +31,6 @@ pub record Holder (fs : List Slot) (n : Str) (r : ℕ) : Type 0 where
   pub range : In (head (placed fs r)) n
 
 -- What the search tells: of any file a number below 64, of a sound file the place.
-pub record HolderTold (xs : List ℕ) (s : Size) (order : List ℕ) (count : ℕ) (name : Key) (r : ℕ) : Type 0 where
+pub record HolderTold (xs : List ℕ) (s : Size) (order : List ℕ) (count : ℕ) (n : Str) (r : ℕ) : Type 0 where
   pub small : r < 64
-  pub found : (fs : List Slot) → Ordered xs s order count fs → (n : Str) → Legal n → keyValue name ≡ value n → Holder fs n r
+  pub found : (fs : List Slot) → Ordered xs s order count fs → Legal n → Holder fs n r

@@ -1,6 +1,5 @@
 pub mod Sizes
 pub mod Surveys
-pub mod Copies
 pub mod Maps
 pub mod Orders
 pub mod Holders

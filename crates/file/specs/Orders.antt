@@ -10,8 +10,9 @@ use lib.ListN.{drop, getD, length, take}
 use Rattle.model.specs.Order.{_≺_, _⊴_, none}
 use Rattle.model.specs.Files.{Chain, IsUsed, Ranges, Slot, Well, free, head, lower-of, slot-at, upper-of}
 use Rattle.model.specs.Tries.{occ}
-use Rattle.model.specs.Format.{readSlot, slotAt, version-1}
+use Rattle.model.specs.Format.{readSlot, slotAt}
 use Rattle.digits.specs.Keys.{continued, lowValue, value}
+use Rattle.model.specs.declared.Layout.{Layout}
 use Rattle.file.specs.declared.Size.{Size}
 use Rattle.file.specs.Maps.{map-of}
 
@@ -24,9 +25,9 @@ unfoldable pub stands : ℕ → ℕ → Slot → Bool
 stands high low s = ahead high low (value (continued (upper-of (head s)))) (lowValue (lower-of (head s)))
 
 -- Slots, of which those that are used stand in the file's bytes, and all are free or well formed.
-pub record Known (b : ℕ) (xs : List ℕ) (fs : List Slot) : Type 0 where
-  pub read : (B : ℕ) → IsUsed (head (slot-at fs B)) → readSlot (version-1 b) (slotAt (version-1 b) B xs) ≡ some (slot-at fs B)
-  pub well : (B : ℕ) → Well b (slot-at fs B)
+pub record Known (y : Layout) (xs : List ℕ) (fs : List Slot) : Type 0 where
+  pub read : (B : ℕ) → IsUsed (head (slot-at fs B)) → readSlot y (slotAt y B xs) ≡ some (slot-at fs B)
+  pub well : (B : ℕ) → Well (y .b) (slot-at fs B)
 
 -- The slot at a place of the order.
 abbrev pub placed : List Slot → List ℕ → ℕ → Slot
@@ -62,8 +63,8 @@ pub record Laid (xs : List ℕ) (size : Size) (k : ℕ) (order : List ℕ) (coun
   pub slots : List Slot
   pub long : length slots ≡ size .slots
   pub before : (B : ℕ) → B < k → slot-at slots B ≡ free
-  pub read : (B : ℕ) → k ≤ B → B < size .slots → readSlot (version-1 (size .b)) (slotAt (version-1 (size .b)) B xs) ≡ some (slot-at slots B)
-  pub well : (B : ℕ) → Well (size .b) (slot-at slots B)
+  pub read : (B : ℕ) → k ≤ B → B < size .slots → readSlot (size .layout) (slotAt (size .layout) B xs) ≡ some (slot-at slots B)
+  pub well : (B : ℕ) → Well (size .layout .b) (slot-at slots B)
   pub whole : length order ≡ 64
   pub once : (B : ℕ) → IsUsed (head (slot-at slots B)) → occ B (take count order) ≡ 1
   pub only : (B : ℕ) → List·Memᴰ B (take count order) → IsUsed (head (slot-at slots B))

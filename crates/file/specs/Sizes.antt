@@ -6,34 +6,28 @@ use mathlib.Core.Option.{none as nothing, some}
 use mathlib.Core.List.{List}
 use lib.Dec.{eqb}
 use lib.ListN.{getD, length}
-use Rattle.model.specs.Format.{fileSize, headerOf, legalSizes, version-1}
+use Rattle.model.specs.Format.{Sizes, fileSize, headerOf, legalSizes, slotSize}
+use Rattle.model.specs.declared.Layout.{Layout}
 use Rattle.file.specs.declared.Size.{Size}
 use Rattle.file.specs.declared.Header.{Header}
 use Rattle.file.specs.declared.Header.the-variants.{Right, Wrong}
 use Rattle.file.specs.declared.Room.{Room}
 use Rattle.file.specs.declared.Room.the-variants.{At, Full}
 
--- R2.4 and R2.5: b and slots
-pub record Legal (s : Size) : Type 0 where
-  pub b-least : 2 ≤ s .b
-  pub b-most : s .b ≤ 16
-  pub slots-least : 1 ≤ s .slots
-  pub slots-most : s .slots ≤ 64
-
--- R2.7: the length
+-- R2.3 to R2.5, and R2.7: the length
 pub record Sized (n : ℕ) (s : Size) : Type 0 where
-  pub legal : Legal s
-  pub whole : n ≡ 16 + s .slots * (64 + 32 * s .b)
+  pub legal : Sizes (s .layout) (s .slots)
+  pub whole : n ≡ 16 + s .slots * slotSize (s .layout)
 
--- b, slots and a length: they are legal and the length fits them, or not
-abbrev pub Fitting : Header → ℕ → ℕ → ℕ → Type 0
-Fitting (Right s) n b slots = Sized n s × (s .b ≡ b) × (s .slots ≡ slots)
-Fitting Wrong n b slots = (legalSizes (version-1 b) slots && eqb n (fileSize (version-1 b) slots)) ≡ false
+-- a layout, slots and a length: they are legal and the length fits them, or not
+abbrev pub Fitting : Header → ℕ → Layout → ℕ → Type 0
+Fitting (Right s) n y slots = Sized n s × (s .layout ≡ y) × (s .slots ≡ slots)
+Fitting Wrong n y slots = (legalSizes y slots && eqb n (fileSize y slots)) ≡ false
 
 -- what a header that is right says
 pub record Said (s : Size) (xs : List ℕ) : Type 0 where
   pub sized : Sized (length xs) s
-  pub header : headerOf xs ≡ some (version-1 (s .b), s .slots)
+  pub header : headerOf xs ≡ some (s .layout, s .slots)
 
 abbrev pub Told : Header → List ℕ → Type 0
 Told (Right s) xs = Said s xs

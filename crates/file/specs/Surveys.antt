@@ -6,7 +6,8 @@ use Prim.Native.Nat.{_<_, _≤_, ℕ}
 use lib.ListN.{length, take}
 use Rattle.model.specs.Files as files
 use Rattle.model.specs.Checks.{Kind, is-bad, is-cut, is-sound}
-use Rattle.model.specs.Format.{checkRead, laidOut, readSlots, version-1}
+use Rattle.model.specs.Format.{checkRead, laidOut, readSlots}
+use Rattle.model.specs.declared.Layout.{Layout}
 use Rattle.file.specs.declared.Size.{Size}
 use Rattle.file.specs.declared.survey.Kind.{Kind as Found}
 use Rattle.file.specs.declared.survey.Kind.the-variants.{Bad, Cut, Sound}
@@ -20,15 +21,15 @@ verdict Sound N = is-sound
 verdict Cut N = is-cut N
 verdict Bad N = is-bad
 
--- Check of a file whose header is right, with b and slots.
-unfoldable pub checkSlots : ℕ → ℕ → List ℕ → Kind
-checkSlots b slots xs = checkRead (laidOut (version-1 b) (readSlots (version-1 b) slots 0 xs))
+-- Check of a file whose header is right, with its layout and slots.
+unfoldable pub checkSlots : Layout → ℕ → List ℕ → Kind
+checkSlots y slots xs = checkRead (laidOut y (readSlots y slots 0 xs))
 
 pub record Surveyed (s : Survey) (xs : List ℕ) (size : Size) : Type 0 where
   pub slots-inside : Below (s .order) (size .slots)
   pub count-most : s .count ≤ 64
   pub inner-inside : s .inner < size .slots
-  pub kind-is : verdict (s .kind) (s .inner) ≡ checkSlots (size .b) (size .slots) xs
-  pub order-is : {fs : List files.Slot} → readSlots (version-1 (size .b)) (size .slots) 0 xs ≡ some fs → files.Sound (size .b) fs
+  pub kind-is : verdict (s .kind) (s .inner) ≡ checkSlots (size .layout) (size .slots) xs
+  pub order-is : {fs : List files.Slot} → readSlots (size .layout) (size .slots) 0 xs ≡ some fs → files.Sound (size .layout .b) fs
       → (s .count ≡ length (files.order-of fs)) × (take (s .count) (s .order) ≡ files.order-of fs)
-  pub used-is : {fs : List files.Slot} → readSlots (version-1 (size .b)) (size .slots) 0 xs ≡ some fs → files.Sound (size .b) fs → s .used ≡ map-of fs
+  pub used-is : {fs : List files.Slot} → readSlots (size .layout) (size .slots) 0 xs ≡ some fs → files.Sound (size .layout .b) fs → s .used ≡ map-of fs

@@ -1,19 +1,24 @@
 // The file: its header and sizes, its slots, the one function that commits a change, and create.
 //
-// R2.1 to R2.7 of docs/RULES.md have the header and the length: 16 bytes, then slots of 64 + 32 × b bytes each.
+// R2.1 to R2.7 of docs/RULES.md have the header and the length: 16 bytes, then the slots.
+ghost use mathlib.Core.List.{[], _∷_};
 ghost use mathlib.Core.Path.{_≡_};
 ghost use Prim.Native.Nat.{_≤_, _<_, _+_, _*_};
-ghost use lib.ListN.{length, take, drop, getD, replicate};
+ghost use lib.ListN.{length, take, getD, replicate};
 ghost use lib.Seq.{paste};
-ghost use Rattle.model.specs.Files.{created};
+ghost use Rattle.model.specs.declared.Layout.{Layout};
+ghost use Rattle.model.specs.Files.{created, free};
 ghost use Rattle.model.specs.Checks.{sameStr};
-ghost use Rattle.model.specs.Format.{fileBytes, headerBytes, version-1};
+ghost use Rattle.model.specs.Format.{fileBytes, headerBytes, isOffered, layoutOf, slotAt, slotSize};
 ghost use Rattle.file.specs.Maps.{RoomTold};
-ghost use Rattle.file.specs.Plans.{Committed, Fits};
-ghost use Rattle.file.specs.Sizes.{Legal, Sized, Fitting, Told};
+ghost use Rattle.file.specs.Plans.{Committed, Fits, Planned};
+ghost use Rattle.file.specs.Sizes.{Sized, Fitting, Told};
+ghost use Rattle.bucket.specs.Slots.{OfSize};
+use bucket::SLOT;
 use digits::u8_of_usize;
 use digits::usize_of_u8;
 use digits::usize_of_u32;
+use model::Layout;
 
 mod order;
 mod survey;
@@ -23,9 +28,9 @@ pub use survey::Kind;
 pub use survey::Survey;
 pub use survey::survey_of;
 
-// The bucket capacity and the number of slots.
+// What a header says: the layout of the slots, and their number.
 pub struct Size {
-    pub b: usize,
+    pub layout: Layout,
     pub slots: usize,
 }
 
@@ -40,22 +45,24 @@ pub enum Room {
     Full,
 }
 
-// How many bytes a slot has.
-pub fn slot_size(size: Size) -> usize
-    requires { ⌜ Legal size ⌝ }
-    ensures { λ r. ⌜ r ≡ 64 + 32 * size .b ⌝ }
+// R2.3: the versions that are offered.
+fn is_offered(version: usize) -> bool
+    ensures { λ r. ⌜ r ≡ isOffered version ⌝ }
 {
-    64 + 32 * size.b
+    1 <= version && version <= 2
 }
 
-// R2.4, R2.5 and R2.7: b and slots are in range, and the length fits them.
-pub fn sizes(length: usize, b: usize, slots: usize) -> Header
-    ensures { λ r. ⌜ Fitting r length b slots ⌝ }
+// R2.3, R2.4, R2.5 and R2.7: the version is offered, b and slots are in range, and the length fits them.
+pub fn sizes(length: usize, layout: Layout, slots: usize) -> Header
+    ensures { λ r. ⌜ Fitting r length layout slots ⌝ }
 {
-    if b < 2 {
+    if !is_offered(layout.version) {
         return Header::Wrong;
     }
-    if 16 < b {
+    if layout.b < 2 {
+        return Header::Wrong;
+    }
+    if 16 < layout.b {
         return Header::Wrong;
     }
     if slots < 1 {
@@ -64,16 +71,16 @@ pub fn sizes(length: usize, b: usize, slots: usize) -> Header
     if 64 < slots {
         return Header::Wrong;
     }
-    if length != 16 + slots * (64 + 32 * b) {
+    if length != 16 + slots * bucket::slot_size(layout) {
         return Header::Wrong;
     }
-    Header::Right(Size { b, slots })
+    Header::Right(Size { layout, slots })
 }
 
-// Whether the bytes that say what kind of file it is are right.
+// Whether the bytes are right that say what kind of file it is, and those behind the sizes.
 fn is_marked(file: &[u8]) -> bool
     requires { ⌜ 16 ≤ length (now file) ⌝ }
-    ensures { λ r. ⌜ r ≡ sameStr (take 16 (now (file .entry))) (headerBytes (version-1 (getD (now (file .entry)) 5 0)) (getD (now (file .entry)) 6 0)) ⌝ }
+    ensures { λ r. ⌜ r ≡ sameStr (take 16 (now (file .entry))) (headerBytes (layoutOf (now (file .entry))) (getD (now (file .entry)) 6 0)) ⌝ }
 {
     if file[0] != b'T' {
         return false;
@@ -84,13 +91,18 @@ fn is_marked(file: &[u8]) -> bool
     if file[2] != b'F' {
         return false;
     }
-    if file[3] != 1 {
-        return false;
-    }
-    if file[4] != 0 {
-        return false;
-    }
     digits::is_zero(&file[7..16])
+}
+
+// Bytes 3 and 4 are the version, byte 5 is b.
+fn layout_of(file: &[u8]) -> Layout
+    requires { ⌜ 16 ≤ length (now file) ⌝ }
+    ensures { λ r. ⌜ r ≡ layoutOf (now (file .entry)) ⌝ }
+{
+    Layout {
+        version: usize_of_u8(file[3]) + 256 * usize_of_u8(file[4]),
+        b: usize_of_u8(file[5]),
+    }
 }
 
 // The sizes of a file whose length and header are right.
@@ -103,16 +115,15 @@ pub fn header_of(file: &[u8]) -> Header
     if !is_marked(file) {
         return Header::Wrong;
     }
-    sizes(file.len(), usize_of_u8(file[5]), usize_of_u8(file[6]))
+    sizes(file.len(), layout_of(file), usize_of_u8(file[6]))
 }
 
 // The bytes of slot k.
 pub fn slot_at(file: &[u8], size: Size, k: usize) -> &[u8]
     requires { ⌜ (Sized (length (now file)) size) × (k < size .slots) ⌝ }
-    ensures { λ r. ⌜ (now r ≡ take (64 + 32 * size .b) (drop (16 + k * (64 + 32 * size .b)) (now (file .entry))))
-        × (length (now r) ≡ 64 + 32 * size .b) ⌝ }
+    ensures { λ r. ⌜ (now r ≡ slotAt (size .layout) k (now (file .entry))) × (OfSize (now r) (size .layout)) ⌝ }
 {
-    let n = slot_size(size);
+    let n = bucket::slot_size(size.layout);
     let at = 16 + k * n;
     let end = at + n;
     &file[at..end]
@@ -121,11 +132,11 @@ pub fn slot_at(file: &[u8], size: Size, k: usize) -> &[u8]
 // What a change is to store: no slot, one or two, the first one first. A plan is found before a byte is written, and without
 // the limit. `one` begins with what slot `first` is to be, `two` with what slot `second` is to be.
 pub struct Plan {
-    pub stores: usize,
+    pub stores: u64,
     pub first: usize,
-    pub one: [u8; 576],
+    pub one: [u8; SLOT],
     pub second: usize,
-    pub two: [u8; 576],
+    pub two: [u8; SLOT],
 }
 
 pub fn no_store() -> Plan
@@ -134,13 +145,13 @@ pub fn no_store() -> Plan
     Plan {
         stores: 0,
         first: 0,
-        one: [0u8; 576],
+        one: [0u8; SLOT],
         second: 0,
-        two: [0u8; 576],
+        two: [0u8; SLOT],
     }
 }
 
-pub fn one_store(first: usize, slot: &[u8; 576]) -> Plan
+pub fn one_store(first: usize, slot: &[u8; SLOT]) -> Plan
     ensures { λ r. ⌜ (r .stores ≡ 1) × (r .first ≡ first) × (r .one ≡ now (slot .entry)) × (r .second ≡ 0) ⌝ }
 {
     Plan {
@@ -148,11 +159,18 @@ pub fn one_store(first: usize, slot: &[u8; 576]) -> Plan
         first,
         one: *slot,
         second: 0,
-        two: [0u8; 576],
+        two: [0u8; SLOT],
     }
 }
 
-pub fn two_stores(first: usize, slot: &[u8; 576], second: usize, other: &[u8; 576]) -> Plan
+// One store, which frees a slot.
+pub fn freeing(first: usize) -> Plan
+    ensures { λ r. ⌜ (r .first ≡ first) × (r .second ≡ 0) × ((y : Layout) → y .b ≤ 16 → Planned r y ((first, free) ∷ [])) ⌝ }
+{
+    one_store(first, &[0u8; SLOT])
+}
+
+pub fn two_stores(first: usize, slot: &[u8; SLOT], second: usize, other: &[u8; SLOT]) -> Plan
     ensures { λ r. ⌜ (r .stores ≡ 2) × (r .first ≡ first) × (r .one ≡ now (slot .entry))
         × (r .second ≡ second) × (r .two ≡ now (other .entry)) ⌝ }
 {
@@ -166,13 +184,13 @@ pub fn two_stores(first: usize, slot: &[u8; 576], second: usize, other: &[u8; 57
 }
 
 // R7.1: a store replaces one whole slot, by the beginning of the bytes given.
-fn store(file: &mut [u8], size: Size, k: usize, slot: &[u8; 576])
+fn store(file: &mut [u8], size: Size, k: usize, slot: &[u8; SLOT])
     requires { ⌜ (Sized (length (now file)) size) × (k < size .slots) ⌝ }
     ensures { λ _. ⌜ (length (now (file .exit)) ≡ length (now (file .entry)))
-        × (now (file .exit) ≡ paste (now (file .entry)) (16 + k * (64 + 32 * size .b)) (take (64 + 32 * size .b) (now (slot .entry))) (64 + 32 * size .b)) ⌝ }
+        × (now (file .exit) ≡ paste (now (file .entry)) (16 + k * slotSize (size .layout)) (take (slotSize (size .layout)) (now (slot .entry))) (slotSize (size .layout))) ⌝ }
 {
     let whole = &slot[..];
-    let n = slot_size(size);
+    let n = bucket::slot_size(size.layout);
     let at = 16 + k * n;
     entries::copy(file, at, &whole[0..n]);
 }
@@ -181,24 +199,22 @@ fn store(file: &mut [u8], size: Size, k: usize, slot: &[u8; 576])
 // else writes to a lent file, create aside.
 pub fn commit(file: &mut [u8], size: Size, plan: Plan, limit: u64) -> bool
     requires { ⌜ (Sized (length (now file)) size) × (Fits plan size) ⌝ }
-    ensures { λ r. ⌜ Committed r (now (file .entry)) (now (file .exit)) (version-1 (size .b)) plan limit ⌝ }
+    ensures { λ r. ⌜ Committed r (now (file .entry)) (now (file .exit)) (size .layout) plan limit ⌝ }
 {
-    if plan.stores < 1 {
-        return false;
+    let mut made = 0;
+    while made < plan.stores {
+        if limit <= made {
+            return true;
+        }
+        made += 1;
+        if made == 1 {
+            let slot = plan.one;
+            store(file, size, plan.first, &slot);
+        } else {
+            let other = plan.two;
+            store(file, size, plan.second, &other);
+        }
     }
-    if limit < 1 {
-        return true;
-    }
-    let slot = plan.one;
-    store(file, size, plan.first, &slot);
-    if plan.stores < 2 {
-        return false;
-    }
-    if limit < 2 {
-        return true;
-    }
-    let other = plan.two;
-    store(file, size, plan.second, &other);
     false
 }
 
@@ -215,14 +231,15 @@ fn clear(file: &mut [u8])
 // R9.1: a new file over the whole buffer.
 pub fn create(file: &mut [u8], size: Size)
     requires { ⌜ Sized (length (now file)) size ⌝ }
-    ensures { λ _. ⌜ now (file .exit) ≡ fileBytes (version-1 (size .b)) (created (size .slots)) ⌝ }
+    ensures { λ _. ⌜ now (file .exit) ≡ fileBytes (size .layout) (created (size .slots)) ⌝ }
 {
     clear(file);
     file[0] = b'T';
     file[1] = b'K';
     file[2] = b'F';
-    file[3] = 1;
-    file[5] = u8_of_usize(size.b);
+    let layout = size.layout;
+    file[3] = u8_of_usize(layout.version);
+    file[5] = u8_of_usize(layout.b);
     file[6] = u8_of_usize(size.slots);
     file[16] = 1;
 }

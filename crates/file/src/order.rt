@@ -5,7 +5,8 @@ ghost use Prim.Native.Nat.{ℕ, _≤_, _<_, _+_, _-_, suc};
 ghost use lib.ListN.{drop, length, take};
 ghost use mathlib.Core.Option.{some};
 ghost use Rattle.model.specs.Files.{IsUsed, Slot, Well, head};
-ghost use Rattle.model.specs.Format.{readSlot, version-1};
+ghost use Rattle.model.specs.Format.{readSlot};
+ghost use Rattle.model.specs.declared.Layout.{Layout};
 ghost use Rattle.digits.specs.Keys.{keyValue};
 ghost use Rattle.file.specs.Sizes.{Sized, Below};
 ghost use Rattle.file.specs.Orders.{Known, Listed, Placed, stands};
@@ -18,7 +19,7 @@ use digits::usize_of_u8;
 // Whether the range (low, high] stands before that of a slot. The low ends matter only where the high ends are equal.
 fn is_before(high: Key, low: Key, slot: &[u8]) -> bool
     requires { ⌜ 64 ≤ length (now slot) ⌝ }
-    ensures { λ r. ⌜ ((b : ℕ) (s : Slot) → IsUsed (head s) → readSlot (version-1 b) (now (slot .entry)) ≡ some s → Well b s → r ≡ stands (keyValue high) (keyValue low) s) ⌝ }
+    ensures { λ r. ⌜ ((y : Layout) (s : Slot) → IsUsed (head s) → readSlot y (now (slot .entry)) ≡ some s → Well (y .b) s → r ≡ stands (keyValue high) (keyValue low) s) ⌝ }
 {
     let other = bucket::high_key(slot);
     if digits::is_below(high, other) {
@@ -41,7 +42,7 @@ pub fn place_of(
 ) -> usize
     requires { ⌜ (Sized (length (now file)) size) × (Below (now order) (size .slots)) × (count ≤ 64) ⌝ }
     ensures { λ r. ⌜ (r ≤ count)
-        × ((fs : List Slot) → Known (size .b) (now (file .entry)) fs → Listed fs (now (order .entry)) count
+        × ((fs : List Slot) → Known (size .layout) (now (file .entry)) fs → Listed fs (now (order .entry)) count
         → Placed fs (now (order .entry)) count (keyValue high) (keyValue low) r) ⌝ }
 {
     let mut least = 0;
@@ -88,9 +89,9 @@ pub fn leave_out(order: &mut [u8; 64], count: usize, place: usize)
 }
 
 // The place of the bucket whose range holds the name, in a sound file: the first whose upper bound is not below it.
-pub fn holder(file: &[u8], size: Size, order: &[u8; 64], count: usize, name: Key) -> usize
+pub fn holder(file: &[u8], size: Size, order: &[u8; 64], count: usize, name: &[u8; 24]) -> usize
     requires { ⌜ (Sized (length (now file)) size) × (Below (now order) (size .slots)) × (count ≤ 64) ⌝ }
-    ensures { λ r. ⌜ HolderTold (now (file .entry)) size (now (order .entry)) count name r ⌝ }
+    ensures { λ r. ⌜ HolderTold (now (file .entry)) size (now (order .entry)) count (now (name .entry)) r ⌝ }
 {
     if count == 0 {
         return 0;
@@ -100,10 +101,11 @@ pub fn holder(file: &[u8], size: Size, order: &[u8; 64], count: usize, name: Key
     while least < most {
         let middle = least + (most - least) / 2;
         let slot = slot_at(file, size, usize_of_u8(order[middle]));
-        if digits::is_below(bucket::high_key(slot), name) {
-            least = middle + 1;
-        } else {
+        let compared = digits::compared(name, bucket::upper_bound(slot));
+        if compared.within {
             most = middle;
+        } else {
+            least = middle + 1;
         }
     }
     least

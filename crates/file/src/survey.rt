@@ -6,7 +6,6 @@ ghost use lib.ListN.{length, take};
 ghost use Rattle.model.specs.Files.{Slot, ranges};
 ghost use Rattle.file.specs.Sizes.{Sized, Below};
 ghost use Rattle.file.specs.Surveys.{Surveyed};
-ghost use Rattle.file.specs.Copies.{CopyTold};
 ghost use Rattle.file.specs.Orders.{Chained, Known, Laid, Listed, Twinned};
 use crate::Size;
 use crate::order;
@@ -53,7 +52,7 @@ fn with_next(used: u64, next: u64) -> u64
 // R4.4 to R4.6: whether the chain of bounds is closed, from no lower limit to no upper limit.
 fn is_chain(file: &[u8], size: Size, order: &[u8; 64], count: usize) -> bool
     requires { ⌜ (Sized (length (now file)) size) × (Below (now order) (size .slots)) × (count ≤ 64) × (length (now order) ≡ 64) ⌝ }
-    ensures { λ r. ⌜ ((fs : List Slot) → Known (size .b) (now (file .entry)) fs → Listed fs (now (order .entry)) count
+    ensures { λ r. ⌜ ((fs : List Slot) → Known (size .layout) (now (file .entry)) fs → Listed fs (now (order .entry)) count
         → Chained r (ranges fs) (take count (now (order .entry)))) ⌝ }
 {
     let mut end = digits::lowest_key();
@@ -73,7 +72,7 @@ fn is_chain(file: &[u8], size: Size, order: &[u8; 64], count: usize) -> bool
 fn repeated_upper(file: &[u8], size: Size, order: &[u8; 64], count: usize) -> usize
     requires { ⌜ (Sized (length (now file)) size) × (Below (now order) (size .slots)) × (count ≤ 64) × (length (now order) ≡ 64) ⌝ }
     ensures { λ r. ⌜ (r < count → 1 ≤ r)
-        × ((fs : List Slot) → Known (size .b) (now (file .entry)) fs → Listed fs (now (order .entry)) count
+        × ((fs : List Slot) → Known (size .layout) (now (file .entry)) fs → Listed fs (now (order .entry)) count
         → Twinned fs (now (order .entry)) count r) ⌝ }
 {
     let mut j = 1;
@@ -88,27 +87,6 @@ fn repeated_upper(file: &[u8], size: Size, order: &[u8; 64], count: usize) -> us
     count
 }
 
-// R4.10, R4.11 and R4.13: whether N is a copy, not yet cut out, of the upper part of A.
-fn is_copy_of(n: &[u8], a: &[u8], b: usize) -> bool
-    requires { ⌜ (length (now n) ≡ 64 + 32 * b) × (length (now a) ≡ 64 + 32 * b) × (b ≤ 16) ⌝ }
-    ensures { λ r. ⌜ CopyTold b (now (n .entry)) (now (a .entry)) r ⌝ }
-{
-    if usize_of_u8(a[1]) != b {
-        return false;
-    }
-    let low = bucket::low_key(n);
-    if !digits::is_below(bucket::low_key(a), low) {
-        return false;
-    }
-    let count = usize_of_u8(n[1]);
-    if b < count {
-        return false;
-    }
-    let stay = entries::not_above(&a[64..], b, low);
-    let moved = 64 + 32 * stay;
-    entries::is_copied(&a[moved..], b - stay, &n[64..], count)
-}
-
 // A file with two slots of one upper bound: cut, or bad.
 fn cut_of(
     file: &[u8],
@@ -120,15 +98,15 @@ fn cut_of(
 ) -> Survey
     requires { ⌜ (Sized (length (now file)) size) × (Below (now order) (size .slots)) × (count ≤ 64) × (place < count) × (1 ≤ place)
         × (Laid (now file) size 0 (now order) count used)
-        × ((fs : List Slot) → Known (size .b) (now file) fs → Listed fs (now order) count → Twinned fs (now order) count place) ⌝ }
+        × ((fs : List Slot) → Known (size .layout) (now file) fs → Listed fs (now order) count → Twinned fs (now order) count place) ⌝ }
     ensures { λ r. ⌜ Surveyed r (now (file .entry)) size ⌝ }
 {
     let inner = usize_of_u8(order[place]);
     let outer = usize_of_u8(order[place - 1]);
-    if !is_copy_of(
+    if !bucket::is_copy_of(
         slot_at(file, size, inner),
         slot_at(file, size, outer),
-        size.b,
+        size.layout,
     ) {
         return found(Kind::Bad, used, count, order, inner);
     }
@@ -174,7 +152,7 @@ pub fn survey_of(file: &[u8], size: Size) -> Survey
                 used = with_next(used, 0);
             }
             Vacancy::Taken => {
-                let form = bucket::form_of(slot, size.b);
+                let form = bucket::form_of(slot, size.layout);
                 let Form::Well(bucket) = form else {
                     return found(Kind::Bad, 0, 0, &[0u8; 64], 0);
                 };

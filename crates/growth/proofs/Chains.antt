@@ -3,10 +3,11 @@ use Rattle.model.proofs.Prelude.{List, [], _+_, _-_, _<_, _∙_, _∷_, _≡_, 
 use Rattle.model.specs.declared.Cell.{Cell}
 use Rattle.model.specs.declared.Side.{Side}
 use Rattle.model.specs.declared.Side.the-variants.{Cell as further, Slot as slot}
-use Rattle.model.specs.Order.{Str, _⊑_, diff, nil-not-le, tail-le}
-use Rattle.model.specs.Tries.{Reads, Tree, at-cell, cell, size, there, zero-cell}
+use Rattle.model.specs.Order.{Str, _⊑_, diff}
+use Rattle.model.specs.Tries.{Reads, Spot, Tree, at-cell, cell, left, right, root, size, there, zero-cell}
 use Rattle.model.specs.Rebuilding.{lay, side-of}
-use Rattle.model.specs.Growth.{Spot, cell-of, chain-of, changed, grown, left, placed, right, root}
+use Rattle.model.specs.Growth.{cell-of, chain-of, changed, grown, placed}
+use Rattle.model.specs.Deciding.{nil-not-le, tail-le}
 use Rattle.model.proofs.Order.{take-diff}
 use Rattle.growth.specs.Parts.{new-cell, next-side}
 use Rattle.growth.proofs.Meeting.{Comes, Kept, Met, at-once, by-left, by-none, by-right, met-kept, met-left, met-right, on-left, on-right}

@@ -4,20 +4,24 @@ use Rattle.model.specs.declared.Cell.{Cell}
 use Rattle.model.specs.declared.Side.{Side}
 use Rattle.model.specs.declared.Side.the-variants.{Cell as further, Slot as slot}
 use Rattle.model.specs.declared.Trie.{Trie}
-use Rattle.model.specs.Order.{Str, _⊑_, diff, le?}
-use Rattle.model.specs.Tries.{Reads, Tree, at-cell, cell, first-leaf-of, leaf, occ, root-side, trie-of, walk, zero-cell}
+use Rattle.model.specs.Order.{Str, _⊑_, diff}
+use Rattle.model.specs.Tries.{Reads, Spot, Tree, at-cell, cell, first-leaf-of, leaf, left, occ, right, root, root-side, trie-of, zero-cell}
 use Rattle.model.specs.Rebuilding.{lay, side-of}
-use Rattle.model.specs.Growth.{Spot, cell-of, cells-grown, cells-turned, changed, grow-cells, grown, grown-trie, left, new-cells, placed, right, root, root-grown, root-turned, turn, turn-cell, turn-cells, turn-side, turned}
+use Rattle.model.specs.Growth.{cell-of, changed, grow-cells, grown, grown-trie, placed, turn, turn-cell, turn-cells, turn-side, turned}
+use Rattle.model.specs.Deciding.{le?}
 use Rattle.model.proofs.Order.{le-refl}
 use Rattle.model.proofs.Cells.{each-once, height, length-lay, reads-height, visits-count}
-use Rattle.model.proofs.GrownCells.{Turned, grow-reads, replace, turn-reads}
+use Rattle.model.proofs.GrownCells.{Turned, cells-grown, cells-turned, grow-reads, new-cells, replace, root-grown, root-turned, turn-reads}
+use Rattle.model.proofs.Tries.{walk}
+use Rattle.model.proofs.GrownTries.{grown-trie-is}
+use Rattle.model.proofs.Walks.{live-cells, top-side}
 use Rattle.trie.specs.declared.Walk.{Walk}
 use Rattle.trie.specs.Walks.{By}
-use Rattle.growth.specs.Grows.{Asked, live-cells, top-side}
+use Rattle.growth.specs.Grows.{Asked}
 use Rattle.growth.specs.Parts.{Appended, FirstPlace, Redirected, cell-turned, leaf-place, new-cell, next-side, side-joined, side-turned, walk-joined}
 use Rattle.growth.proofs.Meeting.{Comes, Kept, Met, met-left, string-of, turn-met, visited-met, walk-comes}
 use Rattle.growth.proofs.Standing.{Side-by, Stands, left-of, met-stands, no-cell, order-below, right-of}
-use Rattle.growth.proofs.Parting.{C, Parted, above-leaf, below-leaf, ends, leaf-place-is, live, old-parted, order-count, os, path, path-above, path-is, shares, some-cells, sp, spot-is, ss, strings-count, visits, walk-is}
+use Rattle.growth.proofs.Parting.{C, Parted, above-leaf, below-leaf, by-is, ends, leaf-place-is, live, old-parted, order-count, os, path, path-above, path-is, shares, slot-is, some-cells, sp, spot-is, ss, strings-count, visits, walk-is}
 use Rattle.growth.proofs.Chains.{chain-side, chain-size, graft-kept, graft-none, grown-at, met-first, met-old, next-further, next-slot, path-on, path-to, proper-above}
 
 -- A trie is its cells, its count and its first leaf; a cell its digit, its number and its sides.
@@ -183,7 +187,7 @@ module _ {t : Trie} {places lens : List ℕ} {w : Walk} {c s : Str} {shared a : 
     string-grown last r F R =
         made r T (turn-side (turn s a N) [] (top-side t)) (R .full ∙ K .agrees .whole) (omega (arith, size, live K, K .agrees .few)) each past
         (R .count-is ∙ sym (live K) ∙ sym size) (R .first-is ∙ K .agrees .first-leaf (some-cells K same) ∙ sym (top-first (turn s a N) (t .count) (t .first) (some-cells K same)))
-        ∙ sym (ap₂ (λ (y : List Cell) (z : Side). trie-of y z) cells-are (ap (turn-side (turn s a N) []) root-same))
+        ∙ sym (grown-trie-is (K .sound) (K .agrees) c s a N ∙ ap₂ (λ (y : List Cell) (z : Side). trie-of y z) cells-are (ap (turn-side (turn s a N) []) root-same))
       where
         size : length T ≡ length (live-cells t)
         size = U .size
@@ -216,7 +220,7 @@ module _ {t : Trie} {places lens : List ℕ} {w : Walk} {c s : Str} {shared a : 
     W = walk c [] (C K .tree)
 
     slot-same : W ≡ a
-    slot-same = sym (K .slot-is ∙ walk-is K)
+    slot-same = sym (slot-is K)
 
     abbrev X : Tree
     X = grown s (path K) W
@@ -437,7 +441,7 @@ module _ {t : Trie} {places lens : List ℕ} {w : Walk} {c s : Str} {shared a : 
           ∙ sym (turned-old i h)
 
       old-same : (i : ℕ) → i < n → at-cell J i ≡ at-cell Q i
-      old-same i h = go (ends K .by) refl (rw (spot-is K) at (K .by))
+      old-same i h = go (ends K .by) refl (by-is K)
         where
           below : (j : ℕ) → j < length (os K) → getD (os K) j 0 < n
           below j b = order-below (K .placed .in-order) j b
@@ -464,7 +468,7 @@ module _ {t : Trie} {places lens : List ℕ} {w : Walk} {c s : Str} {shared a : 
         made r′ Q (turn-side (turn s a N) [] top-grown) full (omega (arith, size-turned, room, shares K)) each past
         (P .count-is ∙ ap (λ (k : ℕ). n + (length s - k)) (shares K) ∙ sym size-turned)
         (P .first-is ∙ sym (ap (λ (x : Side). first-leaf-of (turn-side (turn s a N) [] (placed (top-side t) x))) side-new ∙ placed-first (turn s a N) (top-side t) n))
-        ∙ sym (ap₂ (λ (y : List Cell) (z : Side). trie-of y z) grown-is root-is)
+        ∙ sym (grown-trie-is (K .sound) (K .agrees) c s a N ∙ ap₂ (λ (y : List Cell) (z : Side). trie-of y z) grown-is root-is)
       where
         full : length (r′ .cells) ≡ 256
         full = P .written .full ∙ join-length r n w ∙ R .full ∙ K .agrees .whole

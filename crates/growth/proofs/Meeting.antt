@@ -3,11 +3,14 @@ use Rattle.model.proofs.Prelude.{List, [], _++_, _+_, _<_, _∙_, _∷_, _≡_,
 use Rattle.model.specs.declared.Cell.{Cell}
 use Rattle.model.specs.declared.Side.{Side}
 use Rattle.model.specs.declared.Side.the-variants.{Cell as further, Slot as slot}
-use Rattle.model.specs.Order.{Str, _⊑_, le?}
-use Rattle.model.specs.Tries.{Reads, Tree, at-cell, cell, here, leaf, node, occ, one-if, there, walk, zero-cell}
-use Rattle.model.specs.Growth.{Spot, left, right, turn-cell, turn-cells}
+use Rattle.model.specs.Order.{Str, _⊑_}
+use Rattle.model.specs.Tries.{Reads, Spot, Tree, at-cell, cell, here, leaf, left, node, occ, one-if, right, there, zero-cell}
+use Rattle.model.specs.Growth.{turn-cell, turn-cells}
+use Rattle.model.specs.Deciding.{le?}
 use Rattle.model.proofs.Cells.{height, occ-append, one-if-equal, reads-agree, reads-set}
-use Rattle.model.proofs.GrownCells.{Turned, path-at, spot, turn-reads}
+use Rattle.model.proofs.GrownCells.{Turned, turn-reads}
+use Rattle.model.proofs.Tries.{walk}
+use Rattle.model.proofs.Walks.{path-at, spot}
 
 abbrev pub string-of : Cell → Str → Str
 string-of c p = cell (c .digit) (c .number) p

@@ -1,23 +1,24 @@
 -- The place up to which leaves' paths are not above s.
-use Rattle.model.proofs.Prelude.{List, List·Memᴰ, List·getD-eq-default, [], _<_, _∙_, _≡_, _≤_, _⊎_, add-one, ap, arith, decLt, false, getD, getD-take, inl, inr, length, length-take, length-take-le, lt-leb, subst, suc, sym, take, take-all, take-length, true, ℕ}
+use Rattle.model.proofs.Prelude.{List, List·Memᴰ, List·getD-eq-default, [], _<_, _∙_, _≡_, _≤_, _⊎_, add-one, ap, arith, decLt, false, getD, getD-take, inl, inr, length, length-take, length-take-le, lt-leb, some, subst, suc, sym, take, take-all, take-length, true, ℕ}
 use Rattle.model.specs.declared.Trie.{Trie}
-use Rattle.model.specs.Order.{Asc, Str, _⊑_, diff, least, none, top}
+use Rattle.model.specs.Order.{Str, _⊑_, diff, least, none, top}
 use Rattle.model.specs.Files.{all, bounds, ranges}
-use Rattle.model.specs.Tries.{walk, walk-cells}
-use Rattle.model.specs.Growth.{Spot, left, path-cells, root, spot-cells}
+use Rattle.model.specs.Tries.{Spot, left, root, walk-trie}
 use Rattle.model.proofs.Lists.{mem-place}
-use Rattle.model.proofs.Order.{diff-le-right, le-refl, le-take, le-trans, lt-le, sandwich, take-diff}
+use Rattle.model.proofs.Order.{Asc, diff-le-right, le-refl, le-take, le-trans, lt-le, sandwich, take-diff}
 use Rattle.model.proofs.Strings.{all-closed, mem-at, not-top, trie-asc}
-use Rattle.model.proofs.Tries.{cells-count}
-use Rattle.model.proofs.Cells.{reads-size, visits-count, walk-reads}
+use Rattle.model.proofs.Tries.{cells-count, walk}
+use Rattle.model.proofs.Cells.{reads-size, visits-count}
 use Rattle.model.proofs.Files.{strings-right}
 use Rattle.model.proofs.Agreement.{CellsAgree, agrees-cells}
-use Rattle.model.proofs.GrownCells.{diff-begin, path-at, path-reads, spot, spot-reads}
+use Rattle.model.proofs.GrownCells.{diff-begin}
+use Rattle.model.proofs.Walks.{live-cells, path-at, path-cells, path-reads, spot, spot-cells, spot-reads, top-side, walk-cells, walk-reads}
+use Rattle.model.proofs.GrownTries.{agreed-walk, walk-live}
 use Rattle.trie.specs.declared.Walk.{Walk}
 use Rattle.trie.specs.Strung.{lengths}
 use Rattle.trie.specs.Walks.{By}
 use Rattle.trie.proofs.Strung.{lengths-at, order-size}
-use Rattle.growth.specs.Grows.{Asked, live-cells, top-side}
+use Rattle.growth.specs.Grows.{Asked}
 use Rattle.growth.specs.Parts.{FirstPlace, leaf-place}
 use Rattle.growth.proofs.Standing.{Ends, Side-by, asc-le, asc-lt, left-of, no-cell, order-below, right-of, walk-stands}
 
@@ -78,15 +79,30 @@ module _ {t : Trie} {places lens : List ℕ} {w : Walk} {c s : Str} {shared a : 
   asc : Asc none ss []
   asc = trie-asc (C .trie)
 
+  -- The walk that was asked with is this one.
+  same-leaf : (K .path ≡ path) × (K .spot ≡ sp) × (a ≡ walk-trie t c)
+  same-leaf =
+      let x : Str × Spot × ℕ = (K .path, K .spot, a) in
+      let y : Str × Spot × ℕ = (path, sp, walk-trie t c) in
+      let f : some x ≡ some y = sym (K .walked) ∙ (rw (path-is, spot-is) at (agreed-walk (K .sound) (K .agrees) c)) in
+      let e : x ≡ y = cc in
+      (ap (λ (z : Str × Spot × ℕ). z .0) e, ap (λ (z : Str × Spot × ℕ). z .1) e, ap (λ (z : Str × Spot × ℕ). z .2) e)
+
   pub shares : shared ≡ diff s path
-  shares = K .shares ∙ ap (diff s) path-is
+  shares = K .shares ∙ ap (diff s) (same-leaf .0)
+
+  pub by-is : By sp w
+  by-is = subst (λ (k : Spot). By k w) (same-leaf .1) (K .by)
+
+  pub slot-is : a ≡ walk c [] (C .tree)
+  slot-is = same-leaf .2 ∙ walk-live (K .sound) (K .agrees) c ∙ walk-is
 
   fits : length s ≤ length c
   fits = omega (arith, ap length (K .begins), length-take (length s) c)
 
   -- The code's place is the leaf's.
   pub leaf-place-is : 0 < t .count → leaf-place w places ≡ ends .place
-  leaf-place-is h = go (ends .by) (rw spot-is at (K .by))
+  leaf-place-is h = go (ends .by) by-is
     where
       below : (j : ℕ) → j < length os → getD os j 0 < 256
       below j h = omega (arith, order-below (K .placed .in-order) j h, live, K .agrees .few)

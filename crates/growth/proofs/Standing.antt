@@ -3,14 +3,14 @@ use Rattle.model.proofs.Prelude.{List, List·getD-eq-default, [], _++_, _+_, _-
 use Rattle.model.specs.declared.Cell.{Cell}
 use Rattle.model.specs.declared.Side.{Side}
 use Rattle.model.specs.declared.Side.the-variants.{Slot as slot}
-use Rattle.model.specs.Order.{Asc, Low, Str, _≺_, _⊑_, _◁_, above, at, end, le?, over, step, top}
-use Rattle.model.specs.Tries.{Reads, Spans, Tree, at-cell, cut, here, there, tip}
-use Rattle.model.specs.Growth.{Spot, left, right}
+use Rattle.model.specs.Order.{Low, Str, _≺_, _⊑_, _◁_, above, at, top}
+use Rattle.model.specs.Tries.{Reads, Spot, Tree, at-cell, here, left, right, there}
+use Rattle.model.specs.Deciding.{le?, over}
 use Rattle.model.proofs.Lists.{at-behind}
-use Rattle.model.proofs.Order.{le-refl, low-at, low-lower, lt-le, lt-trans}
+use Rattle.model.proofs.Order.{Asc, end, le-refl, low-at, low-lower, lt-le, lt-trans, step}
 use Rattle.model.proofs.Strings.{trie-asc}
-use Rattle.model.proofs.Tries.{cells-count}
-use Rattle.model.proofs.GrownCells.{path-at, spot}
+use Rattle.model.proofs.Tries.{Spans, cells-count, cut, tip}
+use Rattle.model.proofs.Walks.{path-at, spot}
 use Rattle.trie.specs.Places.{InOrder, cells, no-cells}
 use Rattle.trie.proofs.Strung.{order-size}
 use Rattle.growth.proofs.Meeting.{Met, at-once, on-left, on-right, string-of}

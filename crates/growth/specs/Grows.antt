@@ -1,25 +1,18 @@
 -- What growth is asked with, where the trie agrees with a sound file.
 use mathlib.Core.Path.{_≡_}
-use mathlib.Core.List.{List, []}
-use Prim.Native.Nat.{_<_, suc, ℕ}
+use mathlib.Core.List.{List}
+use mathlib.Core.Option.{some as just}
+use Prim.Native.Nat.{_<_, ℕ}
 use lib.ListN.{length, take}
-use Rattle.model.specs.declared.Cell.{Cell}
-use Rattle.model.specs.declared.Side.{Side}
 use Rattle.model.specs.declared.Trie.{Trie}
 use Rattle.model.specs.Order.{Str, diff}
 use Rattle.model.specs.Files.{Slot, Sound, strings-of}
-use Rattle.model.specs.Tries.{Agrees, root-side, walk-cells}
-use Rattle.model.specs.Growth.{grown-trie, path-cells, root, spot-cells}
+use Rattle.model.specs.Tries.{Agrees, Spot, walkOf}
+use Rattle.model.specs.Growth.{grown-trie}
 use Rattle.trie.specs.declared.Walk.{Walk}
 use Rattle.trie.specs.Places.{Placed}
 use Rattle.trie.specs.Strung.{lengths}
 use Rattle.trie.specs.Walks.{By}
-
-abbrev pub live-cells : Trie → List Cell
-live-cells t = take (t .count) (t .cells)
-
-abbrev pub top-side : Trie → Side
-top-side t = root-side (t .count) (t .first)
 
 -- The split key c was walked with: by which side its leaf was reached, how many digits the split string s, a beginning of
 -- c, shares with the leaf's path, and the slot a. Places and lengths are those of the file's strings.
@@ -32,9 +25,11 @@ pub record Asked (t : Trie) (places lens : List ℕ) (w : Walk) (c s : Str) (sha
   pub lens-are : take (length (strings-of fs)) lens ≡ lengths (strings-of fs)
   pub some : 0 < length s
   pub begins : s ≡ take (length s) c
-  pub by : By (spot-cells (live-cells t) c (suc (length (live-cells t))) [] root (top-side t)) w
-  pub shares : shared ≡ diff s (path-cells (live-cells t) c (suc (length (live-cells t))) [] (top-side t))
-  pub slot-is : a ≡ walk-cells (live-cells t) c (suc (length (live-cells t))) [] (top-side t)
+  pub path : Str
+  pub spot : Spot
+  pub walked : walkOf t c ≡ just (path, spot, a)
+  pub by : By spot w
+  pub shares : shared ≡ diff s path
 
 -- It is then the grown trie of the rules' section 8, n being the new slot.
 abbrev pub Grows : Trie → List ℕ → List ℕ → Walk → Str → ℕ → ℕ → ℕ → Trie → Type 0

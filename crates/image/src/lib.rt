@@ -7,7 +7,7 @@ ghost use mathlib.Core.Path.{_≡_};
 ghost use Prim.Native.Nat.{_<_, _+_, _*_, _%_, _/_};
 ghost use lib.ListN.{length};
 ghost use lib.Seq.{sets};
-ghost use Rattle.trie.specs.Walks.{Walks, walkOf};
+ghost use Rattle.trie.specs.Walks.{Walks};
 ghost use Rattle.image.specs.Images.{cellBytes, cellFrom, imageOf, imageSize, pairOf, sideNumber, sideOf, trieOf};
 use digits::u16_of_u8;
 use digits::usize_of_u16;
@@ -16,6 +16,7 @@ use model::Side;
 use model::Trie;
 use trie::Place;
 use trie::Walk;
+ghost use Rattle.model.specs.Tries.{walkOf};
 
 pub const BYTES: usize = 1540;
 

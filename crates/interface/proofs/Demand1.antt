@@ -1,5 +1,5 @@
 -- Demand 1 of the C interface follows from demand 1 of the calls.
-use Rattle.model.proofs.Prelude.{List, List·Memᴰ, List·Memᴰ·head, List·Memᴰ·tail, [], _∙_, _∷_, _≡_, ap, inl, inr, refl, ℕ}
+use Rattle.model.proofs.Prelude.{List, List·Memᴰ, List·Memᴰ·cases-cons, List·Memᴰ·head, List·Memᴰ·not-nil, List·Memᴰ·tail, [], _<_, _∙_, _∷_, _≡_, _≤_, _⊎_, ap, arith, inl, inr, refl, subst, sym, ℕ}
 use Rattle.model.specs.declared.Cause.{Cause}
 use Rattle.model.specs.declared.ListAnswer.{ListAnswer}
 use Rattle.model.specs.declared.ListAnswer.the-variants.{Listed, Refused as ListRefused}
@@ -17,62 +17,208 @@ use Rattle.model.specs.Answers.{Said, checkSays, createSays, listSays, lookUpSa
 use Rattle.model.specs.Calls.{createOf, listOf, lookUpOf, new-trie, putOf, rebuildOf, recoverOf, removeOf}
 use Rattle.model.specs.Checks.{Kind, is-bad, is-cut, is-sound}
 use Rattle.model.specs.Format.{checkFile}
-use Rattle.promises.specs.Demand1.{Exactly, Table, create-table, list-table, look-up-table, put-table, rebuild-table, recover-table, remove-table}
+use Rattle.promises.specs.Demand1.{Exactly, create-table, list-table, look-up-table, put-table, rebuild-table, recover-table, remove-table}
 use Rattle.promises.proofs.Demand1.{demand-1}
+use Rattle.promises.proofs.Where.{where-ours}
 use Rattle.image.specs.Images.{cellsBytes, imageOf, sideNumber, trieOf}
-use Rattle.capi.specs.Doors.{palCheckOf}
+use Rattle.capi.specs.Doors.{imageAfter, outAfter, palCheckOf, palCreateOf, palListOf, palLookUpOf, palPutOf, palRebuildOf, palRecoverOf, palRemoveOf}
 use Rattle.capi.proofs.Doors.{create-malformed, list-malformed, lookUp-malformed, put-malformed, rebuild-malformed, remove-malformed}
-use Rattle.interface.specs.Calls.{our-c-calls}
-use Rattle.interface.specs.Demand1.{Answers, Demand1C, ExactlyC, zero-image}
+use Rattle.interface.specs.Calls.{IsImage, IsOut, our-c-calls}
+use Rattle.interface.specs.Demand1.{Answers, Demand1C, IsRefusal, change-refusal, create-refusal, list-refusal, look-up-refusal, rebuild-refusal, recover-refusal, zero-image}
 use Rattle.interface.proofs.Saying.{create-cause, create-is, list-cause, list-is, look-up-cause, look-up-is, put-cause, put-is, rebuild-cause, rebuild-is, recover-cause, recover-is, remove-cause, remove-is}
 
-exactly : {A : Type 0} (says : A → Said) (Refused : Cause → A) → ((a : A) (c : Cause) → says a .0 ≡ number c → a ≡ Refused c)
-    → ((c : Cause) → says (Refused c) .0 ≡ number c) → (a : A) (table : Table) → Exactly Refused a table → ExactlyC (says a .0) table
-exactly {A} says Refused back forth a table E c = (λ e. E c .0 (back a c e), λ f. ap (λ (x : A). says x .0) (E c .1 f) ∙ forth c)
+module _ {O : Type 0} {refusal : Cause → O} {o : O} where
+  first-of : {a : ℕ} {ks : List ℕ} → Answers refusal (a ∷ ks) o a
+  first-of = inr (List·Memᴰ·head refl)
 
-first-of : {a : ℕ} {ks : List ℕ} → Answers (a ∷ ks) a
-first-of = inr (List·Memᴰ·head refl)
+  second-of : {a b : ℕ} {ks : List ℕ} → Answers refusal (a ∷ b ∷ ks) o b
+  second-of = inr (List·Memᴰ·tail (List·Memᴰ·head refl))
 
-second-of : {a b : ℕ} {ks : List ℕ} → Answers (a ∷ b ∷ ks) b
-second-of = inr (List·Memᴰ·tail (List·Memᴰ·head refl))
+  third-of : {a b c : ℕ} {ks : List ℕ} → Answers refusal (a ∷ b ∷ c ∷ ks) o c
+  third-of = inr (List·Memᴰ·tail (List·Memᴰ·tail (List·Memᴰ·head refl)))
 
-third-of : {a b c : ℕ} {ks : List ℕ} → Answers (a ∷ b ∷ c ∷ ks) c
-third-of = inr (List·Memᴰ·tail (List·Memᴰ·tail (List·Memᴰ·head refl)))
+-- Numbers from 100 on, which no refusal has.
+abbrev Done : List ℕ → Type 0
+Done [] = Unit {0}
+Done (k ∷ ks) = (100 ≤ k) × Done ks
 
-create-answers : (a : TrieAnswer) → Answers (150 ∷ []) (createSays a .0)
-create-answers Given = first-of
-create-answers (TrieRefused c) = inl (c, refl)
+done-high : (ks : List ℕ) → Done ks → (k : ℕ) → List·Memᴰ k ks → 100 ≤ k
+done-high [] d k m = absurd (List·Memᴰ·not-nil m)
+done-high (j ∷ ks) d k m = go (List·Memᴰ·cases-cons m) (done-high ks (d .1) k)
+  where
+    go : (k ≡ j) ⊎ List·Memᴰ k ks → (List·Memᴰ k ks → 100 ≤ k) → 100 ≤ k
+    go (inl e) r = omega (arith, d .0)
+    go (inr n) r = r n
 
-rebuild-answers : (a : TrieAnswer) → Answers (151 ∷ []) (rebuildSays a .0)
-rebuild-answers Given = first-of
-rebuild-answers (TrieRefused c) = inl (c, refl)
+pub refused-below : {O : Type 0} {refusal : Cause → O} {o : O} {k : ℕ} (ks : List ℕ) → Done ks → k < 100 → Answers refusal ks o k → IsRefusal refusal o
+refused-below ks d h (inl r) = r
+refused-below {k = k} ks d h (inr m) = absurd (omega (arith, done-high ks d k m))
 
-recover-answers : (a : RecoverAnswer) → Answers (130 ∷ 131 ∷ 112 ∷ []) (recoverSays a .0)
-recover-answers (Freed N) = first-of
-recover-answers Nothing = second-of
-recover-answers (RecoverStopped made) = third-of
-recover-answers (RecoverRefused c) = inl (c, refl)
+-- The image of the empty trie.
+empty-image : imageOf new-trie ≡ zero-image
+unfolding imageOf cellsBytes sideNumber
+empty-image = refl
 
-look-up-answers : (a : LookUpAnswer) → Answers (100 ∷ 101 ∷ []) (lookUpSays a .0)
-look-up-answers (Found v) = first-of
-look-up-answers NotFound = second-of
-look-up-answers (LookUpRefused c) = inl (c, refl)
+-- Create.
+module _ (xs : List ℕ) (v b slots : ℕ) (image : List ℕ) (w : IsImage image) where
+  abbrev create-left : ℕ × List ℕ × List ℕ
+  create-left = palCreateOf xs v b slots image
 
-put-answers : (a : PutAnswer) → Answers (110 ∷ 111 ∷ 112 ∷ []) (putSays a .0)
-put-answers Added = first-of
-put-answers (Replaced old) = second-of
-put-answers (PutStopped made) = third-of
-put-answers (PutRefused c) = inl (c, refl)
+  create-refuses : (c : Cause) → createOf xs v b slots .answer ≡ TrieRefused c → create-left ≡ create-refusal xs c
+  create-refuses c a = let l = demand-1 .create-leaves xs v b slots c a in rw (create-is image w xs v b slots, a, l .0, l .1, empty-image)
 
-remove-answers : (a : RemoveAnswer) → Answers (120 ∷ 101 ∷ 112 ∷ []) (removeSays a .0)
-remove-answers Removed = first-of
-remove-answers NotHeld = second-of
-remove-answers (RemoveStopped made) = third-of
-remove-answers (RemoveRefused c) = inl (c, refl)
+  create-exactly : Exactly (create-refusal xs) create-left (create-table xs v b slots)
+  create-exactly c = (
+    λ e. let f : (createSays (createOf xs v b slots .answer) .0, createOf xs v b slots .file, imageOf (createOf xs v b slots .trie)) ≡ create-refusal xs c = sym (create-is image w xs v b slots) ∙ e in
+        demand-1 .create xs v b slots c .0 (create-cause (createOf xs v b slots .answer) c (where-ours .create xs v b slots) (ap (λ (o : ℕ × List ℕ × List ℕ). o .0) f)),
+    λ f. create-refuses c (demand-1 .create xs v b slots c .1 f),
+  )
 
-list-answers : (a : ListAnswer) → Answers (152 ∷ []) (listSays a .0)
-list-answers (Listed count) = first-of
-list-answers (ListRefused c) = inl (c, refl)
+  create-answers : (a : TrieAnswer) → createOf xs v b slots .answer ≡ a → Answers (create-refusal xs) (150 ∷ []) create-left (createSays a .0)
+  create-answers Given e = first-of
+  create-answers (TrieRefused c) e = inl (c, create-refuses c e)
+
+  create-told : Answers (create-refusal xs) (150 ∷ []) create-left (create-left .0)
+  create-told = subst (λ (k : ℕ). Answers (create-refusal xs) (150 ∷ []) create-left k) (sym (ap (λ (o : ℕ × List ℕ × List ℕ). o .0) (create-is image w xs v b slots))) (create-answers (createOf xs v b slots .answer) refl)
+
+-- Recover.
+module _ (xs : List ℕ) (limit : ℕ) (out : List ℕ) where
+  abbrev recover-left : ℕ × List ℕ × List ℕ
+  recover-left = palRecoverOf xs limit out
+
+  recover-refuses : (c : Cause) → recoverOf xs limit .answer ≡ RecoverRefused c → recover-left ≡ recover-refusal xs out c
+  recover-refuses c a = rw (recover-is xs limit out, a, demand-1 .recover-leaves xs limit c a)
+
+  recover-exactly : Exactly (recover-refusal xs out) recover-left (recover-table xs limit)
+  recover-exactly c = (
+    λ e. let f : (recoverSays (recoverOf xs limit .answer) .0, recoverOf xs limit .file, outAfter (recoverSays (recoverOf xs limit .answer)) out) ≡ recover-refusal xs out c = sym (recover-is xs limit out) ∙ e in
+        demand-1 .recover xs limit c .0 (recover-cause (recoverOf xs limit .answer) c (where-ours .recover xs limit) (ap (λ (o : ℕ × List ℕ × List ℕ). o .0) f)),
+    λ f. recover-refuses c (demand-1 .recover xs limit c .1 f),
+  )
+
+  recover-answers : (a : RecoverAnswer) → recoverOf xs limit .answer ≡ a → Answers (recover-refusal xs out) (130 ∷ 131 ∷ 112 ∷ []) recover-left (recoverSays a .0)
+  recover-answers (Freed N) e = first-of
+  recover-answers Nothing e = second-of
+  recover-answers (RecoverStopped made) e = third-of
+  recover-answers (RecoverRefused c) e = inl (c, recover-refuses c e)
+
+  recover-told : Answers (recover-refusal xs out) (130 ∷ 131 ∷ 112 ∷ []) recover-left (recover-left .0)
+  recover-told = subst (λ (k : ℕ). Answers (recover-refusal xs out) (130 ∷ 131 ∷ 112 ∷ []) recover-left k) (sym (ap (λ (o : ℕ × List ℕ × List ℕ). o .0) (recover-is xs limit out))) (recover-answers (recoverOf xs limit .answer) refl)
+
+-- Rebuild.
+module _ (xs image : List ℕ) (w : IsImage image) where
+  abbrev rebuild-left : ℕ × List ℕ
+  rebuild-left = palRebuildOf xs image
+
+  rebuild-refuses : (c : Cause) → rebuildOf xs .answer ≡ TrieRefused c → rebuild-left ≡ rebuild-refusal c
+  rebuild-refuses c a = rw (rebuild-is image w xs, a, demand-1 .rebuild-leaves xs c a, empty-image)
+
+  rebuild-exactly : Exactly (rebuild-refusal) rebuild-left (rebuild-table xs)
+  rebuild-exactly c = (
+    λ e. let f : (rebuildSays (rebuildOf xs .answer) .0, imageOf (rebuildOf xs .trie)) ≡ rebuild-refusal c = sym (rebuild-is image w xs) ∙ e in
+        demand-1 .rebuild xs c .0 (rebuild-cause (rebuildOf xs .answer) c (where-ours .rebuild xs) (ap (λ (o : ℕ × List ℕ). o .0) f)),
+    λ f. rebuild-refuses c (demand-1 .rebuild xs c .1 f),
+  )
+
+  rebuild-answers : (a : TrieAnswer) → rebuildOf xs .answer ≡ a → Answers (rebuild-refusal) (151 ∷ []) rebuild-left (rebuildSays a .0)
+  rebuild-answers Given e = first-of
+  rebuild-answers (TrieRefused c) e = inl (c, rebuild-refuses c e)
+
+  rebuild-told : Answers (rebuild-refusal) (151 ∷ []) rebuild-left (rebuild-left .0)
+  rebuild-told = subst (λ (k : ℕ). Answers (rebuild-refusal) (151 ∷ []) rebuild-left k) (sym (ap (λ (o : ℕ × List ℕ). o .0) (rebuild-is image w xs))) (rebuild-answers (rebuildOf xs .answer) refl)
+
+-- Look up.
+module _ (xs image name out : List ℕ) (w : IsImage image) where
+  abbrev look-up-left : ℕ × List ℕ
+  look-up-left = palLookUpOf xs image name out
+
+  look-up-refuses : (c : Cause) → lookUpOf xs (trieOf image) name ≡ LookUpRefused c → look-up-left ≡ look-up-refusal out c
+  look-up-refuses c a = rw (look-up-is image w xs name out, a)
+
+  look-up-exactly : IsOut out → Exactly (look-up-refusal out) look-up-left (look-up-table xs (trieOf image) name)
+  look-up-exactly h c = (
+    λ e. let f : (lookUpSays (lookUpOf xs (trieOf image) name) .0, outAfter (lookUpSays (lookUpOf xs (trieOf image) name)) out) ≡ look-up-refusal out c = sym (look-up-is image w xs name out) ∙ e in
+        demand-1 .look-up xs (trieOf image) name c .0 (look-up-cause out (omega arith) c (lookUpOf xs (trieOf image) name) (ap (λ (o : ℕ × List ℕ). o .0) f) (ap (λ (o : ℕ × List ℕ). o .1) f)),
+    λ f. look-up-refuses c (demand-1 .look-up xs (trieOf image) name c .1 f),
+  )
+
+  look-up-answers : (a : LookUpAnswer) → lookUpOf xs (trieOf image) name ≡ a → Answers (look-up-refusal out) (100 ∷ 101 ∷ []) look-up-left (lookUpSays a .0)
+  look-up-answers (Found v) e = first-of
+  look-up-answers NotFound e = second-of
+  look-up-answers (LookUpRefused c) e = inl (c, look-up-refuses c e)
+
+  look-up-told : Answers (look-up-refusal out) (100 ∷ 101 ∷ []) look-up-left (look-up-left .0)
+  look-up-told = subst (λ (k : ℕ). Answers (look-up-refusal out) (100 ∷ 101 ∷ []) look-up-left k) (sym (ap (λ (o : ℕ × List ℕ). o .0) (look-up-is image w xs name out))) (look-up-answers (lookUpOf xs (trieOf image) name) refl)
+
+-- Put.
+module _ (xs image name : List ℕ) (v limit : ℕ) (out : List ℕ) (w : IsImage image) where
+  abbrev put-left : ℕ × List ℕ × List ℕ × List ℕ
+  put-left = palPutOf xs image name v limit out
+
+  put-refuses : (c : Cause) → putOf xs (trieOf image) name v limit .answer ≡ PutRefused c → put-left ≡ change-refusal xs image out c
+  put-refuses c a = rw (put-is image w xs name v limit out, a, demand-1 .put-leaves xs (trieOf image) name v limit c a .0)
+
+  put-exactly : IsOut out → Exactly (change-refusal xs image out) put-left (put-table xs (trieOf image) name v limit)
+  put-exactly h c = (
+    λ e. let f : (putSays (putOf xs (trieOf image) name v limit .answer) .0, putOf xs (trieOf image) name v limit .file, imageAfter (putOf xs (trieOf image) name v limit .answer) (putOf xs (trieOf image) name v limit .trie) image, outAfter (putSays (putOf xs (trieOf image) name v limit .answer)) out) ≡ change-refusal xs image out c = sym (put-is image w xs name v limit out) ∙ e in
+        demand-1 .put xs (trieOf image) name v limit c .0 (put-cause out (omega arith) c (putOf xs (trieOf image) name v limit .answer) (ap (λ (o : ℕ × List ℕ × List ℕ × List ℕ). o .0) f) (ap (λ (o : ℕ × List ℕ × List ℕ × List ℕ). o .3) f)),
+    λ f. put-refuses c (demand-1 .put xs (trieOf image) name v limit c .1 f),
+  )
+
+  put-answers : (a : PutAnswer) → putOf xs (trieOf image) name v limit .answer ≡ a → Answers (change-refusal xs image out) (110 ∷ 111 ∷ 112 ∷ []) put-left (putSays a .0)
+  put-answers Added e = first-of
+  put-answers (Replaced old) e = second-of
+  put-answers (PutStopped made) e = third-of
+  put-answers (PutRefused c) e = inl (c, put-refuses c e)
+
+  put-told : Answers (change-refusal xs image out) (110 ∷ 111 ∷ 112 ∷ []) put-left (put-left .0)
+  put-told = subst (λ (k : ℕ). Answers (change-refusal xs image out) (110 ∷ 111 ∷ 112 ∷ []) put-left k) (sym (ap (λ (o : ℕ × List ℕ × List ℕ × List ℕ). o .0) (put-is image w xs name v limit out))) (put-answers (putOf xs (trieOf image) name v limit .answer) refl)
+
+-- Remove.
+module _ (xs image name : List ℕ) (limit : ℕ) (out : List ℕ) (w : IsImage image) where
+  abbrev remove-left : ℕ × List ℕ × List ℕ × List ℕ
+  remove-left = palRemoveOf xs image name limit out
+
+  remove-refuses : (c : Cause) → removeOf xs (trieOf image) name limit .answer ≡ RemoveRefused c → remove-left ≡ change-refusal xs image out c
+  remove-refuses c a = rw (remove-is image w xs name limit out, a, demand-1 .remove-leaves xs (trieOf image) name limit c a)
+
+  remove-exactly : IsOut out → Exactly (change-refusal xs image out) remove-left (remove-table xs (trieOf image) name limit)
+  remove-exactly h c = (
+    λ e. let f : (removeSays (removeOf xs (trieOf image) name limit .answer) .0, removeOf xs (trieOf image) name limit .file, image, outAfter (removeSays (removeOf xs (trieOf image) name limit .answer)) out) ≡ change-refusal xs image out c = sym (remove-is image w xs name limit out) ∙ e in
+        demand-1 .remove xs (trieOf image) name limit c .0 (remove-cause out (omega arith) c (removeOf xs (trieOf image) name limit .answer) (ap (λ (o : ℕ × List ℕ × List ℕ × List ℕ). o .0) f) (ap (λ (o : ℕ × List ℕ × List ℕ × List ℕ). o .3) f)),
+    λ f. remove-refuses c (demand-1 .remove xs (trieOf image) name limit c .1 f),
+  )
+
+  remove-answers : (a : RemoveAnswer) → removeOf xs (trieOf image) name limit .answer ≡ a → Answers (change-refusal xs image out) (120 ∷ 101 ∷ 112 ∷ []) remove-left (removeSays a .0)
+  remove-answers Removed e = first-of
+  remove-answers NotHeld e = second-of
+  remove-answers (RemoveStopped made) e = third-of
+  remove-answers (RemoveRefused c) e = inl (c, remove-refuses c e)
+
+  remove-told : Answers (change-refusal xs image out) (120 ∷ 101 ∷ 112 ∷ []) remove-left (remove-left .0)
+  remove-told = subst (λ (k : ℕ). Answers (change-refusal xs image out) (120 ∷ 101 ∷ 112 ∷ []) remove-left k) (sym (ap (λ (o : ℕ × List ℕ × List ℕ × List ℕ). o .0) (remove-is image w xs name limit out))) (remove-answers (removeOf xs (trieOf image) name limit .answer) refl)
+
+-- List.
+module _ (xs image low high output out : List ℕ) (w : IsImage image) where
+  abbrev list-left : ℕ × List ℕ × List ℕ
+  list-left = palListOf xs image low high output out
+
+  list-refuses : (c : Cause) → listOf xs (trieOf image) low high output .answer ≡ ListRefused c → list-left ≡ list-refusal output out c
+  list-refuses c a = rw (list-is image w xs low high output out, a, demand-1 .list-leaves xs (trieOf image) low high output c a)
+
+  list-exactly : IsOut out → Exactly (list-refusal output out) list-left (list-table xs (trieOf image) low high output)
+  list-exactly h c = (
+    λ e. let f : (listSays (listOf xs (trieOf image) low high output .answer) .0, listOf xs (trieOf image) low high output .output, outAfter (listSays (listOf xs (trieOf image) low high output .answer)) out) ≡ list-refusal output out c = sym (list-is image w xs low high output out) ∙ e in
+        demand-1 .list xs (trieOf image) low high output c .0 (list-cause out (omega arith) c (listOf xs (trieOf image) low high output .answer) (ap (λ (o : ℕ × List ℕ × List ℕ). o .0) f) (ap (λ (o : ℕ × List ℕ × List ℕ). o .2) f)),
+    λ f. list-refuses c (demand-1 .list xs (trieOf image) low high output c .1 f),
+  )
+
+  list-answers : (a : ListAnswer) → listOf xs (trieOf image) low high output .answer ≡ a → Answers (list-refusal output out) (152 ∷ []) list-left (listSays a .0)
+  list-answers (Listed count) e = first-of
+  list-answers (ListRefused c) e = inl (c, list-refuses c e)
+
+  list-told : Answers (list-refusal output out) (152 ∷ []) list-left (list-left .0)
+  list-told = subst (λ (k : ℕ). Answers (list-refusal output out) (152 ∷ []) list-left k) (sym (ap (λ (o : ℕ × List ℕ × List ℕ). o .0) (list-is image w xs low high output out))) (list-answers (listOf xs (trieOf image) low high output .answer) refl)
 
 -- Check.
 check-answers : (k : Kind) → List·Memᴰ (checkSays k .0) (140 ∷ 141 ∷ 142 ∷ [])
@@ -84,57 +230,23 @@ pub check-number : (xs : List ℕ) → palCheckOf xs ≡ checkSays (checkFile xs
 unfolding palCheckOf
 check-number xs = refl
 
--- The image of the empty trie.
-empty-image : imageOf new-trie ≡ zero-image
-unfolding imageOf cellsBytes sideNumber
-empty-image = refl
-
 pub demand-1-c : Demand1C our-c-calls
 demand-1-c = record {
-  create = λ xs v b slots image w. rw (create-is image w xs v b slots)
-      (exactly createSays TrieRefused create-cause (λ c. refl) (createOf xs v b slots .answer) (create-table xs v b slots) (demand-1 .create xs v b slots));
-  recover = λ xs limit out. rw (recover-is xs limit out)
-      (exactly recoverSays RecoverRefused recover-cause (λ c. refl) (recoverOf xs limit .answer) (recover-table xs limit) (demand-1 .recover xs limit));
-  rebuild = λ xs image w. rw (rebuild-is image w xs)
-      (exactly rebuildSays TrieRefused rebuild-cause (λ c. refl) (rebuildOf xs .answer) (rebuild-table xs) (demand-1 .rebuild xs));
-  look-up = λ xs image name out w. rw (look-up-is image w xs name out)
-      (exactly lookUpSays LookUpRefused look-up-cause (λ c. refl) (lookUpOf xs (trieOf image) name) (look-up-table xs (trieOf image) name) (demand-1 .look-up xs (trieOf image) name));
-  put = λ xs image name v limit out w. rw (put-is image w xs name v limit out)
-      (exactly putSays PutRefused put-cause (λ c. refl) (putOf xs (trieOf image) name v limit .answer) (put-table xs (trieOf image) name v limit) (demand-1 .put xs (trieOf image) name v limit));
-  remove = λ xs image name limit out w. rw (remove-is image w xs name limit out)
-      (exactly removeSays RemoveRefused remove-cause (λ c. refl) (removeOf xs (trieOf image) name limit .answer) (remove-table xs (trieOf image) name limit) (demand-1 .remove xs (trieOf image) name limit));
-  list = λ xs image low high output out w. rw (list-is image w xs low high output out)
-      (exactly listSays ListRefused list-cause (λ c. refl) (listOf xs (trieOf image) low high output .answer) (list-table xs (trieOf image) low high output) (demand-1 .list xs (trieOf image) low high output));
-  create-says = λ xs v b slots image w. rw (create-is image w xs v b slots) (create-answers (createOf xs v b slots .answer));
-  recover-says = λ xs limit out. rw (recover-is xs limit out) (recover-answers (recoverOf xs limit .answer));
-  rebuild-says = λ xs image w. rw (rebuild-is image w xs) (rebuild-answers (rebuildOf xs .answer));
-  look-up-says = λ xs image name out w. rw (look-up-is image w xs name out) (look-up-answers (lookUpOf xs (trieOf image) name));
-  put-says = λ xs image name v limit out w. rw (put-is image w xs name v limit out) (put-answers (putOf xs (trieOf image) name v limit .answer));
-  remove-says = λ xs image name limit out w. rw (remove-is image w xs name limit out) (remove-answers (removeOf xs (trieOf image) name limit .answer));
-  list-says = λ xs image low high output out w. rw (list-is image w xs low high output out) (list-answers (listOf xs (trieOf image) low high output .answer));
+  create = create-exactly;
+  recover = recover-exactly;
+  rebuild = rebuild-exactly;
+  look-up = look-up-exactly;
+  put = put-exactly;
+  remove = remove-exactly;
+  list = list-exactly;
+  create-says = create-told;
+  recover-says = recover-told;
+  rebuild-says = rebuild-told;
+  look-up-says = look-up-told;
+  put-says = put-told;
+  remove-says = remove-told;
+  list-says = list-told;
   check-says = λ xs. rw (check-number xs) (check-answers (checkFile xs));
-  create-leaves = λ xs v b slots image c w e.
-      let a = create-cause (createOf xs v b slots .answer) c (rw (create-is image w xs v b slots) at e) in
-      let l = demand-1 .create-leaves xs v b slots c a in
-      rw (create-is image w xs v b slots, a, l .0, l .1, empty-image);
-  recover-leaves = λ xs limit out c e.
-      let a = recover-cause (recoverOf xs limit .answer) c (rw (recover-is xs limit out) at e) in
-      rw (recover-is xs limit out, a, demand-1 .recover-leaves xs limit c a);
-  rebuild-leaves = λ xs image c w e.
-      let a = rebuild-cause (rebuildOf xs .answer) c (rw (rebuild-is image w xs) at e) in
-      rw (rebuild-is image w xs, a, demand-1 .rebuild-leaves xs c a, empty-image);
-  look-up-leaves = λ xs image name out c w e.
-      let a = look-up-cause (lookUpOf xs (trieOf image) name) c (rw (look-up-is image w xs name out) at e) in
-      rw (look-up-is image w xs name out, a);
-  put-leaves = λ xs image name v limit out c w e.
-      let a = put-cause (putOf xs (trieOf image) name v limit .answer) c (rw (put-is image w xs name v limit out) at e) in
-      rw (put-is image w xs name v limit out, a, demand-1 .put-leaves xs (trieOf image) name v limit c a .0);
-  remove-leaves = λ xs image name limit out c w e.
-      let a = remove-cause (removeOf xs (trieOf image) name limit .answer) c (rw (remove-is image w xs name limit out) at e) in
-      rw (remove-is image w xs name limit out, a, demand-1 .remove-leaves xs (trieOf image) name limit c a);
-  list-leaves = λ xs image low high output out c w e.
-      let a = list-cause (listOf xs (trieOf image) low high output .answer) c (rw (list-is image w xs low high output out) at e) in
-      rw (list-is image w xs low high output out, a, demand-1 .list-leaves xs (trieOf image) low high output c a);
   create-malformed = λ xs v b slots image n. create-malformed image n xs v b slots;
   rebuild-malformed = λ xs image n. rebuild-malformed image n xs;
   look-up-malformed = λ xs image name out n. lookUp-malformed image n xs name out;

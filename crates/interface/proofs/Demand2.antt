@@ -27,7 +27,7 @@ truthful out (truly-absent B i f) = truly-absent-c B i f
 
 telling : {fs : List Slot} {n : Str} {a : LookUpAnswer} (out : List ℕ) → Tells fs n a → TellsC fs n out (lookUpSays a .0, outAfter (lookUpSays a) out)
 telling out (told T) = told-c (truthful out T)
-telling out stale = stale-c
+telling out (stale {k = k}) = stale-c k
 
 pub created-said : (a : TrieAnswer) → createSays a .0 ≡ 150 → a ≡ Given
 created-said Given e = refl

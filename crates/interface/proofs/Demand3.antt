@@ -1,5 +1,5 @@
 -- Demand 3 of the C interface: a history over images is a history over tries, so what holds after the one holds after the other.
-use Rattle.model.proofs.Prelude.{List, Option, [], _∷_, _≡_, _≤_, arith, eqb, false, length, ne-eqb, nothing, refl, some, subst, sym, ℕ, ℕ-discrete}
+use Rattle.model.proofs.Prelude.{List, Option, [], _<_, _∷_, _≡_, _≤_, arith, eqb, false, length, ne-eqb, nothing, refl, some, subst, sym, ℕ, ℕ-discrete}
 use Rattle.model.specs.declared.Cause.{Cause}
 use Rattle.model.specs.declared.PutAnswer.{PutAnswer}
 use Rattle.model.specs.declared.PutAnswer.the-variants.{Added, Refused as PutRefused, Replaced, Stopped as PutStopped}
@@ -22,11 +22,12 @@ use Rattle.image.specs.Images.{imageOf, imageSize, trieOf}
 use Rattle.capi.specs.Doors.{imageAfter, malformed, outAfter, palCreateOf, palPutOf, palRecoverOf, palRemoveOf}
 use Rattle.capi.proofs.Doors.{create-malformed, put-malformed, rebuild-malformed, remove-malformed}
 use Rattle.interface.specs.Calls.{IsImage, our-c-calls}
+use Rattle.interface.specs.Demand1.{IsRefusal, change-refusal, recover-refusal}
 use Rattle.interface.specs.Demand3.{Demand3C, EventC, HoldsC, KeptC, RebuildsC, RecoversC, StateC, StoppedC, held-says}
 use Rattle.interface.specs.Demand3 as C
 use Rattle.interface.proofs.Saying.{create-is, look-up-is, number-small, put-is, rebuild-is, recover-is, remove-is}
 use Rattle.interface.proofs.Images.{image-size, read-back, replaced-same}
-use Rattle.interface.proofs.Demand1.{demand-1-c}
+use Rattle.interface.proofs.Demand1.{demand-1-c, refused-below}
 use Rattle.interface.proofs.Demand2.{created-said}
 
 -- The state over tries.
@@ -264,17 +265,22 @@ module _ (xs : List ℕ) where
       let p = recover-stop (recoverOf xs limit .answer) (rw (recover-is xs limit out) at e) in
       rw (recover-is xs limit out, p .1) (stopped out (h limit (p .0) (p .1)))
 
-  put-denies : (i name : List ℕ) (v limit : ℕ) (out : List ℕ) (c : Cause) → palPutOf xs i name v limit out .0 ≡ number c → palPutOf xs i name v limit out ≡ (number c, xs, i, out)
-  put-denies i name v limit out c e = elim (ℕ-discrete (length i) imageSize) [
-    | yes z ↦ demand-1-c .put-leaves xs i name v limit out c z e
-    | no n ↦ let z : malformed ≡ number c = rw (put-malformed i n xs name v limit out) at e in absurd (omega (arith, number-small c))
+  put-denies : (i name : List ℕ) (v limit : ℕ) (out : List ℕ) → palPutOf xs i name v limit out .0 < 100
+      → IsRefusal (change-refusal xs i out) (palPutOf xs i name v limit out)
+  put-denies i name v limit out e = elim (ℕ-discrete (length i) imageSize) [
+    | yes z ↦ refused-below _ (omega arith, (omega arith, (omega arith, tt))) e (demand-1-c .put-says xs i name v limit out z)
+    | no n ↦ let z : malformed < 100 = rw (put-malformed i n xs name v limit out) at e in absurd (omega arith)
   ]
 
-  remove-denies : (i name : List ℕ) (limit : ℕ) (out : List ℕ) (c : Cause) → palRemoveOf xs i name limit out .0 ≡ number c → palRemoveOf xs i name limit out ≡ (number c, xs, i, out)
-  remove-denies i name limit out c e = elim (ℕ-discrete (length i) imageSize) [
-    | yes z ↦ demand-1-c .remove-leaves xs i name limit out c z e
-    | no n ↦ let z : malformed ≡ number c = rw (remove-malformed i n xs name limit out) at e in absurd (omega (arith, number-small c))
+  remove-denies : (i name : List ℕ) (limit : ℕ) (out : List ℕ) → palRemoveOf xs i name limit out .0 < 100
+      → IsRefusal (change-refusal xs i out) (palRemoveOf xs i name limit out)
+  remove-denies i name limit out e = elim (ℕ-discrete (length i) imageSize) [
+    | yes z ↦ refused-below _ (omega arith, (omega arith, (omega arith, tt))) e (demand-1-c .remove-says xs i name limit out z)
+    | no n ↦ let z : malformed < 100 = rw (remove-malformed i n xs name limit out) at e in absurd (omega arith)
   ]
+
+  recover-denies : (limit : ℕ) (out : List ℕ) → palRecoverOf xs limit out .0 < 100 → IsRefusal (recover-refusal xs out) (palRecoverOf xs limit out)
+  recover-denies limit out e = refused-below _ (omega arith, (omega arith, (omega arith, tt))) e (demand-1-c .recover-says xs limit out)
 
   comes-back : (m : Map) → ((limit : ℕ) → limit ≤ 2 → Recovers our-calls xs m limit (recoverOf xs limit .answer) (recoverOf xs limit .file))
       → (limit : ℕ) (out : List ℕ) → limit ≤ 2 → RecoversC our-c-calls xs m limit out (palRecoverOf xs limit out)
@@ -286,7 +292,7 @@ holds (C.running xs i m) w H = record {
   recovery = comes-back xs m (H .recovery);
   put-refused = put-denies xs;
   remove-refused = remove-denies xs;
-  recover-refused = demand-1-c .recover-leaves xs;
+  recover-refused = recover-denies xs;
   put-stopped = λ i name v limit out e. put-stops xs (H .put-stopped) i name v limit out e .0;
   put-image = λ i name v limit out e. put-stops xs (H .put-stopped) i name v limit out e .1;
   remove-stopped = remove-stops xs (H .remove-stopped);
@@ -298,7 +304,7 @@ holds (C.down xs m) w H = record {
   recovery = comes-back xs m (H .recovery);
   put-refused = put-denies xs;
   remove-refused = remove-denies xs;
-  recover-refused = demand-1-c .recover-leaves xs;
+  recover-refused = recover-denies xs;
   put-stopped = λ i name v limit out e. put-stops xs (H .put-stopped) i name v limit out e .0;
   put-image = λ i name v limit out e. put-stops xs (H .put-stopped) i name v limit out e .1;
   remove-stopped = remove-stops xs (H .remove-stopped);

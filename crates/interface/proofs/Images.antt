@@ -8,15 +8,15 @@ use Rattle.model.specs.Order.{Str}
 use Rattle.model.specs.Names.{Legal, filled, legalName}
 use Rattle.model.specs.Entries.{find}
 use Rattle.model.specs.Files.{In, Slot, entries-of, first, head, slot-at}
-use Rattle.model.specs.Changes.{Change, Result, Store, fits, holds?, put, splits}
+use Rattle.model.specs.Changes.{Result, Store, holds?, put}
 use Rattle.model.specs.Places.{place-of}
 use Rattle.model.specs.Calls.{Looked, PutDone, fine, lookedOf, putAnswer, putLooked, putMade, putOf, refusing, storesBytes, trieAfter}
 use Rattle.model.proofs.Names.{legalName-legal}
 use Rattle.model.proofs.Files.{first-right, one-range}
-use Rattle.model.proofs.Changes.{well-a}
+use Rattle.model.proofs.Changes.{Change, fits, splits, well-a}
 use Rattle.model.proofs.Calls.{Answered, is-denied, is-made, put-right}
 use Rattle.model.proofs.Format.{fileBytes-readFile}
-use Rattle.writing.proofs.Changing.{length-held}
+use Rattle.entries.proofs.Parts.{length-held}
 use Rattle.promises.specs.Demand2.{LeadsRight}
 use Rattle.promises.proofs.Leading.{Passed, looked-passed}
 use Rattle.image.specs.Images.{imageOf, trieOf}

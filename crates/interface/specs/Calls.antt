@@ -34,3 +34,7 @@ our-c-calls = record {
 -- A trie image has exactly 1,540 bytes.
 abbrev pub IsImage : List ℕ → Type 0
 IsImage image = length image ≡ imageSize
+
+-- `out` has four words.
+abbrev pub IsOut : List ℕ → Type 0
+IsOut out = length out ≡ 4

@@ -22,10 +22,10 @@ pub data TruthfulC (fs : List Slot) (n : Str) (out : List ℕ) : ℕ × List ℕ
       → TruthfulC fs n out (100, sets out 0 (v ∷ 0 ∷ []))
   truly-absent : (B : ℕ) → In (head (slot-at fs B)) n → find n (entries-of (slot-at fs B)) ≡ nothing → TruthfulC fs n out (101, out)
 
--- Or 4, stale.
+-- Or 4, stale, with a digit number in word 0.
 pub data TellsC (fs : List Slot) (n : Str) (out : List ℕ) : ℕ × List ℕ → Type 0 where
   told : {a : ℕ × List ℕ} → TruthfulC fs n out a → TellsC fs n out a
-  stale : TellsC fs n out (4, out)
+  stale : (k : ℕ) → TellsC fs n out (4, sets out 0 (k ∷ []))
 
 -- Demand 2 of the C calls.
 pub record Demand2C (C : CCalls) : Type 0 where

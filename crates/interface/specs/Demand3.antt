@@ -6,16 +6,15 @@ use mathlib.Core.List.{List, [], _∷_}
 use Prim.Native.Nat.{_<_, _^_, _≤_, ℕ}
 use lib.Dec.{eqb}
 use lib.Seq.{sets}
-use Rattle.model.specs.declared.Cause.{Cause}
 use Rattle.model.specs.Order.{Str}
 use Rattle.model.specs.Names.{filled}
 use Rattle.model.specs.Changes.{Map, Means, meant, put as to-put, remove as to-remove}
-use Rattle.model.specs.Answers.{number}
 use Rattle.promises.specs.Demand1.{LegalName}
 use Rattle.promises.specs.Demand2.{LeadsRight}
 use Rattle.promises.specs.Demand3.{replaced}
 use Rattle.image.specs.Images.{trieOf}
 use Rattle.interface.specs.Calls.{CCalls, IsImage}
+use Rattle.interface.specs.Demand1.{IsRefusal, change-refusal, recover-refusal}
 
 -- What can happen: as in demand 3, but each call is lent an image and an `out`. A put or a remove has the image in hand, or any
 -- other bytes at all, of any length; a rebuilding is lent any bytes.
@@ -132,13 +131,13 @@ module _ (C : CCalls) where
   pub record HoldsC (s : StateC) : Type 0 where
     pub in-hand : InHandC s
     pub recovery : (limit : ℕ) (out : List ℕ) → limit ≤ 2 → RecoversC (file-of s) (said s) limit out (C .recover (file-of s) limit out)
-    -- R13.3: a refused call changes nothing, whatever the image.
-    pub put-refused : (image name : List ℕ) (v limit : ℕ) (out : List ℕ) (c : Cause) → C .put (file-of s) image name v limit out .0 ≡ number c
-        → C .put (file-of s) image name v limit out ≡ (number c, file-of s, image, out)
-    pub remove-refused : (image name : List ℕ) (limit : ℕ) (out : List ℕ) (c : Cause) → C .remove (file-of s) image name limit out .0 ≡ number c
-        → C .remove (file-of s) image name limit out ≡ (number c, file-of s, image, out)
-    pub recover-refused : (limit : ℕ) (out : List ℕ) (c : Cause) → C .recover (file-of s) limit out .0 ≡ number c
-        → C .recover (file-of s) limit out ≡ (number c, file-of s, out)
+    -- R13.3: a refused call, whose number is below 100, changes no byte, whatever the image.
+    pub put-refused : (image name : List ℕ) (v limit : ℕ) (out : List ℕ) → C .put (file-of s) image name v limit out .0 < 100
+        → IsRefusal (change-refusal (file-of s) image out) (C .put (file-of s) image name v limit out)
+    pub remove-refused : (image name : List ℕ) (limit : ℕ) (out : List ℕ) → C .remove (file-of s) image name limit out .0 < 100
+        → IsRefusal (change-refusal (file-of s) image out) (C .remove (file-of s) image name limit out)
+    pub recover-refused : (limit : ℕ) (out : List ℕ) → C .recover (file-of s) limit out .0 < 100
+        → IsRefusal (recover-refusal (file-of s) out) (C .recover (file-of s) limit out)
     -- R13.3: a call stopped after any of its stores; the image is as it was, byte for byte.
     pub put-stopped : (image name : List ℕ) (v limit : ℕ) (out : List ℕ) → C .put (file-of s) image name v limit out .0 ≡ 112
         → StoppedC limit (file-of s) (C .put (file-of s) image name v limit out .1) out (C .put (file-of s) image name v limit out .3)

@@ -4,18 +4,19 @@ use Rattle.model.specs.declared.Cell.{Cell}
 use Rattle.model.specs.declared.Side.{Side}
 use Rattle.model.specs.declared.Side.the-variants.{Cell as further, Slot as slot}
 use Rattle.model.specs.declared.Trie.{Trie}
-use Rattle.model.specs.Order.{Asc, Low, Str, end, none, step}
+use Rattle.model.specs.Order.{Low, Str, none}
 use Rattle.model.specs.Files.{Slot, Sound, all, bounds, order-of, ranges, strings-of}
-use Rattle.model.specs.Tries.{Agrees, Leads, Leaves, Numbers, Reads, Spans, Tree, at-cell, cell, here, leaf, leaf-last, leaf-next, leaves, node, occ, one-if, root-side, strings, there, zero-cell}
+use Rattle.model.specs.Tries.{Agrees, Leads, Leaves, Numbers, Reads, Tree, at-cell, cell, here, leaf, leaf-last, leaf-next, leaves, node, occ, one-if, root-side, strings, there, zero-cell}
 use Rattle.model.specs.Rebuilding.{label}
 use Rattle.model.specs.Checks.{sameStr}
 use Rattle.model.specs.Agreeing.{areNumbers, areZeroCells, eachOnce, isAgreeing, isTrieOf, joinTrees, readTree, sameSide, sameStrs, slotsBetween, times}
 use Rattle.model.proofs.Names.{both-true}
-use Rattle.model.proofs.Tries.{cast, flat-trie, strings-are, trie-flat}
+use Rattle.model.proofs.Tries.{Spans, cast, flat-trie, strings-are, trie-flat}
 use Rattle.model.proofs.Cells.{height, reads-height, visits-count}
 use Rattle.model.proofs.Files.{order-right, strings-asc, strings-right}
 use Rattle.model.proofs.Agreement.{CellsAgree, agrees-cells, cells-agree, labelled, leading}
 use Rattle.model.proofs.Checks.{both-join, either-true, sameStr-equal, sameStr-self, true-left, true-right}
+use Rattle.model.proofs.Order.{Asc, end, step}
 
 -- What is read is what the relation says, and enough fuel reads it.
 module _ (cs : List Cell) where

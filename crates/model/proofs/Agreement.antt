@@ -1,21 +1,23 @@
 -- Cells that agree with ranges in order; the strings and slots expected, as a cursor gives them.
-use Rattle.model.proofs.Prelude.{List, List·Memᴰ, List·Memᴰ·head, List·Memᴰ·tail, [], _++_, _+_, _-_, _<_, _∙_, _∷_, _≡_, _≤_, ap, append-nil, ap₂, arith, drop, getD-append-add, length, length-append, length-replicate, length-take, refl, replicate, suc, take, take-append-drop, take-append-seam, ℕ}
+use Rattle.model.proofs.Prelude.{List, List·Memᴰ, List·Memᴰ·head, List·Memᴰ·tail, [], _++_, _+_, _-_, _<_, _∙_, _∷_, _≡_, _≤_, ap, append-nil, ap₂, arith, decLt, getD-append-add, le-leb, length, length-append, length-replicate, length-take, refl, replicate, some, take, take-append-seam, ℕ}
 use Rattle.model.specs.declared.Cell.{Cell}
 use Rattle.model.specs.declared.Side.{Side}
 use Rattle.model.specs.declared.Side.the-variants.{Cell as further, Slot as slot}
 use Rattle.model.specs.declared.Trie.{Trie}
-use Rattle.model.specs.Order.{Low, Str, _≺_, _⊑_, _◁_, above, at, least, low?, none, over, top}
-use Rattle.model.specs.Files.{Chain, In, Ranges, Slot, Sound, all, bounds, fresh, head, last, next, ranges, slot-at, string-count, strings-of}
-use Rattle.model.specs.Tries.{Agrees, Leads, Leaves, Numbers, Reads, Spans, Tree, at-cell, first-leaf-of, leaf, leaves, node, occ, root-side, size, strings, trie-of, walk, walk-trie, zero-cell}
+use Rattle.model.specs.Order.{Low, Str, _≺_, _⊑_, _◁_, above, at, least, none, top}
+use Rattle.model.specs.Files.{Chain, In, IsString, Ranges, Slot, Sound, all, bounds, fresh, head, last, next, ranges, slot-at, string-count, strings-of}
+use Rattle.model.specs.Tries.{Agrees, Leads, Leaves, Numbers, Reads, Tree, at-cell, first-leaf-of, leaf, leaves, node, occ, root as no-side, root-side, size, strings, trie-of, walk-trie, walkOf, zero-cell}
 use Rattle.model.specs.Rebuilding.{label, laid, lay, rebuilt, rebuilt-trie, side-of}
+use Rattle.model.specs.Deciding.{low?, over}
 use Rattle.model.proofs.Lists.{at-replicate}
 use Rattle.model.proofs.Order.{le-take, le-trans, lt-le, lt-le-trans}
-use Rattle.model.proofs.Tries.{cast, cells-count, flat-trie, relabel-same, relabel-trie, strings-are, trie-flat}
+use Rattle.model.proofs.Tries.{Spans, cast, cells-count, flat-trie, relabel-same, relabel-trie, strings-are, trie-flat, walk}
 use Rattle.model.proofs.Strings.{asc-mem, asc-unique, fresh-asc, fresh-begins, trie-asc}
 use Rattle.model.proofs.Ranges.{bounds-all, chain-some, label-leads, leads-unique}
-use Rattle.model.proofs.Cells.{laid-each, laid-reads, reads-append, reads-size, upto, visits-count, walk-reads}
+use Rattle.model.proofs.Cells.{laid-each, laid-reads, reads-below, reads-size, upto, visits-count}
 use Rattle.model.proofs.Rebuilding.{rebuilt-agrees, walk-right}
 use Rattle.model.proofs.Files.{count-right, order-right, strings-asc, strings-every, strings-only, strings-right}
+use Rattle.model.proofs.Walks.{path-at, run-live, run-walk, spot, string-fits}
 
 -- The cells, from this side on, are a trie of these slots' bounds and their beginnings, each leaf leading to its bucket.
 pub record CellsAgree (F : Ranges) (Bs : List ℕ) (cs : List Cell) (a : Side) : Type 0 where
@@ -141,11 +143,20 @@ module _ {fs : List Slot} {t : Trie} (A : Agrees fs t) where
   pub visit-count : length (A .visits) ≡ t .count
   visit-count = visits-count (A .reads) (λ i h. A .once i (omega (arith, h, live-count))) ∙ live-count
 
-  pub whole-reads : Reads (t .cells) (root-side (t .count) (t .first)) (A .tree) (A .visits)
-  whole-reads = rw take-append-drop at (reads-append (drop (t .count) (t .cells)) (A .reads))
+  -- No string of a sound file has more than 24 digits (`string-fits`).
+  module _ (short : (x : Str) → IsString fs x → length x ≤ 24) (n : Str) where
+    pub whole-run : walkOf t n ≡ some (path-at n [] (A .tree), spot n [] no-side (A .reads), walk n [] (A .tree))
+    unfolding walkOf
+    whole-run =
+        rw (le-leb (t .count) 256 (A .few))
+        (run-live (t .count) (t .count) (t .cells) n [] no-side (root-side (t .count) (t .first))
+        ∙ run-walk (t .count) n (t .count) [] no-side (A .reads) (omega (arith, visit-count)) below (A .numbers) (λ x m. short x (A .only x m)))
+      where
+        below : (m : ℕ) → 0 < occ m (A .visits) → m < t .count
+        below m o = elim (decLt m (t .count)) [ yes h ↦ h | no h ↦ absurd (omega (arith, o, reads-below m (omega (arith, live-count)) (A .reads))) ]
 
-  pub whole-walk : (n : Str) → walk-trie t n ≡ walk n [] (A .tree)
-  whole-walk n = walk-reads n (suc (t .count)) [] whole-reads (omega (arith, visit-count))
+    pub whole-walk : walk-trie t n ≡ walk n [] (A .tree)
+    whole-walk = rw whole-run
 
 -- Agreement of a trie with a sound file (section 5 of the rules) is the cells' agreement with its ranges.
 module _ (b : ℕ) {fs : List Slot} (S : Sound b fs) where
@@ -234,4 +245,4 @@ module _ (b : ℕ) {fs : List Slot} (S : Sound b fs) where
   -- R5.13: each name arrives at the bucket whose range holds it.
   pub agrees-walk : {t : Trie} → Agrees fs t → (n : Str) → In (head (slot-at fs (walk-trie t n))) n
   unfolding agrees-cells
-  agrees-walk A n = rw (whole-walk A n) (walk-right (ranges fs) (agrees-cells A .trie) n)
+  agrees-walk A n = rw (whole-walk A (string-fits b S) n) (walk-right (ranges fs) (agrees-cells A .trie) n)

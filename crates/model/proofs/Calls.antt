@@ -4,9 +4,10 @@ use Rattle.model.specs.Order.{Low, Str, _⊑_, _◁_, at}
 use Rattle.model.specs.Names.{Legal}
 use Rattle.model.specs.Entries.{Entry, chosen, find, insert, without}
 use Rattle.model.specs.Files.{In, Slot, Sound, entries-of, first, free, head, slot-at, string-count, used}
-use Rattle.model.specs.Changes.{Change, Denied, Lowest, Request, Result, Store, absent, call, fits, free?, halves, holds?, no-room, put, put-in, refuse, remove, remove-in, removes, splits, stored, stores, stores-if, too-many}
+use Rattle.model.specs.Changes.{Denied, Lowest, Request, Result, Store, call, free?, halves, holds?, no-room, put, put-in, refuse, remove, remove-in, stored, stores, stores-if, too-many}
 use Rattle.model.proofs.Entries.{chosen-no, chosen-yes}
 use Rattle.model.proofs.Files.{bucket, first-before, first-passes, first-right, one-range}
+use Rattle.model.proofs.Changes.{Change, absent, fits, removes, splits}
 
 pub lowest-unique : {fs : List Slot} {M N : ℕ} → Lowest fs M → Lowest fs N → M ≡ N
 lowest-unique {fs} {M} {N} L K = elim (decLt M N) [

@@ -3,8 +3,8 @@ use Rattle.model.proofs.Prelude.{List, List·Memᴰ, List·Memᴰ·head
 use Rattle.model.specs.declared.Cell.{Cell}
 use Rattle.model.specs.declared.Side.{Side}
 use Rattle.model.specs.declared.Side.the-variants.{Cell as further}
-use Rattle.model.specs.Order.{Str, _⊑_, at, le?}
-use Rattle.model.specs.Tries.{Reads, Tree, at-cell, cell, here, leaf, node, occ, one-if, size, there, walk, walk-cells, zero-cell}
+use Rattle.model.specs.Order.{at}
+use Rattle.model.specs.Tries.{Reads, Tree, at-cell, here, leaf, node, occ, one-if, size, there, zero-cell}
 use Rattle.model.specs.Rebuilding.{lay, side-of}
 
 pub occ-append : (m : ℕ) (xs ys : List ℕ) → occ m (xs ++ ys) ≡ occ m xs + occ m ys
@@ -39,11 +39,6 @@ pub there-at : {cs : List Cell} {n : ℕ} {c : Cell} {L R : Tree} {vs ws : List 
     → Reads cs (further n) (node (c .digit) (c .number) L R) (n ∷ (vs ++ ws))
 there-at h e l r = rw (← e) (there h (rw (← e) at l) (rw (← e) at r))
 
-pub reads-append : {cs : List Cell} {a : Side} {t : Tree} {vs : List ℕ} (ds : List Cell) → Reads cs a t vs → Reads (cs ++ ds) a t vs
-reads-append ds here = here
-reads-append {cs} ds (there {n = n} h l r) =
-    there-at (rw length-append (omega arith)) (List·getD-append cs ds zero-cell n h) (reads-append ds l) (reads-append ds r)
-
 pub reads-set : {cs : List Cell} {a : Side} {t : Tree} {vs : List ℕ} (m : ℕ) (c : Cell) → occ m vs ≡ 0 → Reads cs a t vs → Reads (set cs m c) a t vs
 reads-set m c o here = here
 reads-set {cs} m c o (there {n = n} {vs = vs} {ws = ws} h l r) =
@@ -58,20 +53,6 @@ reads-agree len f (there {n = m} {vs = vs} {ws = ws} h l r) =
     there-at (omega arith) (f m (omega (arith, one-if-equal refl (ℕ-discrete m m))))
     (reads-agree len (λ i o. f i (omega (arith, o, occ-append i vs ws))) l)
     (reads-agree len (λ i o. f i (omega (arith, o, occ-append i vs ws))) r)
-
-pub walk-reads : {cs : List Cell} {a : Side} {t : Tree} {vs : List ℕ} (n : Str) (fuel : ℕ) (p : Str) → Reads cs a t vs → length vs < fuel → walk-cells cs n fuel p a ≡ walk n p t
-walk-reads n zero p r h = absurd (omega arith)
-walk-reads n (suc fuel) p here h = refl
-walk-reads {cs} n (suc fuel) p (there {n = m} {L = L} {R = R} {vs = vs} {ws = ws} i l r) h =
-    go (le? n q) (walk-reads n fuel q l (omega (arith, length-append vs ws))) (walk-reads n fuel p r (omega (arith, length-append vs ws)))
-  where
-    q : Str
-    q = cell (at-cell cs m .digit) (at-cell cs m .number) p
-
-    go : (d : Dec (n ⊑ q)) → walk-cells cs n fuel q (at-cell cs m .left) ≡ walk n q L → walk-cells cs n fuel p (at-cell cs m .right) ≡ walk n p R
-        → _≡_ {A = ℕ} (elim d [ yes h ↦ walk-cells cs n fuel q (at-cell cs m .left) | no h ↦ walk-cells cs n fuel p (at-cell cs m .right) ]) (elim d [ yes h ↦ walk n q L | no h ↦ walk n p R ])
-    go (yes h) e f = e
-    go (no h) e f = f
 
 pub reads-size : {cs : List Cell} {a : Side} {t : Tree} {vs : List ℕ} → Reads cs a t vs → length vs ≡ size t
 reads-size here = refl

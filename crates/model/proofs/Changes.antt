@@ -1,16 +1,41 @@
 -- All stores of a change made, the file is sound and says what was asked; a part of them, it is as before or cut, and
 -- recovers to what it was.
-use Rattle.model.proofs.Prelude.{List, List·Memᴰ, List·Memᴰ·head, List·Memᴰ·tail, Memᴰ·append-right, _++_, _<_, _∙_, _∷_, _≡_, _≢_, _≤_, _⊎_, ap, arith, fun-ext, getD-set-other, getD-set-same, inl, inr, length, length-set, refl, set, set-getD, set-set, subst, suc, sym, take, zero, ℕ, ℕ-discrete}
-use Rattle.model.specs.Order.{Low, Str, _≺_, _⊑_, _◁_, above, at, le?, none, over, str?}
+use Rattle.model.proofs.Prelude.{List, List·Memᴰ, List·Memᴰ·head, List·Memᴰ·tail, Memᴰ·append-right, [], _++_, _<_, _∙_, _∷_, _≡_, _≢_, _≤_, _⊎_, ap, arith, fun-ext, getD-set-other, getD-set-same, inl, inr, length, length-set, nothing, refl, set, set-getD, set-set, some, subst, suc, sym, take, zero, ℕ, ℕ-discrete}
+use Rattle.model.specs.Order.{Low, Str, _≺_, _⊑_, _◁_, above, at, none}
 use Rattle.model.specs.Names.{Bound, BoundLow, Legal, limit}
-use Rattle.model.specs.Entries.{Entry, Row, find, insert, move, name-at, not?, stay, without}
+use Rattle.model.specs.Entries.{Entry, Row, find, insert, move, name-at, stay, without}
 use Rattle.model.specs.Files.{Chain, Copied, Cut, In, IsUsed, Slot, Sound, Well, all, bounds, by-heads, entries-of, exactly, free, head, one-more, range, ranges, slot-at, string-count, used, well-used}
-use Rattle.model.specs.Changes.{Change, Lowest, Map, Means, Request, Store, absent, fits, meant, put, remove, removes, split-string, splits, stored}
+use Rattle.model.specs.Changes.{Lowest, Map, Means, Request, Store, halves, meant, put, remove, split-of, split-string, stored}
 use Rattle.model.proofs.Lists.{mem-insert, mem-parts}
 use Rattle.model.proofs.Order.{le-trans, low-at, low-lower, lt-le}
 use Rattle.model.proofs.Entries.{chosen-no, chosen-yes, find-at, find-drop, find-insert-other, find-insert-same, find-keep, insert-new, keep-comm, keep-insert-out, keep-parts, keep-some, length-insert, length-keep, row-insert, row-keep, split-bound, split-key, split-last, split-over, split-under}
 use Rattle.model.proofs.Files.{count-right, one-range, used-inside, well-parts}
 use Rattle.model.proofs.Splitting.{SplitAt, chain-split}
+use Rattle.model.specs.declared.Trie.{Trie}
+use Rattle.model.specs.Growth.{grown-trie}
+use Rattle.model.specs.Deciding.{le?, not?, over, str?}
+
+module _ (b : ℕ) (place : List Entry → ℕ) where
+  -- Where nothing is refused: what is asked, and the stores that it takes. One for a name that finds room (R7.2), two
+  -- for a split (R7.8), one to replace or to remove (R7.9, R7.10), none to remove an absent name (R7.11).
+  pub data Change (fs : List Slot) : Request → List Store → Type 0 where
+    fits : {A : ℕ} {l : Low} {u : Str} {es : List Entry} {n : Str} {v : ℕ} → slot-at fs A ≡ used l u es → Legal n → l ◁ n → n ⊑ u
+        → length (insert n v es) ≤ b → Change fs (put n v) ((A, used l u (insert n v es)) ∷ [])
+    splits : {A N : ℕ} {l : Low} {u : Str} {es : List Entry} {n : Str} {v : ℕ} → slot-at fs A ≡ used l u es → Legal n → l ◁ n → n ⊑ u
+        → b < length (insert n v es) → Lowest fs N → string-count (stored (halves b place N A l u (insert n v es)) fs) ≤ 256
+        → Change fs (put n v) (halves b place N A l u (insert n v es))
+    removes : {A : ℕ} {l : Low} {u : Str} {es : List Entry} {n : Str} {w : ℕ} → slot-at fs A ≡ used l u es → l ◁ n → n ⊑ u
+        → find n es ≡ some w → Change fs (remove n) ((A, used l u (without n es)) ∷ [])
+    absent : (A : ℕ) {l : Low} {u : Str} {es : List Entry} {n : Str} → slot-at fs A ≡ used l u es → l ◁ n → n ⊑ u
+        → find n es ≡ nothing → Change fs (remove n) []
+
+  -- R8.1: the trie changes with the last store of a split.
+  unfoldable pub trie-after : {fs : List Slot} {q : Request} {ss : List Store} → Change fs q ss → Trie → Trie
+  trie-after (fits is g lo up k) t = t
+  trie-after (splits {A = A} {N = N} {es = es} {n = n} {v = v} is g lo up k f c) t =
+      grown-trie t (name-at (insert n v es) (place (insert n v es))) (split-of b place (insert n v es)) A N
+  trie-after (removes is lo up e) t = t
+  trie-after (absent A is lo up e) t = t
 
 -- What a store at A leaves: the new slot at A, the old ones elsewhere.
 pub at-set : (P : ℕ → Slot → Type 0) (fs : List Slot) (A : ℕ) (x : Slot) → A < length fs → P A x → ((B : ℕ) → B ≢ A → P B (slot-at fs B)) → (B : ℕ) → P B (slot-at (set fs A x) B)

@@ -7,13 +7,13 @@ use Rattle.model.specs.Entries.{find, no-entries}
 use Rattle.model.specs.Files.{IsUsed, Sound, Well, created, entries-of, free, head, last, order-of, slot-at, well-free, well-used}
 use Rattle.model.specs.Tries.{Agrees}
 use Rattle.model.specs.Changes.{Means}
-use Rattle.model.specs.Format.{Contents, Sizes, entrySize, fileBytes}
+use Rattle.model.specs.Format.{Sizes, entrySize, fileBytes}
 use Rattle.model.specs.Calls.{new-trie}
 use Rattle.model.proofs.Lists.{at-replicate}
 use Rattle.model.proofs.Files.{count-right, order-right}
 use Rattle.model.proofs.Agreement.{rebuilt-trie-agrees}
 use Rattle.model.proofs.Changes.{Fine}
-use Rattle.model.proofs.Format.{bytes-fileBytes, readFile-fileBytes}
+use Rattle.model.proofs.Format.{Contents, bytes-fileBytes, readFile-fileBytes}
 use Rattle.model.proofs.Stores.{Left}
 
 module _ (b slots : ℕ) where

@@ -1,9 +1,10 @@
 -- What is found after an insertion and in a part that was kept; parts and their lengths; rows of a range.
 use Rattle.model.proofs.Prelude.{List, [], _+_, _<_, _∙_, _∷_, _≡_, _≢_, _≤_, arith, clash, getD, length, nothing, refl, some, suc, sym, take, zero, ℕ}
-use Rattle.model.specs.Order.{Low, Str, _≺_, _⊑_, _◁_, above, at, diff, le?, over, str?}
+use Rattle.model.specs.Order.{Low, Str, _≺_, _⊑_, _◁_, above, at, diff}
 use Rattle.model.specs.Names.{Bound, Legal}
-use Rattle.model.specs.Entries.{Entry, Row, chosen, entry, find, insert, keep, name-at, no-entries, not?, without}
+use Rattle.model.specs.Entries.{Entry, Row, chosen, entry, find, insert, keep, name-at, no-entries, without}
 use Rattle.model.specs.Changes.{split-string}
+use Rattle.model.specs.Deciding.{le?, not?, over, str?}
 use Rattle.model.proofs.Order.{le-antisym, le-refl, le-take, low-at, low-le, low-lower, lt-le-trans, split-lt}
 use Rattle.model.proofs.Names.{legal-bound, legal-length, split-is}
 

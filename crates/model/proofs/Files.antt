@@ -1,17 +1,19 @@
 -- A name has one bucket; sound and cut exclude each other; the slot to free and the range order are determined; the strings.
 use Rattle.model.proofs.Prelude.{List, List·Memᴰ, List·getD-eq-default, [], _+_, _<_, _∙_, _∷_, _≡_, _≢_, _≤_, _⊎_, ap, arith, clash, decLt, getD-set-other, getD-set-same, inl, inr, length, refl, set, set-out, subst, suc, sym, zero, ℕ, ℕ-discrete}
-use Rattle.model.specs.Order.{Asc, Low, Str, _≺_, _◁_, at, le?, nil-not-le, none, over, str?}
+use Rattle.model.specs.Order.{Low, Str, _≺_, _◁_, at, none}
 use Rattle.model.specs.Names.{Bound, BoundLow}
 use Rattle.model.specs.Entries.{Entry, Row}
 use Rattle.model.specs.Files.{Begins, BoundOf, Chain, Cut, Head, In, IsString, IsUsed, Ranges, Slot, Sound, Starts, Well, all, bounds, entries-of, first, free, head, last, lower-bound, lower-of, next, no-range, order-from, order-of, range, ranges, slot-at, starts?, string-count, strings-of, upper-bound, upper-of, used, well-free, well-used}
-use Rattle.model.specs.Tries.{occ, one-if, walk}
+use Rattle.model.specs.Tries.{occ, one-if}
 use Rattle.model.specs.Rebuilding.{rebuilt}
-use Rattle.model.proofs.Order.{le-refl, low-at, low-lower, lt-le}
+use Rattle.model.specs.Deciding.{le?, nil-not-le, over, str?}
+use Rattle.model.proofs.Order.{Asc, le-refl, low-at, low-lower, lt-le}
 use Rattle.model.proofs.Entries.{chosen-no, chosen-yes}
 use Rattle.model.proofs.Strings.{all-asc, all-begins, begins-in}
 use Rattle.model.proofs.Ranges.{bounds-asc, bounds-from, bounds-to, chain-lower, chain-other, chain-used, range-unique}
 use Rattle.model.proofs.Cells.{occ-mem, total-all, total-le}
 use Rattle.model.proofs.Rebuilding.{rebuilt-agrees, walk-right}
+use Rattle.model.proofs.Tries.{walk}
 
 pub used-inside : (fs : List Slot) (A : ℕ) → IsUsed (head (slot-at fs A)) → A < length fs
 used-inside fs A h = elim (decLt A (length fs)) [ yes k ↦ k | no k ↦ absurd (rw (List·getD-eq-default fs free {n = A} (omega arith)) at h) ]

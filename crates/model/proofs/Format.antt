@@ -6,12 +6,17 @@ use Rattle.model.specs.Names.{BoundLow, Digits, Legal, filled, limit, un
 use Rattle.model.specs.Entries.{Entry, Row, entry, no-entries}
 use Rattle.model.specs.Files.{Slot, Well, entries-of, free, slot-at, used, well-used}
 use Rattle.model.specs.Checks.{sameStr}
-use Rattle.model.specs.Format.{Bytes, Contents, EntrySize, Sizes, entriesBytes, entriesOf, entryBytes, entrySize, fileBytes, fileSize, headerBytes, headerOf, isOffered, joined, laidOut, layoutOf, legalSizes, littleEndian, lowDigits, lowOf, padded, readBy, readFile, readSlot, readSlots, readUsed, rightHeader, slotAt, slotBytes, slotSize, slotsBytes, storeBytes, usedOf, valueOf}
+use Rattle.model.specs.Format.{Bytes, Sizes, entriesBytes, entriesOf, entryBytes, entrySize, fileBytes, fileSize, headerBytes, headerOf, isOffered, joined, laidOut, layoutOf, legalSizes, littleEndian, lowDigits, lowOf, padded, readBy, readFile, readSlot, readSlots, readUsed, rightHeader, slotAt, slotBytes, slotSize, slotsBytes, storeBytes, usedOf, valueOf}
 use Rattle.model.proofs.Lists.{at-taken, drop-past, drop-take, length-made, made-short, take-past}
 use Rattle.model.proofs.Names.{both-true, legal-length}
 use Rattle.model.proofs.Checks.{sameStr-equal, sameStr-self}
 
--- What is asked of an entry's size.
+-- What laws ask of the number of an entry's bytes: it is 32 or 40.
+pub record EntrySize (e : ℕ) : Type 0 where
+  pub least : 32 ≤ e
+  pub most : e ≤ 40
+  pub eights : e % 8 ≡ 0
+
 pub entry-size : (y : Layout) → EntrySize (entrySize y)
 unfolding entrySize
 entry-size y = record { least = omega arith; most = omega arith; eights = refl }
@@ -21,7 +26,11 @@ pub value-fits : (y : Layout) (v : ℕ) → v < 2 ^ 64 → v < 256 ^ (entrySize 
 unfolding entrySize
 value-fits y v h = h
 
--- Contents.
+-- Contents that the bytes behind a name hold. The content of an entry is one number, its value.
+abbrev pub Contents : ℕ → List Entry → Type 0
+Contents e [] = Unit {0}
+Contents e (x ∷ es) = (x .1 < 256 ^ (e - 24)) × Contents e es
+
 pub valueOf-littleEndian : (n v : ℕ) → v < 256 ^ n → valueOf (littleEndian n v) ≡ v
 unfolding valueOf littleEndian
 valueOf-littleEndian zero v h = omega (arith, pow-zero 256)
@@ -216,10 +225,10 @@ legalSizes-sizes y slots e =
       slots-most = leb-true slots 64 (p .1);
     }
 
--- A version that is offered fits its two bytes.
-offered-small : (v : ℕ) → isOffered v ≡ true → v < 65536
+-- The versions that are offered are bytes, and below the greatest.
+pub offered-small : (v : ℕ) → isOffered v ≡ true → v < 255
 unfolding isOffered
-offered-small v e = omega (arith, eqb-true v 1 e)
+offered-small v e = omega (arith, leb-true v 2 (both-true (leb 1 v) (leb v 2) e .1))
 
 -- What a header that is right says.
 pub record Headed (y : Layout) (slots : ℕ) (xs : List ℕ) : Type 0 where
@@ -371,6 +380,11 @@ bytes-take zero xs h = tt
 bytes-take (suc n) [] h = tt
 bytes-take (suc n) (x ∷ xs) h = (h .0, bytes-take n xs (h .1))
 
+-- A slot of a file of bytes has bytes.
+pub bytes-slotAt : (y : Layout) (k : ℕ) (xs : List ℕ) → Bytes xs → Bytes (slotAt y k xs)
+unfolding slotAt
+bytes-slotAt y k xs h = bytes-take (slotSize y) (drop (16 + k * slotSize y) xs) (bytes-drop (16 + k * slotSize y) xs h)
+
 contents-entriesOf : (e n : ℕ) (xs : List ℕ) → Bytes xs → Contents e (entriesOf e n xs)
 unfolding entriesOf
 contents-entriesOf e zero xs h = tt
@@ -387,9 +401,8 @@ contents-readSlot y xs {s} k = go (sameStr xs (slotBytes y free)) (sameStr xs (s
     go false false h = clash cc
 
 pub contents-readFile : (xs : List ℕ) {y : Layout} {fs : List Slot} → Bytes xs → readFile xs ≡ some (y, fs) → (B : ℕ) → Contents (entrySize y) (entries-of (slot-at fs B))
-unfolding slotAt
 contents-readFile xs {y} {fs} k e B = elim (decLt B (length fs)) [
-  | yes h ↦ contents-readSlot y (slotAt y B xs) (bytes-take (slotSize y) (drop (16 + B * slotSize y) xs) (bytes-drop (16 + B * slotSize y) xs k)) (readSlot-readFile xs e B h)
+  | yes h ↦ contents-readSlot y (slotAt y B xs) (bytes-slotAt y B xs k) (readSlot-readFile xs e B h)
   | no h ↦ rw (List·getD-eq-default fs free {n = B} (omega arith)) tt
 ]
 
@@ -420,7 +433,7 @@ bytes-digits lo (d ∷ x) h = (omega (arith, h .1), bytes-digits lo x (h .2))
 
 bytes-legal : {n : Str} → Legal n → Bytes n
 unfolding filled
-bytes-legal g = rw (g .is) (bytes-made 24 0x20 (g .name) (omega arith) (bytes-digits 0x21 (g .name) (g .digits)))
+bytes-legal g = rw (g .is) (bytes-made 24 0x20 (g .name) (omega arith) (bytes-digits 0x20 (g .name) (g .digits)))
 
 bytes-low : {l : Low} → BoundLow l → Bytes (lowDigits l)
 unfolding lowDigits

@@ -3,60 +3,24 @@ use Rattle.model.proofs.Prelude.{List, List·Memᴰ, List·Memᴰ·appe
 use Rattle.model.specs.declared.Cell.{Cell}
 use Rattle.model.specs.declared.Side.{Side}
 use Rattle.model.specs.declared.Side.the-variants.{Cell as further}
-use Rattle.model.specs.Order.{Low, Str, _≺_, _⊑_, _◁_, above, at, diff, diff-at, le?, least, none, over, top}
+use Rattle.model.specs.Order.{Low, Str, _≺_, _⊑_, _◁_, above, at, diff, diff-at, least, none, top}
 use Rattle.model.specs.Files.{Chain, Ranges, all, bounds}
-use Rattle.model.specs.Tries.{Leads, Reads, Spans, Tree, at-cell, cell, cut, here, leaf, node, occ, one-if, size, there, tip, walk, zero-cell}
+use Rattle.model.specs.Tries.{Leads, Reads, Spot, Tree, at-cell, cell, here, leaf, left, node, occ, one-if, right, root, size, there, zero-cell}
 use Rattle.model.specs.Rebuilding.{lay, side-of}
-use Rattle.model.specs.Growth.{Spot, cell-of, cells-grown, cells-turned, changed, graft, grow-cells, grown, left, new-cells, path-cells, placed, relabel, right, root, root-grown, root-turned, spot-cells, string?, turn, turn-cell, turn-cells, turn-side}
+use Rattle.model.specs.Growth.{cell-of, changed, grow-cells, grown, placed, turn, turn-cell, turn-cells, turn-side}
+use Rattle.model.specs.Deciding.{le?, over}
 use Rattle.model.proofs.Order.{diff-lt-left, le-refl, le-take, le-trans, lt-le, sandwich}
-use Rattle.model.proofs.Tries.{inside}
-use Rattle.model.proofs.Cells.{Stands, each-once, height, lay-reads, length-lay, not-visited, numbers-upto, occ-append, one-if-equal, reads-agree, reads-below, reads-height, reads-set, there-at, upto, upto-above, upto-once, visits-count, walk-reads}
+use Rattle.model.proofs.Tries.{Spans, cut, inside, relabel, tip, walk}
+use Rattle.model.proofs.Cells.{Stands, each-once, height, lay-reads, length-lay, not-visited, numbers-upto, occ-append, one-if-equal, reads-agree, reads-below, reads-height, reads-set, there-at, upto, upto-above, upto-once, visits-count}
 use Rattle.model.proofs.Agreement.{CellsAgree}
 use Rattle.model.proofs.Splitting.{SplitAt, split-agrees}
+use Rattle.model.proofs.Growth.{graft, string?}
+use Rattle.model.proofs.Walks.{path-at, path-cells, path-reads, spot, spot-cells, spot-reads, walk-cells, walk-reads}
 
--- The walk in the tree: the leaf that n reaches is replaced by X; its path; the last cell and the side taken there.
+-- In the tree, the leaf that n reaches is replaced by X.
 abbrev pub replace : Str → Tree → Str → Tree → Tree
 replace n X p (leaf s) = X
 replace n X p (node d i L R) = elim (le? n (cell d i p)) [ yes h ↦ node d i (replace n X (cell d i p) L) R | no h ↦ node d i L (replace n X p R) ]
-
-abbrev pub path-at : Str → Str → Tree → Str
-path-at c p (leaf s) = p
-path-at c p (node d i L R) = elim (le? c (cell d i p)) [ yes h ↦ path-at c (cell d i p) L | no h ↦ path-at c p R ]
-
-abbrev pub spot : {cs : List Cell} {a : Side} {t : Tree} {vs : List ℕ} → Str → Str → Spot → Reads cs a t vs → Spot
-spot n p k here = k
-spot {cs} n p k (there {n = m} h l r) =
-    elim (le? n (cell (at-cell cs m .digit) (at-cell cs m .number) p))
-    [ yes h ↦ spot n (cell (at-cell cs m .digit) (at-cell cs m .number) p) (left m) l | no h ↦ spot n p (right m) r ]
-
--- The walks over the cells give these.
-pub path-reads : {cs : List Cell} {a : Side} {t : Tree} {vs : List ℕ} (n : Str) (fuel : ℕ) (p : Str) → Reads cs a t vs → length vs < fuel → path-cells cs n fuel p a ≡ path-at n p t
-path-reads n zero p r h = absurd (omega arith)
-path-reads n (suc fuel) p here h = refl
-path-reads {cs} n (suc fuel) p (there {n = m} {L = L} {R = R} {vs = vs} {ws = ws} i l r) h =
-    go (le? n q) (path-reads n fuel q l (omega (arith, length-append vs ws))) (path-reads n fuel p r (omega (arith, length-append vs ws)))
-  where
-    q : Str
-    q = cell (at-cell cs m .digit) (at-cell cs m .number) p
-
-    go : (d : Dec (n ⊑ q)) → path-cells cs n fuel q (at-cell cs m .left) ≡ path-at n q L → path-cells cs n fuel p (at-cell cs m .right) ≡ path-at n p R
-        → _≡_ {A = Str} (elim d [ yes h ↦ path-cells cs n fuel q (at-cell cs m .left) | no h ↦ path-cells cs n fuel p (at-cell cs m .right) ]) (elim d [ yes h ↦ path-at n q L | no h ↦ path-at n p R ])
-    go (yes h) e f = e
-    go (no h) e f = f
-
-pub spot-reads : {cs : List Cell} {a : Side} {t : Tree} {vs : List ℕ} (n : Str) (fuel : ℕ) (p : Str) (k : Spot) (x : Reads cs a t vs) → length vs < fuel → spot-cells cs n fuel p k a ≡ spot n p k x
-spot-reads n zero p k x h = absurd (omega arith)
-spot-reads n (suc fuel) p k here h = refl
-spot-reads {cs} n (suc fuel) p k (there {n = m} {L = L} {R = R} {vs = vs} {ws = ws} i l r) h =
-    go (le? n q) (spot-reads n fuel q (left m) l (omega (arith, length-append vs ws))) (spot-reads n fuel p (right m) r (omega (arith, length-append vs ws)))
-  where
-    q : Str
-    q = cell (at-cell cs m .digit) (at-cell cs m .number) p
-
-    go : (d : Dec (n ⊑ q)) → spot-cells cs n fuel q (left m) (at-cell cs m .left) ≡ spot n q (left m) l → spot-cells cs n fuel p (right m) (at-cell cs m .right) ≡ spot n p (right m) r
-        → _≡_ {A = Spot} (elim d [ yes h ↦ spot-cells cs n fuel q (left m) (at-cell cs m .left) | no h ↦ spot-cells cs n fuel p (right m) (at-cell cs m .right) ]) (elim d [ yes h ↦ spot n q (left m) l | no h ↦ spot n p (right m) r ])
-    go (yes h) e f = e
-    go (no h) e f = f
 
 -- The spot lies among the cells visited, and the side stays; or no cell is visited, and the side is replaced.
 abbrev pub Visited : Side → Spot → Spot → List ℕ → Type 0
@@ -284,6 +248,23 @@ module _ (P : Low → Str → ℕ → Type 0) (c s : Str) (k : ℕ) (hk : k ≤ 
           → _≡_ {A = Tree} (elim t [ yes h ↦ node d i (graft c s q L) R | no h ↦ node d i L (graft c s u R) ]) (node d i L R)
       go (yes h) f g = ap (λ (X : Tree). node d i X R) (f h (to-left m))
       go (no h) f g = ap (λ (X : Tree). node d i L X) (g h (to-right h m))
+
+-- Growth by the walk's parts. What stands at the leaf that c reaches; the cells and the root with it, and redirected.
+module _ (cs : List Cell) (a : Side) (c s : Str) (A N : ℕ) where
+  abbrev pub new-cells : Tree
+  new-cells = grown s (path-cells cs c (suc (length cs)) [] a) (walk-cells cs c (suc (length cs)) [] a)
+
+  abbrev pub cells-grown : List Cell
+  cells-grown = grow-cells cs (spot-cells cs c (suc (length cs)) [] root a) new-cells
+
+  abbrev pub root-grown : Side
+  root-grown = placed a (side-of (length cs) new-cells)
+
+  abbrev pub cells-turned : List Cell
+  cells-turned = turn-cells (turn s A N) (suc (length cells-grown)) [] root-grown cells-grown
+
+  abbrev pub root-turned : Side
+  root-turned = turn-side (turn s A N) [] root-grown
 
 -- c is the split key, z the last name, both in A's range.
 module _ (F G : Ranges) (A N : ℕ) (Xs Ys : List ℕ) (c z : Str) (chain : Chain F none (Xs ++ (A ∷ Ys)))

@@ -1,24 +1,51 @@
 -- A made change keeps the trie's agreement: as it is where the ranges stay, grown where a bucket was split.
-use Rattle.model.proofs.Prelude.{List, [], _++_, _/_, _<_, _∷_, _≡_, _≤_, ap, arith, fun-ext, length, length-take, refl, set, subst, suc, sym, take, zero, ℕ}
+use Rattle.model.proofs.Prelude.{List, [], _++_, _<_, _∷_, _≡_, _≤_, ap, arith, fun-ext, length, length-take, refl, set, some, subst, suc, sym, take, zero, ℕ}
 use Rattle.model.specs.declared.Cell.{Cell}
 use Rattle.model.specs.declared.Side.{Side}
 use Rattle.model.specs.declared.Side.the-variants.{Cell as further, Slot as slot}
 use Rattle.model.specs.declared.Trie.{Trie}
-use Rattle.model.specs.Order.{Low, Str, _⊑_, _◁_, at, diff, str?}
+use Rattle.model.specs.Order.{Low, Str, _⊑_, _◁_, at, diff}
 use Rattle.model.specs.Names.{Legal}
-use Rattle.model.specs.Entries.{Entry, Row, insert, name-at, not?, without}
+use Rattle.model.specs.Entries.{Entry, Row, insert, name-at, without}
 use Rattle.model.specs.Files.{Ranges, Slot, Sound, by-heads, ranges, slot-at, string-count, used}
-use Rattle.model.specs.Tries.{Agrees, Reads, Tree, first-leaf-of, here, leaf, node, root-side, there}
+use Rattle.model.specs.Tries.{Agrees, Reads, Tree, first-leaf-of, here, leaf, node, root, root-side, there, trie-of, walk-trie, walkOf}
 use Rattle.model.specs.Rebuilding.{side-of}
-use Rattle.model.specs.Growth.{cells-turned, grown-trie, new-cells, placed, root-turned, turn, turn-side}
-use Rattle.model.specs.Changes.{Change, Lowest, Request, Store, absent, fits, removes, split-string, splits, stored, trie-after}
+use Rattle.model.specs.Growth.{grown-trie, placed, turn, turn-side}
+use Rattle.model.specs.Changes.{Lowest, Request, Store, split-string, stored}
+use Rattle.model.specs.Deciding.{not?, str?}
 use Rattle.model.proofs.Lists.{mem-parts}
 use Rattle.model.proofs.Entries.{length-keep, row-at, row-insert, row-keep, row-lt, split-take}
 use Rattle.model.proofs.Cells.{visits-count}
-use Rattle.model.proofs.Agreement.{CellsAgree, agrees-cells, cells-agree, trie-of-agrees}
+use Rattle.model.proofs.Agreement.{CellsAgree, agrees-cells, cells-agree, live-count, trie-of-agrees, visit-count, whole-run}
 use Rattle.model.proofs.Splitting.{SplitAt}
-use Rattle.model.proofs.GrownCells.{grows}
-use Rattle.model.proofs.Changes.{after-second, is-split, length-all, one-sound, row-all, same-heads, second-sound, well-a}
+use Rattle.model.proofs.GrownCells.{cells-turned, grows, new-cells, root-turned}
+use Rattle.model.proofs.Changes.{Change, absent, after-second, fits, is-split, length-all, one-sound, removes, row-all, same-heads, second-sound, splits, trie-after, well-a}
+use Rattle.model.proofs.Walks.{live-cells, path-cells, path-reads, spot-cells, spot-reads, string-fits, top-side, walk-cells, walk-reads}
+use Rattle.model.proofs.Growth.{at-leaf-grown}
+
+-- The walk over a trie that agrees, by its parts, and growth by them.
+module _ {b : ℕ} {fs : List Slot} (S : Sound b fs) {t : Trie} (A : Agrees fs t) (n : Str) where
+  abbrev live : List Cell
+  live = live-cells t
+
+  abbrev top : Side
+  top = top-side t
+
+  parts : walkOf t n ≡ some (path-cells live n (suc (length live)) [] top, spot-cells live n (suc (length live)) [] root top, walk-cells live n (suc (length live)) [] top)
+  parts =
+      let h : length (A .visits) < suc (length live) = omega (arith, visit-count A, live-count A) in
+      rw (path-reads n (suc (length live)) [] (A .reads) h, spot-reads n (suc (length live)) [] root (A .reads) h, walk-reads n (suc (length live)) [] (A .reads) h)
+      (whole-run A (string-fits b S) n)
+
+  -- The slot is the walk's.
+  pub walk-live : walk-trie t n ≡ walk-cells live n (suc (length live)) [] top
+  walk-live = rw parts
+
+  pub agreed-walk : walkOf t n ≡ some (path-cells live n (suc (length live)) [] top, spot-cells live n (suc (length live)) [] root top, walk-trie t n)
+  agreed-walk = rw parts
+
+  pub grown-trie-is : (s : Str) (B N : ℕ) → grown-trie t n s B N ≡ trie-of (cells-turned live top n s B N) (root-turned live top n s B N)
+  grown-trie-is s B N = rw (parts, at-leaf-grown s (path-cells live n (suc (length live)) [] top) (walk-cells live n (suc (length live)) [] top))
 
 -- A root that is a cell is cell 0, and stays so.
 pub root-further : (count first : ℕ) → (count ≡ 0 → ⊥) → further 0 ≡ root-side count first
@@ -85,7 +112,7 @@ module _ (b : ℕ) where
 
       pub grown-agrees : {t : Trie} → cs ≡ take (t .count) (t .cells) → a ≡ root-side (t .count) (t .first) → Agrees fs t → string-count gs ≤ 256 → Agrees gs (grown-trie t c s A N)
       grown-agrees {t} ec ea G few =
-          rw (← ec, ← ea) (trie-of-agrees b (second-sound b fs S A l u es is n v legal lo up big i i-lt N lowest) (cells-turned cs a c s A N) (root-turned cs a c s A N) C
+          rw (grown-trie-is S G c s A N, ← ec, ← ea) (trie-of-agrees b (second-sound b fs S A l u es is n v legal lo up big i i-lt N lowest) (cells-turned cs a c s A N) (root-turned cs a c s A N) C
           (root-right C (rw ea (root-zero (turn s A N) (t .count) (t .first) (length cs) (new-cells cs (root-side (t .count) (t .first)) c s A N) (λ e. omega (arith, e, ap length ec, length-take (t .count) (t .cells)))))) few)
         where
           C : CellsAgree (ranges gs) (second-sound b fs S A l u es is n v legal lo up big i i-lt N lowest .order) (cells-turned cs a c s A N) (root-turned cs a c s A N)

@@ -1,11 +1,40 @@
 -- A chain of cells at a leaf is a trie of the leaf's interval; grafting it keeps a trie a trie.
-use Rattle.model.proofs.Prelude.{List, List·Memᴰ, List·Memᴰ·head, List·Memᴰ·tail, Memᴰ·append-left, Memᴰ·append-right, [], _++_, _<_, _∙_, _∷_, _≡_, _≢_, _≤_, _⊎_, add-one, ap, append-assoc, append-nil, arith, drop, drop-cons, getD, inl, inr, length, length-append, length-take-le, refl, suc, sym, take, take-append-drop, take-length, take-suc, ℕ}
-use Rattle.model.specs.Order.{Low, Str, _≺_, _⊑_, _⊴_, _◁_, above, at, diff, le?}
+use Rattle.model.proofs.Prelude.{List, List·Memᴰ, List·Memᴰ·cases-cons, List·Memᴰ·head, List·Memᴰ·not-nil, List·Memᴰ·tail, Memᴰ·append-left, Memᴰ·append-right, [], _++_, _<_, _∙_, _∷_, _≡_, _≢_, _≤_, _⊎_, add-one, ap, append-assoc, append-nil, arith, drop, drop-cons, drop-length, eq-eqb, getD, inl, inr, length, length-append, length-take-le, ne-eqb, refl, suc, sym, take, take-append-drop, take-length, take-suc, ℕ, ℕ-discrete}
+use Rattle.model.specs.Order.{Low, Str, _≺_, _⊑_, _⊴_, _◁_, above, at, diff}
 use Rattle.model.specs.Files.{fresh, longer}
-use Rattle.model.specs.Tries.{Spans, Tree, cell, cut, leaf, node, tip}
-use Rattle.model.specs.Growth.{chain-of, graft, grown}
+use Rattle.model.specs.Tries.{Tree, cell, leaf, node}
+use Rattle.model.specs.Growth.{at-leaf, chain-of, grown, turn}
+use Rattle.model.specs.Deciding.{le?, str?}
 use Rattle.model.proofs.Order.{diff-le-right, diff-lt-left, le-append, le-refl, le-take, low-at, low-le, low-refl, lt-le, lt-or-ge, sandwich, snoc-lt, split-lt, take-diff}
-use Rattle.model.proofs.Tries.{cut-at}
+use Rattle.model.proofs.Tries.{Spans, cut, cut-at, relabel, tip}
+
+-- Growth as a tree. R8.3: walk with the split key, and put the new cells at the leaf.
+abbrev pub graft : Str → Str → Str → Tree → Tree
+graft c s p (leaf A) = grown s p A
+graft c s p (node d i L R) =
+    elim (le? c (cell d i p)) [ yes h ↦ node d i (graft c s (cell d i p) L) R | no h ↦ node d i L (graft c s p R) ]
+
+unfoldable pub string? : (x : Str) (xs : List Str) → Dec (List·Memᴰ x xs)
+string? x [] = no (λ m. List·Memᴰ·not-nil m)
+string? x (y ∷ ys) = go (str? x y) (string? x ys)
+  where
+    go : Dec (x ≡ y) → Dec (List·Memᴰ x ys) → Dec (List·Memᴰ x (y ∷ ys))
+    go (yes e) d = yes (List·Memᴰ·head e)
+    go (no n) (yes m) = yes (List·Memᴰ·tail m)
+    go (no n) (no k) = no (λ m. elim (List·Memᴰ·cases-cons m) [ inl e ↦ n e | inr m ↦ k m ])
+
+-- R8.2: where s is a cell's string already, no cell is added.
+abbrev pub grow : {X : Type 0} → Dec X → Str → Str → ℕ → ℕ → Tree → Tree
+grow (yes m) c s A N t = relabel (turn s A N) [] t
+grow (no n) c s A N t = relabel (turn s A N) [] (graft c s [] t)
+
+-- R8.2: the chain of a string that shares all its digits with the path is the leaf itself.
+pub at-leaf-grown : (s p : Str) (B : ℕ) → at-leaf s p B ≡ grown s p B
+at-leaf-grown s p B = go (ℕ-discrete (diff s p) (length s))
+  where
+    go : Dec (diff s p ≡ length s) → at-leaf s p B ≡ grown s p B
+    go (yes e) = rw (eq-eqb (diff s p) (length s) e, e, drop-length s)
+    go (no e) = rw (ne-eqb (diff s p) (length s) e)
 
 -- What holds at a leaf holds at a leaf of a part of its interval.
 pub record Shrinks (P : Low → Str → ℕ → Type 0) : Type 0 where

@@ -11,6 +11,7 @@ pub mod Cells
 pub mod Rebuilding
 pub mod Shapes
 pub mod Files
+pub mod Walks
 pub mod Agreement
 pub mod Splitting
 pub mod GrownCells

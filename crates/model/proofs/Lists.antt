@@ -1,5 +1,5 @@
 -- Lists: what stands at a place, the parts of a list, and what is in it.
-use Rattle.model.proofs.Prelude.{List, List·Memᴰ, List·Memᴰ·append-cases, List·Memᴰ·cases-cons, List·Memᴰ·head, List·Memᴰ·not-nil, List·Memᴰ·tail, Memᴰ·append-left, Memᴰ·append-right, [], _*_, _++_, _+_, _-_, _<_, _∙_, _∷_, _≡_, _≤_, _⊎_, ap, arith, drop, drop-append-add, drop-drop, getD, getD-append-add, getD-take, inl, inr, length, length-append, length-drop, length-replicate, length-take, refl, replicate, sub-zero, suc, sym, take, take-all, take-append-add, take-nil, unary-clauses, zero, ℕ}
+use Rattle.model.proofs.Prelude.{List, List·Memᴰ, List·Memᴰ·append-cases, List·Memᴰ·cases-cons, List·Memᴰ·head, List·Memᴰ·not-nil, List·Memᴰ·tail, Memᴰ·append-left, Memᴰ·append-right, [], _++_, _+_, _-_, _<_, _∙_, _∷_, _≡_, _≤_, _⊎_, ap, arith, drop, drop-append-add, getD, getD-append-add, getD-take, inl, inr, length, length-append, length-drop, length-replicate, length-take, refl, replicate, sub-zero, suc, sym, take, take-all, take-append-add, take-nil, unary-clauses, zero, ℕ}
 
 -- One thing many times.
 pub take-replicate : {A : Type 0} (k m : ℕ) (a : A) → k ≤ m → take k (replicate m a) ≡ replicate k a
@@ -26,12 +26,6 @@ drop-take (suc k) (suc n) (d ∷ x) = simp unary-clauses (drop-take k n x)
 
 pub rest : (k : ℕ) (xs : List ℕ) → take (length xs - k) (drop k xs) ≡ drop k xs
 rest k xs = take-all (length xs - k) (drop k xs) (omega (arith, length-drop k xs))
-
--- Behind the entry i of entries of 32 bytes.
-pub drop-entry : (i : ℕ) (xs : List ℕ) → drop 32 (drop (32 * i) xs) ≡ drop (32 * (i + 1)) xs
-drop-entry i xs =
-    let e : 32 * i + 32 ≡ 32 * (i + 1) = omega arith in
-    drop-drop 32 (32 * i) xs ∙ ap (λ (n : ℕ). drop n xs) e
 
 pub at-taken : (n : ℕ) (xs : List ℕ) {ys : List ℕ} (i : ℕ) → take n xs ≡ ys → i < n → getD xs i 0 ≡ getD ys i 0
 at-taken n xs i e h = sym (getD-take n xs i 0 h) ∙ ap (λ (l : List ℕ). getD l i 0) e

@@ -1,7 +1,9 @@
--- The tests of names and bounds are what they test; within and not above are one; the split string is the first difference's.
-use Rattle.model.proofs.Prelude.{Bool, [], _&&_, _++_, _+_, _-_, _<_, _∙_, _∷_, _≡_, _≤_, ap, ap₂, arith, clash, cond, decLe, decLt, eq-eqb, eqb, eqb-true, false, le-leb, le-ltb, leb, leb-true, length, length-append, length-replicate, length-take, lt-ltb, ltb, ne-eqb, refl, replicate, suc, sym, take, true, true≢false, zero, ℕ, ℕ-discrete}
-use Rattle.model.specs.Order.{Str, _≺_, _⊑_, at, diff, diff-at, digit, head-le, nil-not-le, tail-le, top}
-use Rattle.model.specs.Names.{Bound, Digits, Legal, areDigits, atMost, blankEnded, blanks, filled, legalBound, legalFilled, legalName, notGreater, smaller, splitFrom, splitString, within}
+-- The tests of names and bounds are what they test; a filled name has one name; within and not above are one; the split
+-- string is the first difference's.
+use Rattle.model.proofs.Prelude.{Bool, List·getD-append, [], _&&_, _++_, _+_, _-_, _<_, _∙_, _∷_, _≡_, _≤_, ap, ap₂, arith, clash, cond, decLe, decLt, eq-eqb, eqb, eqb-true, false, getD, getD-append-add, getD-replicate, le-leb, le-ltb, leb, leb-true, length, length-append, length-replicate, length-take, lt-ltb, ltb, ne-eqb, not, refl, replicate, suc, sym, take, take-append-seam, true, true≢false, zero, ℕ, ℕ-discrete}
+use Rattle.model.specs.Order.{Str, _≺_, _⊑_, at, diff, diff-at, digit, top}
+use Rattle.model.specs.Names.{Bound, Digits, Legal, areDigits, atMost, filled, firstOf, isBlank, lastOf, legalBound, legalFilled, legalName, notGreater, smaller, splitFrom, splitString, within}
+use Rattle.model.specs.Deciding.{head-le, nil-not-le, tail-le}
 use Rattle.model.proofs.Lists.{length-made, made-short}
 use Rattle.model.proofs.Order.{diff-lt-left, lt-le, split-shortest}
 
@@ -69,9 +71,6 @@ within-atMost n p h = go n p h
     go [] (b ∷ p) h = absurd (omega arith)
     go (a ∷ n) (b ∷ p) h = rw (go n p (omega arith))
 
-pub le-within : (n p : Str) → length p ≤ length n → n ⊑ p → within n p ≡ true
-le-within n p h q = within-atMost n p h ∙ le-atMost n p q
-
 -- Names, filled.
 pub length-filled : (n : Str) → length (filled n) ≡ 24
 unfolding filled
@@ -84,22 +83,29 @@ filled-short n h = made-short 24 0x20 n h
 pub legal-length : {n : Str} → Legal n → length n ≡ 24
 legal-length g = ap length (g .is) ∙ length-filled (g .name)
 
-digits-fill : (x : Str) (k : ℕ) → Digits 0x21 x → Digits 0x20 (x ++ replicate k 0x20)
+digits-fill : (x : Str) (k : ℕ) → Digits 0x20 x → Digits 0x20 (x ++ replicate k 0x20)
 digits-fill [] zero h = tt
 digits-fill [] (suc k) h = (omega arith, omega arith, digits-fill [] k tt)
-digits-fill (d ∷ x) k h = (omega (arith, h .0), h .1, digits-fill x k (h .2))
+digits-fill (d ∷ x) k h = (h .0, h .1, digits-fill x k (h .2))
+
+digits-front : (x y : Str) → Digits 0x20 (x ++ y) → Digits 0x20 x
+digits-front [] y h = tt
+digits-front (d ∷ x) y h = (h .0, h .1, digits-front x y (h .2))
 
 digits-take : (k : ℕ) (x : Str) → Digits 0x20 x → Digits 0x20 (take k x)
 digits-take zero x h = tt
 digits-take (suc k) [] h = tt
 digits-take (suc k) (d ∷ x) h = (h .0, h .1, digits-take k x (h .2))
 
+pub legal-digits : {n : Str} → Legal n → Digits 0x20 n
+unfolding filled
+legal-digits g = rw (g .is) (digits-take 24 (g .name ++ replicate 24 0x20) (digits-fill (g .name) 24 (g .digits)))
+
 -- A beginning of a name is a bound.
 pub legal-bound : {n : Str} → Legal n → (k : ℕ) → Bound (take k n)
-unfolding filled
 legal-bound {n} g k = record {
   fits = omega (arith, length-take k n, legal-length g);
-  digits = digits-take k n (rw (g .is) (digits-take 24 (g .name ++ replicate 24 0x20) (digits-fill (g .name) 24 (g .digits))));
+  digits = digits-take k n (legal-digits g);
 }
 
 pub areDigits-digits : (lo : ℕ) (x : Str) → areDigits lo x ≡ true → Digits lo x
@@ -115,12 +121,29 @@ unfolding areDigits
 digits-areDigits lo [] h = refl
 digits-areDigits lo (d ∷ x) h = rw (le-leb lo d (h .0), le-leb d 0x7D (h .1), digits-areDigits lo x (h .2))
 
+-- Digits that are no blanks.
+pub no-blank : (d : ℕ) → ¬ (d ≡ 0x20) → not (isBlank d) ≡ true
+no-blank d n = rw (ne-eqb d 0x20 n)
+
+pub blank-no : (d : ℕ) → not (isBlank d) ≡ true → ¬ (d ≡ 0x20)
+blank-no d e q = let z : not true ≡ true = rw (eq-eqb d 0x20 q) at e in clash cc
+
 pub legalName-legal : (n : Str) → legalName n ≡ true → Legal (filled n)
 unfolding legalName
 legalName-legal n e =
-    let p = both-true (leb 1 (length n) && leb (length n) 24) (areDigits 0x21 n) e in
-    let q = both-true (leb 1 (length n)) (leb (length n) 24) (p .0) in
-    record { name = n; some = leb-true 1 (length n) (q .0); fits = leb-true (length n) 24 (q .1); digits = areDigits-digits 0x21 n (p .1); is = refl }
+    let p = both-true (leb 1 (length n) && leb (length n) 24 && areDigits 0x20 n && not (isBlank (firstOf n))) (not (isBlank (lastOf n))) e in
+    let q = both-true (leb 1 (length n) && leb (length n) 24 && areDigits 0x20 n) (not (isBlank (firstOf n))) (p .0) in
+    let r = both-true (leb 1 (length n) && leb (length n) 24) (areDigits 0x20 n) (q .0) in
+    let s = both-true (leb 1 (length n)) (leb (length n) 24) (r .0) in
+    record {
+      name = n;
+      some = leb-true 1 (length n) (s .0);
+      fits = leb-true (length n) 24 (s .1);
+      digits = areDigits-digits 0x20 n (r .1);
+      first = blank-no (firstOf n) (q .1);
+      last = blank-no (lastOf n) (p .1);
+      is = refl;
+    }
 
 pub legalBound-bound : (p : Str) → legalBound p ≡ true → Bound p
 unfolding legalBound
@@ -132,76 +155,82 @@ pub bound-legalBound : {p : Str} → Bound p → legalBound p ≡ true
 unfolding legalBound
 bound-legalBound {p} g = rw (le-leb (length p) 24 (g .fits), digits-areDigits 0x20 p (g .digits))
 
--- Twenty-four bytes that pass the test are a legal name, filled.
-blanks-are : (n : Str) → blanks n ≡ true → n ≡ replicate (length n) 0x20
-unfolding blanks
-blanks-are [] e = refl
-blanks-are (d ∷ n) e =
-    let p = both-true (eqb d 0x20) (blanks n) e in
-    let q : d ≡ 0x20 = eqb-true d 0x20 (p .0) in
-    let r : n ≡ replicate (length n) 0x20 = blanks-are n (p .1) in
-    ap₂ (λ (a : ℕ) (x : Str). a ∷ x) q r
-
-are-blanks : (k : ℕ) → blanks (replicate k 0x20) ≡ true
-unfolding blanks
-are-blanks zero = refl
-are-blanks (suc k) = are-blanks k
-
+-- Of a string, what stands before the blanks at its end.
 record Ended (n : Str) : Type 0 where
   name : Str
-  digits : Digits 0x21 name
   behind : ℕ
   is : n ≡ name ++ replicate behind 0x20
+  last : 0 < length name → ¬ (lastOf name ≡ 0x20)
 
-ended : (n : Str) → blankEnded n ≡ true → Ended n
-unfolding blankEnded
-ended [] e = record { name = []; digits = tt; behind = 0; is = refl }
-ended (d ∷ n) e = elim (ℕ-discrete d 0x20) [
-  | yes q ↦ record { name = []; digits = tt; behind = suc (length n); is = ap₂ (λ (a : ℕ) (x : Str). a ∷ x) q (blanks-are n (rw (eq-eqb d 0x20 q) at e)) }
-  | no q ↦ go q (rw (ne-eqb d 0x20 q) at e) (ended n)
-]
+pub last-later : (d a : ℕ) (x : Str) → lastOf (d ∷ a ∷ x) ≡ lastOf (a ∷ x)
+last-later d a x = let e : suc (suc (length x)) - 1 ≡ suc (suc (length x) - 1) = omega arith in rw e
+
+ended : (n : Str) → Ended n
+ended [] = record { name = []; behind = 0; is = refl; last = λ h. absurd (omega arith) }
+ended (d ∷ n) = let r = ended n in go (r .name) (r .behind) (r .is) (r .last)
   where
-    go : (d ≡ 0x20 → ⊥) → (leb 0x21 d && leb d 0x7D && blankEnded n) ≡ true → (blankEnded n ≡ true → Ended n) → Ended (d ∷ n)
-    go q e f =
-        let p = both-true (leb 0x21 d && leb d 0x7D) (blankEnded n) e in
-        let h = both-true (leb 0x21 d) (leb d 0x7D) (p .0) in
-        let r = f (p .1) in
-        record { name = d ∷ r .name; digits = (leb-true 0x21 d (h .0), leb-true d 0x7D (h .1), r .digits); behind = r .behind; is = ap (λ (x : Str). d ∷ x) (r .is) }
+    go : (name : Str) (k : ℕ) → n ≡ name ++ replicate k 0x20 → (0 < length name → ¬ (lastOf name ≡ 0x20)) → Ended (d ∷ n)
+    go [] k i l = elim (ℕ-discrete d 0x20) [
+      | yes e ↦ record { name = []; behind = suc k; is = ap₂ (λ (a : ℕ) (x : Str). a ∷ x) e i; last = λ h. absurd (omega arith) }
+      | no e ↦ record { name = d ∷ []; behind = k; is = ap (λ (x : Str). d ∷ x) i; last = λ h. e }
+    ]
+    go (a ∷ x) k i l = record { name = d ∷ a ∷ x; behind = k; is = ap (λ (x : Str). d ∷ x) i; last = λ h q. l (omega arith) (sym (last-later d a x) ∙ q) }
 
+-- 24 digits of which the first is no blank are a legal name, filled.
 pub legalFilled-legal : (n : Str) → legalFilled n ≡ true → Legal n
 unfolding legalFilled
-legalFilled-legal [] e = clash cc
-legalFilled-legal (d ∷ n) e =
-    let p = both-true (eqb (length n) 23 && leb 0x21 d && leb d 0x7D) (blankEnded n) e in
-    let q = both-true (eqb (length n) 23 && leb 0x21 d) (leb d 0x7D) (p .0) in
-    let s = both-true (eqb (length n) 23) (leb 0x21 d) (q .0) in
-    let r = ended n (p .1) in
-    let len : length (r .name) + r .behind ≡ 23 =
-    sym (length-append (r .name) (replicate (r .behind) 0x20) ∙ ap (λ (k : ℕ). length (r .name) + k) (length-replicate {A = ℕ} (r .behind) 0x20))
-    ∙ sym (ap length (r .is)) ∙ eqb-true (length n) 23 (s .0) in
-    let b : 24 - suc (length (r .name)) ≡ r .behind = omega arith in
-    record {
-      name = d ∷ r .name;
-      some = omega arith;
-      fits = omega arith;
-      digits = (leb-true 0x21 d (s .1), leb-true d 0x7D (q .1), r .digits);
-      is = ap (λ (x : Str). d ∷ x) (r .is) ∙ sym (filled-short (d ∷ r .name) (omega arith) ∙ ap (λ (k : ℕ). d ∷ (r .name ++ replicate k 0x20)) b);
-    }
+legalFilled-legal n e =
+    let p = both-true (eqb (length n) 24 && areDigits 0x20 n) (not (isBlank (firstOf n))) e in
+    let q = both-true (eqb (length n) 24) (areDigits 0x20 n) (p .0) in
+    let r = ended n in
+    go (r .name) (r .behind) (r .is) (r .last) (eqb-true (length n) 24 (q .0)) (areDigits-digits 0x20 n (q .1)) (blank-no (firstOf n) (p .1))
+  where
+    go : (name : Str) (k : ℕ) → n ≡ name ++ replicate k 0x20 → (0 < length name → ¬ (lastOf name ≡ 0x20)) → length n ≡ 24 → Digits 0x20 n → ¬ (firstOf n ≡ 0x20) → Legal n
+    go [] zero i l len d f = let z : length n ≡ 0 = ap length i in absurd (omega arith)
+    go [] (suc k) i l len d f = absurd (f (ap firstOf i))
+    go (a ∷ x) k i l len d f =
+        let sum : suc (length x) + k ≡ 24 =
+        sym (length-append (a ∷ x) (replicate k 0x20) ∙ ap (λ (j : ℕ). suc (length x) + j) (length-replicate {A = ℕ} k 0x20)) ∙ sym (ap length i) ∙ len in
+        let b : 24 - suc (length x) ≡ k = omega arith in
+        record {
+          name = a ∷ x;
+          some = omega arith;
+          fits = omega arith;
+          digits = digits-front (a ∷ x) (replicate k 0x20) (rw i at d);
+          first = λ q. f (ap firstOf i ∙ q);
+          last = l (omega arith);
+          is = i ∙ sym (filled-short (a ∷ x) (omega arith) ∙ ap (λ (j : ℕ). a ∷ (x ++ replicate j 0x20)) b);
+        }
+
+-- Filling leaves the digits of a name where they are, and puts blanks behind them.
+pub filled-at : (n : Str) (i : ℕ) → length n ≤ 24 → i < length n → getD (filled n) i 0 ≡ getD n i 0
+filled-at n i h k = rw (filled-short n h) (List·getD-append n (replicate (24 - length n) 0x20) 0 i k)
+
+pub filled-behind : (n : Str) (i : ℕ) → length n ≤ i → i < 24 → getD (filled n) i 0 ≡ 0x20
+filled-behind n i h k =
+    let e : length n + (i - length n) ≡ i = omega arith in
+    rw (filled-short n (omega arith), ← e) (getD-append-add n (replicate (24 - length n) 0x20) (i - length n) 0 ∙ getD-replicate (24 - length n) (i - length n) 0x20 0 (omega arith))
 
 pub legal-legalFilled : {n : Str} → Legal n → legalFilled n ≡ true
-unfolding legalFilled blankEnded blanks
-legal-legalFilled {n} g = rw (g .is, filled-short (g .name) (g .fits)) (go (g .name) (g .some) (g .fits) (g .digits))
-  where
-    ends : (x : Str) (k : ℕ) → Digits 0x21 x → blankEnded (x ++ replicate k 0x20) ≡ true
-    ends [] zero h = refl
-    ends [] (suc k) h = are-blanks k
-    ends (d ∷ x) k h = rw (ne-eqb d 0x20 (λ e. absurd (omega (arith, h .0))), le-leb 0x21 d (h .0), le-leb d 0x7D (h .1)) (ends x k (h .2))
+unfolding legalFilled
+legal-legalFilled {n} g =
+    let f : firstOf n ≡ firstOf (g .name) = ap firstOf (g .is) ∙ filled-at (g .name) 0 (g .fits) (g .some) in
+    rw (eq-eqb (length n) 24 (legal-length g), digits-areDigits 0x20 n (legal-digits g), no-blank (firstOf n) (λ e. g .first (sym f ∙ e)))
 
-    go : (x : Str) → 0 < length x → length x ≤ 24 → Digits 0x21 x → legalFilled (x ++ replicate (24 - length x) 0x20) ≡ true
-    go [] a b h = absurd (omega arith)
-    go (d ∷ x) a b h =
-        let len : length (x ++ replicate (24 - suc (length x)) 0x20) ≡ 23 = omega (arith, length-append x (replicate (24 - suc (length x)) 0x20), length-replicate {A = ℕ} (24 - suc (length x)) 0x20) in
-        rw (eq-eqb (length (x ++ replicate (24 - suc (length x)) 0x20)) 23 len, le-leb 0x21 d (h .0), le-leb d 0x7D (h .1)) (ends x (24 - suc (length x)) (h .2))
+-- A filled name has one name: what stands before the blanks at its end.
+no-longer : (m n : Str) → length m ≤ 24 → length n ≤ 24 → 0 < length n → ¬ (lastOf n ≡ 0x20) → filled m ≡ filled n → length n ≤ length m
+no-longer m n h k s l e = elim (decLe (length n) (length m)) [
+  | yes j ↦ j
+  | no j ↦ absurd (l (sym (filled-at n (length n - 1) k (omega arith)) ∙ ap (λ (x : Str). getD x (length n - 1) 0) (sym e) ∙ filled-behind m (length n - 1) (omega arith) (omega arith)))
+]
+
+pub one-name : (m n : Str) → length m ≤ 24 → length n ≤ 24 → 0 < length m → 0 < length n → ¬ (lastOf m ≡ 0x20) → ¬ (lastOf n ≡ 0x20) → filled m ≡ filled n → m ≡ n
+one-name m n h k s r f l e =
+    let a = no-longer m n h k r l e in
+    let b = no-longer n m k h s f (sym e) in
+    let c : length n ≡ length m = omega arith in
+    let front : (w : Str) → length w ≤ 24 → take (length w) (filled w) ≡ w = λ w j. ap (take (length w)) (filled-short w j) ∙ take-append-seam w (replicate (24 - length w) 0x20) in
+    sym (front m h) ∙ ap (take (length m)) e ∙ ap (λ (j : ℕ). take j (filled n)) (sym c) ∙ front n k
 
 -- The split string.
 smaller-same : (x : Str) → smaller x x ≡ false

@@ -1,6 +1,12 @@
 -- The order is total, transitive and antisymmetric; beginnings, the sandwich, the first difference; lower limits.
-use Rattle.model.proofs.Prelude.{[], _++_, _<_, _∙_, _∷_, _≡_, _≤_, _⊎_, ap, arith, decLe, inl, inr, length, refl, suc, sym, take, take-take, zero, ℕ, ℕ-discrete}
-use Rattle.model.specs.Order.{Low, Str, _≺_, _⊑_, _⊴_, _◁_, above, at, below, diff, diff-at, digit, head-le, le?, least, nil-not-le, none, tail-le, top}
+use Rattle.model.proofs.Prelude.{List, [], _++_, _<_, _∙_, _∷_, _≡_, _≤_, _⊎_, ap, arith, decLe, getD, inl, inr, length, refl, suc, sym, take, take-take, zero, ℕ, ℕ-discrete}
+use Rattle.model.specs.Order.{Low, Str, _≺_, _⊑_, _⊴_, _◁_, above, at, below, diff, diff-at, digit, least, none, top}
+use Rattle.model.specs.Deciding.{head-le, le?, nil-not-le, tail-le}
+
+-- Strings in strictly ascending bound order, above l and below u.
+pub data Asc : Low → List Str → Str → Type 0 where
+  end : {l : Low} {u : Str} → Asc l [] u
+  step : {l : Low} {u x : Str} {xs : List Str} → l ◁ x → x ≺ u → Asc (at x) xs u → Asc l (x ∷ xs) u
 
 pub le-refl : (x : Str) → x ⊑ x
 le-refl [] = top
@@ -95,6 +101,17 @@ diff-le-right (a ∷ c) (b ∷ z) = go (ℕ-discrete a b) (diff-le-right c z)
     go : (d : Dec (a ≡ b)) → diff c z ≤ length z → diff-at d (diff c z) ≤ suc (length z)
     go (yes e) r = omega arith
     go (no n) r = omega arith
+
+-- There the digits differ, where both strings have one.
+pub diff-apart : (c z : Str) → diff c z < length c → diff c z < length z → ¬ (getD c (diff c z) 0 ≡ getD z (diff c z) 0)
+diff-apart [] z h k e = omega arith
+diff-apart (a ∷ c) [] h k e = omega arith
+diff-apart (a ∷ c) (b ∷ z) h k e = go (ℕ-discrete a b) (diff-apart c z) h k e
+  where
+    go : (d : Dec (a ≡ b)) → (diff c z < length c → diff c z < length z → ¬ (getD c (diff c z) 0 ≡ getD z (diff c z) 0))
+        → diff-at d (diff c z) < suc (length c) → diff-at d (diff c z) < suc (length z) → ¬ (getD (a ∷ c) (diff-at d (diff c z)) 0 ≡ getD (b ∷ z) (diff-at d (diff c z)) 0)
+    go (yes e) r h k f = r (omega arith) (omega arith) f
+    go (no n) r h k f = n f
 
 -- Two strings that differ: the smaller has a digit at the first difference.
 pub diff-lt-left : (c z : Str) → c ≺ z → diff c z < length c

@@ -1,10 +1,11 @@
 -- Slots in range order: each name in the range of one slot, each leaf with one slot; the bounds ascend.
 use Rattle.model.proofs.Prelude.{List, List·Memᴰ, List·Memᴰ·cases-cons, List·Memᴰ·head, List·Memᴰ·not-nil, List·Memᴰ·tail, Memᴰ·cast, [], _<_, _∙_, _∷_, _≡_, _≢_, _⊎_, ap, arith, inl, inr, length, refl, sym, take-length, ℕ}
-use Rattle.model.specs.Order.{Asc, Low, Str, _≺_, _⊑_, _⊴_, _◁_, at, end, low?, over, step, top}
+use Rattle.model.specs.Order.{Low, Str, _≺_, _⊑_, _⊴_, _◁_, at, top}
 use Rattle.model.specs.Files.{Chain, Ranges, all, bounds, last, next}
 use Rattle.model.specs.Tries.{Leads}
 use Rattle.model.specs.Rebuilding.{label}
-use Rattle.model.proofs.Order.{le-refl, low-at, low-lower, low-refl, low-trans, lt-or-ge, not-over}
+use Rattle.model.specs.Deciding.{low?, over}
+use Rattle.model.proofs.Order.{Asc, end, le-refl, low-at, low-lower, low-refl, low-trans, lt-or-ge, not-over, step}
 use Rattle.model.proofs.Tries.{Gap}
 use Rattle.model.proofs.Strings.{asc-mem, begins-all}
 

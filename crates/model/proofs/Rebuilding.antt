@@ -1,11 +1,12 @@
 -- Of a run, any string with fewest digits serves as root; the middle one has fewest; so the rebuilt trie leads every leaf to its bucket.
 use Rattle.model.proofs.Prelude.{List, List·Memᴰ, List·Memᴰ·append-cases, List·Memᴰ·cases-cons, List·Memᴰ·head, List·Memᴰ·not-nil, List·Memᴰ·tail, Memᴰ·append-left, Memᴰ·append-right, [], _++_, _+_, _-_, _/_, _<_, _∙_, _∷_, _≡_, _≤_, _⊎_, ap, arith, drop, getD, inl, inr, length, length-drop, length-take, min, refl, split-at, sub-zero, subst, suc, sym, take, take-all, take-suc, zero, ℕ, ℕ-discrete}
-use Rattle.model.specs.Order.{Asc, Low, Str, _≺_, _⊑_, _◁_, at, least, none, over, top}
+use Rattle.model.specs.Order.{Low, Str, _≺_, _⊑_, _◁_, at, least, none, top}
 use Rattle.model.specs.Files.{Chain, Ranges, all, bounds}
-use Rattle.model.specs.Tries.{Leads, Spans, Tree, cell, tip, walk}
+use Rattle.model.specs.Tries.{Leads, Tree, cell}
 use Rattle.model.specs.Rebuilding.{build, fewest, kept, label, last-digit, pick, places, rebuilt}
-use Rattle.model.proofs.Order.{le-refl, le-take, le-trans, low-lower, lt-le, lt-le-trans, sandwich}
-use Rattle.model.proofs.Tries.{cast, cut-at, relabel-same, relabel-trie, walk-ends}
+use Rattle.model.specs.Deciding.{over}
+use Rattle.model.proofs.Order.{Asc, le-refl, le-take, le-trans, low-lower, lt-le, lt-le-trans, sandwich}
+use Rattle.model.proofs.Tries.{Spans, cast, cut-at, relabel-same, relabel-trie, tip, walk, walk-ends}
 use Rattle.model.proofs.Strings.{Closed, all-asc, all-closed, asc-mem, asc-split}
 use Rattle.model.proofs.Ranges.{bounds-all, bounds-asc, label-leads}
 

@@ -1,10 +1,11 @@
 -- A trie's strings are determined by a number and a digit a cell, in order, if no number in the right part of a cell is
 -- smaller than the cell's own: so a pass that compares these two alone decides which strings a trie has.
 use Rattle.model.proofs.Prelude.{List, List·Memᴰ, List·Memᴰ·head, Memᴰ·append-left, Memᴰ·append-right, [], _++_, _<_, _∙_, _∷_, _≡_, _≤_, ap, arith, decLt, length, length-take-le, refl, sym, take, take-all, take-append-le, take-take, ℕ}
-use Rattle.model.specs.Order.{Low, Str, _≺_, _⊑_, _◁_, at, over}
-use Rattle.model.specs.Tries.{Numbers, Spans, Tree, cell, cut, leaf, node, strings, tip}
+use Rattle.model.specs.Order.{Low, Str, _≺_, _⊑_, _◁_, at}
+use Rattle.model.specs.Tries.{Numbers, Tree, cell, leaf, node, strings}
+use Rattle.model.specs.Deciding.{over}
 use Rattle.model.proofs.Order.{le-take, le-trans, lt-le, sandwich}
-use Rattle.model.proofs.Tries.{cell-length, inside}
+use Rattle.model.proofs.Tries.{Spans, cell-length, cut, inside, tip}
 
 -- A number and a digit a cell, left to right.
 abbrev pub shapes : Tree → List (ℕ × ℕ)

@@ -1,13 +1,14 @@
 -- A split of a bucket: N comes right after A, s is added to the bounds, and the grown trie leads every leaf to its bucket.
 use Rattle.model.proofs.Prelude.{List, List·Memᴰ, List·Memᴰ·append-cases, List·Memᴰ·head, List·Memᴰ·tail, Memᴰ·append-left, Memᴰ·append-right, Memᴰ·cast, [], _++_, _<_, _∙_, _∷_, _≡_, _≢_, _≤_, _⊎_, ap, arith, inl, inr, length, length-take-le, refl, suc, sym, take, take-length, take-nil, ℕ, ℕ-discrete}
-use Rattle.model.specs.Order.{Asc, Low, Str, _≺_, _⊑_, _◁_, above, at, diff, le?, least, none, top}
+use Rattle.model.specs.Order.{Low, Str, _≺_, _⊑_, _◁_, above, at, diff, least, none, top}
 use Rattle.model.specs.Files.{Begins, Chain, Ranges, all, bounds, fresh, last, next}
-use Rattle.model.specs.Tries.{Leads, Spans, Tree}
-use Rattle.model.specs.Growth.{graft, grow, relabel, turn, turned}
+use Rattle.model.specs.Tries.{Leads, Tree}
+use Rattle.model.specs.Growth.{turn, turned}
+use Rattle.model.specs.Deciding.{le?}
 use Rattle.model.proofs.Lists.{mem-insert, mem-leave}
-use Rattle.model.proofs.Order.{diff-le-right, diff-lt-left, le-take, le-trans, low-le, low-trans, lt-le-trans, not-over, split-lt}
-use Rattle.model.proofs.Tries.{Gap, cast, relabel-trie}
-use Rattle.model.proofs.Growth.{Growth, Shrinks, grow-trie}
+use Rattle.model.proofs.Order.{Asc, diff-le-right, diff-lt-left, le-take, le-trans, low-le, low-trans, lt-le-trans, not-over, split-lt}
+use Rattle.model.proofs.Tries.{Gap, Spans, cast, relabel, relabel-trie}
+use Rattle.model.proofs.Growth.{Growth, Shrinks, graft, grow, grow-trie}
 use Rattle.model.proofs.Strings.{Closed, all-asc, all-begins, all-closed, asc-mem, asc-unique, begins, begins-in, fresh-begins, not-top, trie-asc}
 use Rattle.model.proofs.Ranges.{bounds-asc, bounds-from, bounds-to, chain-other, chain-used}
 

@@ -2,15 +2,17 @@
 use Rattle.model.proofs.Prelude.{List, [], _-_, _<_, _^_, _∙_, _∷_, _≡_, getD-set-other, getD-set-same, length, length-set, refl, set, some, suc, take, zero, ℕ, ℕ-discrete}
 use Rattle.model.specs.declared.Layout.{Layout}
 use Rattle.model.specs.declared.Trie.{Trie}
-use Rattle.model.specs.Order.{Str, le?, str?}
+use Rattle.model.specs.Order.{Str}
 use Rattle.model.specs.Entries.{Entry, insert, keep}
 use Rattle.model.specs.Files.{Cut, IsUsed, Slot, Sound, Well, entries-of, free, head, slot-at}
-use Rattle.model.specs.Changes.{Change, Request, Store, absent, fits, put, remove, removes, splits, stored, trie-after}
-use Rattle.model.specs.Format.{Bytes, Contents, Sizes, entrySize, fileBytes, layoutOf, readFile, storeBytes}
+use Rattle.model.specs.Changes.{Request, Store, put, remove, stored}
+use Rattle.model.specs.Format.{Bytes, Sizes, entrySize, fileBytes, layoutOf, readFile, storeBytes}
 use Rattle.model.specs.Calls.{storesBytes, trieAfter}
+use Rattle.model.specs.Deciding.{le?, str?}
 use Rattle.model.proofs.Entries.{chosen-no, chosen-yes}
 use Rattle.model.proofs.Files.{cut-inside, used-inside}
-use Rattle.model.proofs.Format.{bytes-fileBytes, contents-readFile, fileBytes-readFile, headed-layout, readFile-fileBytes, readFile-read, storeBytes-fileBytes}
+use Rattle.model.proofs.Format.{Contents, bytes-fileBytes, contents-readFile, fileBytes-readFile, headed-layout, readFile-fileBytes, readFile-read, storeBytes-fileBytes}
+use Rattle.model.proofs.Changes.{Change, absent, fits, removes, splits, trie-after}
 
 -- Each store is of one of n slots, and its contents fit entries of e bytes.
 abbrev pub Legal : ℕ → ℕ → List Store → Type 0

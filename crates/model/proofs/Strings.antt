@@ -1,10 +1,12 @@
 -- A list of bounds and their beginnings: ascending, closed under beginnings, and exactly these.
 use Rattle.model.proofs.Prelude.{List, List·Memᴰ, List·Memᴰ·append-cases, List·Memᴰ·cases-cons, List·Memᴰ·eq-of-singleton, List·Memᴰ·head, List·Memᴰ·not-nil, List·Memᴰ·tail, Memᴰ·append-left, Memᴰ·append-right, Memᴰ·cast, [], _++_, _+_, _-_, _<_, _∙_, _∷_, _≡_, _≤_, _⊎_, ap, append-assoc, arith, decLe, drop, getD, inl, inr, length, length-drop, length-take, refl, suc, sym, take, take-add, take-all, take-take, zero, ℕ}
-use Rattle.model.specs.Order.{Asc, Low, Str, _≺_, _⊑_, _◁_, above, at, diff, end, nil-not-le, over, step, top}
+use Rattle.model.specs.Order.{Low, Str, _≺_, _⊑_, _◁_, above, at, diff, top}
 use Rattle.model.specs.Files.{Begins, all, fresh, longer}
-use Rattle.model.specs.Tries.{Spans, Tree, cut, tip}
-use Rattle.model.proofs.Order.{diff-le-right, le-antisym, le-refl, low-at, low-lower, lt-le, lt-trans, take-diff}
+use Rattle.model.specs.Tries.{Tree}
+use Rattle.model.specs.Deciding.{nil-not-le, over}
+use Rattle.model.proofs.Order.{Asc, diff-le-right, end, le-antisym, le-refl, low-at, low-lower, lt-le, lt-trans, step, take-diff}
 use Rattle.model.proofs.Growth.{chain-at-leaf}
+use Rattle.model.proofs.Tries.{Spans, cut, tip}
 
 -- What stands at a place of a list is in the list.
 pub mem-at : {A : Type 0} (d : A) (xs : List A) (i : ℕ) → i < length xs → List·Memᴰ (getD xs i d) xs

@@ -1,9 +1,26 @@
 -- The walk ends at the leaf whose interval holds the name; all strings lie inside; the flat wording and the tree's are the same.
 use Rattle.model.proofs.Prelude.{List, List·Memᴰ, List·Memᴰ·append-cases, List·Memᴰ·cases-cons, List·Memᴰ·not-nil, [], _++_, _∙_, _∷_, _≡_, _≤_, _⊎_, add-one, ap, arith, inl, inr, length, length-append, length-take-le, refl, subst, suc, take, ℕ}
-use Rattle.model.specs.Order.{Low, Str, _≺_, _⊑_, _⊴_, _◁_, above, at, le?, over}
-use Rattle.model.specs.Tries.{Leaves, Numbers, Spans, Tree, cell, cut, leaf, leaf-last, leaf-next, leaves, node, size, strings, tip, walk}
-use Rattle.model.specs.Growth.{relabel}
+use Rattle.model.specs.Order.{Low, Str, _≺_, _⊑_, _⊴_, _◁_, above, at}
+use Rattle.model.specs.Tries.{Leaves, Numbers, Tree, cell, leaf, leaf-last, leaf-next, leaves, node, size, strings}
+use Rattle.model.specs.Deciding.{le?, over}
 use Rattle.model.proofs.Order.{le-refl, le-trans, low-at, low-lower, low-refl, low-trans, lt-le, lt-le-trans, lt-trans}
+
+-- The walk over a tree: a name within the cell's string goes left, with that string as its path; any other goes right.
+abbrev pub walk : Str → Str → Tree → ℕ
+walk n p (leaf s) = s
+walk n p (node d i l r) = elim (le? n (cell d i p)) [ yes h ↦ walk n (cell d i p) l | no h ↦ walk n p r ]
+
+-- Leaves lead to other slots, by their path and the slot that they led to.
+abbrev pub relabel : (Str → ℕ → ℕ) → Str → Tree → Tree
+relabel f p (leaf B) = leaf (f p B)
+relabel f p (node d i L R) = node d i (relabel f (cell d i p) L) (relabel f p R)
+
+module _ (P : Low → Str → ℕ → Type 0) where
+  -- `Leaves` of a tree, its path u being the upper end: the tree is a trie of the interval (l, u] with these strings.
+  pub data Spans : Low → Str → Tree → List Str → Type 0 where
+    tip : {l : Low} {u : Str} {s : ℕ} → P l u s → Spans l u (leaf s) []
+    cut : {l : Low} {u : Str} {d i : ℕ} {L R : Tree} {xs ys : List Str} → i ≤ length u → l ◁ cell d i u → cell d i u ≺ u
+        → Spans l (cell d i u) L xs → Spans (at (cell d i u)) u R ys → Spans l u (node d i L R) (xs ++ (cell d i u ∷ ys))
 
 module _ (P : Low → Str → ℕ → Type 0) where
   -- The same, where the cell's string is known by an equation.

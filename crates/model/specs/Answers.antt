@@ -23,19 +23,33 @@ abbrev pub number : Cause → ℕ
 number IllegalName = 1
 number BadFile = 2
 number CutFile = 3
-number StaleTrie = 4
+number (StaleTrie k) = 4
 number NoFreeSlot = 5
 number ManyStrings = 6
 number ShortOutput = 7
 number WrongSize = 8
 
+-- R10.13: the trie is stale, and no bound of a bucket that was read is broken.
+abbrev pub stale-trie : Cause
+stale-trie = StaleTrie 255
+
 -- An answer's number in the C interface, and its values.
 abbrev pub Said : Type 0
 Said = ℕ × List ℕ
 
--- R10.11: a refusal is its number and nothing else.
+-- R10.11 and R10.13: a refusal is its number and nothing else, but 4 carries a digit number or 255.
+abbrev pub carried : Cause → List ℕ
+carried IllegalName = []
+carried BadFile = []
+carried CutFile = []
+carried (StaleTrie k) = k ∷ []
+carried NoFreeSlot = []
+carried ManyStrings = []
+carried ShortOutput = []
+carried WrongSize = []
+
 abbrev pub refusedWith : Cause → Said
-refusedWith c = (number c, [])
+refusedWith c = (number c, carried c)
 
 -- R11.11: found with the value, or absent.
 abbrev pub lookUpSays : LookUpAnswer → Said

@@ -1,13 +1,12 @@
 -- The public calls on bytes: for every file, trie and name, the answer, the trie and all bytes lent.
-use mathlib.Core.Bool.{_&&_, cond}
+use mathlib.Core.Bool.{Bool, _&&_, cond}
 use mathlib.Core.Option.{Option, none as nothing, some}
 use mathlib.Core.List.{List, [], _++_, _∷_}
-use Prim.Native.Nat.{_*_, suc, zero, ℕ}
+use Prim.Native.Nat.{_*_, ℕ}
 use lib.Dec.{eqb, leb, ltb}
 use lib.ListN.{drop, length, replicate, take}
 use Rattle.model.specs.declared.Cause.{Cause}
 use Rattle.model.specs.declared.Cause.the-variants.{BadFile, CutFile, IllegalName, ManyStrings, NoFreeSlot, ShortOutput, StaleTrie, WrongSize}
-use Rattle.model.specs.declared.Cell.{Cell}
 use Rattle.model.specs.declared.Layout.{Layout}
 use Rattle.model.specs.declared.ListAnswer.{ListAnswer}
 use Rattle.model.specs.declared.ListAnswer.the-variants.{Listed, Refused as ListRefused}
@@ -19,22 +18,21 @@ use Rattle.model.specs.declared.RecoverAnswer.{RecoverAnswer}
 use Rattle.model.specs.declared.RecoverAnswer.the-variants.{Freed, Nothing, Refused as RecoverRefused, Stopped as RecoverStopped}
 use Rattle.model.specs.declared.RemoveAnswer.{RemoveAnswer}
 use Rattle.model.specs.declared.RemoveAnswer.the-variants.{Absent as NotHeld, Refused as RemoveRefused, Removed, Stopped as RemoveStopped}
-use Rattle.model.specs.declared.Side.{Side}
-use Rattle.model.specs.declared.Side.the-variants.{Cell as further, Slot as slot}
 use Rattle.model.specs.declared.Trie.{Trie}
 use Rattle.model.specs.declared.TrieAnswer.{TrieAnswer}
 use Rattle.model.specs.declared.TrieAnswer.the-variants.{Given, Refused as TrieRefused}
 use Rattle.model.specs.Order.{Str}
-use Rattle.model.specs.Names.{atMost, filled, legalName, within}
+use Rattle.model.specs.Names.{atMost, broken, filled, legalName}
 use Rattle.model.specs.Entries.{Entry, find, insert, name-at}
 use Rattle.model.specs.Files.{Slot, created, entries-of, first, free, order-of, slot-at, string-count, used}
-use Rattle.model.specs.Tries.{at-cell, cell, root-side, zero-cell}
+use Rattle.model.specs.Tries.{Spot, walkOf, zero-cell}
 use Rattle.model.specs.Rebuilding.{rebuilt-trie}
 use Rattle.model.specs.Growth.{grown-trie}
 use Rattle.model.specs.Changes.{Result, Store, call, holds?, put, refuse, remove, split-of, stores}
 use Rattle.model.specs.Places.{place-of}
 use Rattle.model.specs.Checks.{Kind, is-bad, is-cut, is-sound, isAbove, isWell}
 use Rattle.model.specs.Agreeing.{isAgreeing}
+use Rattle.model.specs.Answers.{stale-trie}
 use Rattle.model.specs.Format.{checkFile, entriesBytes, entrySize, fileBytes, fileSize, headerOf, layoutOf, legalSizes, readFile, readSlot, slotAt, storeBytes}
 
 -- R9.1: a new file's trie.
@@ -74,10 +72,13 @@ recoverBy xs limit (is-cut N) =
     cond (ltb limit 1) (record { answer = RecoverStopped 0; file = xs })
     (record { answer = Freed N; file = storeBytes (layoutOf xs) N free xs })
 
-unfoldable pub recoverOf : List ℕ → ℕ → Recovered
-recoverOf xs limit =
-    let r = recoverBy xs limit (checkFile xs) in
+abbrev pub recoverWith : (List ℕ → Kind) → List ℕ → ℕ → Recovered
+recoverWith kind xs limit =
+    let r = recoverBy xs limit (kind xs) in
     cond (ltb 2 limit) (record { answer = RecoverRefused WrongSize; file = xs }) r
+
+unfoldable pub recoverOf : List ℕ → ℕ → Recovered
+recoverOf xs limit = recoverWith checkFile xs limit
 
 -- Rebuild, in the order 2, 3, 6.
 abbrev pub no-rebuilt : Cause → Rebuilt
@@ -93,48 +94,49 @@ rebuildBy is-sound (some f) =
 unfoldable pub rebuildOf : List ℕ → Rebuilt
 rebuildOf xs = rebuildBy (checkFile xs) (readFile xs)
 
--- The walk over any trie. Where one of R11.4 to R11.7 refuses it: nothing. The first number is how many cells may still
--- be met.
-unfoldable pub arrive : ℕ → ℕ → ℕ → List Cell → Str → Str → Side → Option ℕ
-arrive zero slots count cs n p (slot s) = cond (ltb s slots) (some s) nothing
-arrive zero slots count cs n p (further m) = nothing
-arrive (suc f) slots count cs n p (slot s) = cond (ltb s slots) (some s) nothing
-arrive (suc f) slots count cs n p (further m) =
-    let c = at-cell cs m in
-    let q = cell (c .digit) (c .number) p in
-    let l = arrive f slots count cs n q (c .left) in
-    let r = arrive f slots count cs n p (c .right) in
-    let w = cond (within n q) l r in
-    cond (ltb m count && leb (c .number) (length p) && leb (c .number) 23) w nothing
+-- R11.3 to R11.7: the slot at which a walk ended, where it is one of the file's; or nothing.
+abbrev pub landed : ℕ → Option (Str × Spot × ℕ) → Option ℕ
+landed slots nothing = nothing
+landed slots (some (p, k, s)) = cond (ltb s slots) (some s) nothing
 
 -- R11.11: found with the value, or absent.
 abbrev pub heldAnswer : Option ℕ → LookUpAnswer
 heldAnswer nothing = NotFound
 heldAnswer (some v) = Found v
 
--- R11.8 to R11.10, in this order.
+-- R11.8 to R11.10, in this order. Where the range lacks the name, the refusal says how far off it is (R10.13).
+abbrev pub slotAnswerWith : (ℕ → Slot → Bool) → ℕ → Str → Option Slot → LookUpAnswer
+slotAnswerWith well b n nothing = LookUpRefused BadFile
+slotAnswerWith well b n (some free) = LookUpRefused stale-trie
+slotAnswerWith well b n (some (used l u es)) =
+    cond (well b (used l u es))
+    (cond (isAbove l n && atMost n u) (heldAnswer (find n es)) (LookUpRefused (StaleTrie (broken l u n)))) (LookUpRefused BadFile)
+
 unfoldable pub slotAnswer : ℕ → Str → Option Slot → LookUpAnswer
-slotAnswer b n nothing = LookUpRefused BadFile
-slotAnswer b n (some free) = LookUpRefused StaleTrie
-slotAnswer b n (some (used l u es)) =
-    cond (isWell b (used l u es))
-    (cond (isAbove l n && atMost n u) (heldAnswer (find n es)) (LookUpRefused StaleTrie)) (LookUpRefused BadFile)
+slotAnswer b n s = slotAnswerWith isWell b n s
+
+abbrev pub arrivedAnswerWith : (ℕ → Str → Option Slot → LookUpAnswer) → List ℕ → Layout → Str → Option ℕ → LookUpAnswer
+arrivedAnswerWith answer xs y n nothing = LookUpRefused stale-trie
+arrivedAnswerWith answer xs y n (some k) = answer (y .b) n (readSlot y (slotAt y k xs))
 
 unfoldable pub arrivedAnswer : List ℕ → Layout → Str → Option ℕ → LookUpAnswer
-arrivedAnswer xs y n nothing = LookUpRefused StaleTrie
-arrivedAnswer xs y n (some k) = slotAnswer (y .b) n (readSlot y (slotAt y k xs))
+arrivedAnswer xs y n k = arrivedAnswerWith slotAnswer xs y n k
+
+abbrev pub headedAnswerWith : (List ℕ → Layout → Str → Option ℕ → LookUpAnswer) → List ℕ → Trie → Str → Option (Layout × ℕ) → LookUpAnswer
+headedAnswerWith answer xs t n nothing = LookUpRefused BadFile
+headedAnswerWith answer xs t n (some h) = answer xs (h .0) n (landed (h .1) (walkOf t n))
 
 unfoldable pub headedAnswer : List ℕ → Trie → Str → Option (Layout × ℕ) → LookUpAnswer
-headedAnswer xs t n nothing = LookUpRefused BadFile
-headedAnswer xs t n (some h) =
-    let a = arrivedAnswer xs (h .0) n (arrive (t .count) (h .1) (t .count) (t .cells) n [] (root-side (t .count) (t .first))) in
-    cond (leb (t .count) 256) a (LookUpRefused StaleTrie)
+headedAnswer xs t n h = headedAnswerWith arrivedAnswer xs t n h
 
 -- Look up, by section 11 of the rules from the top.
+abbrev pub lookUpWith : (List ℕ → Bool) → (List ℕ → Trie → Str → Option (Layout × ℕ) → LookUpAnswer) → List ℕ → Trie → List ℕ → LookUpAnswer
+lookUpWith legal answer xs t name =
+    let a = answer xs t (filled name) (headerOf xs) in
+    cond (legal name) a (LookUpRefused IllegalName)
+
 unfoldable pub lookUpOf : List ℕ → Trie → List ℕ → LookUpAnswer
-lookUpOf xs t name =
-    let a = headedAnswer xs t (filled name) (headerOf xs) in
-    cond (legalName name) a (LookUpRefused IllegalName)
+lookUpOf xs t name = lookUpWith legalName headedAnswer xs t name
 
 -- R9.10: the whole file and full agreement: refused 2, 3 or 4, or the file.
 pub data Looked : Type 0 where
@@ -145,7 +147,7 @@ unfoldable pub lookedBy : Trie → Kind → Option (Layout × List Slot) → Loo
 lookedBy t is-bad f = refusing BadFile
 lookedBy t (is-cut N) f = refusing CutFile
 lookedBy t is-sound nothing = refusing BadFile
-lookedBy t is-sound (some f) = cond (isAgreeing (f .1) t) (fine (f .0) (f .1)) (refusing StaleTrie)
+lookedBy t is-sound (some f) = cond (isAgreeing (f .1) t) (fine (f .0) (f .1)) (refusing stale-trie)
 
 unfoldable pub lookedOf : List ℕ → Trie → Looked
 lookedOf xs t = lookedBy t (checkFile xs) (readFile xs)
@@ -195,11 +197,14 @@ putLooked xs t n v limit (refusing c) = record { answer = PutRefused c; file = x
 putLooked xs t n v limit (fine y fs) = putMade xs t y fs n v limit (call (y .b) (place-of y) fs (put n v))
 
 -- Put, in the order 8, 1, 2, 3, 4, 5, 6 (R10.9).
-unfoldable pub putOf : List ℕ → Trie → List ℕ → ℕ → ℕ → PutDone
-putOf xs t name v limit =
-    let d = putLooked xs t (filled name) v limit (lookedOf xs t) in
+abbrev pub putWith : (List ℕ → Bool) → (List ℕ → Trie → Looked) → List ℕ → Trie → List ℕ → ℕ → ℕ → PutDone
+putWith legal looked xs t name v limit =
+    let d = putLooked xs t (filled name) v limit (looked xs t) in
     cond (ltb 2 limit) (record { answer = PutRefused WrongSize; file = xs; trie = t })
-    (cond (legalName name) d (record { answer = PutRefused IllegalName; file = xs; trie = t }))
+    (cond (legal name) d (record { answer = PutRefused IllegalName; file = xs; trie = t }))
+
+unfoldable pub putOf : List ℕ → Trie → List ℕ → ℕ → ℕ → PutDone
+putOf xs t name v limit = putWith legalName lookedOf xs t name v limit
 
 -- What remove leaves. The trie stays.
 pub record RemoveDone : Type 0 where
@@ -222,11 +227,14 @@ removeLooked xs n limit (refusing c) = record { answer = RemoveRefused c; file =
 removeLooked xs n limit (fine y fs) = removeMade xs y limit (call (y .b) (place-of y) fs (remove n))
 
 -- Remove, in the order 8, 1, 2, 3, 4 (R10.9).
-unfoldable pub removeOf : List ℕ → Trie → List ℕ → ℕ → RemoveDone
-removeOf xs t name limit =
-    let d = removeLooked xs (filled name) limit (lookedOf xs t) in
+abbrev pub removeWith : (List ℕ → Bool) → (List ℕ → Trie → Looked) → List ℕ → Trie → List ℕ → ℕ → RemoveDone
+removeWith legal looked xs t name limit =
+    let d = removeLooked xs (filled name) limit (looked xs t) in
     cond (ltb 2 limit) (record { answer = RemoveRefused WrongSize; file = xs })
-    (cond (legalName name) d (record { answer = RemoveRefused IllegalName; file = xs }))
+    (cond (legal name) d (record { answer = RemoveRefused IllegalName; file = xs }))
+
+unfoldable pub removeOf : List ℕ → Trie → List ℕ → ℕ → RemoveDone
+removeOf xs t name limit = removeWith legalName lookedOf xs t name limit
 
 -- What list leaves.
 pub record ListDone : Type 0 where
@@ -256,7 +264,10 @@ listLooked low high out (refusing c) = record { answer = ListRefused c; output =
 listLooked low high out (fine y fs) = listEntries (entrySize y) (between low high (entriesIn fs (order-of fs))) out
 
 -- List, in the order 1, 2, 3, 4, 7.
+abbrev pub listWith : (List ℕ → Bool) → (List ℕ → Trie → Looked) → List ℕ → Trie → List ℕ → List ℕ → List ℕ → ListDone
+listWith legal looked xs t low high out =
+    let d = listLooked (filled low) (filled high) out (looked xs t) in
+    cond (legal low && legal high) d (record { answer = ListRefused IllegalName; output = out })
+
 unfoldable pub listOf : List ℕ → Trie → List ℕ → List ℕ → List ℕ → ListDone
-listOf xs t low high out =
-    let d = listLooked (filled low) (filled high) out (lookedOf xs t) in
-    cond (legalName low && legalName high) d (record { answer = ListRefused IllegalName; output = out })
+listOf xs t low high out = listWith legalName lookedOf xs t low high out

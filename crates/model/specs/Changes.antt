@@ -3,16 +3,15 @@ use mathlib.Core.Path.{_≡_, refl}
 use mathlib.Core.Logic.{_≢_}
 use mathlib.Core.Option.{Option, none as nothing, some}
 use mathlib.Core.List.{List, [], _∷_}
-use Prim.Native.Nat.{_<_, _≤_, ℕ}
+use Prim.Native.Nat.{_<_, ℕ}
 use native.Mathlib.Decide.{decLe, decLt}
 use native.Mathlib.Omega.{arith}
 use lib.ListN.{length, set}
-use Rattle.model.specs.declared.Trie.{Trie}
-use Rattle.model.specs.Order.{Low, Str, _⊑_, _◁_, at, le?, low?, str?}
-use Rattle.model.specs.Names.{Legal, splitString}
+use Rattle.model.specs.Order.{Low, Str, _⊑_, _◁_, at}
+use Rattle.model.specs.Names.{splitString}
 use Rattle.model.specs.Entries.{Entry, chosen, find, insert, move, name-at, stay, without}
 use Rattle.model.specs.Files.{In, Slot, entries-of, first, free, head, slot-at, string-count, used}
-use Rattle.model.specs.Growth.{grown-trie}
+use Rattle.model.specs.Deciding.{le?, low?, str?}
 
 -- Put of a filled name with its value, and remove.
 pub data Request : Type 0 where
@@ -54,27 +53,6 @@ module _ (b : ℕ) (place : List Entry → ℕ) where
   abbrev pub halves : ℕ → ℕ → Low → Str → List Entry → List Store
   halves N A l u ws = (N, new-half ws u) ∷ (A, old-half ws l) ∷ []
 
-  -- Where nothing is refused: what is asked, and the stores that it takes. One for a name that finds room (R7.2), two
-  -- for a split (R7.8), one to replace or to remove (R7.9, R7.10), none to remove an absent name (R7.11).
-  pub data Change (fs : List Slot) : Request → List Store → Type 0 where
-    fits : {A : ℕ} {l : Low} {u : Str} {es : List Entry} {n : Str} {v : ℕ} → slot-at fs A ≡ used l u es → Legal n → l ◁ n → n ⊑ u
-        → length (insert n v es) ≤ b → Change fs (put n v) ((A, used l u (insert n v es)) ∷ [])
-    splits : {A N : ℕ} {l : Low} {u : Str} {es : List Entry} {n : Str} {v : ℕ} → slot-at fs A ≡ used l u es → Legal n → l ◁ n → n ⊑ u
-        → b < length (insert n v es) → Lowest fs N → string-count (stored (halves N A l u (insert n v es)) fs) ≤ 256
-        → Change fs (put n v) (halves N A l u (insert n v es))
-    removes : {A : ℕ} {l : Low} {u : Str} {es : List Entry} {n : Str} {w : ℕ} → slot-at fs A ≡ used l u es → l ◁ n → n ⊑ u
-        → find n es ≡ some w → Change fs (remove n) ((A, used l u (without n es)) ∷ [])
-    absent : (A : ℕ) {l : Low} {u : Str} {es : List Entry} {n : Str} → slot-at fs A ≡ used l u es → l ◁ n → n ⊑ u
-        → find n es ≡ nothing → Change fs (remove n) []
-
-  -- R8.1: the trie changes with the last store of a split.
-  unfoldable pub trie-after : {fs : List Slot} {q : Request} {ss : List Store} → Change fs q ss → Trie → Trie
-  trie-after (fits is g lo up k) t = t
-  trie-after (splits {A = A} {N = N} {es = es} {n = n} {v = v} is g lo up k f c) t =
-      grown-trie t (name-at (insert n v es) (place (insert n v es))) (split-of (insert n v es)) A N
-  trie-after (removes is lo up e) t = t
-  trie-after (absent A is lo up e) t = t
-
   -- R10.5 and R10.6.
   pub data Denied (fs : List Slot) : Request → ℕ → Type 0 where
     no-room : (A : ℕ) {l : Low} {u : Str} (es : List Entry) {n : Str} {v : ℕ} → slot-at fs A ≡ used l u es → l ◁ n → n ⊑ u
@@ -83,7 +61,7 @@ module _ (b : ℕ) (place : List Entry → ℕ) where
         → b < length (insert n v es) → Lowest fs N → 256 < string-count (stored (halves N A l u (insert n v es)) fs)
         → Denied fs (put n v) 6
 
--- The same as a function.
+-- What a request takes: its stores, or the number of what refuses it.
 pub data Result : Type 0 where
   refuse : ℕ → Result
   stores : List Store → Result
@@ -106,7 +84,7 @@ stores-if nothing ss = []
 stores-if (some v) ss = ss
 
 module _ (b : ℕ) (place : List Entry → ℕ) (fs : List Slot) where
-  -- The name's slot is A, and holds x.
+  -- One store where a name finds room (R7.2), to replace (R7.9), to remove (R7.10); two to split (R7.8); else none (R7.11).
   unfoldable pub put-in : Str → ℕ → ℕ → Slot → Result
   put-in n v A free = refuse 2
   put-in n v A (used l u es) =

@@ -30,19 +30,29 @@ sameLow none (at y) = false
 sameLow (at x) none = false
 sameLow (at x) (at y) = sameStr x y
 
--- R3.13 to R3.16: legal names, ascending, each in the range.
+-- R3.13 to R3.16: legal names, ascending, each in the range. What depends on the rule of names takes the test that it rests
+-- on (`With`): an older build is the same with another.
+abbrev pub isRowWith : (Str → Bool) → Low → List Entry → Str → Bool
+isRowWith legal l [] u = true
+isRowWith legal l (e ∷ es) u = legal (e .0) && isAbove l (e .0) && atMost (e .0) u && isRowWith legal (at (e .0)) es u
+
 unfoldable pub isRow : Low → List Entry → Str → Bool
-isRow l [] u = true
-isRow l (e ∷ es) u = legalFilled (e .0) && isAbove l (e .0) && atMost (e .0) u && isRow (at (e .0)) es u
+isRow l es u = isRowWith legalFilled l es u
 
 -- R4.2: each slot is free or well formed.
+abbrev pub isWellWith : (Low → List Entry → Str → Bool) → ℕ → Slot → Bool
+isWellWith row b free = true
+isWellWith row b (used l u es) = legalLow l && legalBound u && isAbove l u && row l es u && leb (length es) b
+
 unfoldable pub isWell : ℕ → Slot → Bool
-isWell b free = true
-isWell b (used l u es) = legalLow l && legalBound u && isAbove l u && isRow l es u && leb (length es) b
+isWell b x = isWellWith isRow b x
+
+abbrev pub allWellWith : (Slot → Bool) → List Slot → Bool
+allWellWith well [] = true
+allWellWith well (x ∷ xs) = well x && allWellWith well xs
 
 unfoldable pub allWell : ℕ → List Slot → Bool
-allWell b [] = true
-allWell b (x ∷ xs) = isWell b x && allWell b xs
+allWell b fs = allWellWith (isWell b) fs
 
 -- The slots in this order are a chain.
 unfoldable pub isUsed : Slot → Bool
@@ -67,8 +77,11 @@ unfoldable pub isListed : ℕ → List ℕ → List Slot → Bool
 isListed i Bs [] = true
 isListed i Bs (x ∷ xs) = (not (isUsed x) || isIn i Bs) && isListed (suc i) Bs xs
 
+abbrev pub isSoundWith : (List Slot → Bool) → List Slot → Bool
+isSoundWith well fs = well fs && isChain fs none (order-of fs) && isListed 0 (order-of fs) fs
+
 unfoldable pub isSound : ℕ → List Slot → Bool
-isSound b fs = allWell b fs && isChain fs none (order-of fs) && isListed 0 (order-of fs) fs
+isSound b fs = isSoundWith (allWell b) fs
 
 -- R4.13: exactly A's entries in N's range, or these and the one at a place below i.
 unfoldable pub sameEntries : List Entry → List Entry → Bool
@@ -94,11 +107,14 @@ hasTwin b low up ns [] = false
 hasTwin b low up ns (x ∷ xs) = isTwin b low up ns x || hasTwin b low up ns xs
 
 -- R4.8: without N the file is sound; the slot is x.
+abbrev pub isCutByWith : (Slot → Bool) → (List Slot → Bool) → ℕ → List Slot → ℕ → Slot → Bool
+isCutByWith well sound b fs N free = false
+isCutByWith well sound b fs N (used none up ns) = false
+isCutByWith well sound b fs N (used (at low) up ns) =
+    well (used (at low) up ns) && hasTwin b low up ns (set fs N free) && sound (set fs N free)
+
 unfoldable pub isCutBy : ℕ → List Slot → ℕ → Slot → Bool
-isCutBy b fs N free = false
-isCutBy b fs N (used none up ns) = false
-isCutBy b fs N (used (at low) up ns) =
-    isWell b (used (at low) up ns) && hasTwin b low up ns (set fs N free) && isSound b (set fs N free)
+isCutBy b fs N x = isCutByWith (isWell b) (isSound b) b fs N x
 
 -- R9.2: sound, cut or bad. Only one slot can be the one to free (R4.15).
 pub data Kind : Type 0 where
@@ -106,11 +122,17 @@ pub data Kind : Type 0 where
   is-cut : ℕ → Kind
   is-bad : Kind
 
+abbrev pub cutBelowWith : (ℕ → Bool) → ℕ → Kind
+cutBelowWith cut zero = is-bad
+cutBelowWith cut (suc N) =
+    let r = cutBelowWith cut N in
+    cond (cut N) (is-cut N) r
+
 unfoldable pub cutBelow : ℕ → ℕ → List Slot → Kind
-cutBelow zero b fs = is-bad
-cutBelow (suc N) b fs =
-    let r = cutBelow N b fs in
-    cond (isCutBy b fs N (slot-at fs N)) (is-cut N) r
+cutBelow N b fs = cutBelowWith (λ (k : ℕ). isCutBy b fs k (slot-at fs k)) N
+
+abbrev pub checkWith : (List Slot → Bool) → (List Slot → Kind) → List Slot → Kind
+checkWith sound cut fs = let r = cut fs in cond (sound fs) is-sound r
 
 unfoldable pub check : ℕ → List Slot → Kind
-check b fs = let r = cutBelow (length fs) b fs in cond (isSound b fs) is-sound r
+check b fs = checkWith (isSound b) (cutBelow (length fs) b) fs

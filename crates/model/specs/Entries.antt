@@ -3,8 +3,9 @@ use mathlib.Core.Option.{Option, none as nothing, some}
 use mathlib.Core.List.{List, [], _∷_}
 use Prim.Native.Nat.{ℕ}
 use lib.ListN.{getD}
-use Rattle.model.specs.Order.{Low, Str, _⊑_, _◁_, at, le?, str?}
+use Rattle.model.specs.Order.{Low, Str, _⊑_, _◁_, at}
 use Rattle.model.specs.Names.{Legal}
+use Rattle.model.specs.Deciding.{le?, not?, str?}
 
 -- R3.13: an entry is the filled name and the value.
 abbrev pub Entry : Type 0
@@ -17,10 +18,6 @@ name-at es i = getD es i ([], 0) .0
 unfoldable pub chosen : {X Y : Type 0} → Dec X → Y → Y → Y
 chosen (yes h) a b = a
 chosen (no h) a b = b
-
-unfoldable pub not? : {X : Type 0} → Dec X → Dec (¬ X)
-not? (yes h) = no (λ n. n h)
-not? (no h) = yes h
 
 -- R11.11: the value, or none.
 unfoldable pub find : Str → List Entry → Option ℕ

@@ -1,12 +1,12 @@
 -- The file as a list of slots: well formed, sound, cut, bad; its range order, its bounds, its strings.
-use mathlib.Core.Path.{_≡_, ap, refl}
+use mathlib.Core.Path.{_≡_}
 use mathlib.Core.List.{List, List·Memᴰ, [], _++_, _∷_}
 use Prim.Native.Nat.{_-_, _<_, _≤_, suc, zero, ℕ}
-use native.Mathlib.Omega.{arith}
 use lib.ListN.{drop, getD, length, replicate, set, take}
-use Rattle.model.specs.Order.{Low, Str, _≺_, _⊑_, _◁_, at, diff, none, str?}
+use Rattle.model.specs.Order.{Low, Str, _≺_, _⊑_, _◁_, at, diff, none}
 use Rattle.model.specs.Names.{Bound, BoundLow}
 use Rattle.model.specs.Entries.{Entry, Row, chosen, move, name-at, without}
+use Rattle.model.specs.Deciding.{low-same?, str?}
 
 -- A slot is free, or used with a lower and an upper bound and entries.
 pub data Slot : Type 0 where
@@ -118,12 +118,6 @@ created slots = used none [] [] ∷ replicate (slots - 1) free
 unfoldable pub first : {P : Slot → Type 0} → ((x : Slot) → Dec (P x)) → List Slot → ℕ
 first t [] = 0
 first t (x ∷ xs) = chosen (t x) 0 (suc (first t xs))
-
-unfoldable pub low-same? : (l m : Low) → Dec (l ≡ m)
-low-same? none none = yes refl
-low-same? none (at y) = no (λ e. let z : _≡_ {A = ℕ} 0 1 = cc in absurd (omega arith))
-low-same? (at x) none = no (λ e. let z : _≡_ {A = ℕ} 0 1 = cc in absurd (omega arith))
-low-same? (at x) (at y) = elim (str? x y) [ yes e ↦ yes (ap at e) | no n ↦ no (λ e. n cc) ]
 
 abbrev pub Starts : Low → Slot → Type 0
 Starts l x = IsUsed (head x) × (lower-of (head x) ≡ l)

@@ -3,7 +3,7 @@ use mathlib.Core.Bool.{Bool, _&&_, cond, true}
 use mathlib.Core.Path.{_≡_}
 use mathlib.Core.Option.{Option, none as nothing, some}
 use mathlib.Core.List.{List, [], _++_, _∷_}
-use Prim.Native.Nat.{_%_, _*_, _+_, _-_, _/_, _<_, _^_, _≤_, suc, zero, ℕ}
+use Prim.Native.Nat.{_%_, _*_, _+_, _-_, _/_, _<_, _≤_, suc, zero, ℕ}
 use lib.Dec.{eqb, leb}
 use lib.ListN.{drop, getD, length, replicate, take}
 use lib.Seq.{paste}
@@ -13,23 +13,20 @@ use Rattle.model.specs.Entries.{Entry}
 use Rattle.model.specs.Files.{Cut, Slot, Sound, free, used}
 use Rattle.model.specs.Checks.{Kind, check, is-bad, sameStr}
 
--- The layout of a file of version 1.
+-- The layouts of a file of version 1 and of version 2.
 abbrev pub version-1 : ℕ → Layout
 version-1 b = record { version = 1; b = b }
 
+abbrev pub version-2 : ℕ → Layout
+version-2 b = record { version = 2; b = b }
+
 -- R2.3: the versions that are offered.
 unfoldable pub isOffered : ℕ → Bool
-isOffered v = eqb v 1
+isOffered v = leb 1 v && leb v 2
 
--- The bytes of an entry follow from the version (section 3). Laws ask no more of their number than that it is 32 or 40
--- (`EntrySize`).
+-- How many bytes an entry has follows from the version (section 3).
 unfoldable pub entrySize : Layout → ℕ
 entrySize y = 32
-
-pub record EntrySize (e : ℕ) : Type 0 where
-  pub least : 32 ≤ e
-  pub most : e ≤ 40
-  pub eights : e % 8 ≡ 0
 
 -- R2.7: the length of a file.
 unfoldable pub slotSize : Layout → ℕ
@@ -66,11 +63,6 @@ littleEndian (suc n) v = v % 256 ∷ littleEndian n (v / 256)
 unfoldable pub valueOf : List ℕ → ℕ
 valueOf [] = 0
 valueOf (x ∷ xs) = x + 256 * valueOf xs
-
--- Contents that the bytes behind a name hold. The content of an entry is one number, its value.
-abbrev pub Contents : ℕ → List Entry → Type 0
-Contents e [] = Unit {0}
-Contents e (x ∷ es) = (x .1 < 256 ^ (e - 24)) × Contents e es
 
 -- Numbers that are bytes.
 abbrev pub Bytes : List ℕ → Type 0
@@ -180,9 +172,12 @@ abbrev pub BadFile : List ℕ → Type 0
 BadFile xs = (¬ SoundFile xs) × ((N : ℕ) → ¬ CutFile xs N)
 
 -- R9.2: sound, cut or bad. What no writer wrote is bad.
+abbrev pub checkReadWith : (ℕ → List Slot → Kind) → Option (Layout × List Slot) → Kind
+checkReadWith kind nothing = is-bad
+checkReadWith kind (some f) = kind (f .0 .b) (f .1)
+
 unfoldable pub checkRead : Option (Layout × List Slot) → Kind
-checkRead nothing = is-bad
-checkRead (some f) = check (f .0 .b) (f .1)
+checkRead f = checkReadWith check f
 
 unfoldable pub checkFile : List ℕ → Kind
 checkFile xs = checkRead (readFile xs)

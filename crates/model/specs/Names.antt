@@ -1,11 +1,11 @@
 -- Names and bounds: section 1 of the rules.
 use mathlib.Core.Path.{_≡_}
-use mathlib.Core.Bool.{Bool, _&&_, cond, false, true}
+use mathlib.Core.Bool.{Bool, _&&_, cond, false, not, true}
 use mathlib.Core.List.{List, [], _++_, _∷_}
-use Prim.Native.Nat.{_<_, _≤_, suc, zero, ℕ}
+use Prim.Native.Nat.{_-_, _<_, _≤_, suc, zero, ℕ}
 use lib.Dec.{eqb, leb, ltb}
-use lib.ListN.{length, replicate, take}
-use Rattle.model.specs.Order.{Low, Str, at, none}
+use lib.ListN.{getD, length, replicate, take}
+use Rattle.model.specs.Order.{Low, Str, at, diff, none}
 
 -- R1.3 and R1.5: digits from the lowest one given on.
 abbrev pub Digits : ℕ → Str → Type 0
@@ -16,9 +16,20 @@ unfoldable pub areDigits : ℕ → List ℕ → Bool
 areDigits lo [] = true
 areDigits lo (d ∷ x) = leb lo d && leb d 0x7D && areDigits lo x
 
+-- R1.3: the first digit is no blank, nor is the last.
+abbrev pub isBlank : ℕ → Bool
+isBlank d = eqb d 0x20
+
+abbrev pub firstOf : List ℕ → ℕ
+firstOf n = getD n 0 0
+
+abbrev pub lastOf : List ℕ → ℕ
+lastOf n = getD n (length n - 1) 0
+
 -- R1.2 and R1.3: a legal name.
 unfoldable pub legalName : List ℕ → Bool
-legalName n = leb 1 (length n) && leb (length n) 24 && areDigits 0x21 n
+legalName n =
+    leb 1 (length n) && leb (length n) 24 && areDigits 0x20 n && not (isBlank (firstOf n)) && not (isBlank (lastOf n))
 
 -- R1.4: filled with blanks to 24 digits.
 unfoldable pub filled : List ℕ → List ℕ
@@ -29,21 +40,14 @@ pub record Legal (n : Str) : Type 0 where
   pub name : Str
   pub some : 0 < length name
   pub fits : length name ≤ 24
-  pub digits : Digits 0x21 name
+  pub digits : Digits 0x20 name
+  pub first : ¬ (firstOf name ≡ 0x20)
+  pub last : ¬ (lastOf name ≡ 0x20)
   pub is : n ≡ filled name
 
--- The same, tested: a first digit that is no blank, and nothing but blanks behind a blank.
-unfoldable pub blanks : List ℕ → Bool
-blanks [] = true
-blanks (d ∷ n) = eqb d 0x20 && blanks n
-
-unfoldable pub blankEnded : List ℕ → Bool
-blankEnded [] = true
-blankEnded (d ∷ n) = cond (eqb d 0x20) (blanks n) (leb 0x21 d && leb d 0x7D && blankEnded n)
-
+-- The same, tested: 24 digits, the first no blank.
 unfoldable pub legalFilled : List ℕ → Bool
-legalFilled [] = false
-legalFilled (d ∷ n) = eqb (length n) 23 && leb 0x21 d && leb d 0x7D && blankEnded n
+legalFilled n = eqb (length n) 24 && areDigits 0x20 n && not (isBlank (firstOf n))
 
 -- R1.5: a bound.
 pub record Bound (x : Str) : Type 0 where
@@ -74,14 +78,19 @@ atMost x [] = true
 atMost [] (b ∷ y) = false
 atMost (a ∷ x) (b ∷ y) = cond (ltb a b) true (cond (eqb a b) (atMost x y) false)
 
+-- R1.9: the bound of a range that a name outside the range breaks is the lower one where the name is within it, else the upper. The
+-- digit number is that of the first difference, or the bound's length if there is none.
+unfoldable pub broken : Low → List ℕ → List ℕ → ℕ
+broken none u n = diff n u
+broken (at l) u n = cond (atMost n l) (diff n l) (diff n u)
+
 -- Of two strings with as many digits: it is smaller.
 unfoldable pub smaller : List ℕ → List ℕ → Bool
 smaller [] y = false
 smaller (a ∷ x) [] = false
 smaller (a ∷ x) (b ∷ y) = cond (ltb a b) true (cond (eqb a b) (smaller x y) false)
 
--- R7.4: the split string. c is the split key, filled, and z the last name, filled; beginnings are tried from i digits
--- on.
+-- R7.4: the split string of the split key c and the last name z, both filled; beginnings are tried from i digits on.
 unfoldable pub splitFrom : ℕ → ℕ → List ℕ → List ℕ → List ℕ
 splitFrom zero i c z = take i c
 splitFrom (suc f) i c z =

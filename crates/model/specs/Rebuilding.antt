@@ -7,9 +7,10 @@ use Rattle.model.specs.declared.Cell.{Cell}
 use Rattle.model.specs.declared.Side.{Side}
 use Rattle.model.specs.declared.Side.the-variants.{Cell as further, Slot as slot}
 use Rattle.model.specs.declared.Trie.{Trie}
-use Rattle.model.specs.Order.{Low, Str, at, low?, none}
+use Rattle.model.specs.Order.{Low, Str, at, none}
 use Rattle.model.specs.Files.{Ranges, Slot, all, bounds, order-of, ranges}
 use Rattle.model.specs.Tries.{Tree, leaf, node, size, trie-of}
+use Rattle.model.specs.Deciding.{low?}
 
 -- R6.2: how many digits the strings with fewest digits have,
 abbrev pub fewest : Str → List Str → ℕ

@@ -1,14 +1,18 @@
--- The trie: its tree, its strings, the walk; how it lies in cells; when it agrees with a file.
+-- The trie: its tree and its strings; how it lies in cells; the walk; when it agrees with a file.
 use mathlib.Core.Path.{_≡_}
+use mathlib.Core.Bool.{_&&_, cond}
+use mathlib.Core.Option.{Option, none as nothing, some}
 use mathlib.Core.List.{List, List·Memᴰ, [], _++_, _∷_}
 use Prim.Native.Nat.{_+_, _-_, _<_, _≤_, suc, zero, ℕ}
 use native.Mathlib.Decide.{ℕ-discrete}
+use lib.Dec.{leb, ltb}
 use lib.ListN.{getD, length, replicate, take}
 use Rattle.model.specs.declared.Cell.{Cell}
 use Rattle.model.specs.declared.Side.{Side}
 use Rattle.model.specs.declared.Side.the-variants.{Cell as further, Slot as slot}
 use Rattle.model.specs.declared.Trie.{Trie}
-use Rattle.model.specs.Order.{Low, Str, _≺_, _⊑_, _⊴_, _◁_, at, le?, none}
+use Rattle.model.specs.Order.{Low, Str, _≺_, _⊑_, _⊴_, _◁_, at, none}
+use Rattle.model.specs.Names.{atMost}
 use Rattle.model.specs.Files.{IsString, Ranges, Slot, first, ranges}
 
 -- A side, unfolded: a leaf that leads to a slot, or a cell with a digit, a digit number and two sides.
@@ -19,11 +23,6 @@ pub data Tree : Type 0 where
 -- R5.4: the string of a cell with digit d and number i, where the path is p.
 abbrev pub cell : ℕ → ℕ → Str → Str
 cell d i p = take i p ++ (d ∷ [])
-
--- R5.5: a name within the cell's string goes left, with that string as its path; any other goes right.
-abbrev pub walk : Str → Str → Tree → ℕ
-walk n p (leaf s) = s
-walk n p (node d i l r) = elim (le? n (cell d i p)) [ yes h ↦ walk n (cell d i p) l | no h ↦ walk n p r ]
 
 -- The cells' strings, from left to right, below a path.
 abbrev pub strings : Str → Tree → List Str
@@ -51,12 +50,6 @@ module _ (P : Low → Str → ℕ → Type 0) where
     leaf-last : {l : Low} {u : Str} {B : ℕ} → P l u B → Leaves l [] u (B ∷ [])
     leaf-next : {l : Low} {u x : Str} {xs : List Str} {B : ℕ} {Bs : List ℕ} → l ◁ x → x ≺ u → P l x B
         → Leaves (at x) xs u Bs → Leaves l (x ∷ xs) u (B ∷ Bs)
-
-  -- The same of a tree, its path u being the upper end: the tree is a trie of the interval (l, u] with these strings.
-  pub data Spans : Low → Str → Tree → List Str → Type 0 where
-    tip : {l : Low} {u : Str} {s : ℕ} → P l u s → Spans l u (leaf s) []
-    cut : {l : Low} {u : Str} {d i : ℕ} {L R : Tree} {xs ys : List Str} → i ≤ length u → l ◁ cell d i u → cell d i u ≺ u
-        → Spans l (cell d i u) L xs → Spans (at (cell d i u)) u R ys → Spans l u (node d i L R) (xs ++ (cell d i u ∷ ys))
 
 -- R5.12: the one bucket that a leaf may lead to, between the string just left of it and the string just right of it.
 pub record Leads (F : Ranges) (l : Low) (u : Str) (B : ℕ) : Type 0 where
@@ -87,16 +80,6 @@ abbrev pub occ : ℕ → List ℕ → ℕ
 occ m [] = 0
 occ m (n ∷ ns) = one-if (ℕ-discrete m n) + occ m ns
 
--- The walk over cells, through fewer cells than the fuel says.
-abbrev pub walk-cells : List Cell → Str → ℕ → Str → Side → ℕ
-walk-cells cs n zero p a = 0
-walk-cells cs n (suc fuel) p (slot s) = s
-walk-cells cs n (suc fuel) p (further m) =
-    elim (le? n (cell (at-cell cs m .digit) (at-cell cs m .number) p)) [
-      | yes h ↦ walk-cells cs n fuel (cell (at-cell cs m .digit) (at-cell cs m .number) p) (at-cell cs m .left)
-      | no h ↦ walk-cells cs n fuel p (at-cell cs m .right)
-    ]
-
 -- R5.1: cell 0 is the root; R5.6: with count 0 the walk ends at the first leaf.
 abbrev pub root-side : ℕ → ℕ → Side
 root-side zero f = slot f
@@ -110,9 +93,39 @@ first-leaf-of (further m) = 0
 abbrev pub trie-of : List Cell → Side → Trie
 trie-of cs a = record { cells = cs ++ replicate (256 - length cs) zero-cell; count = length cs; first = first-leaf-of a }
 
+-- How a walk came to a leaf: it is the root, or the left or the right side of a cell.
+pub data Spot : Type 0 where
+  root : Spot
+  left right : ℕ → Spot
+
+-- R5.5: the walk over any cells. A name within the cell's string, so not above it, goes left, with that string as its path;
+-- any other goes right. It ends with the leaf's path, the side by which it came there, and the slot. Nothing where R11.4,
+-- R11.5 or R11.6 refuses it. The first number is how many cells may still be met.
+unfoldable pub walkRun : ℕ → ℕ → List Cell → Str → Str → Spot → Side → Option (Str × Spot × ℕ)
+walkRun zero count cs n p k (slot s) = some (p, k, s)
+walkRun zero count cs n p k (further m) = nothing
+walkRun (suc f) count cs n p k (slot s) = some (p, k, s)
+walkRun (suc f) count cs n p k (further m) =
+    let c = at-cell cs m in
+    let q = cell (c .digit) (c .number) p in
+    let l = walkRun f count cs n q (left m) (c .left) in
+    let r = walkRun f count cs n p (right m) (c .right) in
+    let w = cond (atMost n q) l r in
+    cond (ltb m count && leb (c .number) (length p) && leb (c .number) 23) w nothing
+
+-- From the root on, over a trie with at most 256 cells (R11.3).
+unfoldable pub walkOf : Trie → Str → Option (Str × Spot × ℕ)
+walkOf t n =
+    let w = walkRun (t .count) (t .count) (t .cells) n [] root (root-side (t .count) (t .first)) in
+    cond (leb (t .count) 256) w nothing
+
 -- The slot that a name leads to.
+abbrev pub slot-reached : Option (Str × Spot × ℕ) → ℕ
+slot-reached nothing = 0
+slot-reached (some (p, k, s)) = s
+
 abbrev pub walk-trie : Trie → Str → ℕ
-walk-trie t n = walk-cells (t .cells) n (suc (t .count)) [] (root-side (t .count) (t .first))
+walk-trie t n = slot-reached (walkOf t n)
 
 -- Section 5 of the rules: a trie agrees with a sound file.
 pub record Agrees (fs : List Slot) (t : Trie) : Type 0 where

@@ -28,17 +28,21 @@ pub struct Layout {
     pub b: usize,
 }
 
-// Why a call refuses, in the order of the numbers.
+// Why a call refuses, in the order of the numbers. A stale trie carries a digit number, how far a name agrees with the bound that it
+// breaks, or NO_DIGIT (R10.13).
 pub enum Cause {
     IllegalName,
     BadFile,
     CutFile,
-    StaleTrie,
+    StaleTrie(u64),
     NoFreeSlot,
     ManyStrings,
     ShortOutput,
     WrongSize,
 }
+
+// What a stale trie carries where no bound of a bucket that was read is broken.
+pub const NO_DIGIT: u64 = 255;
 
 // The number of each refusal (R10.1 to R10.8).
 pub fn cause_number(cause: Cause) -> u64
@@ -48,7 +52,7 @@ pub fn cause_number(cause: Cause) -> u64
         Cause::IllegalName => 1,
         Cause::BadFile => 2,
         Cause::CutFile => 3,
-        Cause::StaleTrie => 4,
+        Cause::StaleTrie(_) => 4,
         Cause::NoFreeSlot => 5,
         Cause::ManyStrings => 6,
         Cause::ShortOutput => 7,

@@ -2,14 +2,16 @@
 //
 // The rules are section 12 of docs/RULES.md. At the first refused name it prints that refusal and nothing else.
 ghost use mathlib.Core.Path.{_≡_};
-ghost use Prim.Native.Nat.{_≤_, _<_, _+_, _*_};
+ghost use Prim.Native.Nat.{_≤_, _<_, _+_};
 ghost use lib.ListN.{length};
 ghost use Rattle.file.specs.Sizes.{Sized, Below};
+ghost use Rattle.bucket.specs.Slots.{OfSize};
 use digits::usize_of_u8;
 use file::Header;
 use file::Size;
 use libc::STDIN_FILENO;
 use libc::STDOUT_FILENO;
+use model::Layout;
 use model::PutAnswer;
 use model::Trie;
 use model::cause_number;
@@ -164,32 +166,31 @@ fn print_bound(bound: &[u8]) {
     say(b"]");
 }
 
-// A filled name without what it is filled with.
-fn print_name(entries: &[u8], at: usize)
-    requires { ⌜ at + 24 ≤ length (now entries) ⌝ }
+// A filled name without what it is filled with: the blanks at its end. Those inside it are its own.
+fn print_name(name: &[u8])
+    requires { ⌜ length (now name) ≡ 24 ⌝ }
 {
-    let mut n = 0usize;
-    while n < 24 {
-        if entries[at + n] == 0x20 {
+    let mut n = 24usize;
+    while 0 < n {
+        if name[n - 1] != 0x20 {
             break;
         }
-        n += 1;
+        n -= 1;
     }
-    let end = at + n;
     say(b" ");
-    say(&entries[at..end]);
+    say(&name[0..n]);
 }
 
-fn print_bucket(slot: &[u8], b: usize, number: u64)
-    requires { ⌜ (length (now slot) ≡ 64 + 32 * b) × (b ≤ 16) ⌝ }
+fn print_bucket(slot: &[u8], layout: Layout, number: u64)
+    requires { ⌜ OfSize (now slot) layout ⌝ }
 {
     io::print_decimal(STDOUT_FILENO, number);
     print_bound(bucket::lower_bound(slot));
     print_bound(bucket::upper_bound(slot));
-    let count = bucket::count_of(slot, b);
+    let count = bucket::count_of(slot, layout.b);
     let mut i = 0;
     while i < count {
-        print_name(slot, 64 + 32 * i);
+        print_name(slots::name_in(slot, layout, i));
         i += 1;
     }
     say(b"\n");
@@ -205,7 +206,7 @@ fn print_buckets(file: &[u8], size: Size, order: &[u8; 64], count: usize)
         let k = order[j];
         print_bucket(
             file::slot_at(file, size, usize_of_u8(k)),
-            size.b,
+            size.layout,
             digits::u64_of_u8(k),
         );
         j += 1;

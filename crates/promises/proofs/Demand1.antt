@@ -1,9 +1,9 @@
 -- Demand 1: each call refuses exactly when a cause of its table holds, with the first, and a refusal changes nothing.
-use Rattle.model.proofs.Prelude.{Bool, List, Option, [], _&&_, _*_, _++_, _<_, _∙_, _∷_, _≡_, _≤_, ap, arith, clash, cond, drop, eq-eqb, eqb, eqb-true, false, inl, inr, le-leb, leb, leb-false, leb-true, length, lt-ltb, ltb, ltb-true, nothing, refl, some, sym, take, true, ℕ}
+use Rattle.model.proofs.Prelude.{Bool, List, Option, [], _&&_, _*_, _++_, _<_, _∙_, _∷_, _≡_, _≤_, ap, arith, clash, cond, drop, eq-eqb, eqb, eqb-true, false, inl, inr, le-leb, leb, leb-false, leb-true, length, lt-ltb, ltb, ltb-true, not, nothing, refl, some, sym, take, true, ℕ}
 use Rattle.model.specs.declared.Trie.{Trie}
 use Rattle.model.specs.declared.Layout.{Layout}
 use Rattle.model.specs.declared.Cause.{Cause}
-use Rattle.model.specs.declared.Cause.the-variants.{BadFile as bad-file, CutFile as cut-file, IllegalName as illegal-name, ManyStrings as many-strings, NoFreeSlot as no-free-slot, ShortOutput as short-output, StaleTrie as stale-trie, WrongSize as wrong-size}
+use Rattle.model.specs.declared.Cause.the-variants.{BadFile as bad-file, CutFile as cut-file, IllegalName as illegal-name, ManyStrings as many-strings, NoFreeSlot as no-free-slot, ShortOutput as short-output, StaleTrie, WrongSize as wrong-size}
 use Rattle.model.specs.declared.ListAnswer.the-variants.{Listed, Refused as ListRefused}
 use Rattle.model.specs.declared.LookUpAnswer.{LookUpAnswer}
 use Rattle.model.specs.declared.LookUpAnswer.the-variants.{Refused as LookUpRefused}
@@ -12,46 +12,57 @@ use Rattle.model.specs.declared.RecoverAnswer.the-variants.{Freed, Refused as R
 use Rattle.model.specs.declared.RemoveAnswer.the-variants.{Refused as RemoveRefused, Stopped as RemoveStopped}
 use Rattle.model.specs.declared.TrieAnswer.the-variants.{Given, Refused as TrieRefused}
 use Rattle.model.specs.Order.{Str}
-use Rattle.model.specs.Names.{areDigits, atMost, filled, legalName}
+use Rattle.model.specs.Names.{areDigits, atMost, broken, filled, firstOf, isBlank, lastOf, legalName}
 use Rattle.model.specs.Entries.{Entry, find}
-use Rattle.model.specs.Files.{In, Slot, created, entries-of, first, free, head, order-of, slot-at, string-count, used, well-free}
-use Rattle.model.specs.Tries.{Agrees, root-side}
+use Rattle.model.specs.Files.{In, Slot, Well, created, entries-of, first, free, head, order-of, slot-at, string-count, used, well-free}
+use Rattle.model.specs.Tries.{Agrees, root, root-side, walkOf, walkRun}
 use Rattle.model.specs.Rebuilding.{rebuilt-trie}
 use Rattle.model.specs.Changes.{Denied, Request, Result, Store, holds?, no-room, put, remove, too-many}
 use Rattle.model.specs.Checks.{Kind, is-bad, is-cut, is-sound, isAbove, isWell, sameStr}
 use Rattle.model.specs.Agreeing.{isAgreeing}
 use Rattle.model.specs.Format.{BadFile, SoundFile, checkFile, entriesBytes, entrySize, fileBytes, fileSize, headerBytes, headerOf, layoutOf, legalSizes, readFile, readSlot, rightHeader, slotAt, slotBytes, storeBytes}
+use Rattle.model.specs.Answers.{stale-trie}
 use Rattle.model.specs.Places.{place-of}
-use Rattle.model.specs.Calls.{Created, ListDone, Looked, PutDone, Rebuilt, Recovered, RemoveDone, arrivedAnswer, between, createOf, entriesIn, fine, headedAnswer, heldAnswer, listEntries, listLooked, listOf, lookUpOf, lookedBy, lookedOf, new-trie, no-rebuilt, putAnswer, putLooked, putMade, putOf, rebuildBy, rebuildOf, recoverBy, recoverOf, refusalOf, refusing, removeAnswer, removeLooked, removeMade, removeOf, slotAnswer, storesBytes, trieAfter}
-use Rattle.model.proofs.Names.{areDigits-digits, atMost-le, both-true, digits-areDigits, le-atMost, legalName-legal, never-both}
+use Rattle.model.specs.Calls.{Created, ListDone, Looked, PutDone, Rebuilt, Recovered, RemoveDone, arrivedAnswer, between, createOf, entriesIn, fine, headedAnswer, heldAnswer, landed, listEntries, listLooked, listOf, lookUpOf, lookedBy, lookedOf, new-trie, no-rebuilt, putAnswer, putLooked, putMade, putOf, rebuildBy, rebuildOf, recoverBy, recoverOf, refusalOf, refusing, removeAnswer, removeLooked, removeMade, removeOf, slotAnswer, storesBytes, trieAfter}
+use Rattle.model.proofs.Names.{areDigits-digits, atMost-le, blank-no, both-true, digits-areDigits, le-atMost, legalName-legal, length-filled, never-both, no-blank}
 use Rattle.model.proofs.Checks.{above-isAbove, both-join, isAbove-above, isWell-well, sameStr-equal, sameStr-self, well-isWell}
 use Rattle.model.proofs.Agreeing.{agrees-isAgreeing}
 use Rattle.model.proofs.Calls.{Answered, denied-not-made, denied-one, is-denied, is-made, put-right, remove-right}
 use Rattle.model.proofs.CheckedFiles.{CheckedFile, checkFile-right, sound-not-cut}
 use Rattle.model.proofs.Format.{legalSizes-sizes, readSlot-slotBytes, sizes-legalSizes, slotBytes-readSlot}
 use Rattle.promises.specs.Calls.{our-calls}
-use Rattle.promises.specs.Demand1.{Creatable, Demand1, Ends, IsCut, IsElsewhere, IsMalformed, IsZero, LegalName, Listing, Lost, Many, PutDenied, RightHeader, Short, Stale, Strays, Table, create-table, list-table, look-up-table, put-table, rebuild-table, recover-table, remove-table, slots-of}
+use Rattle.promises.specs.Demand1.{Breaks, Creatable, Demand1, Ends, IsCut, IsMalformed, IsZero, Lacks, LegalName, Listing, Lost, Many, PutDenied, RightHeader, Short, Stale, Strays, Table, because, create-table, list-table, look-up-table, off-at, put-table, rebuild-table, recover-table, remove-table, slots-of}
+use Rattle.promises.proofs.Differing.{breaks-one, breaks-out, out-breaks}
 use Rattle.promises.proofs.Leading.{Passed, looked-passed}
 use Rattle.promises.proofs.Listings.{listed-right, listings-same}
-use Rattle.promises.proofs.Tables.{Verdict, exactly, leaves, pass, skip, stop}
+use Rattle.promises.proofs.Tables.{Verdict, exactly, leaves, pass, skip, stop, stop-off}
 use Rattle.promises.proofs.Walking.{arrives-walked, strays-walked, walked, walked-right}
 
 -- The tests of names and headers say what is so.
 pub legal-name : (name : List ℕ) → legalName name ≡ true → LegalName name
 unfolding legalName
 legal-name name e =
-    let p = both-true (leb 1 (length name) && leb (length name) 24) (areDigits 0x21 name) e in
-    let q = both-true (leb 1 (length name)) (leb (length name) 24) (p .0) in
-    record { least = leb-true 1 (length name) (q .0); most = leb-true (length name) 24 (q .1); digits = areDigits-digits 0x21 name (p .1) }
+    let p = both-true (leb 1 (length name) && leb (length name) 24 && areDigits 0x20 name && not (isBlank (firstOf name))) (not (isBlank (lastOf name))) e in
+    let q = both-true (leb 1 (length name) && leb (length name) 24 && areDigits 0x20 name) (not (isBlank (firstOf name))) (p .0) in
+    let r = both-true (leb 1 (length name) && leb (length name) 24) (areDigits 0x20 name) (q .0) in
+    let s = both-true (leb 1 (length name)) (leb (length name) 24) (r .0) in
+    record {
+      least = leb-true 1 (length name) (s .0);
+      most = leb-true (length name) 24 (s .1);
+      digits = areDigits-digits 0x20 name (r .1);
+      first = blank-no (firstOf name) (q .1);
+      last = blank-no (lastOf name) (p .1);
+    }
 
 pub name-legal : {name : List ℕ} → LegalName name → legalName name ≡ true
 unfolding legalName
-name-legal {name} L = rw (le-leb 1 (length name) (L .least), le-leb (length name) 24 (L .most)) (digits-areDigits 0x21 name (L .digits))
+name-legal {name} L =
+    rw (le-leb 1 (length name) (L .least), le-leb (length name) 24 (L .most), digits-areDigits 0x20 name (L .digits), no-blank (firstOf name) (L .first), no-blank (lastOf name) (L .last))
 
-illegal : (name : List ℕ) → legalName name ≡ false → ¬ LegalName name
+pub illegal : (name : List ℕ) → legalName name ≡ false → ¬ LegalName name
 illegal name e L = never-both (legalName name) (name-legal L) e
 
-right-header : (xs : List ℕ) → rightHeader (layoutOf xs) (slots-of xs) xs ≡ true → RightHeader xs
+pub right-header : (xs : List ℕ) → rightHeader (layoutOf xs) (slots-of xs) xs ≡ true → RightHeader xs
 unfolding rightHeader
 right-header xs e =
     let p = both-true (legalSizes (layoutOf xs) (slots-of xs) && eqb (length xs) (fileSize (layoutOf xs) (slots-of xs))) (sameStr (take 16 xs) (headerBytes (layoutOf xs) (slots-of xs))) e in
@@ -62,7 +73,7 @@ right-header xs e =
       header = sameStr-equal (take 16 xs) (headerBytes (layoutOf xs) (slots-of xs)) (p .1);
     }
 
-header-right : {xs : List ℕ} → RightHeader xs → rightHeader (layoutOf xs) (slots-of xs) xs ≡ true
+pub header-right : {xs : List ℕ} → RightHeader xs → rightHeader (layoutOf xs) (slots-of xs) xs ≡ true
 unfolding rightHeader
 header-right {xs} R =
     rw (sizes-legalSizes (R .sizes), eq-eqb (length xs) (fileSize (layoutOf xs) (slots-of xs)) (R .whole), R .header) (sameStr-self (headerBytes (layoutOf xs) (slots-of xs)))
@@ -123,7 +134,7 @@ module _ (xs : List ℕ) (limit : ℕ) where
       freed N true = pass (λ c q. clash cc)
       freed N false = pass (λ c q. clash cc)
 
-      by : (k : Kind) → CheckedFile xs k → RecoverVerdict ((bad-file, BadFile xs) ∷ []) (recoverBy xs limit k)
+      by : (k : Kind) → CheckedFile xs k → RecoverVerdict (because bad-file (BadFile xs) ∷ []) (recoverBy xs limit k)
       by is-bad B = stop refl refl B
       by is-sound S = skip (λ B. B .0 S) (pass (λ c q. clash cc))
       by (is-cut N) C = skip (λ B. B .1 N C) (freed N (ltb limit 1))
@@ -151,7 +162,7 @@ module _ (xs : List ℕ) where
       go is-sound S (some f) e = skip (λ B. B .0 S) (skip (λ c. sound-not-cut S (c .1)) (few (leb (string-count (f .1)) 256) refl))
         where
           few : (c : Bool) → leb (string-count (f .1)) 256 ≡ c
-              → RebuildVerdict ((many-strings, Many xs) ∷ []) (cond c (record { answer = Given; trie = rebuilt-trie (f .1) }) (no-rebuilt many-strings))
+              → RebuildVerdict (because many-strings (Many xs) ∷ []) (cond c (record { answer = Given; trie = rebuilt-trie (f .1) }) (no-rebuilt many-strings))
           few true q =
               skip (λ M. let h : 256 < string-count (f .1) = rw (same-slots e (M .file)) at (M .many) in absurd (omega (arith, h, leb-true (string-count (f .1)) 256 q)))
               (pass (λ c q. clash cc))
@@ -161,12 +172,12 @@ module _ {A D : Type 0} {Refused : Cause → A} {answer : D → A} {Kept : D →
   -- The checks of put, remove and list: rows 2, 3 and 4, and what follows where they pass.
   looked-verdict : (xs : List ℕ) (t : Trie) (rest : Table) (done : Looked → D) → ((c : Cause) → answer (done (refusing c)) ≡ Refused c) → ((c : Cause) → Kept (done (refusing c)))
       → ((y : Layout) (fs : List Slot) → Passed xs t y fs → Verdict Refused answer Kept rest (done (fine y fs)))
-      → Verdict Refused answer Kept ((bad-file, BadFile xs) ∷ (cut-file, IsCut xs) ∷ (stale-trie, Stale xs t) ∷ rest) (done (lookedOf xs t))
+      → Verdict Refused answer Kept (because bad-file (BadFile xs) ∷ because cut-file (IsCut xs) ∷ because stale-trie (Stale xs t) ∷ rest) (done (lookedOf xs t))
   unfolding lookedOf lookedBy
   looked-verdict xs t rest done says keeps follows = go (checkFile xs) refl (checkFile-right xs) (readFile xs) refl
     where
       go : (k : Kind) → checkFile xs ≡ k → CheckedFile xs k → (r : Option (Layout × List Slot)) → readFile xs ≡ r
-          → Verdict Refused answer Kept ((bad-file, BadFile xs) ∷ (cut-file, IsCut xs) ∷ (stale-trie, Stale xs t) ∷ rest) (done (lookedBy t k r))
+          → Verdict Refused answer Kept (because bad-file (BadFile xs) ∷ because cut-file (IsCut xs) ∷ because stale-trie (Stale xs t) ∷ rest) (done (lookedBy t k r))
       go is-bad d B r e = stop (says bad-file) (keeps bad-file) B
       go (is-cut N) d C r e = skip (λ B. B .1 N C) (stop (says cut-file) (keeps cut-file) (N, C))
       go is-sound d S nothing e =
@@ -175,7 +186,7 @@ module _ {A D : Type 0} {Refused : Cause → A} {answer : D → A} {Kept : D →
       go is-sound d S (some f) e = skip (λ B. B .0 S) (skip (λ c. sound-not-cut S (c .1)) (agreed (isAgreeing (f .1) t) refl))
         where
           agreed : (a : Bool) → isAgreeing (f .1) t ≡ a
-              → Verdict Refused answer Kept ((stale-trie, Stale xs t) ∷ rest) (done (cond a (fine (f .0) (f .1)) (refusing stale-trie)))
+              → Verdict Refused answer Kept (because stale-trie (Stale xs t) ∷ rest) (done (cond a (fine (f .0) (f .1)) (refusing stale-trie)))
           agreed true q =
               let p : Passed xs t (f .0) (f .1) = looked-passed xs t (f .0) (f .1) (rw (d, e, q)) in
               skip (λ T. T .differs (rw (same-slots e (T .file)) (p .agrees))) (follows (f .0) (f .1) p)
@@ -186,11 +197,11 @@ module _ {A D : Type 0} {Refused : Cause → A} {answer : D → A} {Kept : D →
   -- The rows 8 and 1 before them, of put and remove.
   asked-verdict : (name : List ℕ) (limit : ℕ) (rest : Table) (done big ill : D) → answer big ≡ Refused wrong-size → Kept big → answer ill ≡ Refused illegal-name → Kept ill
       → (legalName name ≡ true → Verdict Refused answer Kept rest done)
-      → Verdict Refused answer Kept ((wrong-size, 2 < limit) ∷ (illegal-name, ¬ LegalName name) ∷ rest) (cond (ltb 2 limit) big (cond (legalName name) done ill))
+      → Verdict Refused answer Kept (because wrong-size (2 < limit) ∷ because illegal-name (¬ LegalName name) ∷ rest) (cond (ltb 2 limit) big (cond (legalName name) done ill))
   asked-verdict name limit rest done big ill x kx y ky f = go (ltb 2 limit) (legalName name) refl refl
     where
       go : (l g : Bool) → ltb 2 limit ≡ l → legalName name ≡ g
-          → Verdict Refused answer Kept ((wrong-size, 2 < limit) ∷ (illegal-name, ¬ LegalName name) ∷ rest) (cond l big (cond g done ill))
+          → Verdict Refused answer Kept (because wrong-size (2 < limit) ∷ because illegal-name (¬ LegalName name) ∷ rest) (cond l big (cond g done ill))
       go true g d e = stop x kx (ltb-true 2 limit d)
       go false false d e = skip (above-2 d) (stop y ky (illegal name e))
       go false true d e = skip (above-2 d) (skip (λ n. n (legal-name name e)) (f e))
@@ -204,7 +215,7 @@ module _ (xs : List ℕ) (t : Trie) (name : List ℕ) (v limit : ℕ) where
   PutVerdict rs d = Verdict PutRefused (λ (d : PutDone). d .answer) (λ (d : PutDone). (d .file ≡ xs) × (d .trie ≡ t)) rs d
 
   abbrev rest : Table
-  rest = (no-free-slot, PutDenied xs name v 5) ∷ (many-strings, PutDenied xs name v 6) ∷ []
+  rest = because no-free-slot (PutDenied xs name v 5) ∷ because many-strings (PutDenied xs name v 6) ∷ []
 
   put-passed : (y : Layout) (ss : List Store) (t′ : Trie) (s : Bool) (o : Option ℕ)
       → PutVerdict [] (cond s (record { answer = PutStopped limit; file = storesBytes y (take limit ss) xs; trie = t }) (record { answer = putAnswer o; file = storesBytes y ss xs; trie = t′ }))
@@ -233,7 +244,7 @@ module _ (xs : List ℕ) (t : Trie) (name : List ℕ) (v limit : ℕ) where
   put-verdict : PutVerdict (put-table xs t name v limit) (putOf xs t name v limit)
   unfolding putOf putLooked
   put-verdict =
-      asked-verdict name limit ((bad-file, BadFile xs) ∷ (cut-file, IsCut xs) ∷ (stale-trie, Stale xs t) ∷ rest)
+      asked-verdict name limit (because bad-file (BadFile xs) ∷ because cut-file (IsCut xs) ∷ because stale-trie (Stale xs t) ∷ rest)
       (putLooked xs t n v limit (lookedOf xs t)) (record { answer = PutRefused wrong-size; file = xs; trie = t }) (record { answer = PutRefused illegal-name; file = xs; trie = t })
       refl (refl, refl) refl (refl, refl)
       (λ e. looked-verdict xs t rest (putLooked xs t n v limit) (λ c. refl) (λ c. (refl, refl))
@@ -269,7 +280,7 @@ module _ (xs : List ℕ) (t : Trie) (name : List ℕ) (limit : ℕ) where
   remove-verdict : RemoveVerdict (remove-table xs t name limit) (removeOf xs t name limit)
   unfolding removeOf removeLooked
   remove-verdict =
-      asked-verdict name limit ((bad-file, BadFile xs) ∷ (cut-file, IsCut xs) ∷ (stale-trie, Stale xs t) ∷ [])
+      asked-verdict name limit (because bad-file (BadFile xs) ∷ because cut-file (IsCut xs) ∷ because stale-trie (Stale xs t) ∷ [])
       (removeLooked xs k limit (lookedOf xs t)) (record { answer = RemoveRefused wrong-size; file = xs }) (record { answer = RemoveRefused illegal-name; file = xs }) refl refl refl refl
       (λ e. looked-verdict xs t [] (removeLooked xs k limit) (λ c. refl) (λ c. refl) (λ y fs p. remove-made y (remove-right (y .b) (place-of y) fs (p .sound) k)))
 
@@ -281,7 +292,7 @@ module _ (xs : List ℕ) (t : Trie) (low high out : List ℕ) where
   abbrev listed : List Slot → List Entry
   listed fs = between (filled low) (filled high) (entriesIn fs (order-of fs))
 
-  list-made : (y : Layout) (fs : List Slot) → Passed xs t y fs → ListVerdict ((short-output, Short xs low high out) ∷ []) (listEntries (entrySize y) (listed fs) out)
+  list-made : (y : Layout) (fs : List Slot) → Passed xs t y fs → ListVerdict (because short-output (Short xs low high out) ∷ []) (listEntries (entrySize y) (listed fs) out)
   unfolding listEntries
   list-made y fs p = go (ltb (length out) (entrySize y * length (listed fs))) refl
     where
@@ -289,7 +300,7 @@ module _ (xs : List ℕ) (t : Trie) (low high out : List ℕ) where
       right = listed-right (y .b) (p .sound) (filled low) (filled high)
 
       go : (s : Bool) → ltb (length out) (entrySize y * length (listed fs)) ≡ s
-          → ListVerdict ((short-output, Short xs low high out) ∷ [])
+          → ListVerdict (because short-output (Short xs low high out) ∷ [])
           (cond s (record { answer = ListRefused short-output; output = out })
           (record { answer = Listed (length (listed fs)); output = entriesBytes (entrySize y) (listed fs) ++ drop (entrySize y * length (listed fs)) out }))
       go true e =
@@ -315,7 +326,7 @@ module _ (xs : List ℕ) (t : Trie) (low high out : List ℕ) where
       go true e =
           let p = both-true (legalName low) (legalName high) e in
           skip (λ n. n (legal-name low (p .0), legal-name high (p .1)))
-          (looked-verdict xs t ((short-output, Short xs low high out) ∷ []) (listLooked (filled low) (filled high) out) (λ c. refl) (λ c. refl) list-made)
+          (looked-verdict xs t (because short-output (Short xs low high out) ∷ []) (listLooked (filled low) (filled high) out) (λ c. refl) (λ c. refl) list-made)
       go false e =
           stop refl refl
           (λ L. never-both (legalName low && legalName high) (both-join (legalName low) (legalName high) (name-legal (L .0)) (name-legal (L .1))) e)
@@ -328,16 +339,16 @@ module _ (xs : List ℕ) (t : Trie) (name : List ℕ) where
   abbrev m : Str
   m = filled name
 
-  abbrev ended : Option ℕ
-  ended = walked (slots-of xs) t m (t .count) [] (root-side (t .count) (t .first))
+  abbrev pub ended : Option ℕ
+  ended = walked (slots-of xs) t m (length-filled name) (t .count) [] root (root-side (t .count) (t .first))
 
-  at-end : {P : List ℕ → Type 0} {k : ℕ} → ended ≡ some k → Ends xs t m P → P (slotAt (layoutOf xs) k xs)
+  pub at-end : {P : List ℕ → Type 0} {k : ℕ} → ended ≡ some k → Ends xs t m P → P (slotAt (layoutOf xs) k xs)
   at-end {k = k} e E =
-      let o : some (E .k) ≡ some k = sym (arrives-walked (slots-of xs) t m (E .arrives)) ∙ e in
+      let o : some (E .k) ≡ some k = sym (arrives-walked (slots-of xs) t m (length-filled name) (E .arrives) root) ∙ e in
       let j : E .k ≡ k = cc in
       rw j at (E .so)
 
-  zero-free : (y : Layout) (ys : List ℕ) → IsZero y ys → readSlot y ys ≡ some free
+  pub zero-free : (y : Layout) (ys : List ℕ) → IsZero y ys → readSlot y ys ≡ some free
   unfolding slotBytes
   zero-free y ys e = rw e (readSlot-slotBytes y well-free tt)
 
@@ -347,15 +358,15 @@ module _ (xs : List ℕ) (t : Trie) (name : List ℕ) where
 
   abbrev slot-rows : Table
   slot-rows =
-      (stale-trie, Ends xs t m (IsZero (layoutOf xs))) ∷ (bad-file, Ends xs t m (IsMalformed (layoutOf xs)))
-      ∷ (stale-trie, Ends xs t m (IsElsewhere (layoutOf xs) m)) ∷ []
+      because stale-trie (Ends xs t m (IsZero (layoutOf xs))) ∷ because bad-file (Ends xs t m (IsMalformed (layoutOf xs)))
+      ∷ off-at (λ k. Ends xs t m (Lacks (layoutOf xs) m k)) ∷ []
 
   module _ (k : ℕ) (arrived : ended ≡ some k) where
     abbrev ys : List ℕ
     ys = slotAt (layoutOf xs) k xs
 
     ends : {P : List ℕ → Type 0} → P ys → Ends xs t m P
-    ends h = record { k = k; arrives = rw arrived at (walked-right (slots-of xs) t m (t .count) [] (root-side (t .count) (t .first))); so = h }
+    ends h = record { k = k; arrives = rw arrived at (walked-right (slots-of xs) t m (length-filled name) (t .count) [] root (root-side (t .count) (t .first))); so = h }
 
     held-passed : (o : Option ℕ) → LookUpVerdict [] (heldAnswer o)
     held-passed nothing = pass (λ c q. clash cc)
@@ -374,6 +385,13 @@ module _ (xs : List ℕ) (t : Trie) (name : List ℕ) where
         one : (s : Slot) → readSlot (layoutOf xs) ys ≡ some s → s ≡ used l u es
         one s f = let o : some s ≡ some (used l u es) = sym f ∙ e in cc
 
+        same-breaks : {j : ℕ} → Lacks (layoutOf xs) m j ys → Breaks m l u j
+        same-breaks {j} L =
+            let o : used (L .low) (L .high) (L .entries) ≡ used l u es = one (used (L .low) (L .high) (L .entries)) (L .is) in
+            let p : L .low ≡ l = cc in
+            let q : L .high ≡ u = cc in
+            rw (p, q) at (L .breaks)
+
         inside : (isAbove l m && atMost m u) ≡ true → In (head (used l u es)) m
         inside d = let p = both-true (isAbove l m) (atMost m u) d in (tt, isAbove-above l m (p .0), atMost-le m u (p .1))
 
@@ -381,40 +399,51 @@ module _ (xs : List ℕ) (t : Trie) (name : List ℕ) where
         formed c f = f (used l u es) e (isWell-well (layoutOf xs .b) (used l u es) c)
 
         well : (w r : Bool) → isWell (layoutOf xs .b) (used l u es) ≡ w → (isAbove l m && atMost m u) ≡ r
-            → LookUpVerdict ((bad-file, Ends xs t m (IsMalformed (layoutOf xs))) ∷ (stale-trie, Ends xs t m (IsElsewhere (layoutOf xs) m)) ∷ [])
-            (cond w (cond r (heldAnswer (find m es)) (LookUpRefused stale-trie)) (LookUpRefused bad-file))
+            → LookUpVerdict (because bad-file (Ends xs t m (IsMalformed (layoutOf xs))) ∷ off-at (λ k. Ends xs t m (Lacks (layoutOf xs) m k)) ∷ [])
+            (cond w (cond r (heldAnswer (find m es)) (LookUpRefused (StaleTrie (broken l u m)))) (LookUpRefused bad-file))
         well false r c d =
             stop refl tt (ends (λ s f W. never-both (isWell (layoutOf xs .b) (used l u es)) (well-isWell (layoutOf xs .b) (rw (one s f) at W)) c))
         well true true c d =
             skip (λ E. formed c (at-end arrived E))
-            (skip (λ E. elsewhere (at-end arrived E)) (held-passed (find m es)))
+            (skip (λ E. lacks (at-end arrived (E .1))) (held-passed (find m es)))
           where
-            elsewhere : IsElsewhere (layoutOf xs) m ys → ⊥
-            elsewhere (s, f, out) = out (rw (one s f) (inside d))
+            lacks : {j : ℕ} → Lacks (layoutOf xs) m j ys → ⊥
+            lacks L = breaks-out (same-breaks L) (inside d)
         well true false c d =
             skip (λ E. formed c (at-end arrived E))
-            (stop refl tt (ends (used l u es, e, λ i. never-both (isAbove l m && atMost m u) (both-join (isAbove l m) (atMost m u) (above-isAbove (i .1)) (le-atMost m u (i .2))) d)))
+            (stop-off (broken l u m) refl tt (ends (record { low = l; high = u; entries = es; is = e; well = w; breaks = B }))
+            (λ j E. breaks-one (layoutOf xs .b) w B (same-breaks (at-end arrived E))))
+          where
+            w : Well (layoutOf xs .b) (used l u es)
+            w = isWell-well (layoutOf xs .b) (used l u es) c
 
-  arrived-verdict : (o : Option ℕ) → ended ≡ o → t .count ≤ 256 → LookUpVerdict ((stale-trie, Lost xs t m) ∷ slot-rows) (arrivedAnswer xs (layoutOf xs) m o)
+            out : ¬ In (head (used l u es)) m
+            out i = never-both (isAbove l m && atMost m u) (both-join (isAbove l m) (atMost m u) (above-isAbove (i .1)) (le-atMost m u (i .2))) d
+
+            B : Breaks m l u (broken l u m)
+            B = out-breaks (layoutOf xs .b) l u es w m (length-filled name) out
+
+  arrived-verdict : (o : Option ℕ) → ended ≡ o → t .count ≤ 256 → LookUpVerdict (because stale-trie (Lost xs t m) ∷ slot-rows) (arrivedAnswer xs (layoutOf xs) m o)
   unfolding arrivedAnswer
   arrived-verdict nothing e h =
-      let w : Strays (slots-of xs) t m (t .count) [] (root-side (t .count) (t .first)) = rw e at (walked-right (slots-of xs) t m (t .count) [] (root-side (t .count) (t .first))) in
+      let w : Strays (slots-of xs) t m (t .count) [] (root-side (t .count) (t .first)) = rw e at (walked-right (slots-of xs) t m (length-filled name) (t .count) [] root (root-side (t .count) (t .first))) in
       stop refl tt (inr w)
   arrived-verdict (some k) e h = skip lost (slot-verdict k e (readSlot (layoutOf xs) (slotAt (layoutOf xs) k xs)) refl)
     where
       lost : Lost xs t m → ⊥
       lost (inl g) = absurd (omega (arith, g, h))
       lost (inr w) =
-          let o : _≡_ {A = Option ℕ} nothing (some k) = sym (strays-walked (slots-of xs) t m w) ∙ e in
+          let o : _≡_ {A = Option ℕ} nothing (some k) = sym (strays-walked (slots-of xs) t m (length-filled name) w root) ∙ e in
           clash cc
 
-  headed-verdict : (c : Bool) → leb (t .count) 256 ≡ c
-      → LookUpVerdict ((stale-trie, Lost xs t m) ∷ slot-rows) (cond c (arrivedAnswer xs (layoutOf xs) m ended) (LookUpRefused stale-trie))
+  headed-verdict : (c : Bool) → leb (t .count) 256 ≡ c → LookUpVerdict (because stale-trie (Lost xs t m) ∷ slot-rows)
+      (arrivedAnswer xs (layoutOf xs) m (landed (slots-of xs) (cond c (walkRun (t .count) (t .count) (t .cells) m [] root (root-side (t .count) (t .first))) nothing)))
+  unfolding arrivedAnswer
   headed-verdict true e = arrived-verdict ended refl (leb-true (t .count) 256 e)
   headed-verdict false e = stop refl tt (inl (leb-false (t .count) 256 e))
 
   look-up-verdict : LookUpVerdict (look-up-table xs t name) (lookUpOf xs t name)
-  unfolding lookUpOf headedAnswer headerOf
+  unfolding lookUpOf headedAnswer headerOf walkOf
   look-up-verdict = go (legalName name) (rightHeader (layoutOf xs) (slots-of xs) xs) refl refl
     where
       go : (g h : Bool) → legalName name ≡ g → rightHeader (layoutOf xs) (slots-of xs) xs ≡ h

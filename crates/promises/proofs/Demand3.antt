@@ -13,7 +13,7 @@ use Rattle.model.specs.Names.{Legal, filled, legalName}
 use Rattle.model.specs.Entries.{find}
 use Rattle.model.specs.Files.{Cut, Slot, Well, created, entries-of, first, free, slot-at, string-count}
 use Rattle.model.specs.Tries.{Agrees, walk-trie}
-use Rattle.model.specs.Changes.{Change, Map, Request, Result, Store, absent, holds?, meant, put as to-put, remove as to-remove, removes, stored, trie-after}
+use Rattle.model.specs.Changes.{Map, Request, Result, Store, holds?, meant, put as to-put, remove as to-remove, stored}
 use Rattle.model.specs.Format.{CutFile, SoundFile, checkFile, entrySize, fileBytes, fileSize, layoutOf, legalSizes, readFile, storeBytes}
 use Rattle.model.specs.Places.{place-of}
 use Rattle.model.specs.Calls.{Created, Looked, PutDone, Recovered, RemoveDone, createOf, fine, heldAnswer, lookedOf, new-trie, putAnswer, putLooked, putMade, putOf, rebuildBy, rebuildOf, recoverBy, recoverOf, refusing, removeLooked, removeMade, removeOf, storesBytes, trieAfter}
@@ -22,7 +22,7 @@ use Rattle.model.proofs.Files.{cut-not-sound, cut-well}
 use Rattle.model.proofs.Agreement.{agrees-walk, rebuilt-trie-agrees}
 use Rattle.model.proofs.LookUps.{lookup-agrees}
 use Rattle.model.proofs.Places.{place-lt}
-use Rattle.model.proofs.Changes.{Fine, change-made, change-stopped}
+use Rattle.model.proofs.Changes.{Change, Fine, absent, change-made, change-stopped, removes, trie-after}
 use Rattle.model.proofs.Calls.{Answered, is-denied, is-made, put-right, remove-right}
 use Rattle.model.proofs.Format.{contents-readFile, fileBytes-readFile, legalSizes-sizes, value-fits}
 use Rattle.model.proofs.CheckedFiles.{checkFile-cut, checkFile-sound}

@@ -2,7 +2,7 @@
 use Rattle.model.proofs.Prelude.{Bool, List, Option, _&&_, _<_, _^_, _∙_, _≡_, _≤_, ap, clash, cond, eqb, false, leb, leb-true, length, ltb, nothing, refl, some, sym, take, true, ℕ}
 use Rattle.model.specs.declared.Trie.{Trie}
 use Rattle.model.specs.declared.Layout.{Layout}
-use Rattle.model.specs.declared.Cause.the-variants.{IllegalName, ManyStrings, StaleTrie, WrongSize}
+use Rattle.model.specs.declared.Cause.the-variants.{IllegalName, ManyStrings, WrongSize}
 use Rattle.model.specs.declared.PutAnswer.the-variants.{Refused as PutRefused, Stopped as PutStopped}
 use Rattle.model.specs.declared.TrieAnswer.the-variants.{Given, Refused as TrieRefused}
 use Rattle.model.specs.Order.{Str}
@@ -11,11 +11,12 @@ use Rattle.model.specs.Entries.{find, insert}
 use Rattle.model.specs.Files.{Slot, Sound, created, entries-of, first, slot-at, string-count}
 use Rattle.model.specs.Tries.{Agrees}
 use Rattle.model.specs.Rebuilding.{rebuilt-trie}
-use Rattle.model.specs.Changes.{Change, Result, Store, fits, holds?, put, splits, stored}
+use Rattle.model.specs.Changes.{Result, Store, holds?, put, stored}
 use Rattle.model.specs.Checks.{Kind, is-bad, is-cut, is-sound}
 use Rattle.model.specs.Agreeing.{isAgreeing}
 use Rattle.model.specs.Format.{Bytes, SoundFile, checkFile, fileBytes, fileSize, legalSizes, readFile}
 use Rattle.model.specs.Places.{place-of}
+use Rattle.model.specs.Answers.{stale-trie}
 use Rattle.model.specs.Calls.{Created, Looked, PutDone, createOf, fine, lookedBy, lookedOf, new-trie, no-rebuilt, putAnswer, putLooked, putMade, putOf, rebuildBy, rebuildOf, refusing, storesBytes, trieAfter}
 use Rattle.model.proofs.Names.{both-true, legalName-legal}
 use Rattle.model.proofs.Files.{one-range}
@@ -23,7 +24,7 @@ use Rattle.model.proofs.Agreement.{agrees-walk, rebuilt-trie-agrees}
 use Rattle.model.proofs.Agreeing.{isAgreeing-agrees}
 use Rattle.model.proofs.Entries.{row-insert}
 use Rattle.model.proofs.Places.{place-lt}
-use Rattle.model.proofs.Changes.{one-sound, second-sound, well-a}
+use Rattle.model.proofs.Changes.{Change, fits, one-sound, second-sound, splits, well-a}
 use Rattle.model.proofs.Calls.{Answered, is-denied, is-made, put-right}
 use Rattle.model.proofs.CheckedFiles.{CheckedFile, checkFile-right}
 use Rattle.model.proofs.Format.{fileBytes-readFile, legalSizes-sizes, value-fits}
@@ -106,7 +107,7 @@ looked-passed xs t y fs = go (checkFile xs) (checkFile-right xs) (readFile xs) r
     go is-sound c nothing e h = clash cc
     go is-sound S (some f) e h = by (isAgreeing (f .1) t) refl h
       where
-        by : (a : Bool) → isAgreeing (f .1) t ≡ a → cond a (fine (f .0) (f .1)) (refusing StaleTrie) ≡ fine y fs → Passed xs t y fs
+        by : (a : Bool) → isAgreeing (f .1) t ≡ a → cond a (fine (f .0) (f .1)) (refusing stale-trie) ≡ fine y fs → Passed xs t y fs
         by true q h =
             let eb : f .0 ≡ y = cc in
             let ef : f .1 ≡ fs = cc in

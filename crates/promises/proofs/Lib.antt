@@ -3,11 +3,16 @@ pub mod Leading
 pub mod Tables
 pub mod Walking
 pub mod Listings
+pub mod Differing
 pub mod Demand1
+pub mod Where
 pub mod Demand2
 pub mod Stops
 pub mod Demand3
 pub mod Limits
 pub mod Meanings
+pub mod Separators
 pub mod Determined
+pub mod Blanks
+pub mod Older
 pub mod Strength

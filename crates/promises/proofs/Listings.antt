@@ -1,10 +1,11 @@
 -- The entries to be listed are one list, and the buckets in range order give it.
 use Rattle.model.proofs.Prelude.{Bool, List, List·Memᴰ, List·Memᴰ·append-cases, List·Memᴰ·cases-cons, List·Memᴰ·head, List·Memᴰ·not-nil, List·Memᴰ·tail, Memᴰ·append-left, Memᴰ·append-right, [], _&&_, _++_, _∷_, _≡_, _⊎_, ap₂, cond, false, inl, inr, refl, sym, true, ℕ}
-use Rattle.model.specs.Order.{Low, Str, _⊑_, _⊴_, _◁_, at, below, over, top}
+use Rattle.model.specs.Order.{Low, Str, _⊑_, _⊴_, _◁_, at, below, top}
 use Rattle.model.specs.Names.{atMost}
 use Rattle.model.specs.Entries.{Entry, Row, entry, no-entries}
 use Rattle.model.specs.Files.{Chain, IsUsed, Slot, Sound, Well, entries-of, free, head, last, lower-of, next, order-of, ranges, slot-at, upper-of, used}
 use Rattle.model.specs.Calls.{between, entriesIn}
+use Rattle.model.specs.Deciding.{over}
 use Rattle.model.proofs.Order.{le-refl, le-trans, low-at, low-lower, lt-le}
 use Rattle.model.proofs.Names.{atMost-le, both-true, le-atMost}
 use Rattle.model.proofs.Files.{order-right, slot-row, well-head}

@@ -5,7 +5,7 @@ use Rattle.model.specs.declared.Layout.{Layout}
 use Rattle.model.specs.declared.ListAnswer.the-variants.{Listed, Refused as ListRefused}
 use Rattle.model.specs.declared.RecoverAnswer.the-variants.{Freed, Nothing, Refused as RecoverRefused, Stopped as RecoverStopped}
 use Rattle.model.specs.declared.Trie.{Trie}
-use Rattle.model.specs.Order.{Asc, Low, Str, at, end, over, step}
+use Rattle.model.specs.Order.{Low, Str, at}
 use Rattle.model.specs.Names.{filled, legalName}
 use Rattle.model.specs.Entries.{Entry, insert}
 use Rattle.model.specs.Files.{Slot, Sound, free, order-of, string-count, strings-of}
@@ -14,8 +14,9 @@ use Rattle.model.specs.Places.{place-of}
 use Rattle.model.specs.Checks.{Kind, is-bad, is-cut, is-sound}
 use Rattle.model.specs.Format.{BadFile, Bytes, CutFile, SoundFile, checkFile, entriesBytes, entrySize, layoutOf, readFile, slotBytes, slotSize, storeBytes}
 use Rattle.model.specs.Calls.{ListDone, Looked, Recovered, between, entriesIn, fine, listEntries, listLooked, listOf, lookedBy, lookedOf, recoverBy, recoverOf, refusing}
-use Rattle.model.proofs.Order.{le-refl}
-use Rattle.model.proofs.Names.{atMost-le, le-atMost, legal-legalFilled, legalFilled-legal}
+use Rattle.model.specs.Deciding.{over}
+use Rattle.model.proofs.Order.{Asc, end, le-refl, step}
+use Rattle.model.proofs.Names.{atMost-le, le-atMost, legal-legalFilled, legalFilled-legal, one-name}
 use Rattle.model.proofs.Strings.{asc-mem}
 use Rattle.model.proofs.Files.{cut-inside, strings-asc, strings-every, strings-only}
 use Rattle.model.proofs.Checks.{above-isAbove, check-bad, check-cut, check-right, check-sound, isAbove-above, isWell-well, sameStr-equal, sameStr-self, well-isWell}
@@ -229,6 +230,7 @@ unfolding string-count
 tests = record {
   legal = λ name. (legal-name name, name-legal);
   legal-filled = λ n. (legalFilled-legal n, legal-legalFilled);
+  one-name = λ m n f g. one-name m n (f .most) (g .most) (f .least) (g .least) (f .last) (g .last);
   at-most = λ x y. (atMost-le x y, le-atMost x y);
   above = λ l x. (isAbove-above l x, above-isAbove);
   same = λ x y. (sameStr-equal x y, λ e. rw e (sameStr-self y));

@@ -6,20 +6,22 @@ use Rattle.model.specs.declared.PutAnswer.the-variants.{Refused as PutRefused, 
 use Rattle.model.specs.declared.RecoverAnswer.the-variants.{Freed, Refused as RecoverRefused, Stopped as RecoverStopped}
 use Rattle.model.specs.declared.RemoveAnswer.the-variants.{Refused as RemoveRefused, Removed, Stopped as RemoveStopped}
 use Rattle.model.specs.declared.Trie.{Trie}
-use Rattle.model.specs.Order.{Low, Str, str?}
+use Rattle.model.specs.Order.{Low, Str}
 use Rattle.model.specs.Names.{filled, legalName}
 use Rattle.model.specs.Entries.{Entry, find}
 use Rattle.model.specs.Files.{Slot, entries-of, first, free, slot-at, used}
-use Rattle.model.specs.Changes.{Change, Result, Store, absent, fits, holds?, put, remove, removes, splits}
+use Rattle.model.specs.Changes.{Result, Store, holds?, put, remove}
 use Rattle.model.specs.Places.{place-of}
 use Rattle.model.specs.Checks.{Kind, is-bad, is-cut, is-sound}
 use Rattle.model.specs.Format.{checkFile, fileSize, layoutOf, readFile, slotAt, slotBytes, slotSize, storeBytes}
 use Rattle.model.specs.Calls.{Looked, PutDone, Recovered, RemoveDone, fine, lookedOf, putAnswer, putLooked, putMade, putOf, recoverBy, recoverOf, refusing, removeLooked, removeMade, removeOf, storesBytes, trieAfter}
+use Rattle.model.specs.Deciding.{str?}
 use Rattle.model.proofs.Names.{legalName-legal}
 use Rattle.model.proofs.Entries.{chosen-no, chosen-yes}
 use Rattle.model.proofs.Calls.{Answered, is-denied, is-made, put-right, remove-right}
 use Rattle.model.proofs.Format.{headed-layout, headed-slots, others-storeBytes, readFile-read, readSlot-readFile, slotAt-storeBytes, slotBytes-readSlot}
 use Rattle.model.proofs.Lists.{at-replicate}
+use Rattle.model.proofs.Changes.{Change, absent, fits, removes, splits}
 use Rattle.promises.specs.Demand3.{StoppedAt, differing, replaced}
 use Rattle.promises.proofs.Leading.{Passed, looked-passed}
 

@@ -1,5 +1,5 @@
 -- The public statements rule the wrong versions out: files with two slots are computed, and the rest follows.
-use Rattle.model.proofs.Prelude.{Bool, List, Option, [], _+_, _/_, _∙_, _∷_, _≡_, arith, clash, cond, decLe, decLt, false, length, ltb, ltb-true, nothing, refl, some, sym, take, true, ℕ, ℕ-discrete}
+use Rattle.model.proofs.Prelude.{Bool, List, Option, [], _+_, _/_, _∙_, _∷_, _≡_, arith, clash, cond, decLe, decLt, false, length, ltb, ltb-true, nothing, refl, replicate, some, sym, take, true, ℕ, ℕ-discrete}
 use Rattle.model.specs.declared.Side.the-variants.{Slot as slot}
 use Rattle.model.specs.declared.Trie.{Trie}
 use Rattle.model.specs.declared.Layout.{Layout}
@@ -10,7 +10,7 @@ use Rattle.model.specs.declared.TrieAnswer.the-variants.{Given, Refused as Trie
 use Rattle.model.specs.declared.ListAnswer.the-variants.{Listed, Refused as ListRefused}
 use Rattle.model.specs.declared.LookUpAnswer.{LookUpAnswer}
 use Rattle.model.specs.declared.RecoverAnswer.{RecoverAnswer}
-use Rattle.model.specs.Tries.{walk-trie}
+use Rattle.model.specs.Tries.{walk-trie, walkOf, walkRun}
 use Rattle.model.proofs.Agreeing.{agrees-isAgreeing}
 use Rattle.model.proofs.Created.{created-left}
 use Rattle.model.proofs.Names.{legalName-legal, never-both}
@@ -19,29 +19,58 @@ use Rattle.model.specs.declared.LookUpAnswer.the-variants.{Absent as NotFound, 
 use Rattle.model.specs.declared.PutAnswer.the-variants.{Added, Refused as PutRefused, Stopped as PutStopped}
 use Rattle.model.specs.declared.RecoverAnswer.the-variants.{Freed, Nothing, Refused as RecoverRefused}
 use Rattle.model.specs.declared.RemoveAnswer.the-variants.{Absent as NotHeld, Refused as RemoveRefused}
-use Rattle.model.specs.Order.{Str, le?, low?, str?}
-use Rattle.model.specs.Names.{areDigits, atMost, blankEnded, blanks, filled, legalBound, legalFilled, legalName, notGreater, smaller, splitFrom, splitString, within}
-use Rattle.model.specs.Entries.{chosen, find, insert, keep, not?}
-use Rattle.model.specs.Files.{Slot, entries-of, first, free, low-same?, order-from, slot-at, starts?, string-count}
+use Rattle.model.specs.Order.{Str}
+use Rattle.model.specs.Names.{areDigits, atMost, filled, legalBound, legalFilled, legalName, notGreater, smaller, splitFrom, splitString, within}
+use Rattle.model.specs.Entries.{chosen, find, insert, keep}
+use Rattle.model.specs.Files.{Slot, created, entries-of, first, free, order-from, slot-at, starts?, string-count}
 use Rattle.model.specs.Changes.{Map, Result, call, free?, holds?, put, put-in, refuse, remove, remove-in, split-of, split-string, stores, stores-if}
 use Rattle.model.specs.Checks.{allWell, check, cutBelow, hasTwin, is-bad, isAbove, isChain, isCopied, isCutBy, isIn, isListed, isRow, isSound, isTwin, isUsed, isWell, legalLow, oneMore, sameEntries, sameLow, sameStr}
 use Rattle.model.specs.Agreeing.{areNumbers, areZeroCells, eachOnce, isAgreeing, isTrieOf, joinTrees, readTree, sameSide, sameStrs, slotsBetween, times}
 use Rattle.model.specs.Format.{checkFile, checkRead, entriesBytes, entriesOf, entryBytes, entrySize, fileBytes, fileSize, headerBytes, headerOf, isOffered, joined, laidOut, layoutOf, legalSizes, littleEndian, lowDigits, lowOf, padded, readBy, readFile, readSlot, readSlots, readUsed, rightHeader, slotAt, slotBytes, slotSize, slotsBytes, storeBytes, usedOf, valueOf, version-1}
 use Rattle.model.specs.Places.{place-of}
-use Rattle.model.specs.Calls.{Looked, PutDone, arrive, arrivedAnswer, between, createOf, entriesIn, fine, headedAnswer, heldAnswer, listEntries, listLooked, listOf, lookUpOf, lookedBy, lookedOf, new-trie, putAnswer, putLooked, putMade, putOf, rebuildBy, rebuildOf, recoverBy, recoverOf, refusalOf, refusing, removeLooked, removeMade, removeOf, slotAnswer, storesBytes, trieAfter}
+use Rattle.model.specs.Answers.{stale-trie}
+use Rattle.model.specs.Calls.{Looked, PutDone, arrivedAnswer, between, createOf, entriesIn, fine, headedAnswer, heldAnswer, listEntries, listLooked, listOf, lookUpOf, lookedBy, lookedOf, new-trie, putAnswer, putLooked, putMade, putOf, rebuildBy, rebuildOf, recoverBy, recoverOf, refusalOf, refusing, removeLooked, removeMade, removeOf, slotAnswer, storesBytes, trieAfter}
+use Rattle.model.specs.Deciding.{le?, low-same?, low?, not?, str?}
 use Rattle.model.proofs.Calls.{Answered, is-denied, is-made, put-right}
 use Rattle.promises.specs.Texts.{bytes, name}
 use Rattle.promises.specs.Growing.{of-cells}
-use Rattle.promises.specs.Situations.{a-cell, entries, names, rates-slots, rz-slots}
+use Rattle.promises.specs.Situations.{a-cell, entries, i-file, names, rates-slots, rz-slots}
 use Rattle.promises.specs.Calls.{Calls}
 use Rattle.promises.specs.Demand1.{Demand1, LegalName}
 use Rattle.promises.specs.Demand2.{Demand2, LeadsRight, Made, Truthful, true-entry, truly-absent}
-use Rattle.promises.specs.Demand3.{Demand3, Kept, Recovers, State, after, after-freeing, after-put, after-rebuild, after-recover, after-remove, differing, file-of, nothing-to-do, now, put-by, remove-by, replaced, said, start, step, stopped-at-0}
-use Rattle.promises.specs.WrongCalls.{IsRefused, OneResult, RefusesAll, absent-instead, both, both-at-once, buffer, by-create, by-list, by-look-up, by-put, by-rebuild, by-recover, by-remove, cuts-first, ends?, exchanged, free-outer, idles, inner-kept, keeps-inner, make, make-looked, make-put, miscounts, put-a, put-b, put-b-stopped, put-c, put-c-stopped, remove-a, removes-nothing, stores-nothing}
-use Rattle.promises.specs.Strength.{StoppedAfter, Strength, bare-cells, five, full-file, new-file, one-turned, split-file, stopped-file}
+use Rattle.promises.specs.Demand3.{Demand3, Event, Kept, Recovers, State, after, after-freeing, after-put, after-rebuild, after-recover, after-remove, differing, file-of, nothing-to-do, now, put as put-event, put-by, remove as remove-event, remove-by, replaced, said, start, step, stopped-at-0}
+use Rattle.promises.specs.WrongCalls.{IsRefused, OneResult, RefusesAll, absent-instead, both, both-at-once, by-create, by-list, by-look-up, by-put, by-rebuild, by-recover, by-remove, cuts-first, ends?, exchanged, free-outer, idles, inner-kept, keeps-inner, make, make-looked, make-put, miscounts, removes-nothing, stores-nothing}
+use Rattle.promises.specs.Strength.{StoppedAfter, Strength, bare-cells, five, full-file, one-turned, split-file, stopped-file}
+use Rattle.promises.proofs.Situations.{situations}
 use Rattle.promises.proofs.Demand1.{demand-1, legal-name, same-slots}
 use Rattle.promises.proofs.Demand2.{demand-2}
 use Rattle.promises.proofs.Leading.{Passed, looked-passed}
+
+-- What happens in the histories that the wrong calls are put to, in a file with b = 2 and two slots. Any two of the three names fill the
+-- first bucket, so the third is a split; its put may be stopped after its first store.
+abbrev buffer : List ℕ
+buffer = replicate 272 0
+
+abbrev put-a : Event
+put-a = put-event (bytes "a") 1 (omega arith) 2
+
+abbrev put-b : Event
+put-b = put-event (bytes "b") 2 (omega arith) 2
+
+abbrev put-c : Event
+put-c = put-event (bytes "c") 3 (omega arith) 2
+
+abbrev remove-a : Event
+remove-a = remove-event (bytes "a") 2
+
+abbrev put-b-stopped : Event
+put-b-stopped = put-event (bytes "b") 2 (omega arith) 1
+
+abbrev put-c-stopped : Event
+put-c-stopped = put-event (bytes "c") 3 (omega arith) 1
+
+abbrev new-file : List ℕ
+new-file = fileBytes (version-1 2) (created 2)
 
 -- The wrong versions' states: what the new file is, and what is left after a, after a and b, and after a put that is stopped.
 abbrev new-state : State
@@ -100,7 +129,7 @@ record Computed : Type 0 where
   stopped-1 : putOf full-file new-trie (bytes "c") 3 1 ≡ record { answer = PutStopped 1; file = stopped-file; trie = new-trie }
   made-2 : putOf full-file new-trie (bytes "c") 3 2 ≡ record { answer = Added; file = split-file; trie = of-cells (a-cell "b" 0 (slot 0) (slot 1) ∷ []) }
   kept-cut : putOf stopped-file new-trie (bytes "d") 4 2 .answer ≡ PutRefused CutFile
-  kept-stale : putOf split-file new-trie (bytes "d") 4 2 .answer ≡ PutRefused StaleTrie
+  kept-stale : putOf split-file new-trie (bytes "d") 4 2 .answer ≡ PutRefused stale-trie
   kept-good : putOf full-file new-trie (bytes "c") 3 2 .answer ≡ Added
   recovers : recoverOf stopped-file 1 ≡ record { answer = Freed 1; file = full-file }
   inner-bad : checkFile (storeBytes (version-1 2) 0 free stopped-file) ≡ is-bad
@@ -115,7 +144,7 @@ computed : Computed
 unfolding
     bytes entries names
     le? str? low?
-    areDigits legalName filled blanks blankEnded legalFilled legalBound notGreater within atMost smaller splitFrom
+    areDigits legalName filled legalFilled legalBound notGreater within atMost smaller splitFrom
     splitString
     chosen not? find insert keep
     first low-same? starts? order-from string-count
@@ -126,8 +155,8 @@ unfolding
     isOffered entrySize slotSize fileSize legalSizes headerBytes padded littleEndian valueOf entryBytes entriesBytes lowDigits
     lowOf slotBytes slotsBytes fileBytes entriesOf usedOf readUsed readSlot slotAt joined readSlots rightHeader layoutOf headerOf
     laidOut readBy readFile checkRead checkFile storeBytes
-    createOf recoverBy recoverOf rebuildBy rebuildOf arrive slotAnswer arrivedAnswer headedAnswer lookUpOf lookedBy
-    lookedOf storesBytes trieAfter refusalOf putMade putLooked putOf removeMade removeLooked removeOf entriesIn between
+    createOf recoverBy recoverOf rebuildBy rebuildOf walkRun walkOf slotAnswer arrivedAnswer headedAnswer lookUpOf lookedBy
+    lookedOf storesBytes place-of trieAfter refusalOf putMade putLooked putOf removeMade removeLooked removeOf entriesIn between
     listEntries listLooked listOf
     now after-put after-remove after-recover after-rebuild put-by remove-by step after differing
     make make-looked make-put absent-instead both exchanged ends? free-outer inner-kept
@@ -176,6 +205,13 @@ computed = record {
   without-beginnings = refl;
   one-leaf = refl;
 }
+
+-- Another digit number than ours: demand 1 lets a lookup carry one only.
+one-carried : (C : Calls) (k : ℕ) → C .look-up i-file new-trie (bytes "i") ≡ LookUpRefused (StaleTrie k) → ¬ (k ≡ 2) → ¬ Demand1 C
+one-carried C k e n D =
+    let n-i = bytes "i" in
+    let q : LookUpRefused (StaleTrie 2) ≡ LookUpRefused (StaleTrie k) = sym (situations .left-ranges .i-left) ∙ demand-1 .look-up i-file new-trie n-i (StaleTrie k) .1 (D .look-up i-file new-trie n-i (StaleTrie k) .0 e) in
+    n cc
 
 -- Refusing everything: where ours does not refuse, demand 1 lets nobody refuse.
 not-all : (C : Calls) → RefusesAll C → ¬ Demand1 C
@@ -354,23 +390,23 @@ module _ (xs : List ℕ) (t : Trie) (name : List ℕ) (v limit made : ℕ) where
   abbrev After : PutDone → Type 0
   After d = d .answer ≡ PutStopped made → StoppedAfter xs name v made (d .file)
 
-  after-made : (y : Layout) (fs : List Slot) → Passed xs t y fs → {r : Result} → Answered (y .b) (place-of y) fs (put n v) r → After (putMade xs t y fs n v limit r)
+  after-made : (y : Layout) (fs : List Slot) → Passed xs t y fs → {r : Result} → call (y .b) (place-of y) fs (put n v) ≡ r → Answered (y .b) (place-of y) fs (put n v) r → After (putMade xs t y fs n v limit r)
   unfolding putMade
-  after-made y fs p (is-denied d) e = clash cc
-  after-made y fs p (is-made {ss = ss} c) e = go (ltb limit (length ss)) refl (find n (entries-of (slot-at fs (first (holds? n) fs)))) e
+  after-made y fs p k (is-denied d) e = clash cc
+  after-made y fs p k (is-made {ss = ss} c) e = go (ltb limit (length ss)) refl (find n (entries-of (slot-at fs (first (holds? n) fs)))) e
     where
       go : (s : Bool) → ltb limit (length ss) ≡ s → (o : Option ℕ)
           → After (cond s (record { answer = PutStopped limit; file = storesBytes y (take limit ss) xs; trie = t }) (record { answer = putAnswer o; file = storesBytes y ss xs; trie = trieAfter (y .b) (place-of y) fs n v ss t }))
       go true h o e =
           let q : limit ≡ made = cc in
-          record { layout = y; slots = fs; is = p .is; needed = ss; change = c; short = rw q at (ltb-true limit (length ss) h); left = rw q }
+          record { layout = y; slots = fs; is = p .is; needed = ss; takes = k; short = rw q at (ltb-true limit (length ss) h); left = rw q }
       go false h nothing e = clash cc
       go false h (some old) e = clash cc
 
   after-looked : (l : Looked) → lookedOf xs t ≡ l → legalName name ≡ true → After (putLooked xs t n v limit l)
   unfolding putLooked
   after-looked (refusing c) e g q = clash cc
-  after-looked (fine y fs) e g q = let p = looked-passed xs t y fs e in after-made y fs p (put-right (y .b) (place-of y) fs (p .sound) n v (legalName-legal name g)) q
+  after-looked (fine y fs) e g q = let p = looked-passed xs t y fs e in after-made y fs p refl (put-right (y .b) (place-of y) fs (p .sound) n v (legalName-legal name g)) q
 
   first-stores : After (putOf xs t name v limit)
   unfolding putOf
@@ -385,6 +421,8 @@ module _ (xs : List ℕ) (t : Trie) (name : List ℕ) (v limit made : ℕ) where
 pub strength : Strength
 strength = record {
   refuses-all = not-all;
+  other-bound = λ C e. one-carried C 1 e (λ z. omega arith);
+  no-number = λ C e. one-carried C 255 e (λ z. omega arith);
   refuses-lookups = not-lookups;
   one-result = not-one;
   ours-but-for = ours-but-for;

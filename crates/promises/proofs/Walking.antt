@@ -1,18 +1,19 @@
 -- The walk of a lookup strays where R11.4 to R11.7 say that it does, and arrives elsewhere.
-use Rattle.model.proofs.Prelude.{Bool, Option, _&&_, _<_, _≡_, _≤_, arith, cond, decLe, decLt, false, le-leb, le-ltb, leb, leb-true, length, lt-ltb, ltb, ltb-true, nothing, refl, some, suc, true, zero, ℕ}
+use Rattle.model.proofs.Prelude.{Bool, Option, _&&_, _<_, _∙_, _≡_, _≤_, arith, cond, decLe, decLt, false, le-leb, le-ltb, leb, leb-true, length, lt-ltb, ltb, ltb-true, nothing, refl, some, suc, sym, true, zero, ℕ}
 use Rattle.model.specs.declared.Cell.{Cell}
 use Rattle.model.specs.declared.Side.{Side}
 use Rattle.model.specs.declared.Side.the-variants.{Cell as further, Slot as slot}
 use Rattle.model.specs.declared.Trie.{Trie}
 use Rattle.model.specs.Order.{Str}
-use Rattle.model.specs.Names.{within}
-use Rattle.model.specs.Tries.{at-cell, cell}
-use Rattle.model.specs.Calls.{arrive}
-use Rattle.model.proofs.Names.{both-true, never-both}
+use Rattle.model.specs.Names.{atMost, within}
+use Rattle.model.specs.Tries.{Spot, at-cell, cell, left, right, walkRun}
+use Rattle.model.specs.Calls.{landed}
+use Rattle.model.proofs.Names.{both-true, never-both, within-atMost}
+use Rattle.model.proofs.Tries.{cell-length}
 use Rattle.promises.specs.Demand1.{Arrives, Strays}
 use Rattle.promises.specs.Demand1 as D
 
-module _ (slots : ℕ) (t : Trie) (n : Str) where
+module _ (slots : ℕ) (t : Trie) (n : Str) (whole : length n ≡ 24) where
   abbrev the-cell : ℕ → Cell
   the-cell m = at-cell (t .cells) m
 
@@ -29,43 +30,51 @@ module _ (slots : ℕ) (t : Trie) (n : Str) where
       let y = both-true (ltb m (t .count)) (leb (the-cell m .number) (length p)) (x .0) in
       (ltb-true m (t .count) (y .0), leb-true (the-cell m .number) (length p) (y .1), leb-true (the-cell m .number) 23 (x .1))
 
-  abbrev pub walked : ℕ → Str → Side → Option ℕ
-  walked f p a = arrive f slots (t .count) (t .cells) n p a
+  -- A cell's string has at most 24 digits, so a name is within it exactly where it is not above it.
+  not-above : (m : ℕ) (p : Str) (b : Bool) → the-cell m .number ≤ length p → the-cell m .number ≤ 23 → within n (string m p) ≡ b → atMost n (string m p) ≡ b
+  not-above m p b i j e = sym (within-atMost n (string m p) (omega (arith, whole, j, cell-length (the-cell m .digit) (the-cell m .number) p i))) ∙ e
+
+  abbrev pub walked : ℕ → Str → Spot → Side → Option ℕ
+  walked f p k a = landed slots (walkRun f (t .count) (t .cells) n p k a)
 
   -- Arriving,
-  pub arrives-walked : {f k : ℕ} {p : Str} {a : Side} → Arrives slots t n f p a k → walked f p a ≡ some k
-  unfolding arrive
-  arrives-walked (D.here {f = zero} {s = s} h) = rw (lt-ltb s slots h)
-  arrives-walked (D.here {f = suc f} {s = s} h) = rw (lt-ltb s slots h)
-  arrives-walked (Arrives.left-of {m = m} {p = p} h i j w r) =
-      rw (lt-ltb m (t .count) h, le-leb (the-cell m .number) (length p) i, le-leb (the-cell m .number) 23 j, w) (arrives-walked r)
-  arrives-walked (Arrives.right-of {m = m} {p = p} h i j w r) =
-      rw (lt-ltb m (t .count) h, le-leb (the-cell m .number) (length p) i, le-leb (the-cell m .number) 23 j, w) (arrives-walked r)
+  pub arrives-walked : {f k : ℕ} {p : Str} {a : Side} → Arrives slots t n f p a k → (by : Spot) → walked f p by a ≡ some k
+  unfolding walkRun
+  arrives-walked (D.here {f = zero} {s = s} h) by = rw (lt-ltb s slots h)
+  arrives-walked (D.here {f = suc f} {s = s} h) by = rw (lt-ltb s slots h)
+  arrives-walked (Arrives.left-of {m = m} {p = p} h i j w r) by =
+      rw (lt-ltb m (t .count) h, le-leb (the-cell m .number) (length p) i, le-leb (the-cell m .number) 23 j, not-above m p true i j w) (arrives-walked r (left m))
+  arrives-walked (Arrives.right-of {m = m} {p = p} h i j w r) by =
+      rw (lt-ltb m (t .count) h, le-leb (the-cell m .number) (length p) i, le-leb (the-cell m .number) 23 j, not-above m p false i j w) (arrives-walked r (right m))
 
   -- straying,
-  untested : (f m : ℕ) (p : Str) → ((m < t .count) × (the-cell m .number ≤ length p) × (the-cell m .number ≤ 23) → ⊥) → walked f p (further m) ≡ nothing
-  unfolding arrive
-  untested zero m p never = refl
-  untested (suc f) m p never = go (test m p) refl _
+  untested : (f m : ℕ) (p : Str) (by : Spot) → ((m < t .count) × (the-cell m .number ≤ length p) × (the-cell m .number ≤ 23) → ⊥) → walked f p by (further m) ≡ nothing
+  unfolding walkRun
+  untested zero m p by never = refl
+  untested (suc f) m p by never = go (test m p) refl _
     where
-      go : (c : Bool) → test m p ≡ c → (w : Option ℕ) → cond c w nothing ≡ nothing
+      go : (c : Bool) → test m p ≡ c → (w : Option (Str × Spot × ℕ)) → landed slots (cond c w nothing) ≡ nothing
       go true e w = absurd (never (tested m p e))
       go false e w = refl
 
-  tried : (c : Bool) (w : Option ℕ) → w ≡ nothing → cond c w nothing ≡ nothing
-  tried true w e = e
-  tried false w e = refl
+  tried : (m : ℕ) (p : Str) (b : Bool) → within n (string m p) ≡ b → (l r : Option (Str × Spot × ℕ)) → landed slots (cond b l r) ≡ nothing
+      → landed slots (cond (test m p) (cond (atMost n (string m p)) l r) nothing) ≡ nothing
+  tried m p b w l r e = go (test m p) refl
+    where
+      go : (c : Bool) → test m p ≡ c → landed slots (cond c (cond (atMost n (string m p)) l r) nothing) ≡ nothing
+      go true x = let g = tested m p x in rw (not-above m p b (g .1) (g .2) w) e
+      go false x = refl
 
-  pub strays-walked : {f : ℕ} {p : Str} {a : Side} → Strays slots t n f p a → walked f p a ≡ nothing
-  unfolding arrive
-  strays-walked (D.no-cell {f = f} {m = m} {p = p} h) = untested f m p (λ g. absurd (omega (arith, g .0, h)))
-  strays-walked D.more-cells = refl
-  strays-walked (D.past-path {f = f} {m = m} {p = p} h) = untested f m p (λ g. absurd (omega (arith, g .1, h)))
-  strays-walked (D.past-23 {f = f} {m = m} {p = p} h) = untested f m p (λ g. absurd (omega (arith, g .2, h)))
-  strays-walked (D.no-slot {f = zero} {s = s} h) = rw (le-ltb s slots h)
-  strays-walked (D.no-slot {f = suc f} {s = s} h) = rw (le-ltb s slots h)
-  strays-walked (Strays.left-of {m = m} {p = p} w r) = rw w (tried (test m p) _ (strays-walked r))
-  strays-walked (Strays.right-of {m = m} {p = p} w r) = rw w (tried (test m p) _ (strays-walked r))
+  pub strays-walked : {f : ℕ} {p : Str} {a : Side} → Strays slots t n f p a → (by : Spot) → walked f p by a ≡ nothing
+  unfolding walkRun
+  strays-walked (D.no-cell {f = f} {m = m} {p = p} h) by = untested f m p by (λ g. absurd (omega (arith, g .0, h)))
+  strays-walked D.more-cells by = refl
+  strays-walked (D.past-path {f = f} {m = m} {p = p} h) by = untested f m p by (λ g. absurd (omega (arith, g .1, h)))
+  strays-walked (D.past-23 {f = f} {m = m} {p = p} h) by = untested f m p by (λ g. absurd (omega (arith, g .2, h)))
+  strays-walked (D.no-slot {f = zero} {s = s} h) by = rw (le-ltb s slots h)
+  strays-walked (D.no-slot {f = suc f} {s = s} h) by = rw (le-ltb s slots h)
+  strays-walked (Strays.left-of {m = m} {p = p} w r) by = tried m p true w _ _ (strays-walked r (left m))
+  strays-walked (Strays.right-of {m = m} {p = p} w r) by = tried m p false w _ _ (strays-walked r (right m))
 
   -- and one of the two.
   abbrev pub Walked : ℕ → Str → Side → Option ℕ → Type 0
@@ -78,14 +87,14 @@ module _ (slots : ℕ) (t : Trie) (n : Str) where
     | no h ↦ let k : slots ≤ s = omega arith in rw (le-ltb s slots k) (D.no-slot k)
   ]
 
-  pub walked-right : (f : ℕ) (p : Str) (a : Side) → Walked f p a (walked f p a)
-  unfolding arrive
-  walked-right zero p (slot s) = by-slot zero s p
-  walked-right zero p (further m) = D.more-cells
-  walked-right (suc f) p (slot s) = by-slot (suc f) s p
-  walked-right (suc f) p (further m) =
-      go (test m p) (within n (string m p)) refl refl (walked f (string m p) (the-cell m .left)) (walked f p (the-cell m .right))
-      (walked-right f (string m p) (the-cell m .left)) (walked-right f p (the-cell m .right))
+  pub walked-right : (f : ℕ) (p : Str) (by : Spot) (a : Side) → Walked f p a (walked f p by a)
+  unfolding walkRun
+  walked-right zero p by (slot s) = by-slot zero s p
+  walked-right zero p by (further m) = D.more-cells
+  walked-right (suc f) p by (slot s) = by-slot (suc f) s p
+  walked-right (suc f) p by (further m) =
+      go (test m p) (within n (string m p)) refl refl (walkRun f (t .count) (t .cells) n (string m p) (left m) (the-cell m .left)) (walkRun f (t .count) (t .cells) n p (right m) (the-cell m .right))
+      (walked-right f (string m p) (left m) (the-cell m .left)) (walked-right f p (right m) (the-cell m .right))
     where
       lost : Dec (m < t .count) → Dec (the-cell m .number ≤ length p) → Dec (the-cell m .number ≤ 23) → test m p ≡ false → Strays slots t n (suc f) p (further m)
       lost (no h) j k e = D.no-cell {m = m} (omega arith)
@@ -95,11 +104,17 @@ module _ (slots : ℕ) (t : Trie) (n : Str) where
           let one : test m p ≡ true = rw (lt-ltb m (t .count) h, le-leb (the-cell m .number) (length p) j, le-leb (the-cell m .number) 23 k) in
           absurd (never-both (test m p) one e)
 
-      go : (c w : Bool) → test m p ≡ c → within n (string m p) ≡ w → (l r : Option ℕ) → Walked f (string m p) (the-cell m .left) l → Walked f p (the-cell m .right) r
-          → Walked (suc f) p (further m) (cond c (cond w l r) nothing)
-      go true true e d nothing r x y = Strays.left-of d x
-      go true true e d (some k) r x y = let g = tested m p e in Arrives.left-of (g .0) (g .1) (g .2) d x
-      go true false e d l nothing x y = Strays.right-of d y
-      go true false e d l (some k) x y = let g = tested m p e in Arrives.right-of (g .0) (g .1) (g .2) d y
+      to-left : test m p ≡ true → within n (string m p) ≡ true → (o : Option ℕ) → Walked f (string m p) (the-cell m .left) o → Walked (suc f) p (further m) o
+      to-left e d nothing x = Strays.left-of d x
+      to-left e d (some k) x = let g = tested m p e in Arrives.left-of (g .0) (g .1) (g .2) d x
+
+      to-right : test m p ≡ true → within n (string m p) ≡ false → (o : Option ℕ) → Walked f p (the-cell m .right) o → Walked (suc f) p (further m) o
+      to-right e d nothing x = Strays.right-of d x
+      to-right e d (some k) x = let g = tested m p e in Arrives.right-of (g .0) (g .1) (g .2) d x
+
+      go : (c w : Bool) → test m p ≡ c → within n (string m p) ≡ w → (l r : Option (Str × Spot × ℕ)) → Walked f (string m p) (the-cell m .left) (landed slots l)
+          → Walked f p (the-cell m .right) (landed slots r) → Walked (suc f) p (further m) (landed slots (cond c (cond (atMost n (string m p)) l r) nothing))
+      go true true e d l r x y = let g = tested m p e in rw (not-above m p true (g .1) (g .2) d) (to-left e d (landed slots l) x)
+      go true false e d l r x y = let g = tested m p e in rw (not-above m p false (g .1) (g .2) d) (to-right e d (landed slots r) y)
       go false w e d l r x y =
           lost (decLt m (t .count)) (decLe (the-cell m .number) (length p)) (decLe (the-cell m .number) 23) e

@@ -8,7 +8,7 @@ use mathlib.Core.List.{List, List·Memᴰ, [], _∷_}
 use Prim.Native.Nat.{_*_, _<_, _≤_, suc, zero, ℕ}
 use lib.ListN.{getD, length, replicate, take}
 use Rattle.model.specs.declared.Cause.{Cause}
-use Rattle.model.specs.declared.Cause.the-variants.{BadFile as bad-file, CutFile as cut-file, IllegalName as illegal-name, ManyStrings as many-strings, NoFreeSlot as no-free-slot, ShortOutput as short-output, StaleTrie as stale-trie, WrongSize as wrong-size}
+use Rattle.model.specs.declared.Cause.the-variants.{BadFile as bad-file, CutFile as cut-file, IllegalName as illegal-name, ManyStrings as many-strings, NoFreeSlot as no-free-slot, ShortOutput as short-output, StaleTrie, WrongSize as wrong-size}
 use Rattle.model.specs.declared.Layout.{Layout}
 use Rattle.model.specs.declared.ListAnswer.the-variants.{Refused as ListRefused}
 use Rattle.model.specs.declared.LookUpAnswer.the-variants.{Refused as LookUpRefused}
@@ -19,26 +19,42 @@ use Rattle.model.specs.declared.Side.{Side}
 use Rattle.model.specs.declared.Side.the-variants.{Cell as further, Slot as slot}
 use Rattle.model.specs.declared.Trie.{Trie}
 use Rattle.model.specs.declared.TrieAnswer.the-variants.{Refused as TrieRefused}
-use Rattle.model.specs.Order.{Str, _⊑_, none}
-use Rattle.model.specs.Names.{Digits, filled, within}
+use Rattle.model.specs.Order.{Low, Str, _≺_, _⊑_, at, none}
+use Rattle.model.specs.Names.{Digits, filled, firstOf, lastOf, within}
 use Rattle.model.specs.Entries.{Entry, Row}
-use Rattle.model.specs.Files.{In, Slot, Well, entries-of, head, slot-at, string-count}
+use Rattle.model.specs.Files.{Slot, Well, entries-of, slot-at, string-count, used}
 use Rattle.model.specs.Tries.{Agrees, at-cell, cell, root-side}
 use Rattle.model.specs.Changes.{Denied, put}
 use Rattle.model.specs.Places.{place-of}
 use Rattle.model.specs.Format.{BadFile, CutFile, Sizes, SoundFile, entrySize, fileSize, headerBytes, layoutOf, readSlot, slotAt, slotSize}
-use Rattle.model.specs.Answers.{number}
+use Rattle.model.specs.Answers.{number, stale-trie}
 use Rattle.model.specs.Calls.{new-trie}
 use Rattle.promises.specs.Calls.{Calls}
 
--- A call's causes in their stated order, each with what must be so of the call's inputs for it to hold.
+-- A line of a table: a cause, with what must be so of the call's inputs for it to hold; or a stale trie, with what must be so for it to
+-- carry a digit number (R10.13).
+pub data Reason : Type 1 where
+  because : Cause → Type 0 → Reason
+  off-at : (ℕ → Type 0) → Reason
+
+-- It holds,
+abbrev pub Holds : Reason → Type 0
+Holds (because c P) = P
+Holds (off-at P) = (k : ℕ) × P k
+
+-- and gives this cause.
+abbrev pub Gives : Reason → Cause → Type 0
+Gives (because c P) d = (c ≡ d) × P
+Gives (off-at P) d = (k : ℕ) × (StaleTrie k ≡ d) × P k
+
+-- A call's causes in their stated order.
 abbrev pub Table : Type 1
-Table = List (Cause × Type 0)
+Table = List Reason
 
 -- R10.9: the first cause that holds, in the order given.
 abbrev pub First : Cause → Table → Type 0
 First c [] = ⊥
-First c (r ∷ rs) = ((r .0 ≡ c) × r .1) ⊎ ((¬ r .1) × First c rs)
+First c (r ∷ rs) = Gives r c ⊎ ((¬ Holds r) × First c rs)
 
 -- R10.9 and R10.10: the answer is a refusal with the first cause that holds where some cause holds, and no refusal
 -- where none does.
@@ -46,15 +62,21 @@ abbrev pub Exactly : {A : Type 0} → (Cause → A) → A → Table → Type 0
 Exactly Refused a table = (c : Cause) → (a ≡ Refused c → First c table) × (First c table → a ≡ Refused c)
 
 -- The numbers of a table, in its order.
+abbrev pub number-in : Reason → ℕ
+number-in (because c P) = number c
+number-in (off-at P) = 4
+
 abbrev pub numbers : Table → List ℕ
 numbers [] = []
-numbers (r ∷ rs) = number (r .0) ∷ numbers rs
+numbers (r ∷ rs) = number-in r ∷ numbers rs
 
 -- R10.1, by R1.2 and R1.3.
 pub record LegalName (name : List ℕ) : Type 0 where
   pub least : 1 ≤ length name
   pub most : length name ≤ 24
-  pub digits : Digits 0x21 name
+  pub digits : Digits 0x20 name
+  pub first : ¬ (firstOf name ≡ 0x20)
+  pub last : ¬ (lastOf name ≡ 0x20)
 
 -- 3, cut file.
 abbrev pub IsCut : List ℕ → Type 0
@@ -150,39 +172,56 @@ IsZero y ys = ys ≡ replicate (slotSize y) 0
 abbrev pub IsMalformed : Layout → List ℕ → Type 0
 IsMalformed y ys = (s : Slot) → readSlot y ys ≡ some s → ¬ Well (y .b) s
 
-abbrev pub IsElsewhere : Layout → Str → List ℕ → Type 0
-IsElsewhere y n ys = (s : Slot) × (readSlot y ys ≡ some s) × (¬ In (head s) n)
+-- R1.9: a name and a bound agree before this digit number, and there they differ, unless the bound ends.
+pub record Differs (n p : Str) (k : ℕ) : Type 0 where
+  pub inside : k ≤ length p
+  pub before : (i : ℕ) → i < k → getD n i 0 ≡ getD p i 0
+  pub there : k < length p → ¬ (getD n k 0 ≡ getD p k 0)
+
+-- The bound of a range that a name breaks: it is within the lower, or not within the upper; with that digit number.
+pub data Breaks (n : Str) : Low → Str → ℕ → Type 0 where
+  within-lower : {l u : Str} {k : ℕ} → n ⊑ l → Differs n l k → Breaks n (at l) u k
+  above-upper : {l : Low} {u : Str} {k : ℕ} → u ≺ n → Differs n u k → Breaks n l u k
+
+-- A well-formed bucket whose range lacks the name.
+pub record Lacks (y : Layout) (n : Str) (k : ℕ) (ys : List ℕ) : Type 0 where
+  pub low : Low
+  pub high : Str
+  pub entries : List Entry
+  pub is : readSlot y ys ≡ some (used low high entries)
+  pub well : Well (y .b) (used low high entries)
+  pub breaks : Breaks n low high k
 
 -- The tables.
 abbrev pub create-table : List ℕ → ℕ → ℕ → ℕ → Table
-create-table xs v b slots = (wrong-size, ¬ Creatable xs (record { version = v; b = b }) slots) ∷ []
+create-table xs v b slots = because wrong-size (¬ Creatable xs (record { version = v; b = b }) slots) ∷ []
 
 abbrev pub recover-table : List ℕ → ℕ → Table
-recover-table xs limit = (wrong-size, 2 < limit) ∷ (bad-file, BadFile xs) ∷ []
+recover-table xs limit = because wrong-size (2 < limit) ∷ because bad-file (BadFile xs) ∷ []
 
 abbrev pub rebuild-table : List ℕ → Table
-rebuild-table xs = (bad-file, BadFile xs) ∷ (cut-file, IsCut xs) ∷ (many-strings, Many xs) ∷ []
+rebuild-table xs = because bad-file (BadFile xs) ∷ because cut-file (IsCut xs) ∷ because many-strings (Many xs) ∷ []
 
 abbrev pub look-up-table : List ℕ → Trie → List ℕ → Table
 look-up-table xs t name =
-    (illegal-name, ¬ LegalName name) ∷ (bad-file, ¬ RightHeader xs) ∷ (stale-trie, Lost xs t (filled name))
-    ∷ (stale-trie, Ends xs t (filled name) (IsZero (layoutOf xs))) ∷ (bad-file, Ends xs t (filled name) (IsMalformed (layoutOf xs)))
-    ∷ (stale-trie, Ends xs t (filled name) (IsElsewhere (layoutOf xs) (filled name))) ∷ []
+    because illegal-name (¬ LegalName name) ∷ because bad-file (¬ RightHeader xs) ∷ because stale-trie (Lost xs t (filled name))
+    ∷ because stale-trie (Ends xs t (filled name) (IsZero (layoutOf xs))) ∷ because bad-file (Ends xs t (filled name) (IsMalformed (layoutOf xs)))
+    ∷ off-at (λ k. Ends xs t (filled name) (Lacks (layoutOf xs) (filled name) k)) ∷ []
 
 abbrev pub put-table : List ℕ → Trie → List ℕ → ℕ → ℕ → Table
 put-table xs t name v limit =
-    (wrong-size, 2 < limit) ∷ (illegal-name, ¬ LegalName name) ∷ (bad-file, BadFile xs) ∷ (cut-file, IsCut xs)
-    ∷ (stale-trie, Stale xs t) ∷ (no-free-slot, PutDenied xs name v 5) ∷ (many-strings, PutDenied xs name v 6) ∷ []
+    because wrong-size (2 < limit) ∷ because illegal-name (¬ LegalName name) ∷ because bad-file (BadFile xs) ∷ because cut-file (IsCut xs)
+    ∷ because stale-trie (Stale xs t) ∷ because no-free-slot (PutDenied xs name v 5) ∷ because many-strings (PutDenied xs name v 6) ∷ []
 
 abbrev pub remove-table : List ℕ → Trie → List ℕ → ℕ → Table
 remove-table xs t name limit =
-    (wrong-size, 2 < limit) ∷ (illegal-name, ¬ LegalName name) ∷ (bad-file, BadFile xs) ∷ (cut-file, IsCut xs)
-    ∷ (stale-trie, Stale xs t) ∷ []
+    because wrong-size (2 < limit) ∷ because illegal-name (¬ LegalName name) ∷ because bad-file (BadFile xs) ∷ because cut-file (IsCut xs)
+    ∷ because stale-trie (Stale xs t) ∷ []
 
 abbrev pub list-table : List ℕ → Trie → List ℕ → List ℕ → List ℕ → Table
 list-table xs t low high out =
-    (illegal-name, ¬ (LegalName low × LegalName high)) ∷ (bad-file, BadFile xs) ∷ (cut-file, IsCut xs) ∷ (stale-trie, Stale xs t)
-    ∷ (short-output, Short xs low high out) ∷ []
+    because illegal-name (¬ (LegalName low × LegalName high)) ∷ because bad-file (BadFile xs) ∷ because cut-file (IsCut xs) ∷ because stale-trie (Stale xs t)
+    ∷ because short-output (Short xs low high out) ∷ []
 
 -- Demand 1 of the calls. Check refuses nothing. What a call may only read it cannot change: the file of check, rebuild, look
 -- up and list, and the trie of look up, remove and list.

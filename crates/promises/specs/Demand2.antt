@@ -27,7 +27,7 @@ pub data Truthful (fs : List Slot) (n : Str) : LookUpAnswer → Type 0 where
 -- Or it is refused as stale.
 pub data Tells (fs : List Slot) (n : Str) : LookUpAnswer → Type 0 where
   told : {a : LookUpAnswer} → Truthful fs n a → Tells fs n a
-  stale : Tells fs n (Refused StaleTrie)
+  stale : {k : ℕ} → Tells fs n (Refused (StaleTrie k))
 
 -- A put that was made: added or replaced.
 abbrev pub Made : PutAnswer → Type 0

@@ -14,12 +14,13 @@ use Rattle.model.specs.declared.RemoveAnswer.the-variants.{Absent, Refused as R
 use Rattle.model.specs.declared.Trie.{Trie}
 use Rattle.model.specs.declared.TrieAnswer.{TrieAnswer}
 use Rattle.model.specs.declared.TrieAnswer.the-variants.{Given, Refused as TrieRefused}
-use Rattle.model.specs.Order.{Str, str?}
+use Rattle.model.specs.Order.{Str}
 use Rattle.model.specs.Names.{filled}
 use Rattle.model.specs.Entries.{chosen}
 use Rattle.model.specs.Changes.{Map, Means, meant, put as to-put, remove as to-remove}
 use Rattle.model.specs.Format.{layoutOf, slotAt}
 use Rattle.model.specs.Calls.{Created, heldAnswer}
+use Rattle.model.specs.Deciding.{str?}
 use Rattle.promises.specs.Calls.{Calls}
 use Rattle.promises.specs.Demand1.{LegalName, slots-of}
 use Rattle.promises.specs.Demand2.{LeadsRight}

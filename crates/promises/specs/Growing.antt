@@ -9,7 +9,6 @@ use Rattle.model.specs.declared.Trie.{Trie}
 use Rattle.model.specs.Order.{Str}
 use Rattle.model.specs.Files.{Slot}
 use Rattle.model.specs.Tries.{zero-cell}
-use Rattle.model.specs.Format.{version-1}
 use Rattle.model.specs.Changes.{Result, call, put, refuse, stored, stores}
 use Rattle.model.specs.Places.{place-of}
 use Rattle.model.specs.Calls.{trieAfter}
@@ -27,9 +26,7 @@ unfoldable pub after-put : Layout → Held → Str → ℕ → Result → Held
 after-put y h n v (refuse r) = h
 after-put y h n v (stores ss) = (stored ss (h .0), trieAfter (y .b) (place-of y) (h .0) n v ss (h .1))
 
--- These texts as names, each with its value, the first one first, into a file of version 1.
-unfoldable pub puts : ℕ → List (String × ℕ) → Held → Held
-puts b [] h = h
-puts b (e ∷ es) h =
-    let y = version-1 b in
-    puts b es (after-put y h (name (e .0)) (e .1) (call b (place-of y) (h .0) (put (name (e .0)) (e .1))))
+-- These texts as names, each with its value, the first one first.
+unfoldable pub puts : Layout → List (String × ℕ) → Held → Held
+puts y [] h = h
+puts y (e ∷ es) h = puts y es (after-put y h (name (e .0)) (e .1) (call (y .b) (place-of y) (h .0) (put (name (e .0)) (e .1))))

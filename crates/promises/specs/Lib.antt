@@ -1,12 +1,16 @@
 pub mod Texts
 pub mod Calls
 pub mod Growing
+pub mod Histories
 pub mod Situations
 pub mod Demand1
 pub mod Demand2
 pub mod Demand3
+pub mod Where
 pub mod Limits
 pub mod Meanings
+pub mod Older
+pub mod Separators
 pub mod Determined
 pub mod WrongCalls
 pub mod Strength

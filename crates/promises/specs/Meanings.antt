@@ -73,6 +73,7 @@ pub record Tests : Type 0 where
   -- Names and strings.
   pub legal : (name : List ℕ) → (legalName name ≡ true) ↔ LegalName name
   pub legal-filled : (n : Str) → (legalFilled n ≡ true) ↔ Legal n
+  pub one-name : (m n : List ℕ) → LegalName m → LegalName n → filled m ≡ filled n → m ≡ n
   pub at-most : (x y : Str) → (atMost x y ≡ true) ↔ (x ⊑ y)
   pub above : (l : Low) (x : Str) → (isAbove l x ≡ true) ↔ (l ◁ x)
   pub same : (x y : Str) → (sameStr x y ≡ true) ↔ (x ≡ y)

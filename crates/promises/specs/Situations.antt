@@ -6,25 +6,27 @@ use mathlib.Core.List.{List, [], _∷_}
 use Prim.Native.Nat.{ℕ}
 use Prim.Native.String.{String}
 use lib.ListN.{getD, replicate}
+use Rattle.model.specs.declared.Cause.the-variants.{StaleTrie}
 use Rattle.model.specs.declared.Cell.{Cell}
+use Rattle.model.specs.declared.LookUpAnswer.the-variants.{Absent as NotFound, Refused as LookUpRefused}
 use Rattle.model.specs.declared.Side.{Side}
 use Rattle.model.specs.declared.Side.the-variants.{Cell as further, Slot as slot}
 use Rattle.model.specs.declared.Trie.{Trie}
 use Rattle.model.specs.Order.{Str, at, none}
-use Rattle.model.specs.Names.{legalName, within}
+use Rattle.model.specs.Names.{broken, legalName, within}
 use Rattle.model.specs.Entries.{Entry, find}
 use Rattle.model.specs.Files.{Slot, created, entries-of, free, slot-at, used}
 use Rattle.model.specs.Tries.{Agrees, walk-trie}
 use Rattle.model.specs.Rebuilding.{rebuilt-trie}
-use Rattle.model.specs.Format.{version-1}
+use Rattle.model.specs.Format.{fileBytes, version-1, version-2}
 use Rattle.model.specs.Changes.{call, put, split-of, stores}
 use Rattle.model.specs.Places.{place-of}
 use Rattle.model.specs.Checks.{check, is-cut, is-sound, isSound}
 use Rattle.model.specs.Agreeing.{isAgreeing}
-use Rattle.model.specs.Histories.{Act, World, ask, down, ready, recover, run}
 use Rattle.promises.specs.Texts.{bytes, name}
-use Rattle.model.specs.Calls.{new-trie}
+use Rattle.model.specs.Calls.{lookUpOf, new-trie}
 use Rattle.promises.specs.Growing.{Held, of-cells, puts}
+use Rattle.promises.specs.Histories.{Act, World, ask, down, ready, recover, run}
 
 -- A cell, its digit as a text.
 abbrev pub a-cell : String → ℕ → Side → Side → Cell
@@ -52,11 +54,13 @@ pub record Legals : Type 0 where
   pub too-long : legalName (replicate 25 0x61) ≡ false
   -- R14.2: 0x7D is legal,
   pub highest : legalName (0x7D ∷ []) ≡ true
-  -- 0x7E and 0x20 are not,
+  -- 0x7E is not. 0x20 is legal inside a name,
   pub too-high : legalName (0x7E ∷ []) ≡ false
+  pub blank-inside : legalName (bytes "a b") ≡ true
+  -- and neither first nor last.
   pub blank : legalName (0x20 ∷ []) ≡ false
-  -- so "a b" is not.
-  pub blank-inside : legalName (bytes "a b") ≡ false
+  pub blank-first : legalName (bytes " a") ≡ false
+  pub blank-last : legalName (bytes "a ") ≡ false
 
 pub record Withins : Type 0 where
   -- R14.3: "i" is within "i ",
@@ -81,7 +85,7 @@ pub record Splits : Type 0 where
 
 -- The files and tries with b = 2. After rate1, rate2, rate3:
 abbrev pub rates : Held
-rates = puts 2 (("rate1", 1) ∷ ("rate2", 2) ∷ ("rate3", 3) ∷ []) (created 4, new-trie)
+rates = puts (version-1 2) (("rate1", 1) ∷ ("rate2", 2) ∷ ("rate3", 3) ∷ []) (created 4, new-trie)
 
 -- Their slots, written out,
 abbrev pub first-slot : Slot
@@ -119,11 +123,11 @@ rz-cells =
 
 -- From there on: razz, which fits;
 abbrev pub with-razz : Held
-with-razz = puts 2 (("razz", 4) ∷ []) (rates-slots, five-cells)
+with-razz = puts (version-1 2) (("razz", 4) ∷ []) (rates-slots, five-cells)
 
 -- and rz, which splits again.
 abbrev pub with-rz : Held
-with-rz = puts 2 (("rz", 5) ∷ []) (razz-slots, five-cells)
+with-rz = puts (version-1 2) (("rz", 5) ∷ []) (razz-slots, five-cells)
 
 pub record Rates : Type 0 where
   -- R14.7: five cells.
@@ -191,11 +195,11 @@ pub record Stopped : Type 0 where
   pub razz-found : looked-up "razz" (recovered-file, rebuilt-trie recovered-file) ≡ some 4
 
 -- The nine words of R14.11, each with its line number, with b = 4 and 8 slots.
+abbrev pub nine : List (String × ℕ)
+nine = ("the", 1) ∷ ("of", 2) ∷ ("and", 3) ∷ ("to", 4) ∷ ("a", 5) ∷ ("in", 6) ∷ ("that", 7) ∷ ("is", 8) ∷ ("i", 9) ∷ []
+
 abbrev pub words : Held
-words =
-    puts 4
-    (("the", 1) ∷ ("of", 2) ∷ ("and", 3) ∷ ("to", 4) ∷ ("a", 5) ∷ ("in", 6) ∷ ("that", 7) ∷ ("is", 8) ∷ ("i", 9) ∷ [])
-    (created 8, new-trie)
+words = puts (version-1 4) nine (created 8, new-trie)
 
 abbrev pub words-slots : List Slot
 words-slots =
@@ -227,6 +231,51 @@ pub record Words : Type 0 where
   pub words-agree : Agrees (words .0) (words .1)
   pub rebuilt-agrees : Agrees (words .0) (rebuilt-trie (words .0))
 
+-- A file of one slot: the bucket from "i " to "i".
+abbrev pub i-file : List ℕ
+i-file = fileBytes (version-1 2) (used (at (bytes "i ")) (bytes "i") [] ∷ [])
+
+-- A name of 24 digits.
+abbrev pub long-name : String
+long-name = "abcdefghijklmnopqrstuvwx"
+
+pub record Lefts : Type 0 where
+  -- R14.13: "in" is in the range; "i" agrees with all of the lower bound; "jo" differs from the upper at digit 0.
+  pub in-absent : lookUpOf i-file new-trie (bytes "in") ≡ NotFound
+  pub i-left : lookUpOf i-file new-trie (bytes "i") ≡ LookUpRefused (StaleTrie 2)
+  pub jo-left : lookUpOf i-file new-trie (bytes "jo") ≡ LookUpRefused (StaleTrie 0)
+  -- A name equal to a lower bound of 24 digits.
+  pub long-left : broken (at (bytes long-name)) [] (name long-name) ≡ 24
+
+-- The same words in a file of version 2: the last split is at "a", not at "i ".
+abbrev pub shorter : Held
+shorter = puts (version-2 4) nine (created 8, new-trie)
+
+abbrev pub shorter-slots : List Slot
+shorter-slots =
+    used none (bytes "a") (entries (("a", 5) ∷ ("and", 3) ∷ []))
+    ∷ used (at (bytes "o")) [] (entries (("that", 7) ∷ ("the", 1) ∷ ("to", 4) ∷ []))
+    ∷ used (at (bytes "i")) (bytes "o") (entries (("of", 2) ∷ []))
+    ∷ used (at (bytes "a")) (bytes "i") (entries (("i", 9) ∷ ("in", 6) ∷ ("is", 8) ∷ [])) ∷ free ∷ free ∷ free ∷ free ∷ []
+
+abbrev pub shorter-cells : Trie
+shorter-cells =
+    of-cells (a-cell "o" 0 (further 1) (slot 1) ∷ a-cell "i" 0 (further 2) (slot 2) ∷ a-cell "a" 0 (slot 0) (slot 3) ∷ [])
+
+pub record Shorter : Type 0 where
+  -- R14.14: of a and i in is, "i" gives "i " and "and" gives "a", which is shorter.
+  pub gives-a : split-of 4 (place-of (version-2 4)) (names ("a" ∷ "and" ∷ "i" ∷ "in" ∷ "is" ∷ [])) ≡ bytes "a"
+  -- A tie: of a and of the to, "of" and "and" give one digit each.
+  pub gives-o : split-of 4 (place-of (version-2 4)) (names ("a" ∷ "and" ∷ "of" ∷ "the" ∷ "to" ∷ [])) ≡ bytes "o"
+  -- b = 2: of a ab abc, "ab" gives "ab " and "a" gives "a ".
+  pub gives-a-blank : split-of 2 (place-of (version-2 2)) (names ("a" ∷ "ab" ∷ "abc" ∷ [])) ≡ bytes "a "
+  -- R14.15: the file of the nine words and its trie.
+  pub shorter-file : shorter .0 ≡ shorter-slots
+  pub shorter-trie : shorter .1 ≡ shorter-cells
+  pub shorter-sound : isSound 4 (shorter .0) ≡ true
+  pub shorter-tested : isAgreeing (shorter .0) (shorter .1) ≡ true
+  pub shorter-agrees : Agrees (shorter .0) (shorter .1)
+
 -- All situations of the rules' section 14 that are marked proved.
 pub record Situations : Type 0 where
   pub legals : Legals
@@ -235,3 +284,5 @@ pub record Situations : Type 0 where
   pub rate-puts : Rates
   pub stopped-put : Stopped
   pub nine-words : Words
+  pub left-ranges : Lefts
+  pub shorter-words : Shorter

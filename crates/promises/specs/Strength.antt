@@ -14,15 +14,16 @@ use Rattle.model.specs.declared.Trie.{Trie}
 use Rattle.model.specs.Order.{at, none}
 use Rattle.model.specs.Names.{filled}
 use Rattle.model.specs.Entries.{Entry}
-use Rattle.model.specs.Files.{Slot, created, free, used}
-use Rattle.model.specs.Changes.{Change, Store, put, split-of, split-string}
+use Rattle.model.specs.Files.{Slot, free, used}
+use Rattle.model.specs.Changes.{Store, call, put, split-of, split-string, stores}
 use Rattle.model.specs.Places.{place-of}
 use Rattle.model.specs.Checks.{is-bad}
 use Rattle.model.specs.Format.{checkFile, fileBytes, readFile, storeBytes, version-1}
+use Rattle.model.specs.Answers.{stale-trie}
 use Rattle.model.specs.Calls.{new-trie, putOf, recoverOf, storesBytes}
 use Rattle.promises.specs.Texts.{bytes}
 use Rattle.promises.specs.Growing.{of-cells}
-use Rattle.promises.specs.Situations.{a-cell, entries, names, rates-slots, rz-slots}
+use Rattle.promises.specs.Situations.{a-cell, entries, i-file, names, rates-slots, rz-slots}
 use Rattle.promises.specs.Calls.{Calls}
 use Rattle.promises.specs.Demand1.{Demand1}
 use Rattle.promises.specs.Demand2.{Demand2, LeadsRight}
@@ -38,9 +39,6 @@ cut-down = used none (bytes "b") (entries (("a", 1) ∷ ("b", 2) ∷ []))
 
 abbrev pub c-slot : Slot
 c-slot = used (at (bytes "b")) [] (entries (("c", 3) ∷ []))
-
-abbrev pub new-file : List ℕ
-new-file = fileBytes (version-1 2) (created 2)
 
 abbrev pub full-file : List ℕ
 full-file = fileBytes (version-1 2) (full-slot ∷ free ∷ [])
@@ -58,7 +56,7 @@ pub record StoppedAfter (xs name : List ℕ) (v made : ℕ) (ys : List ℕ) : Ty
   pub slots : List Slot
   pub is : readFile xs ≡ some (layout, slots)
   pub needed : List Store
-  pub change : Change (layout .b) (place-of layout) slots (put (filled name) v) needed
+  pub takes : call (layout .b) (place-of layout) slots (put (filled name) v) ≡ stores needed
   pub short : made < length needed
   pub left : ys ≡ storesBytes layout (take made needed) xs
 
@@ -81,6 +79,10 @@ pub record Strength : Type 0 where
   -- the others do.
   pub refuses-all : (C : Calls) → RefusesAll C → ¬ Demand1 C
   pub refuses-lookups : (C : Calls) → ((xs : List ℕ) (t : Trie) (name : List ℕ) → IsRefused LookUpRefused (C .look-up xs t name)) → ¬ Demand2 C
+  -- R15.11, against demand 1: "i" is within the lower bound of this file's bucket and agrees with two digits of it, and with one of the
+  -- upper. The other bound's number is wrong, and so is 255.
+  pub other-bound : (C : Calls) → C .look-up i-file new-trie (bytes "i") ≡ LookUpRefused (StaleTrie 1) → ¬ Demand1 C
+  pub no-number : (C : Calls) → C .look-up i-file new-trie (bytes "i") ≡ LookUpRefused stale-trie → ¬ Demand1 C
   -- R15.2, against demand 2.
   pub one-result : (C : Calls) → OneResult C → ¬ Demand2 C
   -- The wrong puts are ours but for the stores that they make: with our stores, such a put is ours.
@@ -108,7 +110,7 @@ pub record Strength : Type 0 where
   -- A trie that is kept after a stop: refused 3 while the file is cut, refused 4 once another trie has split the bucket, and as
   -- good as new if no store was made.
   pub kept-cut : putOf stopped-file new-trie (bytes "d") 4 2 .answer ≡ PutRefused CutFile
-  pub kept-stale : putOf split-file new-trie (bytes "d") 4 2 .answer ≡ PutRefused StaleTrie
+  pub kept-stale : putOf split-file new-trie (bytes "d") 4 2 .answer ≡ PutRefused stale-trie
   pub kept-good : putOf full-file new-trie (bytes "c") 3 2 .answer ≡ Added
   pub recovers : recoverOf stopped-file 1 ≡ record { answer = Freed 1; file = full-file }
   pub inner-bad : checkFile (storeBytes (version-1 2) 0 free stopped-file) ≡ is-bad

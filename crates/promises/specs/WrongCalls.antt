@@ -4,9 +4,8 @@ use mathlib.Core.Bool.{cond}
 use mathlib.Core.Option.{Option, none as nothing, some}
 use mathlib.Core.List.{List, [], _∷_}
 use Prim.Native.Nat.{suc, zero, ℕ}
-use native.Mathlib.Omega.{arith}
 use lib.Dec.{ltb}
-use lib.ListN.{length, replicate, set, take}
+use lib.ListN.{length, set, take}
 use Rattle.model.specs.declared.Cause.{Cause}
 use Rattle.model.specs.declared.Cause.the-variants.{IllegalName, WrongSize}
 use Rattle.model.specs.declared.Layout.{Layout}
@@ -19,7 +18,7 @@ use Rattle.model.specs.declared.RemoveAnswer.{RemoveAnswer}
 use Rattle.model.specs.declared.RemoveAnswer.the-variants.{Absent as NotHeld, Refused as RemoveRefused, Removed, Stopped as RemoveStopped}
 use Rattle.model.specs.declared.Trie.{Trie}
 use Rattle.model.specs.declared.TrieAnswer.the-variants.{Refused as TrieRefused}
-use Rattle.model.specs.Order.{Str, str?}
+use Rattle.model.specs.Order.{Str}
 use Rattle.model.specs.Names.{filled, legalName}
 use Rattle.model.specs.Entries.{find}
 use Rattle.model.specs.Files.{IsUsed, Slot, entries-of, first, free, head, slot-at, upper-of, used}
@@ -27,9 +26,9 @@ use Rattle.model.specs.Changes.{Result, Store, call, holds?, put as to-put, ref
 use Rattle.model.specs.Places.{place-of}
 use Rattle.model.specs.Format.{checkFile, layoutOf, readFile, storeBytes}
 use Rattle.model.specs.Calls.{Looked, PutDone, Recovered, RemoveDone, createOf, fine, listOf, lookUpOf, lookedOf, putAnswer, putOf, rebuildOf, recoverOf, refusalOf, refusing, removeOf, storesBytes, trieAfter}
+use Rattle.model.specs.Deciding.{str?}
 use Rattle.promises.specs.Calls.{Calls}
-use Rattle.promises.specs.Demand3.{Event, put, remove}
-use Rattle.promises.specs.Texts.{bytes}
+use Rattle.promises.specs.Demand3.{put, remove}
 
 -- R15.1: one of the calls refuses everything.
 abbrev pub IsRefused : {A : Type 0} → (Cause → A) → A → Type 0
@@ -147,26 +146,3 @@ inner-kept xs limit = let d = recoverOf xs limit in free-outer xs d (d .answer) 
 
 abbrev pub keeps-inner : Calls
 keeps-inner = instead inner-kept putOf removeOf
-
--- What happens in the histories that they are put to, in a file with b = 2 and two slots. Any two of the three names fill the
--- first bucket, so the third is a split; its put may be stopped after its first store.
-abbrev pub buffer : List ℕ
-buffer = replicate 272 0
-
-abbrev pub put-a : Event
-put-a = put (bytes "a") 1 (omega arith) 2
-
-abbrev pub put-b : Event
-put-b = put (bytes "b") 2 (omega arith) 2
-
-abbrev pub put-c : Event
-put-c = put (bytes "c") 3 (omega arith) 2
-
-abbrev pub remove-a : Event
-remove-a = remove (bytes "a") 2
-
-abbrev pub put-b-stopped : Event
-put-b-stopped = put (bytes "b") 2 (omega arith) 1
-
-abbrev pub put-c-stopped : Event
-put-c-stopped = put (bytes "c") 3 (omega arith) 1

@@ -1,53 +1,58 @@
 -- Look up, put together from its stages: each refusal, and what one slot answers to a name.
-use Rattle.model.proofs.Prelude.{Bool, List, Option, [], _&&_, _*_, _+_, _<_, _∙_, _≡_, _≤_, _⊎_, ap, arith, clash, cond, drop, false, getD, inl, inr, le-ltb, leb, length, lt-ltb, ltb, not, nothing, refl, some, subst, sym, take, true, ℕ}
+use Rattle.model.proofs.Prelude.{Bool, List, Option, _&&_, _<_, _∙_, _≡_, _≤_, _⊎_, ap, arith, clash, cond, false, inl, inr, le-ltb, length, lt-ltb, ltb, not, nothing, refl, some, subst, sym, true, ℕ}
 use Rattle.model.specs.declared.Cause.the-variants.{BadFile, IllegalName, StaleTrie}
 use Rattle.model.specs.declared.Layout.{Layout}
 use Rattle.model.specs.declared.LookUpAnswer.{LookUpAnswer}
 use Rattle.model.specs.declared.LookUpAnswer.the-variants.{Absent as NotFound, Found, Refused}
 use Rattle.model.specs.declared.Trie.{Trie}
 use Rattle.model.specs.Order.{Str}
-use Rattle.model.specs.Names.{Legal, filled, legalName}
+use Rattle.model.specs.Names.{Legal, atMost, broken, filled, legalName}
 use Rattle.model.specs.Entries.{find}
 use Rattle.model.specs.Files.{Slot, free, used}
-use Rattle.model.specs.Tries.{root-side}
-use Rattle.model.specs.Growth.{Spot, root}
-use Rattle.model.specs.Format.{entrySize, headerOf, readSlot, slotAt, slotSize, version-1}
-use Rattle.model.specs.Calls.{arrivedAnswer, headedAnswer, heldAnswer, lookUpOf, slotAnswer}
+use Rattle.model.specs.Tries.{Spot, walkOf}
+use Rattle.model.specs.Format.{Bytes, entrySize, headerOf, readSlot, slotAt, slotSize}
+use Rattle.model.specs.Checks.{isAbove}
+use Rattle.model.specs.Answers.{stale-trie}
+use Rattle.model.specs.Calls.{arrivedAnswer, headedAnswer, heldAnswer, landed, lookUpOf, slotAnswer}
 use Rattle.digits.specs.Keys.{isZero, keyValue, value}
 use Rattle.bucket.specs.declared.Bucket.{Bucket}
 use Rattle.bucket.specs.declared.Form.{Form}
 use Rattle.bucket.specs.declared.Form.the-variants.{Ill, Well}
 use Rattle.entries.specs.declared.Held.{Held}
-use Rattle.entries.specs.declared.Held.the-variants.{Absent, Value}
-use Rattle.bucket.specs.declared.Range.the-variants.{Holds, Lacks}
-use Rattle.bucket.specs.Forms.{Formed, WellRead, holding}
-use Rattle.entries.specs.Rows.{heldUnder}
-use Rattle.bucket.specs.Slots.{countAt}
-use Rattle.bucket.proofs.Slots.{count-is, free-zero, ill-read, range-holds, read-used, read-values, well-reads, zero-free}
-use Rattle.entries.proofs.Places.{held}
-use Rattle.writing.proofs.Finding.{held-find}
+use Rattle.entries.specs.declared.Held.the-variants.{Absent, Holds}
+use Rattle.entries.specs.declared.Content.{Content}
+use Rattle.bucket.specs.declared.Range.the-variants.{Holds as InRange, Lacks}
+use Rattle.bucket.specs.Forms.{Formed, WellRead, ranged}
+use Rattle.bucket.specs.Slots.{lowerAt, upperAt}
+use Rattle.entries.specs.Rows.{contentNumber, heldNumber}
+use Rattle.entries.proofs.Contents.{contents-find}
+use Rattle.bucket.proofs.Slots.{free-zero, ill-read, range-told, read-used, zero-free}
+use Rattle.slots.specs.Spots.{HeldTold}
+use Rattle.digits.specs.declared.Key.{Key}
+use Rattle.model.proofs.Checks.{isWell-well}
+use Rattle.model.proofs.Names.{legal-length}
+use Rattle.model.proofs.Format.{contents-readSlot}
 use Rattle.trie.specs.declared.Place.{Place}
 use Rattle.trie.specs.declared.Place.the-variants.{Cell as before-cell, Slot as at-slot, Stale as stale}
 use Rattle.trie.specs.declared.Walk.{Walk}
-use Rattle.trie.specs.Walks.{Walks, walkOf}
-use Rattle.trie.proofs.Laws.{arrive-run, landed}
+use Rattle.trie.specs.Walks.{Walks}
 use Rattle.reading.specs.Walked.{headedFrom, lookUpFrom, slotOf}
 
--- Which way a test went, by the answer that it gave.
-pub holding-holds : (t : Bool) → Holds ≡ holding t → t ≡ true
-holding-holds true e = refl
-holding-holds false e = clash cc
+-- What the range test says, by the answer that it gave.
+in-told : (c : Bool) (d : ℕ) → InRange ≡ cond c InRange (Lacks d) → c ≡ true
+in-told true d e = refl
+in-told false d e = clash cc
 
-pub holding-lacks : (t : Bool) → Lacks ≡ holding t → t ≡ false
-holding-lacks true e = clash cc
-holding-lacks false e = refl
+lacks-told : (c : Bool) (d k : ℕ) → Lacks k ≡ cond c InRange (Lacks d) → (c ≡ false) × (k ≡ d)
+lacks-told true d k e = clash cc
+lacks-told false d k e = (refl, cc)
 
 -- A slot that is well formed is read, and one that is not is none that is.
-pub well-formed : {f : Form} {k : Bucket} (b : ℕ) (xs : List ℕ) → f ≡ Well k → Formed b xs f → WellRead b xs k
-well-formed {f} {k} b xs e t = subst (λ (x : Form). Formed b xs x) e t
+pub well-formed : {f : Form} {k : Bucket} (y : Layout) (xs : List ℕ) → f ≡ Well k → Formed y xs f → WellRead y xs k
+well-formed {f} {k} y xs e t = subst (λ (x : Form). Formed y xs x) e t
 
-pub ill-formed : {f : Form} (b : ℕ) (xs : List ℕ) → f ≡ Ill → Formed b xs f → Formed b xs Ill
-ill-formed {f} b xs e t = subst (λ (x : Form). Formed b xs x) e t
+pub ill-formed : {f : Form} (y : Layout) (xs : List ℕ) → f ≡ Ill → Formed y xs f → Formed y xs Ill
+ill-formed {f} y xs e t = subst (λ (x : Form). Formed y xs x) e t
 
 -- Of a place's three cases, the second is neither of the others.
 pub no-slot : _≡_ {A = ℕ} 1 0 ⊎ _≡_ {A = ℕ} 1 2 → ⊥
@@ -55,53 +60,53 @@ no-slot (inl e) = absurd (omega arith)
 no-slot (inr e) = absurd (omega arith)
 
 -- R11.8 to R11.11, in this order.
-module _ (b : ℕ) (xs : List ℕ) (n : Str) where
-  pub answer-free : length xs ≡ 64 + 32 * b → isZero xs ≡ true → Refused StaleTrie ≡ slotAnswer b n (readSlot (version-1 b) xs)
-  unfolding slotAnswer slotSize entrySize
-  answer-free h e = rw (zero-free b xs h e)
+module _ (y : Layout) (xs : List ℕ) (n : Str) where
+  pub answer-free : length xs ≡ slotSize y → isZero xs ≡ true → Refused stale-trie ≡ slotAnswer (y .b) n (readSlot y xs)
+  unfolding slotAnswer
+  answer-free h e = rw (zero-free y xs h e)
 
-  pub answer-ill : length xs ≡ 64 + 32 * b → isZero xs ≡ false → Formed b xs Ill → Refused BadFile ≡ slotAnswer b n (readSlot (version-1 b) xs)
-  unfolding slotAnswer slotSize entrySize
-  answer-ill h e f = go (readSlot (version-1 b) xs) refl
+  pub answer-ill : length xs ≡ slotSize y → isZero xs ≡ false → Formed y xs Ill → Refused BadFile ≡ slotAnswer (y .b) n (readSlot y xs)
+  unfolding slotAnswer
+  answer-ill h e f = go (readSlot y xs) refl
     where
-      go : (o : Option Slot) → readSlot (version-1 b) xs ≡ o → Refused BadFile ≡ slotAnswer b n o
+      go : (o : Option Slot) → readSlot y xs ≡ o → Refused BadFile ≡ slotAnswer (y .b) n o
       go nothing r = refl
       go (some free) r =
-          let y : true ≡ false = sym (free-zero b xs r) ∙ e in
+          let z : true ≡ false = sym (free-zero y xs r) ∙ e in
           clash cc
-      go (some (used l u es)) r = rw (ill-read b xs h e f (used l u es) r)
+      go (some (used l u es)) r = rw (ill-read y xs h e f (used l u es) r)
 
-  module _ {k : Bucket} (W : WellRead b xs k) (v : ℕ) (g : Legal n) (e : v ≡ value n) where
-    abbrev ranged : Bool
-    ranged = ltb (keyValue (k .low)) v && not (ltb (keyValue (k .high)) v)
+  module _ {k : Bucket} (W : WellRead y xs k) (g : Legal n) where
+    abbrev inside : Bool
+    inside = isAbove (W .lower) n && atMost n (W .upper)
 
-    pub answer-lacks : ranged ≡ false → Refused StaleTrie ≡ slotAnswer b n (readSlot (version-1 b) xs)
+    pub answer-lacks : {d : ℕ} → Lacks d ≡ ranged (lowerAt xs) (upperAt xs) n → Refused (StaleTrie d) ≡ slotAnswer (y .b) n (readSlot y xs)
     unfolding slotAnswer
-    answer-lacks h = rw (read-used b xs (W .is), W .well, sym (range-holds W (W .is) n v g e) ∙ h)
+    answer-lacks {d} q =
+        let p = lacks-told inside (broken (W .lower) (W .upper) n) d (q ∙ range-told W n (legal-length g)) in
+        rw (read-used y xs (W .is), W .well, p .0, p .1)
 
-    answer-held : (h : Held) (a : LookUpAnswer) → ((i : ℕ) → getD xs i 0 < 256) → ranged ≡ true → h ≡ heldUnder (drop 64 xs) (countAt b xs) v
-        → ((o : Option ℕ) → h ≡ held o → a ≡ heldAnswer o) → a ≡ slotAnswer b n (readSlot (version-1 b) xs)
-    unfolding slotAnswer
-    answer-held h a bytes r f go =
-        let R = well-reads W in
-        let w = f ∙ ap (λ (c : ℕ). heldUnder (drop 64 xs) c v) (count-is R) ∙ held-find R n v g e (read-values b xs bytes (W .is)) in
-        rw (read-used b xs (W .is), W .well, sym (range-holds W (W .is) n v g e) ∙ r) (go (find n (W .entries)) w)
+    module _ (q : InRange ≡ ranged (lowerAt xs) (upperAt xs) n) (name : Key) (e : keyValue name ≡ value n) (h : Held) (H : HeldTold h y xs name) where
+      in-range : inside ≡ true
+      in-range = in-told inside (broken (W .lower) (W .upper) n) (q ∙ range-told W n (legal-length g))
 
-    pub answer-absent : {h : Held} → ((i : ℕ) → getD xs i 0 < 256) → ranged ≡ true → h ≡ heldUnder (drop 64 xs) (countAt b xs) v → h ≡ Absent
-        → NotFound ≡ slotAnswer b n (readSlot (version-1 b) xs)
-    answer-absent {h} bytes r f s = answer-held h NotFound bytes r f go
-      where
-        go : (o : Option ℕ) → h ≡ held o → NotFound ≡ heldAnswer o
-        go nothing q = refl
-        go (some x) q = clash cc
+      found-is : heldNumber h ≡ find n (W .entries)
+      found-is = H (W .lower) (W .upper) (W .entries) (W .is, isWell-well (y .b) (used (W .lower) (W .upper) (W .entries)) (W .well)) n g e
 
-    pub answer-found : {h : Held} {x : ℕ} → ((i : ℕ) → getD xs i 0 < 256) → ranged ≡ true → h ≡ heldUnder (drop 64 xs) (countAt b xs) v → h ≡ Value x
-        → Found x ≡ slotAnswer b n (readSlot (version-1 b) xs)
-    answer-found {h} {x} bytes r f s = answer-held h (Found x) bytes r f go
-      where
-        go : (o : Option ℕ) → h ≡ held o → Found x ≡ heldAnswer o
-        go nothing q = clash cc
-        go (some y) q = cc
+      answer-is : slotAnswer (y .b) n (readSlot y xs) ≡ heldAnswer (heldNumber h)
+      unfolding slotAnswer
+      answer-is = rw (read-used y xs (W .is), W .well, in-range) (ap heldAnswer (sym found-is))
+
+      pub answer-absent : h ≡ Absent → NotFound ≡ slotAnswer (y .b) n (readSlot y xs)
+      answer-absent q = sym (answer-is ∙ rw q)
+
+      pub answer-found : {c : Content} → Bytes xs → h ≡ Holds c → Found (c .value) ≡ slotAnswer (y .b) n (readSlot y xs)
+      unfolding contentNumber entrySize
+      answer-found {c} bytes q =
+          let f : find n (W .entries) ≡ some (contentNumber c) = sym found-is ∙ rw q in
+          let w = contents-find (entrySize y) n (W .entries) (contentNumber c) (contents-readSlot y xs bytes (read-used y xs (W .is))) f in
+          let v : contentNumber c ≡ c .value = omega (arith, w) in
+          sym (answer-is ∙ rw q (ap Found v))
 
 -- R11.1 to R11.7: then what the slot answers.
 module _ (xs : List ℕ) (p : Place) (name : List ℕ) where
@@ -113,37 +118,31 @@ module _ (xs : List ℕ) (p : Place) (name : List ℕ) where
   unfolding lookUpFrom headedFrom
   headless-looked e h = rw (e, h)
 
-  module _ {b slots : ℕ} (e : legalName name ≡ true) (h : headerOf xs ≡ some (version-1 b, slots)) where
-    pub stray-looked : ((s : ℕ) → p ≡ at-slot s → ⊥) → Refused StaleTrie ≡ lookUpFrom xs p name
+  module _ {y : Layout} {slots : ℕ} (e : legalName name ≡ true) (h : headerOf xs ≡ some (y, slots)) where
+    pub stray-looked : ((s : ℕ) → p ≡ at-slot s → ⊥) → Refused stale-trie ≡ lookUpFrom xs p name
     unfolding lookUpFrom headedFrom slotOf arrivedAnswer
     stray-looked apart = rw (e, h) (go p apart)
       where
-        go : (q : Place) → ((s : ℕ) → q ≡ at-slot s → ⊥) → Refused StaleTrie ≡ arrivedAnswer xs (version-1 b) (filled name) (slotOf q slots)
+        go : (q : Place) → ((s : ℕ) → q ≡ at-slot s → ⊥) → Refused stale-trie ≡ arrivedAnswer xs y (filled name) (slotOf q slots)
         go (before-cell i) apart = refl
         go (at-slot s) apart = absurd (apart s refl)
         go stale apart = refl
 
-    pub past-looked : {s : ℕ} → p ≡ at-slot s → slots ≤ s → Refused StaleTrie ≡ lookUpFrom xs p name
+    pub past-looked : {s : ℕ} → p ≡ at-slot s → slots ≤ s → Refused stale-trie ≡ lookUpFrom xs p name
     unfolding lookUpFrom headedFrom slotOf arrivedAnswer
     past-looked {s} q i = rw (e, h, q, le-ltb s slots i)
 
     pub arrived-looked : {s k : ℕ} {ys : List ℕ} (r : LookUpAnswer) → p ≡ at-slot s → k ≡ s → k < slots
-        → ys ≡ take (64 + 32 * b) (drop (16 + k * (64 + 32 * b)) xs) → r ≡ slotAnswer b (filled name) (readSlot (version-1 b) ys) → r ≡ lookUpFrom xs p name
-    unfolding lookUpFrom headedFrom slotOf arrivedAnswer slotAt slotSize entrySize
-    arrived-looked {s} {k} r q l i y a = a ∙ rw (y, l, e, h, q, lt-ltb s slots (omega arith))
+        → ys ≡ slotAt y k xs → r ≡ slotAnswer (y .b) (filled name) (readSlot y ys) → r ≡ lookUpFrom xs p name
+    unfolding lookUpFrom headedFrom slotOf arrivedAnswer
+    arrived-looked {s} {k} r q l i f a = a ∙ rw (f, l, e, h, q, lt-ltb s slots (omega arith))
 
 -- Where the walk is that of a trie, the answer is look up's own.
 module _ (xs : List ℕ) (t : Trie) (name : List ℕ) where
   landed-looked : {y : Layout} {slots : ℕ} → legalName name ≡ true → headerOf xs ≡ some (y, slots)
       → lookUpOf xs t name ≡ arrivedAnswer xs y (filled name) (landed slots (walkOf t (filled name)))
-  unfolding lookUpOf headedAnswer walkOf arrivedAnswer
-  landed-looked {y} {slots} e h =
-      rw (e, h, arrive-run (t .count) slots (t .count) (t .cells) (filled name) [] root (root-side (t .count) (t .first))) (go (leb (t .count) 256) _)
-    where
-      go : (c : Bool) (o : Option (Str × Spot × ℕ)) → cond c (arrivedAnswer xs y (filled name) (landed slots o)) (Refused StaleTrie)
-          ≡ arrivedAnswer xs y (filled name) (landed slots (cond c o nothing))
-      go false o = refl
-      go true o = refl
+  unfolding lookUpOf headedAnswer
+  landed-looked {y} {slots} e h = rw (e, h)
 
   slot-landed : (w : Walk) (slots : ℕ) (o : Option (Str × Spot × ℕ)) → Walks w o → slotOf (w .place) slots ≡ landed slots o
   unfolding slotOf

@@ -1,11 +1,11 @@
 // The calls that change nothing: look up and list. Neither has a `requires`: each checks for itself, in the order of
 // refusals R10.9 and, for look up, section 11.
 ghost use mathlib.Core.Path.{_≡_};
-ghost use Prim.Native.Nat.{_≤_, _<_, _+_, _-_, _*_};
+ghost use Prim.Native.Nat.{_≤_, _<_, _+_, _-_};
 ghost use lib.ListN.{length};
 ghost use Rattle.model.specs.Order.{Str};
 ghost use Rattle.model.specs.Names.{Legal, filled};
-ghost use Rattle.model.specs.Format.{readSlot, version-1};
+ghost use Rattle.model.specs.Format.{entrySize, readSlot};
 ghost use Rattle.model.specs.Files.{order-of};
 ghost use Rattle.model.specs.Calls.{between, entriesIn, listEntries, listOf, lookUpOf, slotAnswer};
 ghost use Rattle.digits.specs.Keys.{keyValue, value};
@@ -14,6 +14,7 @@ ghost use Rattle.checking.specs.Ready.{Ready};
 ghost use Rattle.reading.specs.Outcomes.{listed};
 ghost use Rattle.reading.specs.Listings.{Written, parts};
 ghost use Rattle.reading.specs.Walked.{lookUpFrom};
+ghost use Rattle.bucket.specs.Slots.{OfSize};
 use bucket::Form;
 use bucket::Range;
 use bucket::Vacancy;
@@ -27,31 +28,36 @@ use entries::Held;
 use file::Header;
 use file::Size;
 use model::Cause;
+use model::Layout;
 use model::ListAnswer;
 use model::LookUpAnswer;
+use model::NO_DIGIT;
 use model::Trie;
 use trie::Place;
 use trie::Walk;
 
 // What one slot answers to a name.
-fn answer_of(slot: &[u8], b: usize, name: Key) -> LookUpAnswer
-    requires { ⌜ (length (now slot) ≡ 64 + 32 * b) × (b ≤ 16) ⌝ }
-    ensures { λ r. ⌜ ((n : Str) → Legal n → keyValue name ≡ value n → r ≡ slotAnswer b n (readSlot (version-1 b) (now (slot .entry)))) ⌝ }
+fn answer_of(slot: &[u8], layout: Layout, name: &[u8; 24]) -> LookUpAnswer
+    requires { ⌜ OfSize (now slot) layout ⌝ }
+    ensures { λ r. ⌜ (Legal (now (name .entry)) → r ≡ slotAnswer (layout .b) (now (name .entry)) (readSlot layout (now (slot .entry)))) ⌝ }
 {
     let Vacancy::Taken = bucket::vacancy_of(slot) else {
-        return LookUpAnswer::Refused(Cause::StaleTrie);
+        return LookUpAnswer::Refused(Cause::StaleTrie(NO_DIGIT));
     };
-    let Form::Well(bucket) = bucket::form_of(slot, b) else {
+    let Form::Well(_) = bucket::form_of(slot, layout) else {
         return LookUpAnswer::Refused(Cause::BadFile);
     };
-    let Range::Holds = bucket::range_of(bucket, name) else {
-        return LookUpAnswer::Refused(Cause::StaleTrie);
-    };
-    let Held::Value(value) = entries::held_under(&slot[64..], bucket::count_of(slot, b), name)
-    else {
-        return LookUpAnswer::Absent;
-    };
-    LookUpAnswer::Found(value)
+    let range = bucket::range_of(slot, name);
+    match range {
+        Range::Lacks(digit) => LookUpAnswer::Refused(Cause::StaleTrie(digit)),
+        Range::Holds => {
+            let key = digits::key_at(name, 0);
+            let Held::Holds(content) = slots::held_in(slot, layout, key) else {
+                return LookUpAnswer::Absent;
+            };
+            LookUpAnswer::Found(content.value)
+        }
+    }
 }
 
 // Look up where the walk of the filled name is known: it reads one bucket, and goes through section 11 of the rules from the
@@ -67,18 +73,14 @@ pub fn look_up_from(file: &[u8], walk: Walk, name: &[u8]) -> LookUpAnswer
     };
     let place = walk.place;
     let Place::Slot(s) = place else {
-        return LookUpAnswer::Refused(Cause::StaleTrie);
+        return LookUpAnswer::Refused(Cause::StaleTrie(NO_DIGIT));
     };
     let k = digits::usize_of_u16(s);
     if size.slots <= k {
-        return LookUpAnswer::Refused(Cause::StaleTrie);
+        return LookUpAnswer::Refused(Cause::StaleTrie(NO_DIGIT));
     }
     let filled = digits::filled(name);
-    answer_of(
-        file::slot_at(file, size, k),
-        size.b,
-        digits::key_at(&filled, 0),
-    )
+    answer_of(file::slot_at(file, size, k), size.layout, &filled)
 }
 
 // Looks up a name. Whatever the name is, it can be walked with.
@@ -100,14 +102,14 @@ fn bytes_between(
     second: Key,
 ) -> usize
     requires { ⌜ (Sized (length (now file)) size) × (Below (now order) (size .slots)) × (to < 64) ⌝ }
-    ensures { λ r. ⌜ (r ≤ 32768)
-        × (r ≡ length (parts (to + 1 - from) (now (file .entry)) size (now (order .entry)) (keyValue first) (keyValue second) from)) ⌝ }
+    ensures { λ r. ⌜ (r ≤ 40960)
+        × (r ≡ length (parts (to + 1 - from) (now (file .entry)) (size .layout) (now (order .entry)) (keyValue first) (keyValue second) from)) ⌝ }
 {
     let mut bytes = 0usize;
     let mut j = from;
     while j <= to {
         let slot = file::slot_at(file, size, usize_of_u8(order[j]));
-        let part = writing::part_between(slot, size.b, first, second);
+        let part = slots::part_between(slot, size.layout, first, second);
         bytes += part.len();
         j += 1;
     }
@@ -126,15 +128,16 @@ fn write_between(
     output: &mut [u8],
 )
     requires { ⌜ (Sized (length (now file)) size) × (Below (now order) (size .slots)) × (to < 64)
-        × (length (parts (to + 1 - from) (now file) size (now order) (keyValue first) (keyValue second) from) ≤ length (now output)) ⌝ }
-    ensures { λ _. ⌜ Written (parts (to + 1 - from) (now (file .entry)) size (now (order .entry)) (keyValue first) (keyValue second) from)
+        × (length (parts (to + 1 - from) (now file) (size .layout) (now order) (keyValue first) (keyValue second) from) ≤ length (now output))
+        × (length (parts (to + 1 - from) (now file) (size .layout) (now order) (keyValue first) (keyValue second) from) ≤ 40960) ⌝ }
+    ensures { λ _. ⌜ Written (parts (to + 1 - from) (now (file .entry)) (size .layout) (now (order .entry)) (keyValue first) (keyValue second) from)
         (now (output .entry)) (now (output .exit)) ⌝ }
 {
     let mut at = 0usize;
     let mut j = from;
     while j <= to {
         let slot = file::slot_at(file, size, usize_of_u8(order[j]));
-        let part = writing::part_between(slot, size.b, first, second);
+        let part = slots::part_between(slot, size.layout, first, second);
         entries::copy(output, at, part);
         at += part.len();
         j += 1;
@@ -145,25 +148,28 @@ fn write_between(
 fn list_checked(
     file: &[u8],
     checked: Checked,
-    first: Key,
-    second: Key,
+    first: &[u8; 24],
+    second: &[u8; 24],
     output: &mut [u8],
 ) -> ListAnswer
     requires { ⌜ Ready checked (now file) ⌝ }
-    ensures { λ r. ⌜ ((R : Ready checked (now (file .entry))) → (n m : Str) → Legal n → Legal m → keyValue first ≡ value n → keyValue second ≡ value m
-        → listed r (now (output .exit)) ≡ listEntries 32 (between n m (entriesIn (R .slots) (order-of (R .slots)))) (now (output .entry))) ⌝ }
+    ensures { λ r. ⌜ ((R : Ready checked (now (file .entry))) → Legal (now (first .entry)) → Legal (now (second .entry))
+        → listed r (now (output .exit)) ≡ listEntries (entrySize (checked .size .layout))
+        (between (now (first .entry)) (now (second .entry)) (entriesIn (R .slots) (order-of (R .slots)))) (now (output .entry))) ⌝ }
 {
     let size = checked.size;
     let survey = checked.survey;
     let order = survey.order;
     let from = file::holder(file, size, &order, survey.count, first);
     let to = file::holder(file, size, &order, survey.count, second);
-    let bytes = bytes_between(file, size, &order, from, to, first, second);
+    let low = digits::key_at(first, 0);
+    let high = digits::key_at(second, 0);
+    let bytes = bytes_between(file, size, &order, from, to, low, high);
     if output.len() < bytes {
         return ListAnswer::Refused(Cause::ShortOutput);
     }
-    write_between(file, size, &order, from, to, first, second, output);
-    ListAnswer::Listed((bytes / 32) as u64)
+    write_between(file, size, &order, from, to, low, high, output);
+    ListAnswer::Listed(slots::entries_in(bytes, size.layout) as u64)
 }
 
 // R9.8: writes the entries from the first name to the second, ascending, and leaves what is behind them.
@@ -184,13 +190,7 @@ pub fn list(file: &[u8], trie: Trie, first: &[u8], second: &[u8], output: &mut [
         Verdict::Fine => {
             let low = digits::filled(first);
             let high = digits::filled(second);
-            list_checked(
-                file,
-                checked,
-                digits::key_at(&low, 0),
-                digits::key_at(&high, 0),
-                output,
-            )
+            list_checked(file, checked, &low, &high, output)
         }
     }
 }

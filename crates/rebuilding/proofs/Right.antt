@@ -9,7 +9,7 @@ use Rattle.model.specs.Agreeing.{slotsBetween}
 use Rattle.model.proofs.Strings.{mem-at}
 use Rattle.model.proofs.Files.{strings-only}
 use Rattle.model.proofs.Rebuilding.{pick-fits}
-use Rattle.model.proofs.LookUps.{string-fits}
+use Rattle.model.proofs.Walks.{string-fits}
 use Rattle.trie.specs.declared.Strings.{Strings}
 use Rattle.trie.specs.Strung.{Holds}
 use Rattle.trie.proofs.Strung.{last-digits-at, lengths-at}

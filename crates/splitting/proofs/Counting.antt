@@ -9,9 +9,9 @@ use Rattle.model.specs.Order.{Low, Str, _⊑_, _◁_, diff}
 use Rattle.model.specs.Names.{Legal}
 use Rattle.model.specs.Entries.{Entry, insert, name-at}
 use Rattle.model.specs.Files.{Ranges, Slot, Sound, all, bounds, slot-at, string-count, used}
-use Rattle.model.specs.Tries.{Agrees, at-cell, cell, root-side, walk-cells}
+use Rattle.model.specs.Tries.{Agrees, at-cell, cell, root, root-side}
 use Rattle.model.specs.Rebuilding.{lay, side-of}
-use Rattle.model.specs.Growth.{cell-of, cells-grown, cells-turned, changed, new-cells, path-cells, root, root-grown, spot-cells, turn, turn-cell, turn-cells}
+use Rattle.model.specs.Growth.{cell-of, changed, turn, turn-cell, turn-cells}
 use Rattle.model.specs.Changes.{Lowest, split-string}
 use Rattle.model.proofs.Tries.{cells-count}
 use Rattle.model.proofs.Cells.{length-lay, reads-size, visits-count}
@@ -19,6 +19,8 @@ use Rattle.model.proofs.Files.{count-right}
 use Rattle.model.proofs.Agreement.{CellsAgree, agrees-cells}
 use Rattle.model.proofs.Changes.{after-second, second-sound}
 use Rattle.model.proofs.GrownTries.{grown-agree}
+use Rattle.model.proofs.Walks.{path-cells, spot-cells, walk-cells}
+use Rattle.model.proofs.GrownCells.{cells-grown, cells-turned, new-cells, root-grown}
 use Rattle.growth.proofs.Chains.{chain-size}
 
 turned-length : (f : Str → ℕ → ℕ) (fuel : ℕ) (p : Str) (a : Side) (cs : List Cell) → length (turn-cells f fuel p a cs) ≡ length cs

@@ -1,18 +1,18 @@
 // The split of a bucket of b + 1 entries: the split string, what stays and what moves, the two slots, and the cells to be
 // added.
-ghost use mathlib.Core.Bool.{true};
 ghost use mathlib.Core.Path.{_≡_};
-ghost use Prim.Native.Nat.{_≤_, _+_, _-_, _*_};
-ghost use lib.ListN.{drop, length, take};
+ghost use Prim.Native.Nat.{_<_, _≤_, _+_};
+ghost use lib.ListN.{take};
 ghost use Rattle.model.specs.Order.{diff};
 ghost use Rattle.model.specs.Format.{padded};
-ghost use Rattle.digits.specs.Keys.{continued, isZero, value};
-ghost use Rattle.entries.specs.Rows.{notAbove, values};
-ghost use Rattle.bucket.specs.Slots.{lowerAt, upperAt};
-ghost use Rattle.writing.specs.Slots.{writtenBytes};
+ghost use Rattle.slots.specs.Halves.{LowerTold, UpperTold};
 ghost use Rattle.growth.specs.Grows.{Grows};
-ghost use Rattle.splitting.specs.Divides.{Found};
+ghost use Rattle.splitting.specs.Divides.{Found, LengthTold, PlaceTold};
 ghost use Rattle.splitting.specs.Parts.{Parted};
+ghost use Rattle.bucket.specs.Slots.{OfSize};
+use bucket::SLOT;
+use entries::ROOM;
+use model::Layout;
 use model::Trie;
 use trie::Walk;
 
@@ -24,18 +24,6 @@ pub struct Split {
     pub stay: usize,
     pub walk: Walk,
     pub shared: usize,
-}
-
-// The 24 digits from `at` on.
-fn name_at(entries: &[u8; 544], at: usize) -> [u8; 24]
-    requires { ⌜ at + 24 ≤ 544 ⌝ }
-    ensures { λ r. ⌜ r ≡ take 24 (drop at (now (entries .entry))) ⌝ }
-{
-    let whole = &entries[..];
-    let end = at + 24;
-    let mut name = [0u8; 24];
-    entries::copy(&mut name, 0, &whole[at..end]);
-    name
 }
 
 // R7.4: how many digits the split string has. The split key and the last name differ, so if they share 23 digits the
@@ -58,27 +46,43 @@ fn beginning(name: &[u8; 24], len: usize) -> [u8; 24]
     string
 }
 
-// Names within the string stay. The first always does and the last never.
-fn stay_of(entries: &[u8; 544], b: usize, string: &[u8; 24], len: usize) -> usize
-    requires { ⌜ (2 ≤ b) × (b ≤ 16) ⌝ }
-    ensures { λ r. ⌜ (1 ≤ r) × (r ≤ b)
-        × (len ≤ 24 → isZero (take (24 - len) (drop (0 + len) (now (string .entry)))) ≡ true
-        → r ≡ 1 + notAbove (value (continued (take len (now (string .entry))))) (values (b - 1) (drop 32 (now (entries .entry))))) ⌝ }
+// R7.4: how many digits the split string has whose key stands at a place, counted from 0.
+fn length_at(row: &[u8; ROOM], layout: Layout, i: usize) -> usize
+    requires { ⌜ (layout .b ≤ 16) × (i < layout .b) ⌝ }
+    ensures { λ r. ⌜ LengthTold r layout (now (row .entry)) i ⌝ }
 {
-    let whole = &entries[..];
-    1 + entries::not_above(&whole[32..], b - 1, digits::bound_key_at(string, 0, len))
+    let key = slots::name_of(row, layout, i);
+    let last = slots::name_of(row, layout, layout.b);
+    string_length(&key, &last)
+}
+
+// R7.3: the place of the split key among b + 1 entries, counted from 0. A key nearer to the last name gives no shorter
+// string, because the names ascend: so position m + 1 never wins, and two strings decide.
+fn place_of(row: &[u8; ROOM], layout: Layout) -> usize
+    requires { ⌜ (2 ≤ layout .b) × (layout .b ≤ 16) ⌝ }
+    ensures { λ r. ⌜ PlaceTold r layout (now (row .entry)) ⌝ }
+{
+    let middle = layout.b / 2;
+    if layout.version == 1 {
+        return middle;
+    }
+    let before = middle - 1;
+    if length_at(row, layout, before) < length_at(row, layout, middle) {
+        return before;
+    }
+    middle
 }
 
 // R7.3 and R7.4: the split of b + 1 entries, sorted.
-pub fn split_of(entries: &[u8; 544], b: usize, trie: Trie) -> Split
-    requires { ⌜ (2 ≤ b) × (b ≤ 16) ⌝ }
-    ensures { λ r. ⌜ (Parted r b) × (Found r b trie (now (entries .entry))) ⌝ }
+pub fn split_of(row: &[u8; ROOM], layout: Layout, trie: Trie) -> Split
+    requires { ⌜ (2 ≤ layout .b) × (layout .b ≤ 16) ⌝ }
+    ensures { λ r. ⌜ (Parted r (layout .b)) × (Found r layout trie (now (row .entry))) ⌝ }
 {
-    let key = name_at(entries, 32 * (b / 2));
-    let last = name_at(entries, 32 * b);
-    let len = string_length(&key, &last);
+    let place = place_of(row, layout);
+    let key = slots::name_of(row, layout, place);
+    let len = length_at(row, layout, place);
     let string = beginning(&key, len);
-    let stay = stay_of(entries, b, &string, len);
+    let stay = slots::stay_in(row, layout, digits::bound_key_at(&string, 0, len));
     let walk = trie::walk_of(trie, &key);
     let shared = growth::shared_with(walk, &string[0..len]);
     Split {
@@ -90,47 +94,24 @@ pub fn split_of(entries: &[u8; 544], b: usize, trie: Trie) -> Split
     }
 }
 
-// The new slot of a split: bounds s and A's upper, and the entries that move.
-pub fn new_slot(slot: &[u8], b: usize, entries: &[u8; 544], split: Split) -> [u8; 576]
-    requires { ⌜ (length (now slot) ≡ 64 + 32 * b) × (b ≤ 16) × (Parted split b) ⌝ }
-    ensures { λ r. ⌜ r ≡ writtenBytes (take (split .len) (split .string)) (upperAt (now (slot .entry)))
-        (take (32 * (b + 1) - 32 * split .stay) (drop (32 * split .stay) (now (entries .entry)))) ⌝ }
+// The slot N of a split.
+pub fn new_slot(slot: &[u8], layout: Layout, row: &[u8; ROOM], split: Split) -> [u8; SLOT]
+    requires { ⌜ (OfSize (now slot) layout) × (Parted split (layout .b)) ⌝ }
+    ensures { λ r. ⌜ UpperTold r layout (now (slot .entry)) (now (row .entry)) (take (split .len) (split .string)) (split .stay) ⌝ }
 {
     let string = split.string;
     let len = split.len;
-    let whole = &entries[..];
-    let at = 32 * split.stay;
-    let end = 32 * (b + 1);
-    written_above(&string, len, bucket::upper_bound(slot), &whole[at..end])
+    slots::upper_half(slot, layout, row, &string[0..len], split.stay)
 }
 
-// The slot A of a split, cut down: its upper is now s.
-pub fn old_slot(slot: &[u8], b: usize, entries: &[u8; 544], split: Split) -> [u8; 576]
-    requires { ⌜ (length (now slot) ≡ 64 + 32 * b) × (b ≤ 16) × (Parted split b) ⌝ }
-    ensures { λ r. ⌜ r ≡ writtenBytes (lowerAt (now (slot .entry))) (take (split .len) (split .string))
-        (take (32 * split .stay) (now (entries .entry))) ⌝ }
+// The slot A of a split, cut down.
+pub fn old_slot(slot: &[u8], layout: Layout, row: &[u8; ROOM], split: Split) -> [u8; SLOT]
+    requires { ⌜ (OfSize (now slot) layout) × (Parted split (layout .b)) ⌝ }
+    ensures { λ r. ⌜ LowerTold r layout (now (slot .entry)) (now (row .entry)) (take (split .len) (split .string)) (split .stay) ⌝ }
 {
     let string = split.string;
     let len = split.len;
-    let whole = &entries[..];
-    let end = 32 * split.stay;
-    written_below(bucket::lower_bound(slot), &string, len, &whole[0..end])
-}
-
-fn written_above(string: &[u8; 24], len: usize, upper: &[u8], entries: &[u8]) -> [u8; 576]
-    requires { ⌜ (len ≤ 24) × (length (now upper) ≤ 24) × (length (now entries) ≤ 512) ⌝ }
-    ensures { λ r. ⌜ r ≡ writtenBytes (take len (now (string .entry))) (now (upper .entry)) (now (entries .entry)) ⌝ }
-{
-    let whole = &string[..];
-    writing::written(&whole[0..len], upper, entries)
-}
-
-fn written_below(lower: &[u8], string: &[u8; 24], len: usize, entries: &[u8]) -> [u8; 576]
-    requires { ⌜ (len ≤ 24) × (length (now lower) ≤ 24) × (length (now entries) ≤ 512) ⌝ }
-    ensures { λ r. ⌜ r ≡ writtenBytes (now (lower .entry)) (take len (now (string .entry))) (now (entries .entry)) ⌝ }
-{
-    let whole = &string[..];
-    writing::written(lower, &whole[0..len], entries)
+    slots::lower_half(slot, layout, row, &string[0..len], split.stay)
 }
 
 // The trie after a split.

@@ -1,10 +1,11 @@
 -- The strings of a sound file, bound after bound in range order, and the slots of the leaves left of them.
-use Rattle.model.proofs.Prelude.{List, [], _*_, _++_, _+_, _-_, _<_, _∙_, _∷_, _≡_, _≤_, add-one, ap, append-assoc, append-nil, arith, drop, drop-cons, drop-of-length-le, false, getD, le-leb, length, length-append, lt-leb, refl, set, some, suc, sym, take, take-suc-set, true, zero-add, ℕ}
+use Rattle.model.proofs.Prelude.{List, [], _++_, _+_, _-_, _<_, _∙_, _∷_, _≡_, _≤_, add-one, ap, append-assoc, append-nil, arith, drop, drop-cons, drop-of-length-le, false, getD, le-leb, length, length-append, lt-leb, refl, set, some, suc, sym, take, take-suc-set, true, zero-add, ℕ}
+use Rattle.model.specs.declared.Layout.{Layout}
 use Rattle.model.specs.Order.{Low, Str, _≺_, at, diff, none}
 use Rattle.model.specs.Files.{Chain, IsUsed, Ranges, Slot, Sound, Well, all, bounds, free, fresh, head, last, next, order-of, ranges, slot-at, strings-of, upper-of, used, well-used}
 use Rattle.model.specs.Rebuilding.{label}
 use Rattle.model.specs.Agreeing.{slotsBetween}
-use Rattle.model.specs.Format.{entrySize, readSlots, slotAt, slotBytes, slotSize, version-1}
+use Rattle.model.specs.Format.{readSlots, slotAt, slotBytes}
 use Rattle.model.proofs.Lists.{at-taken}
 use Rattle.model.proofs.Order.{diff-lt-left}
 use Rattle.model.proofs.Strings.{mem-at}
@@ -14,7 +15,7 @@ use Rattle.model.proofs.Format.{readSlots-each, slotBytes-readSlot}
 use Rattle.model.proofs.Agreement.{coming, expect-cursor, expect-slots, follow, labels, to-slots, to-slots-append}
 use Rattle.model.proofs.Surveys.{chain-rises}
 use Rattle.bucket.specs.Slots.{upperAt}
-use Rattle.bucket.proofs.Parts.{upperAt-slot}
+use Rattle.bucket.proofs.Layouts.{upperAt-slot}
 use Rattle.file.specs.declared.Size.{Size}
 use Rattle.file.specs.Sizes.{Below}
 use Rattle.trie.specs.declared.Strings.{Strings}
@@ -71,23 +72,21 @@ unfolding slotsBetween
 between-labels fs l [] = refl
 between-labels fs l (x ∷ xs) = ap (λ (ns : List ℕ). label (ranges fs) (order-of fs) l ∷ ns) (between-labels fs (at x) xs)
 
-module _ {b : ℕ} {fs : List Slot} (S : Sound b fs) where
+module _ (y : Layout) {fs : List Slot} (S : Sound (y .b) fs) where
   -- The upper of a bucket in the order, as it is read from the file's bytes.
-  pub upper-read : (slots : ℕ) (file : List ℕ) → readSlots (version-1 b) slots 0 file ≡ some fs → (i : ℕ) → i < length (order-of fs)
-      → getD (order-of fs) i 0 < slots
-      → upperAt (take (64 + 32 * b) (drop (16 + getD (order-of fs) i 0 * (64 + 32 * b)) file)) ≡ ranges fs .upper (getD (order-of fs) i 0)
-  unfolding slotAt slotSize entrySize
-  upper-read slots file e i h k = rw bytes (go (slot-at fs B) (S .well B) (chain-used (ranges fs) (chain-right b S) B (mem-at 0 (order-of fs) i h)))
+  pub upper-read : (slots : ℕ) (file : List ℕ) → readSlots y slots 0 file ≡ some fs → (i : ℕ) → i < length (order-of fs)
+      → getD (order-of fs) i 0 < slots → upperAt (slotAt y (getD (order-of fs) i 0) file) ≡ ranges fs .upper (getD (order-of fs) i 0)
+  upper-read slots file e i h k = rw bytes (go (slot-at fs B) (S .well B) (chain-used (ranges fs) (chain-right (y .b) S) B (mem-at 0 (order-of fs) i h)))
     where
       B : ℕ
       B = getD (order-of fs) i 0
 
-      bytes : slotAt (version-1 b) B file ≡ slotBytes (version-1 b) (slot-at fs B)
-      bytes = slotBytes-readSlot (version-1 b) (slotAt (version-1 b) B file) (rw zero-add at (readSlots-each (version-1 b) slots 0 B file k e))
+      bytes : slotAt y B file ≡ slotBytes y (slot-at fs B)
+      bytes = slotBytes-readSlot y (slotAt y B file) (rw zero-add at (readSlots-each y slots 0 B file k e))
 
-      go : (x : Slot) → Well b x → IsUsed (head x) → upperAt (slotBytes (version-1 b) x) ≡ upper-of (head x)
+      go : (x : Slot) → Well (y .b) x → IsUsed (head x) → upperAt (slotBytes y x) ≡ upper-of (head x)
       go free w u = absurd u
-      go (used l u es) (well-used g f a r m) v = upperAt-slot b l u es (f .fits)
+      go (used l u es) (well-used g f a r m) v = upperAt-slot y l u es (f .fits)
 
 -- So far the arrays have the strings that come before the upper of the bucket before place j.
 pub record Going (fs : List Slot) (lens digits slots : List ℕ) (n j : ℕ) : Type 0 where
@@ -197,14 +196,14 @@ module _ (fs : List Slot) where
 module _ (file order : List ℕ) (size : Size) (count : ℕ) where
   abbrev Given : List Slot → Type 0
   Given fs =
-      (readSlots (version-1 (size .b)) (size .slots) 0 file ≡ some fs) × Sound (size .b) fs × (count ≡ length (order-of fs)) × (take count order ≡ order-of fs)
+      (readSlots (size .layout) (size .slots) 0 file ≡ some fs) × Sound (size .layout .b) fs × (count ≡ length (order-of fs)) × (take count order ≡ order-of fs)
 
   abbrev pub Goes : (lens digits slots : List ℕ) (n j : ℕ) → Type 0
   Goes lens digits slots n j = (fs : List Slot) → Given fs → Going fs lens digits slots n j
 
   -- The upper that stands in the bytes of slot B.
   abbrev pub upper-in : ℕ → Str
-  upper-in B = upperAt (take (64 + 32 * size .b) (drop (16 + B * (64 + 32 * size .b)) file))
+  upper-in B = upperAt (slotAt (size .layout) B file)
 
   order-at : (fs : List Slot) → Given fs → (i : ℕ) → i < count → getD order i 0 ≡ getD (order-of fs) i 0
   order-at fs g i h = at-taken count order i (g .3) h
@@ -213,7 +212,7 @@ module _ (file order : List ℕ) (size : Size) (count : ℕ) where
       → x ≡ ranges fs .upper (getD (order-of fs) i 0)
   upper-is fs g i B x h e k q =
       let f : B ≡ getD (order-of fs) i 0 = e ∙ order-at fs g i h in
-      q ∙ rw f (upper-read (g .1) (size .slots) file (g .0) i (omega (arith, g .2)) (rw f at k))
+      q ∙ rw f (upper-read (size .layout) (g .1) (size .slots) file (g .0) i (omega (arith, g .2)) (rw f at k))
 
   pub goes-start : (lens digits slots : List ℕ) → Goes lens digits slots 0 1
   goes-start lens digits slots fs g = going-start (g .1) lens digits slots
@@ -253,4 +252,4 @@ module _ (file order : List ℕ) (size : Size) (count : ℕ) where
 
   -- Each sound file has a bucket.
   pub goes-none : (s : Strings) → s .count ≤ 256 → count ≤ 0 → Listed s file size order count
-  goes-none s few h = record { count-most = few; strung = λ fs r S c o. absurd (omega (arith, chain-length (ranges fs) (chain-right (size .b) S))) }
+  goes-none s few h = record { count-most = few; strung = λ fs r S c o. absurd (omega (arith, chain-length (ranges fs) (chain-right (size .layout .b) S))) }

@@ -1,5 +1,4 @@
 -- The order and the strings of a sound file, by its survey.
-use Rattle.model.specs.Format.{version-1}
 use Rattle.model.proofs.Prelude.{List, _≡_, length, take, ℕ}
 use Rattle.model.specs.Order.{none}
 use Rattle.model.specs.Files.{order-of, strings-of}

@@ -1,19 +1,17 @@
 -- The walk cell by cell: the definition, the code's walk of it, and where it arrives.
-use Rattle.model.proofs.Prelude.{Bool, List, Option, _+_, _-_, _<_, _∙_, _≡_, _≤_, _⊎_, add-one, ap, arith, cond, decLe, eq-eqb, eqb, false, inl, inr, le-leb, le-ltb, leb, length, length-set, length-take-le, lt-leb, lt-ltb, ltb, ne-eqb, nothing, refl, set, some, subst, suc, sym, take, take-suc-set, take-take, true, zero, ℕ, ℕ-discrete}
+use Rattle.model.proofs.Prelude.{List, Option, _+_, _-_, _<_, _∙_, _≡_, _≤_, _⊎_, add-one, ap, arith, cond, decLe, eq-eqb, eqb, false, inl, inr, le-leb, le-ltb, leb, length, length-set, length-take-le, lt-leb, lt-ltb, ne-eqb, nothing, refl, set, some, subst, suc, sym, take, take-suc-set, take-take, true, zero, ℕ, ℕ-discrete}
 use Rattle.model.specs.declared.Cell.{Cell}
 use Rattle.model.specs.declared.Side.{Side}
 use Rattle.model.specs.declared.Side.the-variants.{Cell as further, Slot as slot}
 use Rattle.model.specs.declared.Trie.{Trie}
 use Rattle.model.specs.Order.{Str}
-use Rattle.model.specs.Names.{within}
-use Rattle.model.specs.Tries.{at-cell, cell, root-side}
-use Rattle.model.specs.Growth.{Spot, left, right, root}
-use Rattle.model.specs.Calls.{arrive}
+use Rattle.model.specs.Names.{atMost}
+use Rattle.model.specs.Tries.{Spot, at-cell, cell, left, right, root, root-side, walkOf, walkRun}
 use Rattle.model.proofs.GrownTries.{root-further}
 use Rattle.trie.specs.declared.Walk.{Walk}
 use Rattle.trie.specs.declared.Place.{Place}
 use Rattle.trie.specs.declared.Place.the-variants.{Cell as before-cell, Slot as at-slot, Stale as stale}
-use Rattle.trie.specs.Walks.{Ahead, Strayed, Underway, Walks, placeOf, walkOf, walkRun}
+use Rattle.trie.specs.Walks.{Ahead, Strayed, Underway, Walks, placeOf}
 
 module _ (count : ℕ) (cs : List Cell) (n p : Str) (k : Spot) where
   pub run-slot : (f s : ℕ) → walkRun f count cs n p k (slot s) ≡ some (p, k, s)
@@ -42,12 +40,12 @@ module _ (count : ℕ) (cs : List Cell) (n p : Str) (k : Spot) where
 
   -- A cell that is not refused is passed, to the one side or the other.
   module _ (f m : ℕ) (h : m < count) (j : at-cell cs m .number ≤ length p) (l : at-cell cs m .number ≤ 23) where
-    pub run-left : within n (cell (at-cell cs m .digit) (at-cell cs m .number) p) ≡ true
+    pub run-left : atMost n (cell (at-cell cs m .digit) (at-cell cs m .number) p) ≡ true
         → walkRun (suc f) count cs n p k (further m) ≡ walkRun f count cs n (cell (at-cell cs m .digit) (at-cell cs m .number) p) (left m) (at-cell cs m .left)
     unfolding walkRun
     run-left e = rw (lt-ltb m count h, le-leb _ _ j, le-leb _ _ l, e)
 
-    pub run-right : within n (cell (at-cell cs m .digit) (at-cell cs m .number) p) ≡ false
+    pub run-right : atMost n (cell (at-cell cs m .digit) (at-cell cs m .number) p) ≡ false
         → walkRun (suc f) count cs n p k (further m) ≡ walkRun f count cs n p (right m) (at-cell cs m .right)
     unfolding walkRun
     run-right e = rw (lt-ltb m count h, le-leb _ _ j, le-leb _ _ l, e)
@@ -152,7 +150,7 @@ module _ (n : Str) (w : Walk) (i : ℕ) (c : Cell) (o : Option (Str × Spot × �
     last : at-cell cs i .number ≤ 23
     last = rw (f, ← number-is) s
 
-    pub goes-left : {a : Place} → within n (take (k + 1) (set (w .path) k (c .digit))) ≡ true → a ≡ placeOf (c .left) (w .count) (w .more - 1)
+    pub goes-left : {a : Place} → atMost n (take (k + 1) (set (w .path) k (c .digit))) ≡ true → a ≡ placeOf (c .left) (w .count) (w .more - 1)
         → Underway o cs n (record { path = set (w .path) k (c .digit); len = k + 1; place = a; cell = i; left = true; count = w .count; more = w .more - 1 })
     goes-left {a} g at =
         record {
@@ -166,13 +164,13 @@ module _ (n : Str) (w : Walk) (i : ℕ) (c : Cell) (o : Option (Str × Spot × �
         r : Walk
         r = record { path = set (w .path) k (c .digit); len = k + 1; place = a; cell = i; left = true; count = w .count; more = w .more - 1 }
 
-        v : within n string ≡ true
+        v : atMost n string ≡ true
         v = rw string-is at g
 
         rest : o ≡ walkRun (w .more - 1) (w .count) cs n (take (k + 1) (set (w .path) k (c .digit))) (left i) (c .left)
         rest = rw (string-is, ← f) (run-is ∙ run-left (w .count) cs n p (u .spot) (w .more - 1) i (here .1) fits last v)
 
-    pub goes-right : {a : Place} → within n (take (k + 1) (set (w .path) k (c .digit))) ≡ false → a ≡ placeOf (c .right) (w .count) (w .more - 1)
+    pub goes-right : {a : Place} → atMost n (take (k + 1) (set (w .path) k (c .digit))) ≡ false → a ≡ placeOf (c .right) (w .count) (w .more - 1)
         → Underway o cs n (record { path = w .path; len = w .len; place = a; cell = i; left = false; count = w .count; more = w .more - 1 })
     goes-right {a} g at =
         record {
@@ -186,7 +184,7 @@ module _ (n : Str) (w : Walk) (i : ℕ) (c : Cell) (o : Option (Str × Spot × �
         r : Walk
         r = record { path = w .path; len = w .len; place = a; cell = i; left = false; count = w .count; more = w .more - 1 }
 
-        v : within n string ≡ false
+        v : atMost n string ≡ false
         v = rw string-is at g
 
         rest : o ≡ walkRun (w .more - 1) (w .count) cs n p (right i) (c .right)
@@ -210,26 +208,3 @@ module _ {o : Option (Str × Spot × ℕ)} {cs : List Cell} {n : Str} {w : Walk}
 
   pub before : {i : ℕ} → w .place ≡ before-cell i → (0 < w .more) × (i < 256)
   before e = let h = rw e at (u .ahead) in (h .0, omega (arith, h .1, h .2))
-
--- The slot of a walk, where it is one of the file's.
-abbrev pub landed : ℕ → Option (Str × Spot × ℕ) → Option ℕ
-landed slots nothing = nothing
-landed slots (some (p, k, s)) = cond (ltb s slots) (some s) nothing
-
-landed-cond : (slots : ℕ) (b : Bool) (x y : Option (Str × Spot × ℕ)) → landed slots (cond b x y) ≡ cond b (landed slots x) (landed slots y)
-landed-cond slots true x y = refl
-landed-cond slots false x y = refl
-
--- The model's walk is the slot of this one.
-pub arrive-run : (f slots count : ℕ) (cs : List Cell) (n p : Str) (k : Spot) (a : Side) → arrive f slots count cs n p a ≡ landed slots (walkRun f count cs n p k a)
-unfolding arrive walkRun
-arrive-run zero slots count cs n p k (slot s) = refl
-arrive-run zero slots count cs n p k (further m) = refl
-arrive-run (suc f) slots count cs n p k (slot s) = refl
-arrive-run (suc f) slots count cs n p k (further m) =
-    rw (
-      landed-cond,
-      landed-cond,
-      arrive-run f slots count cs n (cell (at-cell cs m .digit) (at-cell cs m .number) p) (left m) (at-cell cs m .left),
-      arrive-run f slots count cs n p (right m) (at-cell cs m .right),
-    )

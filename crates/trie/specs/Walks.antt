@@ -1,42 +1,19 @@
--- The walk over any trie, damaged ones too: where it ends, and by which side it came there.
+-- The walk on its way over any trie, damaged ones too, and where it ends.
 use mathlib.Core.Path.{_≡_}
-use mathlib.Core.Bool.{_&&_, cond, false, true}
+use mathlib.Core.Bool.{cond, false, true}
 use mathlib.Core.Option.{Option, none as nothing, some}
-use mathlib.Core.List.{List, []}
-use Prim.Native.Nat.{_<_, _≤_, suc, zero, ℕ}
-use lib.Dec.{eqb, leb, ltb}
+use mathlib.Core.List.{List}
+use Prim.Native.Nat.{_<_, _≤_, ℕ}
+use lib.Dec.{eqb, leb}
 use lib.ListN.{length, take}
 use Rattle.model.specs.declared.Cell.{Cell}
 use Rattle.model.specs.declared.Side.{Side}
 use Rattle.model.specs.declared.Side.the-variants.{Cell as further, Slot as slot}
-use Rattle.model.specs.declared.Trie.{Trie}
 use Rattle.model.specs.Order.{Str}
-use Rattle.model.specs.Names.{within}
-use Rattle.model.specs.Tries.{at-cell, cell, root-side}
-use Rattle.model.specs.Growth.{Spot, left, right, root}
+use Rattle.model.specs.Tries.{Spot, at-cell, cell, left, right, root, walkRun}
 use Rattle.trie.specs.declared.Place.{Place}
 use Rattle.trie.specs.declared.Place.the-variants.{Cell as before-cell, Slot as at-slot, Stale as stale}
 use Rattle.trie.specs.declared.Walk.{Walk}
-
--- The leaf reached: its path, its side and its slot. Nothing where R11.4, R11.5 or R11.6 refuses the walk. The first
--- number is how many cells may still be met.
-unfoldable pub walkRun : ℕ → ℕ → List Cell → Str → Str → Spot → Side → Option (Str × Spot × ℕ)
-walkRun zero count cs n p k (slot s) = some (p, k, s)
-walkRun zero count cs n p k (further m) = nothing
-walkRun (suc f) count cs n p k (slot s) = some (p, k, s)
-walkRun (suc f) count cs n p k (further m) =
-    let c = at-cell cs m in
-    let q = cell (c .digit) (c .number) p in
-    let l = walkRun f count cs n q (left m) (c .left) in
-    let r = walkRun f count cs n p (right m) (c .right) in
-    let w = cond (within n q) l r in
-    cond (ltb m count && leb (c .number) (length p) && leb (c .number) 23) w nothing
-
--- From the root on, over a trie with at most 256 cells.
-unfoldable pub walkOf : Trie → Str → Option (Str × Spot × ℕ)
-walkOf t n =
-    let w = walkRun (t .count) (t .count) (t .cells) n [] root (root-side (t .count) (t .first)) in
-    cond (leb (t .count) 256) w nothing
 
 -- A side leads on to a cell below the count while cells may be met.
 unfoldable pub placeOf : Side → ℕ → ℕ → Place

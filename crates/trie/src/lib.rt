@@ -7,8 +7,8 @@ ghost use lib.ListN.{take};
 ghost use Rattle.model.specs.Names as names;
 ghost use mathlib.Core.List.{[]};
 ghost use Rattle.model.specs.Order.{Str};
-ghost use Rattle.model.specs.Tries.{root-side, trie-of};
-ghost use Rattle.trie.specs.Walks.{Steps, Strayed, Underway, Walks, placeOf, walkOf};
+ghost use Rattle.model.specs.Tries.{root-side, trie-of, walkOf};
+ghost use Rattle.trie.specs.Walks.{Steps, Strayed, Underway, Walks, placeOf};
 use digits::usize_of_u8;
 use digits::usize_of_u16;
 use model::Cell;
@@ -61,13 +61,14 @@ pub fn without_cells(first: u16) -> Trie
     }
 }
 
-// Whether the name is within the string of the first digits.
+// Whether the name is within the string of the first digits, so not above it.
 fn goes_left(name: &[u8; 24], string: &[u8; 24], len: usize) -> bool
     requires { ⌜ len ≤ 24 ⌝ }
-    ensures { λ r. ⌜ r ≡ names.within (now (name .entry)) (take len (now (string .entry))) ⌝ }
+    ensures { λ r. ⌜ r ≡ names.atMost (now (name .entry)) (take len (now (string .entry))) ⌝ }
 {
     let whole = &string[..];
-    digits::within(name, &whole[0..len])
+    let compared = digits::compared(name, &whole[0..len]);
+    compared.within
 }
 
 // A side leads on to a cell below the count while cells may be met.

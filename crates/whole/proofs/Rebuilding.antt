@@ -6,7 +6,7 @@ use Rattle.model.specs.declared.TrieGiven.{TrieGiven}
 use Rattle.model.specs.Files.{string-count, strings-of}
 use Rattle.model.specs.Rebuilding.{rebuilt-trie}
 use Rattle.model.specs.Checks.{is-bad, is-cut, is-sound}
-use Rattle.model.specs.Format.{checkFile, version-1}
+use Rattle.model.specs.Format.{checkFile}
 use Rattle.model.specs.Calls.{new-trie, rebuildBy, rebuildOf}
 use Rattle.file.specs.declared.Size.{Size}
 use Rattle.file.specs.declared.survey.Survey.{Survey}

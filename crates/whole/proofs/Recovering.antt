@@ -1,10 +1,10 @@
 -- Check, and recover by its order of refusals, from a look at the whole file.
-use Rattle.model.proofs.Prelude.{Bool, List, [], _*_, _++_, _+_, _-_, _<_, _∙_, _∷_, _≡_, _≤_, ap, arith, false, le-ltb, length-replicate, lt-ltb, ltb-false, ltb-true, nothing, refl, replicate, replicate-append-replicate, sym, take, take-all, take-at, true, ℕ}
+use Rattle.model.proofs.Prelude.{Bool, List, [], _-_, _<_, _∙_, _∷_, _≡_, _≤_, ap, arith, false, le-ltb, lt-ltb, ltb-false, ltb-true, nothing, refl, sym, take-all, true, ℕ}
 use Rattle.model.specs.declared.Cause.the-variants.{BadFile, WrongSize}
 use Rattle.model.specs.declared.Layout.{Layout}
 use Rattle.model.specs.declared.RecoverAnswer.the-variants.{Freed, Nothing, Refused as RecoverRefused, Stopped as RecoverStopped}
 use Rattle.model.specs.Checks.{is-bad, is-cut, is-sound}
-use Rattle.model.specs.Format.{checkFile, entrySize, headerOf, layoutOf, slotBytes, slotSize, version-1}
+use Rattle.model.specs.Format.{checkFile, headerOf, layoutOf}
 use Rattle.model.specs.Files.{free}
 use Rattle.model.specs.Changes.{Store}
 use Rattle.model.specs.Calls.{recoverBy, recoverOf, storesBytes}
@@ -47,26 +47,18 @@ recover-sound xs limit h e = rw (le-ltb 2 limit h, e)
 
 -- Of a cut file with slot N to free: the plan of one store, and what is left of it once it is committed.
 module _ (xs : List ℕ) (limit : ℕ) (s : Size) {N : ℕ} (e : checkFile xs ≡ is-cut N) (h : Said s xs) (p : Plan)
-    (planned : (p .stores ≡ 1) × (p .first ≡ N) × (p .one ≡ replicate 576 0) × (p .second ≡ 0)) where
+    (planned : (p .first ≡ N) × (p .second ≡ 0) × ((y : Layout) → y .b ≤ 16 → Planned p y ((N, free) ∷ []))) where
   abbrev y : Layout
-  y = version-1 (s .b)
+  y = s .layout
 
   abbrev freeing : List Store
   freeing = (N, free) ∷ []
 
-  -- The first bytes of zeros are zeros.
-  free-bytes : (m : ℕ) → m ≤ 576 → take m (replicate {A = ℕ} 576 0) ≡ replicate {A = ℕ} m 0
-  free-bytes m l =
-      let g : m + (576 - m) ≡ 576 = omega arith in
-      let z : replicate {A = ℕ} 576 0 ≡ replicate m 0 ++ replicate (576 - m) 0 = sym (replicate-append-replicate m (576 - m) 0 ∙ ap (λ (k : ℕ). replicate {A = ℕ} k 0) g) in
-      ap (take m) z ∙ take-at (replicate m 0) (replicate (576 - m) 0) m (length-replicate {A = ℕ} m 0)
-
   held : Planned p y freeing
-  unfolding slotBytes slotSize entrySize
-  held = (planned .0, (planned .1, rw (planned .2) (free-bytes (64 + 32 * s .b) (omega (arith, h .sized .legal .b-most)))))
+  held = planned .2 y (h .sized .legal .b-most)
 
   pub recover-fits : N < s .slots → Fits p s
-  recover-fits i = rw (planned .1, planned .3) (i, h .sized .legal .slots-least)
+  recover-fits i = rw (planned .0, planned .1) (i, h .sized .legal .slots-least)
 
   module _ (ys : List ℕ) (d : Bool) (C : Committed d xs ys y p limit) where
     pub recover-stopped : d ≡ true → recovered (RecoverStopped limit) ys ≡ recoverOf xs limit

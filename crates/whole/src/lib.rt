@@ -9,6 +9,7 @@ ghost use Rattle.whole.specs.Small.{Small};
 use file::Header;
 use file::Kind;
 use model::Cause;
+use model::Layout;
 use model::RecoverAnswer;
 use model::TrieAnswer;
 use model::TrieGiven;
@@ -36,10 +37,11 @@ fn small(x: u64) -> usize
 pub fn create(file: &mut [u8], version: u64, b: u64, slots: u64) -> TrieGiven
     ensures { λ r. ⌜ created r (now (file .exit)) ≡ createOf (now (file .entry)) version b slots ⌝ }
 {
-    if version != 1 {
-        return refused(Cause::WrongSize);
-    }
-    let Header::Right(size) = file::sizes(file.len(), small(b), small(slots)) else {
+    let layout = Layout {
+        version: small(version),
+        b: small(b),
+    };
+    let Header::Right(size) = file::sizes(file.len(), layout, small(slots)) else {
         return refused(Cause::WrongSize);
     };
     file::create(file, size);
@@ -77,7 +79,7 @@ pub fn recover(file: &mut [u8], limit: u64) -> RecoverAnswer
         Kind::Bad => RecoverAnswer::Refused(Cause::BadFile),
         Kind::Sound => RecoverAnswer::Nothing,
         Kind::Cut => {
-            let plan = file::one_store(survey.inner, &[0u8; 576]);
+            let plan = file::freeing(survey.inner);
             if file::commit(file, size, plan, limit) {
                 return RecoverAnswer::Stopped(limit);
             }

@@ -1,17 +1,19 @@
 //! The eight calls (section 9 of the rules), with their refusals in the order of R10.9.
 
 use super::file::{
-    bucket_bytes, entry_bytes, file_length, header, header_bytes, kind, read_slot, slot_bytes, slot_length, store,
-    Bucket, Entry, File, Kind, Slot,
+    bucket_bytes, entry_bytes, header, kind, read_slot, slot_bytes, store, Bucket, Entry, File, Header, Kind, Slot,
+    HEADER,
 };
-use super::names::{filled, is_legal_name, is_within, Bound, Filled, DIGITS};
+use super::names::{broken_bound, filled, is_legal_name, is_within, Bound, Filled, DIGITS};
 use super::trie::{agrees, grow, rebuilt, strings, strings_of, walk, Trie, CELLS};
 
 /// What a call answers.
 #[derive(Clone, Copy, PartialEq, Eq, Debug)]
 pub enum Answer {
-    /// R10.11: a refusal is its number and nothing else.
+    /// R10.11: a refusal is its number and nothing else. 4 is `Stale`.
     Refused(u64),
+    /// R10.4, with the digit number at which a lookup's name left the range (R11.10), or with `NO_DIGIT`.
+    Stale(u64),
     Created,
     Sound,
     Cut,
@@ -45,20 +47,19 @@ pub const TOO_MANY_STRINGS: u64 = 6;
 pub const OUTPUT_TOO_SHORT: u64 = 7;
 pub const WRONG_NUMBER: u64 = 8;
 
+/// What a refusal 4 carries that is not for a range which lacks the name.
+pub const NO_DIGIT: u64 = 255;
+
 /// R9.1: a new file in the whole buffer, and its trie. Refused by R10.8, create gives the same trie.
 pub fn create(file: &mut [u8], version: u64, b: u64, slots: u64) -> (Answer, Trie) {
-    let right = version == 1
-        && (2..=16).contains(&b)
-        && (1..=64).contains(&slots)
-        && file.len() == file_length(b as usize, slots as usize);
-    if !right {
+    let header = Header::new(version, b as usize, slots as usize);
+    if !header.is_offered() || file.len() != header.file_length() {
         return (Refused(WRONG_NUMBER), Trie::empty(0));
     }
-    let b = b as usize;
     let bucket = Bucket { lower: Bound::empty(), upper: Bound::empty(), entries: Vec::new() };
     file.fill(0);
-    file[..16].copy_from_slice(&header_bytes(b, slots as usize));
-    store(file, b, 0, &bucket_bytes(&bucket, b));
+    file[..HEADER].copy_from_slice(&header.bytes());
+    store(file, &header, 0, &bucket_bytes(&bucket, &header));
     (Created, Trie::empty(0))
 }
 
@@ -80,8 +81,8 @@ pub fn recover(file: &mut [u8], limit: u64) -> Answer {
         Kind::Bad => Refused(BAD_FILE),
         Kind::Sound(_) => NothingToDo,
         Kind::Cut(n) => {
-            let (b, _) = header(file).expect("a cut file has a right header");
-            let made = make_stores(file, b, limit, &[(n, vec![0; slot_length(b)])]);
+            let header = header(file).expect("a cut file has a right header");
+            let made = make_stores(file, &header, limit, &[(n, vec![0; header.slot_length()])]);
             made.unwrap_or(Freed(n as u64))
         }
     }
@@ -107,19 +108,22 @@ pub fn look_up(file: &[u8], trie: &Trie, name: &[u8]) -> Answer {
     }
     let name = filled(name);
     // R11.2
-    let Some((b, slots)) = header(file) else { return Refused(BAD_FILE) };
+    let Some(header) = header(file) else { return Refused(BAD_FILE) };
     // R11.3 to R11.7
-    let Some(leaf) = walk(trie, &name, slots) else { return Refused(TRIE_STALE) };
-    match read_slot(slot_bytes(file, b, leaf.slot), b) {
+    let Some(leaf) = walk(trie, &name, header.slots) else { return Stale(NO_DIGIT) };
+    let bucket = match read_slot(slot_bytes(file, &header, leaf.slot), &header) {
         // R11.8
-        Slot::Free => Refused(TRIE_STALE),
+        Slot::Free => return Stale(NO_DIGIT),
         // R11.9
-        Slot::Malformed => Refused(BAD_FILE),
-        // R11.10
-        Slot::Used(bucket) if !bucket.holds(&name) => Refused(TRIE_STALE),
-        // R11.11: found with the value, or absent.
-        Slot::Used(bucket) => bucket.value_of(&name).map_or(Absent, Found),
+        Slot::Malformed => return Refused(BAD_FILE),
+        Slot::Used(bucket) => bucket,
+    };
+    // R11.10, with the digit number for the bound that was broken.
+    if let Some(broken) = broken_bound(&name, &bucket.lower, &bucket.upper) {
+        return Stale(broken.differs_at as u64);
     }
+    // R11.11: found with the value, or absent.
+    bucket.value_of(&name).map_or(Absent, Found)
 }
 
 /// The refusals 8, 1, 2, 3 and 4 of put, remove and list, in this order, for each that can have them: R9.10 and R10.9.
@@ -136,24 +140,24 @@ fn whole_check(limit: u64, names: &[&[u8]], file: &[u8], trie: &Trie) -> Result<
         Kind::Sound(file) => file,
     };
     if !agrees(trie, &file) {
-        return Err(Refused(TRIE_STALE));
+        return Err(Stale(NO_DIGIT));
     }
     Ok(file)
 }
 
 /// R7.12: with a limit below the stores needed, as many as the limit says are made, and the call is stopped. None when
 /// all are made.
-fn make_stores(file: &mut [u8], b: usize, limit: u64, stores: &[(usize, Vec<u8>)]) -> Option<Answer> {
+fn make_stores(file: &mut [u8], header: &Header, limit: u64, stores: &[(usize, Vec<u8>)]) -> Option<Answer> {
     let made = stores.len().min(limit as usize);
     for (slot, bytes) in &stores[..made] {
-        store(file, b, *slot, bytes);
+        store(file, header, *slot, bytes);
     }
     (made < stores.len()).then_some(Stopped(made as u64))
 }
 
 /// How b + 1 sorted entries are parted.
 pub struct Split {
-    /// R7.3: the split key.
+    /// R7.3: the split key, by whose position the string was chosen.
     pub key: Filled,
     /// R7.4: the split string, against the last name.
     pub string: Bound,
@@ -162,13 +166,35 @@ pub struct Split {
     pub moved: Vec<Entry>,
 }
 
-pub fn split(entries: &[Entry]) -> Split {
-    let b = entries.len() - 1;
+/// R7.3: at which positions, counted from 1, a version looks for its split key among b + 1 names, the one that wins a tie
+/// first. m + 1 may be past b.
+pub fn split_positions(version: u64, b: usize) -> Vec<usize> {
     let m = b / 2 + 1;
-    let key = entries[m - 1].name;
-    let last = entries[b].name;
+    match version {
+        1 => vec![m],
+        _ => [m, m - 1, m + 1].into_iter().filter(|position| (1..=b).contains(position)).collect(),
+    }
+}
+
+/// R7.4: the shortest beginning of a split key that is smaller than as many digits of the last name.
+pub fn split_string(key: &Filled, last: &Filled) -> Bound {
     let length = (1..=DIGITS).find(|length| key[..*length] < last[..*length]).expect("names strictly ascend");
-    let string = Bound(key[..length].to_vec());
+    Bound(key[..length].to_vec())
+}
+
+/// R7.3 to R7.5: of the strings at a version's positions the shortest, of several that are equally short the first.
+pub fn split(version: u64, entries: &[Entry]) -> Split {
+    let b = entries.len() - 1;
+    let last = entries[b].name;
+    let mut best: Option<(Filled, Bound)> = None;
+    for position in split_positions(version, b) {
+        let key = entries[position - 1].name;
+        let string = split_string(&key, &last);
+        if best.as_ref().is_none_or(|(_, best)| string.len() < best.len()) {
+            best = Some((key, string));
+        }
+    }
+    let (key, string) = best.expect("position m is one of 1 to b");
     let (stay, moved): (Vec<Entry>, Vec<Entry>) =
         entries.iter().cloned().partition(|entry| is_within(&entry.name, &string));
     // R7.5: each of the two gets 1 to b entries.
@@ -182,7 +208,7 @@ pub fn put(file: &mut [u8], trie: &mut Trie, name: &[u8], value: u64, limit: u64
         Ok(sound) => sound,
         Err(refused) => return refused,
     };
-    let b = sound.b;
+    let header = &sound.header;
     let name = filled(name);
     // R7.2: the bucket A that the name goes into.
     let (a, bucket) = sound.bucket_of(&name);
@@ -190,15 +216,15 @@ pub fn put(file: &mut [u8], trie: &mut Trie, name: &[u8], value: u64, limit: u64
     if let Some(place) = bucket.entries.iter().position(|entry| entry.name == name) {
         with_it.entries[place].value = value;
         let old = bucket.entries[place].value;
-        return make_stores(file, b, limit, &[(a, bucket_bytes(&with_it, b))]).unwrap_or(Replaced(old));
+        return make_stores(file, header, limit, &[(a, bucket_bytes(&with_it, header))]).unwrap_or(Replaced(old));
     }
     with_it.entries.push(Entry { name, value });
     with_it.entries.sort_by_key(|entry| entry.name);
     // R7.2: with at most b entries, one store.
-    if with_it.entries.len() <= b {
-        return make_stores(file, b, limit, &[(a, bucket_bytes(&with_it, b))]).unwrap_or(Added);
+    if with_it.entries.len() <= header.b {
+        return make_stores(file, header, limit, &[(a, bucket_bytes(&with_it, header))]).unwrap_or(Added);
     }
-    let split = split(&with_it.entries);
+    let split = split(header.version, &with_it.entries);
     // R7.6: the lowest free slot.
     let Some(new) = sound.slots.iter().position(|slot| *slot == Slot::Free) else { return Refused(NO_FREE_SLOT) };
     // R10.6: too many strings after the change.
@@ -210,8 +236,8 @@ pub fn put(file: &mut [u8], trie: &mut Trie, name: &[u8], value: u64, limit: u64
     // R7.7 and R7.8: first the new slot, then A.
     let upper = Bucket { lower: split.string.clone(), upper: bucket.upper.clone(), entries: split.moved };
     let lower = Bucket { lower: bucket.lower.clone(), upper: split.string.clone(), entries: split.stay };
-    let stores = [(new, bucket_bytes(&upper, b)), (a, bucket_bytes(&lower, b))];
-    if let Some(stopped) = make_stores(file, b, limit, &stores) {
+    let stores = [(new, bucket_bytes(&upper, header)), (a, bucket_bytes(&lower, header))];
+    if let Some(stopped) = make_stores(file, header, limit, &stores) {
         // R7.12: stopped, the trie stays as it is.
         return stopped;
     }
@@ -232,7 +258,8 @@ pub fn remove(file: &mut [u8], trie: &Trie, name: &[u8], limit: u64) -> Answer {
     if without_it == *bucket {
         return Absent;
     }
-    make_stores(file, sound.b, limit, &[(slot, bucket_bytes(&without_it, sound.b))]).unwrap_or(Removed)
+    let stores = [(slot, bucket_bytes(&without_it, &sound.header))];
+    make_stores(file, &sound.header, limit, &stores).unwrap_or(Removed)
 }
 
 /// R9.8: the entries in the range, ascending, with nothing written behind them; R9.9: none if the first name is above
@@ -263,4 +290,66 @@ pub fn entries_between(file: &File, first: &Filled, second: &Filled) -> Vec<Entr
         .collect();
     entries.sort_by_key(|entry| entry.name);
     entries
+}
+
+#[cfg(test)]
+mod tests {
+    use super::*;
+    use crate::chance::Chance;
+    use crate::make::{names, STYLES};
+
+    #[test]
+    fn positions_of_split_keys() {
+        for (b, m) in [(2, 2), (3, 2), (4, 3), (5, 3), (15, 8), (16, 9)] {
+            assert_eq!(split_positions(1, b), [m]);
+        }
+        // m + 1 = 3 is past b = 2.
+        assert_eq!(split_positions(2, 2), [2, 1]);
+        assert_eq!(split_positions(2, 3), [2, 1, 3]);
+        assert_eq!(split_positions(2, 4), [3, 2, 4]);
+        assert_eq!(split_positions(2, 16), [9, 8, 10]);
+    }
+
+    #[test]
+    fn the_shortest_string_wins_and_a_tie_goes_to_the_middle() {
+        let string = |version: u64, names: &[&str]| {
+            let entries: Vec<Entry> =
+                names.iter().map(|name| Entry { name: filled(name.as_bytes()), value: 0 }).collect();
+            let split = split(version, &entries);
+            (String::from_utf8(split.string.0).unwrap(), split.key, split.stay.len())
+        };
+        // "i" gives "i ", "and" gives "a", "in" gives "in".
+        assert_eq!(string(1, &["a", "and", "i", "in", "is"]), ("i ".to_string(), filled(b"i"), 3));
+        assert_eq!(string(2, &["a", "and", "i", "in", "is"]), ("a".to_string(), filled(b"and"), 2));
+        // "of" gives "o", "and" gives "a".
+        assert_eq!(string(2, &["a", "and", "of", "the", "to"]), ("o".to_string(), filled(b"of"), 3));
+        assert_eq!(string(2, &["a", "ab", "abc"]), ("a ".to_string(), filled(b"a"), 1));
+        assert_eq!(string(2, &["r1", "r2", "r3"]), ("r2".to_string(), filled(b"r2"), 2));
+    }
+
+    /// Names nearer to the last share no less with it: a string is never longer than that of a later position.
+    #[test]
+    fn the_key_behind_the_middle_never_wins() {
+        let mut won = [0; 2];
+        for seed in 0..4000 {
+            let mut chance = Chance::new(seed);
+            let b = chance.between(2, 16);
+            let style = *chance.pick(&STYLES);
+            let mut names: Vec<Filled> = names(&mut chance, style, b + 1).iter().map(|name| filled(name)).collect();
+            if names.len() < 3 {
+                continue;
+            }
+            names.sort();
+            let entries: Vec<Entry> = names.iter().map(|name| Entry { name: *name, value: 0 }).collect();
+            let b = names.len() - 1;
+            let lengths: Vec<usize> = (0..b).map(|place| split_string(&names[place], &names[b]).len()).collect();
+            assert!(lengths.windows(2).all(|pair| pair[0] <= pair[1]));
+            let (one, two) = (split(1, &entries), split(2, &entries));
+            let m = b / 2 + 1;
+            assert!(one.key == names[m - 1]);
+            assert!(two.key == names[m - 1] || (two.key == names[m - 2] && two.string.len() < one.string.len()));
+            won[(two.key == one.key) as usize] += 1;
+        }
+        assert!(won.iter().all(|times| *times > 100), "{won:?}");
+    }
 }

@@ -5,14 +5,46 @@ use super::names::{filled, is_in_range, is_legal_name, unfilled, Bound, Filled, 
 /// The header's length; the slots follow it.
 pub const HEADER: usize = 16;
 
-/// What one slot takes.
-pub fn slot_length(b: usize) -> usize {
-    64 + 32 * b
+/// R2.3: the versions that there are.
+pub const VERSIONS: [u64; 2] = [1, 2];
+
+/// What the header says.
+#[derive(Clone, Copy, PartialEq, Eq, Debug)]
+pub struct Header {
+    pub version: u64,
+    pub b: usize,
+    pub slots: usize,
 }
 
-/// R2.7: the length of a file.
-pub fn file_length(b: usize, slots: usize) -> usize {
-    HEADER + slots * slot_length(b)
+impl Header {
+    pub fn new(version: u64, b: usize, slots: usize) -> Header {
+        Header { version, b, slots }
+    }
+
+    /// R2.3 to R2.5: the version is offered, and the numbers are in their ranges.
+    pub fn is_offered(&self) -> bool {
+        VERSIONS.contains(&self.version) && (2..=16).contains(&self.b) && (1..=64).contains(&self.slots)
+    }
+
+    /// What one slot takes.
+    pub fn slot_length(&self) -> usize {
+        64 + 32 * self.b
+    }
+
+    /// R2.7: the length of a file.
+    pub fn file_length(&self) -> usize {
+        HEADER + self.slots * self.slot_length()
+    }
+
+    /// The header's bytes.
+    pub fn bytes(&self) -> [u8; HEADER] {
+        let mut bytes = [0; HEADER];
+        bytes[..3].copy_from_slice(b"TKF");
+        bytes[3..5].copy_from_slice(&(self.version as u16).to_le_bytes());
+        bytes[5] = self.b as u8;
+        bytes[6] = self.slots as u8;
+        bytes
+    }
 }
 
 /// R3.13: an entry.
@@ -56,23 +88,23 @@ fn all_zero(bytes: &[u8]) -> bool {
 }
 
 /// The bytes of one slot: free, well formed, or neither.
-pub fn read_slot(bytes: &[u8], b: usize) -> Slot {
+pub fn read_slot(bytes: &[u8], header: &Header) -> Slot {
     if all_zero(bytes) {
         return Slot::Free;
     }
-    match read_bucket(bytes, b) {
+    match read_bucket(bytes, header) {
         Some(bucket) => Slot::Used(bucket),
         None => Slot::Malformed,
     }
 }
 
 /// R3.18: the bucket of a well-formed slot, None when the slot is not well formed.
-fn read_bucket(bytes: &[u8], b: usize) -> Option<Bucket> {
+fn read_bucket(bytes: &[u8], header: &Header) -> Option<Bucket> {
     // R3.2 to R3.6 and R3.11: the slot's own numbers, and its zero bytes.
     let count = bytes[1] as usize;
     let lower_length = bytes[2] as usize;
     let upper_length = bytes[3] as usize;
-    let lengths_hold = bytes[0] == 1 && count <= b && lower_length <= DIGITS && upper_length <= DIGITS;
+    let lengths_hold = bytes[0] == 1 && count <= header.b && lower_length <= DIGITS && upper_length <= DIGITS;
     if !lengths_hold || !all_zero(&bytes[4..8]) || !all_zero(&bytes[56..64]) {
         return None;
     }
@@ -118,8 +150,8 @@ pub fn entry_bytes(entry: &Entry) -> [u8; 32] {
 }
 
 /// The bytes of a used slot.
-pub fn bucket_bytes(bucket: &Bucket, b: usize) -> Vec<u8> {
-    let mut bytes = vec![0; slot_length(b)];
+pub fn bucket_bytes(bucket: &Bucket, header: &Header) -> Vec<u8> {
+    let mut bytes = vec![0; header.slot_length()];
     bytes[0] = 1;
     bytes[1] = bucket.entries.len() as u8;
     bytes[2] = bucket.lower.len() as u8;
@@ -133,54 +165,39 @@ pub fn bucket_bytes(bucket: &Bucket, b: usize) -> Vec<u8> {
 }
 
 /// R7.1: a store replaces one whole slot.
-pub fn store(file: &mut [u8], b: usize, slot: usize, bytes: &[u8]) {
-    file[HEADER + slot * slot_length(b)..][..slot_length(b)].copy_from_slice(bytes);
+pub fn store(file: &mut [u8], header: &Header, slot: usize, bytes: &[u8]) {
+    file[HEADER + slot * header.slot_length()..][..header.slot_length()].copy_from_slice(bytes);
 }
 
 /// A file whose length and header are right, with its slots as read.
 pub struct File {
-    pub b: usize,
+    pub header: Header,
     pub slots: Vec<Slot>,
 }
 
 /// None if length or header is wrong (R2.1 to R2.7).
-pub fn header(file: &[u8]) -> Option<(usize, usize)> {
+pub fn header(file: &[u8]) -> Option<Header> {
     if file.len() < HEADER {
         return None;
     }
-    let version = u16::from_le_bytes([file[3], file[4]]);
-    let b = file[5] as usize;
-    let slots = file[6] as usize;
-    let right = &file[..3] == b"TKF"
-        && version == 1
-        && (2..=16).contains(&b)
-        && (1..=64).contains(&slots)
-        && all_zero(&file[7..16])
-        && file.len() == file_length(b, slots);
-    right.then_some((b, slots))
+    let version = u16::from_le_bytes([file[3], file[4]]) as u64;
+    let header = Header::new(version, file[5] as usize, file[6] as usize);
+    let right =
+        &file[..3] == b"TKF" && header.is_offered() && all_zero(&file[7..16]) && file.len() == header.file_length();
+    right.then_some(header)
 }
 
 /// The bytes of one slot of a file whose length and header are right.
-pub fn slot_bytes(file: &[u8], b: usize, slot: usize) -> &[u8] {
-    &file[HEADER + slot * slot_length(b)..][..slot_length(b)]
-}
-
-/// The header's bytes.
-pub fn header_bytes(b: usize, slots: usize) -> [u8; HEADER] {
-    let mut bytes = [0; HEADER];
-    bytes[..3].copy_from_slice(b"TKF");
-    bytes[3] = 1;
-    bytes[5] = b as u8;
-    bytes[6] = slots as u8;
-    bytes
+pub fn slot_bytes<'a>(file: &'a [u8], header: &Header, slot: usize) -> &'a [u8] {
+    &file[HEADER + slot * header.slot_length()..][..header.slot_length()]
 }
 
 impl File {
     /// None if length or header is wrong.
     pub fn read(bytes: &[u8]) -> Option<File> {
-        let (b, slots) = header(bytes)?;
-        let slots = (0..slots).map(|slot| read_slot(slot_bytes(bytes, b, slot), b)).collect();
-        Some(File { b, slots })
+        let header = header(bytes)?;
+        let slots = (0..header.slots).map(|slot| read_slot(slot_bytes(bytes, &header, slot), &header)).collect();
+        Some(File { header, slots })
     }
 
     /// The used slots with their numbers.
@@ -247,7 +264,7 @@ pub fn cut_slot(file: &File) -> Option<usize> {
         if range_order(&slots).is_none() || bucket.lower.is_empty() {
             continue;
         }
-        if file.used().any(|(a, other)| a != n && is_cut_pair(other, bucket, file.b)) {
+        if file.used().any(|(a, other)| a != n && is_cut_pair(other, bucket, file.header.b)) {
             found.push(n);
         }
     }

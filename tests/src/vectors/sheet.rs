@@ -2,7 +2,7 @@
 
 use crate::door::number_and_words;
 use crate::model::calls::Answer;
-use crate::model::file::{slot_length, File, HEADER};
+use crate::model::file::{File, HEADER};
 use crate::model::trie::{Cell, Side, Trie, PAST_THE_COUNT};
 
 /// No line is longer.
@@ -61,7 +61,7 @@ impl Sheet {
         let mut text = HEAD.to_string();
         for (place, file) in self.files.iter().enumerate() {
             // The header has a line, and so has each slot.
-            let length = File::read(file).map_or(file.len(), |read| slot_length(read.b)).max(1);
+            let length = File::read(file).map_or(file.len(), |read| read.header.slot_length()).max(1);
             let (header, slots) = file.split_at(HEADER.min(file.len()));
             let chunks = [header].into_iter().chain(slots.chunks(length)).filter(|chunk| !chunk.is_empty());
             let chunks: Vec<String> = chunks.map(|chunk| parts(chunk).join(" ∷ ")).collect();

@@ -1,5 +1,5 @@
 -- `bucket::is_clear` meets its contract.
-use Rattle.model.proofs.Prelude.{_*_, _+_, _∙_, ap, needs, not-false, not-true}
+use Rattle.model.proofs.Prelude.{_∙_, ap, needs, not-false, not-true}
 use Rattle.digits.specs.Keys.{isZero}
 use Rattle.model.proofs.Lists.{rest}
 use Rattle.bucket.specs.Forms.{isClear}
@@ -20,10 +20,9 @@ unfolding isClear
 returns-3 c =
     let at-is-zero2 = c .before .before .before in let a = at-is-zero2 .before .before .before .before .before .before .args in
     rw (← at-is-zero2 .before .before .before .is-zero .ensures, not-false (at-is-zero2 .before .before .before .is-zero .result) (at-is-zero2 .before .before .if1 .left), ← at-is-zero2 .is-zero2 .ensures, not-false (at-is-zero2 .is-zero2 .result) (c .before .before .if2 .left))
-    (c .is-zero3 .ensures ∙ ap isZero (rest (64 + 32 * a .count) (a .slot .now)))
+    (c .is-zero3 .ensures ∙ ap isZero (rest (a .end) (a .slot .now)))
 
 pub is-clear-spec : {M : Type 1} → Rattle.bucket.proofs.is_clear.Statement.statement M
 is-clear-spec =
     tie.close (tie.spec (λ c. search needs) (λ c. search needs) (λ c. search needs) (λ c κs. search needs) returns (λ c. search needs)
-    (λ c. search needs) (λ c. search needs) (λ c κs. search needs) returns-2 (λ c. search needs) (λ c. search needs) (λ c. search needs)
-    (λ c. search needs) (λ c. search needs) (λ c κs. search needs) returns-3)
+    (λ c. search needs) (λ c. search needs) (λ c κs. search needs) returns-2 (λ c. search needs) (λ c. search needs) (λ c. search needs) (λ c κs. search needs) returns-3)

@@ -1,6 +1,6 @@
 -- `bucket::vacancy_of` meets its contract.
 use Rattle.model.proofs.Prelude.{needs}
-use Rattle.bucket.proofs.Forms.{zero-not}
+use Rattle.bucket.proofs.Slots.{zero-not}
 use Rattle.bucket.proofs.vacancy_of.Tie as tie
 
 pub vacancy-of-spec : {M : Type 1} → Rattle.bucket.proofs.vacancy_of.Statement.statement M

@@ -16,9 +16,9 @@ returns-2 c =
 
 returns-3 : tie.Need-returns-3
 returns-3 c =
-    let at-list = c .before .before .before .before .before .before in
+    let at-list = c .before .before .before .before .before .before .before in
     let a = at-list .before .before .before .before .before .before .before .before .before .args in
-    list-said (a .trie .now) (at-list .before .before .before .if1 .left) (a .file .now) (a .first .now) (a .second .now) (a .output .now) (a .out .now) (at-list .before .before .decoded .ensures) (c .before .before .answer2 .given .1) (at-list .list .ensures) (c .cause-number .ensures) refl
+    list-said (a .trie .now) (at-list .before .before .before .if1 .left) (a .file .now) (a .first .now) (a .second .now) (a .output .now) (a .out .now) (at-list .before .before .decoded .ensures) (c .before .before .before .answer2 .given .1) (at-list .list .ensures) (c .refused .ensures .0) (c .refused .ensures .1)
 
 pub pal-list-spec : {M : Type 1} → Rattle.capi.proofs.pal_list.Statement.statement M
 pal-list-spec =

@@ -22,10 +22,10 @@ returns-3 c =
 
 returns-4 : tie.Need-returns-4
 returns-4 c =
-    let at-look-up-from = c .before .before .before .before in
+    let at-look-up-from = c .before .before .before .before .before in
     let a = at-look-up-from .before .before .before .before .before .before .before .before .args in
-    lookUp-said (a .trie .now) (at-look-up-from .before .before .before .before .if1 .left) (a .file .now) (a .name .now) (a .out .now) (c .before .before .answer2 .given .1)
-    (lookUp-walked (a .trie .now) (a .file .now) (a .name .now) (at-look-up-from .before .walk-in .result) (at-look-up-from .before .before .before .filled .ensures) (at-look-up-from .before .walk-in .ensures) (at-look-up-from .look-up-from .ensures)) (c .cause-number .ensures) refl
+    lookUp-said (a .trie .now) (at-look-up-from .before .before .before .before .if1 .left) (a .file .now) (a .name .now) (a .out .now) (c .before .before .before .answer2 .given .1)
+    (lookUp-walked (a .trie .now) (a .file .now) (a .name .now) (at-look-up-from .before .walk-in .result) (at-look-up-from .before .before .before .filled .ensures) (at-look-up-from .before .walk-in .ensures) (at-look-up-from .look-up-from .ensures)) (c .refused .ensures .0) (c .refused .ensures .1)
 
 pub pal-lookup-spec : {M : Type 1} → Rattle.capi.proofs.pal_lookup.Statement.statement M
 pal-lookup-spec =

@@ -26,9 +26,9 @@ returns-4 c =
 
 returns-5 : tie.Need-returns-5
 returns-5 c =
-    let at-put = c .before .before .before .before .before .before in
+    let at-put = c .before .before .before .before .before .before .before in
     let a = at-put .before .before .before .before .before .before .before .before .args in
-    put-said (a .trie .now) (at-put .before .before .before .before .if1 .left) (a .file .now) (a .name .now) (a .value) (a .limit) (a .out .now) _ (at-put .before .decoded .ensures) (c .before .before .answer3 .given .1) (at-put .put .ensures) (c .cause-number .ensures) refl refl
+    put-said (a .trie .now) (at-put .before .before .before .before .if1 .left) (a .file .now) (a .name .now) (a .value) (a .limit) (a .out .now) _ (at-put .before .decoded .ensures) (c .before .before .before .answer3 .given .1) (at-put .put .ensures) (c .refused .ensures .0) refl (c .refused .ensures .1)
 
 pub pal-put-spec : {M : Type 1} → Rattle.capi.proofs.pal_put.Statement.statement M
 pal-put-spec =

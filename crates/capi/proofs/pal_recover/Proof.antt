@@ -17,7 +17,7 @@ returns-3 c =
 
 returns-4 : tie.Need-returns-4
 returns-4 c =
-    recover-said _ _ _ (c .before .before .answer3 .given .1) (c .before .before .before .before .before .before .recover .ensures) (c .cause-number .ensures) refl
+    recover-said _ _ _ (c .before .before .before .answer3 .given .1) (c .before .before .before .before .before .before .before .recover .ensures) (c .refused .ensures .0) (c .refused .ensures .1)
 
 pub pal-recover-spec : {M : Type 1} → Rattle.capi.proofs.pal_recover.Statement.statement M
 pal-recover-spec =

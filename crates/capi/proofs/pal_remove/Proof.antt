@@ -26,9 +26,9 @@ returns-4 c =
 
 returns-5 : tie.Need-returns-5
 returns-5 c =
-    let at-remove = c .before .before .before .before .before .before in
+    let at-remove = c .before .before .before .before .before .before .before in
     let a = at-remove .before .before .before .before .before .before .before .before .args in
-    remove-said (a .trie .now) (at-remove .before .before .before .before .if1 .left) (a .file .now) (a .name .now) (a .limit) (a .out .now) (at-remove .before .decoded .ensures) (c .before .before .answer2 .given .1) (at-remove .remove .ensures) (c .cause-number .ensures) refl
+    remove-said (a .trie .now) (at-remove .before .before .before .before .if1 .left) (a .file .now) (a .name .now) (a .limit) (a .out .now) (at-remove .before .decoded .ensures) (c .before .before .before .answer2 .given .1) (at-remove .remove .ensures) (c .refused .ensures .0) (c .refused .ensures .1)
 
 pub pal-remove-spec : {M : Type 1} → Rattle.capi.proofs.pal_remove.Statement.statement M
 pal-remove-spec =

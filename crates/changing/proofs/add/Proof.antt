@@ -1,24 +1,20 @@
 -- `add` meets its contract: one store, of the slot with the new entry.
-use Rattle.model.proofs.Prelude.{_*_, _+_, _∙_, ap, needs, refl}
-use Rattle.bucket.specs.Slots.{lowerAt, upperAt}
-use Rattle.writing.specs.Slots.{writtenBytes}
-use Rattle.changing.proofs.Spots.{added-is, fits-one, new-fits, part-is}
+use Rattle.model.proofs.Prelude.{List, needs, subst, sym, ℕ}
+use Rattle.bucket.specs.Forms.{ReadAs}
+use Rattle.entries.specs.Rows.{contentNumber}
+use Rattle.changing.proofs.Homes.{fits-one, new-fits, slot-read}
 use Rattle.changing.proofs.Putting.{put-one}
 use Rattle.changing.proofs.add.Tie as tie
 
 returns : tie.Need-returns
 returns c =
-    let at-rewritten = c .before .before .before in let s = at-rewritten .before .before .before .before .before .before in let xs = s .args .file .now in
-    let at-slot-at = at-rewritten .before .before in let ys = at-slot-at .slot-at .result .now in let i = at-slot-at .slot-at .ensures .0 in
-    let es = s .args .entries .now in let g = c .planned .ensures in let o = c .before .one-store .ensures in
-    let r = at-rewritten .rewritten .ensures ∙ ap (writtenBytes (lowerAt ys) (upperAt ys)) (part-is (32 * (s .args .spot .count + 1)) es es refl) in (
-      fits-one (c .planned .result .plan) (c .before .one-store .result) (s .args .spot .slot) (at-rewritten .rewritten .result) (s .args .size) (g .0) o (s .pre .1 .slot-inside) (s .pre .0 .legal),
-      (λ fs e S n v h p f q.
-          let z = added-is xs e S p ys i (s .pre .0 .legal .b-most) (at-rewritten .rewritten .result) v es h f q r in
-          put-one (s .args .trie) (s .args .size .b) v p (new-fits p v (s .args .size .b) f (s .pre .2)) (c .planned .result) (c .before .one-store .result) (at-rewritten .rewritten .result) f z o g),
+    let s = c .before .before .before .before .before .before in let a = s .args in let slot = c .before .before .before .before .slot-at in let new = c .before .before .before .added in
+    let g = c .planned .ensures in let o = c .before .one-store in let y = a .size .layout in let v = contentNumber (a .content) in (
+      fits-one (c .planned .result .plan) (o .result) (a .k) (new .result) (a .size) (g .0) (o .ensures) (s .pre .1) (s .pre .0 .legal),
+      (λ fs e S h l u es H P F f.
+          let R = subst (λ (z : List ℕ). ReadAs y z l u es) (sym (slot .ensures .0)) (slot-read (a .file .now) e S (a .k) (H .is)) in
+          put-one (a .trie) y v H (new-fits P v (y .b) f (s .pre .3)) (c .planned .result) (o .result) (new .result) f (new .ensures l u es R h P f F) (o .ensures) g),
     )
 
 pub add-spec : {M : Type 1} → Rattle.changing.proofs.add.Statement.statement M
-add-spec =
-    tie.close (tie.spec (λ c. search needs) (λ c. search needs) (λ c κs. search needs) (λ c. search needs) (λ c. search needs) (λ c. search needs)
-    (λ c κs. search needs) (λ c κs. search needs) (λ c κs. search needs) returns)
+add-spec = tie.close (tie.spec (λ c κs. search needs) (λ c κs. search needs) (λ c κs. search needs) (λ c κs. search needs) returns)

@@ -13,7 +13,7 @@ returns : tie.Need-returns
 returns c =
     let at-new-slot = c .before .before .before .before .before .before in let s = at-new-slot .before .before .before .before in let p = c .before .before .two-stores .ensures in (
       fits-two (c .planned .result .plan) (c .before .before .two-stores .result) (s .args .n) (s .args .a) _ _ (s .args .checked .size) (c .planned .ensures .0) p (s .pre .2) (s .pre .1),
-      divide-told (s .pre .0) (s .args .a) (s .args .entries .now) (c .planned .result) (at-new-slot .before .slot-at .ensures .0) (at-new-slot .new-slot .ensures) (c .before .before .before .before .before .old-slot .ensures) (c .before .grown .ensures) p (c .planned .ensures),
+      divide-told (s .pre .0) (s .args .a) (s .args .row .now) (c .planned .result) (at-new-slot .before .slot-at .ensures .0) (at-new-slot .new-slot .ensures) (c .before .before .before .before .before .old-slot .ensures) (c .before .grown .ensures) p (c .planned .ensures),
     )
 
 pub divide-spec : {M : Type 1} → Rattle.changing.proofs.divide.Statement.statement M

@@ -32,9 +32,9 @@ returns-3 c =
     let A = fine-agreed (at-checks-of .checks-of .result) (at-filled .before .enum-told3 .given .1) (at-checks-of .checks-of .ensures) in
     let l = naming-legal _ (sym (at-checks-of .before .before .enum-told .given .1) ∙ at-checks-of .before .before .before .before .named .ensures) in
     let p = at-commit .before .before .before .put-plan .result in
-    let h = subst (λ (n : Str). PutTold (a .file .now) (a .trie) (at-checks-of .checks-of .result .size) n (a .value) p) (at-filled .filled .ensures) (at-commit .before .before .before .put-plan .ensures .1) in
+    let h = subst (λ (n : Str). PutTold p (a .file .now) (a .trie) (at-checks-of .checks-of .result .size) n (a .value)) (at-filled .filled .ensures) (at-commit .before .before .before .put-plan .ensures .1) in
     let q = h (A .ready .slots) (A .ready .is) (legalName-legal (a .name .now) l) in
-    put-fine (a .file .now) (a .trie) (a .name .now) (a .value) (a .limit) (c .given .result) _ (at-checks-of .checks-of .result .size .b) (A .ready .slots) (omega (arith, at-checks-of .before .before .before .before .before .if1 .left)) l (A .looked)
+    put-fine (a .file .now) (a .trie) (a .name .now) (a .value) (a .limit) (c .given .result) _ (at-checks-of .checks-of .result .size .layout) (A .ready .slots) (omega (arith, at-checks-of .before .before .before .before .before .if1 .left)) l (A .looked)
     (put-stopped (a .file .now) _ (a .trie) _ (A .ready .slots) _ (a .value) (a .limit) p (at-commit .commit .result) (at-commit .commit .ensures) (c .given .result) _ q (c .before .if2 .taken) (c .given .ensures))
 
 returns-4 : tie.Need-returns-4
@@ -50,9 +50,9 @@ returns-5 c =
     let A = fine-agreed (at-checks-of .checks-of .result) (at-filled .before .enum-told3 .given .1) (at-checks-of .checks-of .ensures) in
     let l = naming-legal _ (sym (at-checks-of .before .before .enum-told .given .1) ∙ at-checks-of .before .before .before .before .named .ensures) in
     let p = at-commit .before .before .before .put-plan .result in
-    let h = subst (λ (n : Str). PutTold (a .file .now) (a .trie) (at-checks-of .checks-of .result .size) n (a .value) p) (at-filled .filled .ensures) (at-commit .before .before .before .put-plan .ensures .1) in
+    let h = subst (λ (n : Str). PutTold p (a .file .now) (a .trie) (at-checks-of .checks-of .result .size) n (a .value)) (at-filled .filled .ensures) (at-commit .before .before .before .put-plan .ensures .1) in
     let q = h (A .ready .slots) (A .ready .is) (legalName-legal (a .name .now) l) in
-    put-fine (a .file .now) (a .trie) (a .name .now) (a .value) (a .limit) (c .given2 .result) _ (at-checks-of .checks-of .result .size .b) (A .ready .slots) (omega (arith, at-checks-of .before .before .before .before .before .if1 .left)) l (A .looked)
+    put-fine (a .file .now) (a .trie) (a .name .now) (a .value) (a .limit) (c .given2 .result) _ (at-checks-of .checks-of .result .size .layout) (A .ready .slots) (omega (arith, at-checks-of .before .before .before .before .before .if1 .left)) l (A .looked)
     (put-made (a .file .now) _ (a .trie) _ (A .ready .slots) _ (a .value) (a .limit) p (at-commit .commit .result) (at-commit .commit .ensures) (c .given2 .result) _ q (c .before .if2 .left) (c .given2 .ensures))
 
 pub put-spec : {M : Type 1} → Rattle.changing.proofs.put.Statement.statement M

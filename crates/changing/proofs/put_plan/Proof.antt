@@ -1,75 +1,76 @@
 -- `put_plan` meets its contract: a held name is replaced, a new one added, with a split where its bucket is full.
-use Rattle.model.proofs.Prelude.{List, _∙_, _≡_, ap, arith, length, needs, sym, ℕ}
-use Rattle.model.specs.Format.{padded}
+use Rattle.model.proofs.Prelude.{List, _≡_, arith, length, needs, not-false, not-true, refl, subst, sym, ℕ}
+use Rattle.model.specs.Places.{place-of}
 use Rattle.digits.specs.Keys.{keyValue}
-use Rattle.writing.specs.Entries.{withEntry}
-use Rattle.model.proofs.Lists.{rest}
-use Rattle.changing.proofs.Spots.{entries-new, held-below, key-whole, ready-sound, test-held, test-lost}
+use Rattle.bucket.specs.Forms.{ReadAs}
+use Rattle.entries.specs.Rows.{contentNumber}
+use Rattle.changing.specs.Splits.{PutAsked}
+use Rattle.checking.proofs.Laws.{key-whole}
+use Rattle.changing.proofs.Homes.{ready-sound, slot-read, spot-held, spot-lost, value-fits}
 use Rattle.changing.proofs.put_plan.Tie as tie
 
 replace-requires : tie.Need-replace-requires
 replace-requires c κs =
-    let at-spot-of = c .before .before .before in let s = at-spot-of .before .before .before .before .before in
-    let r = at-spot-of .spot-of .result in (
-      s .pre .ready .said .sized,
-      at-spot-of .spot-of .ensures .inside,
-      held-below (c .before .before .slot-at .result .now) (r .count) (r .place) (keyValue (at-spot-of .before .key-at .result)) (sym (c .before .is-held .ensures) ∙ c .if1 .taken),
-    )
+    let s = c .before .before .before .before .before .before .before .before .before in let spot = c .before .spot-in in
+    (s .pre .ready .said .sized, c .before .before .before .home-of .ensures .inside, spot .ensures .0, spot .ensures .0 .held-there (c .if1 .taken))
 
 returns : tie.Need-returns
 returns c =
-    let at-is-held = c .before .before in let at-key-at = at-is-held .before .before .before in
-    let s = at-key-at .before .before .before .before in let xs = s .args .file .now in let n = s .args .name .now in
-    let v = keyValue (at-key-at .key-at .result) in (
+    let s = c .before .before .before .before .before .before .before .before .before .before in let a = s .args in let key = c .before .before .before .before .before .key-at in let home = c .before .before .before .before .home-of in let slot = c .before .before .before .slot-at in let spot = c .before .before .spot-in in
+    let n = a .name .now in let y = a .checked .size .layout in (
       c .replace .ensures .0,
       (λ fs e g.
-          let q = key-whole n v g (at-key-at .key-at .ensures) in
+          let q = key-whole n (keyValue (key .result)) g (key .ensures) in
           let S = ready-sound (s .pre .ready) e in
-          let p = at-is-held .before .before .spot-of .ensures .right fs e n g q in
-          let h = test-held xs e S p (at-is-held .before .slot-at .result .now) (at-is-held .before .slot-at .ensures .0) v g q (sym (at-is-held .is-held .ensures) ∙ c .before .if1 .taken) in
-          c .replace .ensures .1 fs e S n g p (h .1 .0) (h .1 .1)),
+          let H = home .ensures .right fs e g in
+          let R = subst (λ (z : List ℕ). ReadAs y z (H .0) (H .1) (H .2)) (sym (slot .ensures .0)) (slot-read (a .file .now) e S (home .result) (H .3 .is)) in
+          let P = spot .ensures .1 (H .0) (H .1) (H .2) R n g q in
+          let f = spot-held P (c .before .if1 .taken) in
+          let k = value-fits y (record { value = a .value; run = 0 }) (a .value) refl refl (search needs) in
+          subst (PutAsked (c .replace .result) (a .trie) y fs n) (k .1) (c .replace .ensures .1 fs e S g (H .0) (H .1) (H .2) (H .3) P (k .0) (f .0) (f .1))),
     )
 
 add-requires : tie.Need-add-requires
 add-requires c κs =
-    let s = c .before .before .before .before .before .before .before .before .before .before .before .before .before in
-    (s .pre .ready .said .sized, c .before .before .before .before .before .before .before .before .spot-of .ensures .inside, omega (arith, c .before .if2 .taken))
+    let s = c .before .before .before .before .before .before .before .before .before .before .before .before in
+    (s .pre .ready .said .sized, c .before .before .before .before .before .before .home-of .ensures .inside, c .before .before .before .before .spot-in .ensures .0, omega (arith, c .if2 .taken))
 
 returns-2 : tie.Need-returns-2
 returns-2 c =
-    let at-with-entry = c .before .before .before .before in let at-if1 = at-with-entry .before .before in let at-spot-of = at-if1 .before .before .before in let s = at-spot-of .before .before .before .before .before in
-    let xs = s .args .file .now in let ys = at-if1 .before .before .slot-at .result .now in let r = at-spot-of .spot-of .result in
-    let n = s .args .name .now in
-    let v = keyValue (at-spot-of .before .key-at .result) in (
+    let s = c .before .before .before .before .before .before .before .before .before .before .before .before .before in let a = s .args in let key = c .before .before .before .before .before .before .before .before .key-at in let home = c .before .before .before .before .before .before .before .home-of in let slot = c .before .before .before .before .before .before .slot-at in let spot = c .before .before .before .before .before .spot-in in
+    let n = a .name .now in let y = a .checked .size .layout in (
       c .add .ensures .0,
       (λ fs e g.
-          let q = key-whole n v g (at-spot-of .before .key-at .ensures) in
+          let q = key-whole n (keyValue (key .result)) g (key .ensures) in
           let S = ready-sound (s .pre .ready) e in
-          let p = at-spot-of .spot-of .ensures .right fs e n g q in
-          let f = test-lost xs e S p ys (at-if1 .before .before .slot-at .ensures .0) v g q (sym (at-if1 .before .is-held .ensures) ∙ at-if1 .if1 .left) in
-          let z = at-with-entry .with-entry .ensures ∙ ap (λ (x : List ℕ). padded 544 (withEntry x (r .count) (r .place) n (s .args .value))) (rest 64 ys) in
-          c .add .ensures .1 fs e S n (s .args .value) g p f (entries-new xs e S p ys (at-if1 .before .before .slot-at .ensures .0) (s .args .value) (at-with-entry .with-entry .result) f z)),
+          let H = home .ensures .right fs e g in
+          let R = subst (λ (z : List ℕ). ReadAs y z (H .0) (H .1) (H .2)) (sym (slot .ensures .0)) (slot-read (a .file .now) e S (home .result) (H .3 .is)) in
+          let P = spot .ensures .1 (H .0) (H .1) (H .2) R n g q in
+          let f = spot-lost P (c .before .before .before .before .if1 .left) in
+          let k = value-fits y (record { value = a .value; run = 0 }) (a .value) refl refl (search needs) in
+          subst (PutAsked (c .add .result) (a .trie) y fs n) (k .1) (c .add .ensures .1 fs e S g (H .0) (H .1) (H .2) (H .3) P (k .0) f)),
     )
 
 returns-3 : tie.Need-returns-3
 returns-3 c =
-    let at-with-entry = c .before .before .before .before in let at-if1 = at-with-entry .before .before in let at-spot-of = at-if1 .before .before .before in let s = at-spot-of .before .before .before .before .before in
-    let xs = s .args .file .now in let ys = at-if1 .before .before .slot-at .result .now in let r = at-spot-of .spot-of .result in
-    let n = s .args .name .now in
-    let v = keyValue (at-spot-of .before .key-at .result) in (
+    let s = c .before .before .before .before .before .before .before .before .before .before .before .before .before .before .before in let a = s .args in let key = c .before .before .before .before .before .before .before .before .before .before .key-at in let home = c .before .before .before .before .before .before .before .before .before .home-of in let slot = c .before .before .before .before .before .before .before .before .slot-at in let spot = c .before .before .before .before .before .before .before .spot-in in
+    let row = c .before .before .overfull in let n = a .name .now in let y = a .checked .size .layout in (
       c .split .ensures .0,
       (λ fs e g.
-          let q = key-whole n v g (at-spot-of .before .key-at .ensures) in
+          let q = key-whole n (keyValue (key .result)) g (key .ensures) in
           let S = ready-sound (s .pre .ready) e in
-          let p = at-spot-of .spot-of .ensures .right fs e n g q in
-          let f = test-lost xs e S p ys (at-if1 .before .before .slot-at .ensures .0) v g q (sym (at-if1 .before .is-held .ensures) ∙ at-if1 .if1 .left) in
-          let z = at-with-entry .with-entry .ensures ∙ ap (λ (x : List ℕ). padded 544 (withEntry x (r .count) (r .place) n (s .args .value))) (rest 64 ys) in
-          let d : length (p .entries) ≡ s .args .checked .size .b = omega (arith, p .counted, at-spot-of .spot-of .ensures .inside .count-most, c .before .before .if2 .left) in
-          c .split .ensures .1 fs e n (s .args .value) g (p .low) (p .up) (p .entries) (p .is) (p .slot-is) (p .above) (p .within) f d
-          (entries-new xs e S p ys (at-if1 .before .before .slot-at .ensures .0) (s .args .value) (at-with-entry .with-entry .result) f z)),
+          let H = home .ensures .right fs e g in
+          let R = subst (λ (z : List ℕ). ReadAs y z (H .0) (H .1) (H .2)) (sym (slot .ensures .0)) (slot-read (a .file .now) e S (home .result) (H .3 .is)) in
+          let P = spot .ensures .1 (H .0) (H .1) (H .2) R n g q in
+          let f = spot-lost P (c .before .before .before .before .before .before .if1 .left) in
+          let k = value-fits y (record { value = a .value; run = 0 }) (a .value) refl refl (search needs) in
+          let d : length (H .2) ≡ y .b = omega (arith, P .counted, spot .ensures .0 .count-most, c .before .before .before .if2 .left) in
+          let w = row .ensures (H .0) (H .1) (H .2) R g P f (k .0) in
+          subst (PutAsked (c .split .result) (a .trie) y fs n) (k .1)
+          (c .split .ensures .1 fs e n _ (H .0) (H .1) (H .2) (record { legal = g; home = H .3; new = f; counted = d; row-is = w .0 }))),
     )
 
 pub put-plan-spec : {M : Type 1} → Rattle.changing.proofs.put_plan.Statement.statement M
 put-plan-spec =
     tie.close (tie.spec (λ c κs. search needs) (λ c κs. search needs) (λ c κs. search needs) (λ c κs. search needs) replace-requires returns
-    (λ c. search needs) (λ c. search needs) (λ c. search needs) (λ c κs. search needs) add-requires returns-2 (λ c κs. search needs) returns-3)
+    add-requires returns-2 (λ c κs. search needs) (λ c κs. search needs) returns-3)

@@ -1,8 +1,7 @@
 -- `remove` meets its contract: what is refused, and what is left of a plan that is committed.
 use Rattle.model.proofs.Prelude.{_∙_, arith, needs, sym}
-use Rattle.model.specs.Names.{filled}
 use Rattle.model.proofs.Names.{legalName-legal}
-use Rattle.checking.proofs.Laws.{filled-value, fine-agreed, naming-illegal, naming-legal, refused-looked}
+use Rattle.checking.proofs.Laws.{fine-agreed, naming-illegal, naming-legal, refused-looked}
 use Rattle.changing.proofs.Removing.{file-refused, limit-refused, name-refused, remove-fine, remove-none, remove-some, remove-stopped}
 use Rattle.changing.proofs.remove.Tie as tie
 
@@ -17,31 +16,29 @@ returns-2 c =
     name-refused (a .file .now) (a .trie) (a .name .now) (a .limit) (omega (arith, c .before .before .before .if1 .left)) (naming-illegal _ (sym (c .enum-told2 .given .1) ∙ c .before .before .named .ensures))
 
 remove-plan-requires : tie.Need-remove-plan-requires
-remove-plan-requires c κs = fine-agreed (c .before .before .before .before .before .before .checks-of .result) (c .before .before .before .before .enum-told3 .given .1) (c .before .before .before .before .before .before .checks-of .ensures) .ready
+remove-plan-requires c κs = fine-agreed (c .before .before .before .before .before .checks-of .result) (c .before .before .before .enum-told3 .given .1) (c .before .before .before .before .before .checks-of .ensures) .ready
 
 commit-requires : tie.Need-commit-requires
 commit-requires c κs =
-    let A = fine-agreed (c .before .before .before .before .before .before .before .before .checks-of .result) (c .before .before .before .before .before .before .enum-told3 .given .1) (c .before .before .before .before .before .before .before .before .checks-of .ensures) in
+    let A = fine-agreed (c .before .before .before .before .before .before .before .checks-of .result) (c .before .before .before .before .before .enum-told3 .given .1) (c .before .before .before .before .before .before .before .checks-of .ensures) in
     (A .ready .said .sized, c .before .remove-plan .ensures .0)
 
 returns-3 : tie.Need-returns-3
 returns-3 c =
-    let at-commit = c .before .before .before in let at-filled = at-commit .before .before .before .before .before .before in let at-checks-of = at-filled .before .before .before in let a = at-checks-of .before .before .before .before .before .before .before .before .args in
+    let at-commit = c .before .before .before in let at-filled = at-commit .before .before .before .before .before in let at-checks-of = at-filled .before .before .before in let a = at-checks-of .before .before .before .before .before .before .before .before .args in
     let A = fine-agreed (at-checks-of .checks-of .result) (at-filled .before .enum-told3 .given .1) (at-checks-of .checks-of .ensures) in
     let l = naming-legal _ (sym (at-checks-of .before .before .enum-told .given .1) ∙ at-checks-of .before .before .before .before .named .ensures) in
-    let q = filled-value (a .name .now) _ _ (at-filled .filled .ensures) (at-commit .before .before .before .key-at .ensures) in
-    let p = at-commit .before .before .remove-plan .ensures .1 (A .ready .slots) (A .ready .is) (filled (a .name .now)) (legalName-legal (a .name .now) l) q in
-    remove-fine (a .file .now) (a .trie) (a .name .now) (a .limit) _ _ (at-checks-of .checks-of .result .size .b) (A .ready .slots) (omega (arith, at-checks-of .before .before .before .before .before .if1 .left)) l (A .looked)
+    let p = rw (at-filled .filled .ensures) at (at-commit .before .before .remove-plan .ensures .1) (A .ready .slots) (A .ready .is) (legalName-legal (a .name .now) l) in
+    remove-fine (a .file .now) (a .trie) (a .name .now) (a .limit) _ _ (at-checks-of .checks-of .result .size .layout) (A .ready .slots) (omega (arith, at-checks-of .before .before .before .before .before .if1 .left)) l (A .looked)
     (remove-stopped (a .file .now) _ _ (a .limit) (at-commit .before .before .remove-plan .result) (at-commit .commit .result) (at-commit .commit .ensures) _ p (c .if2 .taken))
 
 returns-4 : tie.Need-returns-4
 returns-4 c =
-    let at-commit = c .before .before .before .before .before in let at-filled = at-commit .before .before .before .before .before .before in let at-checks-of = at-filled .before .before .before in let a = at-checks-of .before .before .before .before .before .before .before .before .args in
+    let at-commit = c .before .before .before .before .before in let at-filled = at-commit .before .before .before .before .before in let at-checks-of = at-filled .before .before .before in let a = at-checks-of .before .before .before .before .before .before .before .before .args in
     let A = fine-agreed (at-checks-of .checks-of .result) (at-filled .before .enum-told3 .given .1) (at-checks-of .checks-of .ensures) in
     let l = naming-legal _ (sym (at-checks-of .before .before .enum-told .given .1) ∙ at-checks-of .before .before .before .before .named .ensures) in
-    let q = filled-value (a .name .now) _ _ (at-filled .filled .ensures) (at-commit .before .before .before .key-at .ensures) in
-    let p = at-commit .before .before .remove-plan .ensures .1 (A .ready .slots) (A .ready .is) (filled (a .name .now)) (legalName-legal (a .name .now) l) q in
-    remove-fine (a .file .now) (a .trie) (a .name .now) (a .limit) _ _ (at-checks-of .checks-of .result .size .b) (A .ready .slots) (omega (arith, at-checks-of .before .before .before .before .before .if1 .left)) l (A .looked)
+    let p = rw (at-filled .filled .ensures) at (at-commit .before .before .remove-plan .ensures .1) (A .ready .slots) (A .ready .is) (legalName-legal (a .name .now) l) in
+    remove-fine (a .file .now) (a .trie) (a .name .now) (a .limit) _ _ (at-checks-of .checks-of .result .size .layout) (A .ready .slots) (omega (arith, at-checks-of .before .before .before .before .before .if1 .left)) l (A .looked)
     (remove-none (a .file .now) _ _ (a .limit) (at-commit .before .before .remove-plan .result) (at-commit .commit .result) (at-commit .commit .ensures) _ p (c .before .before .if2 .left) (c .if3 .taken))
 
 returns-5 : tie.Need-returns-5
@@ -52,16 +49,15 @@ returns-5 c =
 
 returns-6 : tie.Need-returns-6
 returns-6 c =
-    let at-commit = c .before .before .before .before .before in let at-filled = at-commit .before .before .before .before .before .before in let at-checks-of = at-filled .before .before .before in let a = at-checks-of .before .before .before .before .before .before .before .before .args in
+    let at-commit = c .before .before .before .before .before in let at-filled = at-commit .before .before .before .before .before in let at-checks-of = at-filled .before .before .before in let a = at-checks-of .before .before .before .before .before .before .before .before .args in
     let A = fine-agreed (at-checks-of .checks-of .result) (at-filled .before .enum-told3 .given .1) (at-checks-of .checks-of .ensures) in
     let l = naming-legal _ (sym (at-checks-of .before .before .enum-told .given .1) ∙ at-checks-of .before .before .before .before .named .ensures) in
-    let q = filled-value (a .name .now) _ _ (at-filled .filled .ensures) (at-commit .before .before .before .key-at .ensures) in
-    let p = at-commit .before .before .remove-plan .ensures .1 (A .ready .slots) (A .ready .is) (filled (a .name .now)) (legalName-legal (a .name .now) l) q in
-    remove-fine (a .file .now) (a .trie) (a .name .now) (a .limit) _ _ (at-checks-of .checks-of .result .size .b) (A .ready .slots) (omega (arith, at-checks-of .before .before .before .before .before .if1 .left)) l (A .looked)
+    let p = rw (at-filled .filled .ensures) at (at-commit .before .before .remove-plan .ensures .1) (A .ready .slots) (A .ready .is) (legalName-legal (a .name .now) l) in
+    remove-fine (a .file .now) (a .trie) (a .name .now) (a .limit) _ _ (at-checks-of .checks-of .result .size .layout) (A .ready .slots) (omega (arith, at-checks-of .before .before .before .before .before .if1 .left)) l (A .looked)
     (remove-some (a .file .now) _ _ (a .limit) (at-commit .before .before .remove-plan .result) (at-commit .commit .result) (at-commit .commit .ensures) _ p (c .before .before .if2 .left) (omega (arith, c .if3 .left)))
 
 pub remove-spec : {M : Type 1} → Rattle.changing.proofs.remove.Statement.statement M
 remove-spec =
     tie.close (tie.spec returns (λ c κs. search needs) (λ c. search needs) (λ c. search needs) returns-2 (λ c κs. search needs) (λ c. search needs)
-    (λ c. search needs) (λ c κs. search needs) (λ c. search needs) (λ c κs. search needs) remove-plan-requires commit-requires (λ c. search needs)
-    returns-3 (λ c. search needs) returns-4 (λ c. search needs) returns-5 (λ c. search needs) returns-6)
+    (λ c. search needs) (λ c κs. search needs) remove-plan-requires commit-requires (λ c. search needs) returns-3 (λ c. search needs) returns-4
+    (λ c. search needs) returns-5 (λ c. search needs) returns-6)

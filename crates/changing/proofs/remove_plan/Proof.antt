@@ -1,44 +1,45 @@
 -- `remove_plan` meets its contract: one store, of the slot without the name; none where it is absent.
-use Rattle.model.proofs.Prelude.{_∙_, needs, not-false, not-true, refl, sym}
+use Rattle.model.proofs.Prelude.{List, needs, not-false, not-true, refl, subst, sym, ℕ}
 use Rattle.digits.specs.Keys.{keyValue}
-use Rattle.changing.proofs.Spots.{fits-none, fits-one, held-below, lessened-is, ready-sound, test-held, test-lost}
+use Rattle.bucket.specs.Forms.{ReadAs}
+use Rattle.checking.proofs.Laws.{key-whole}
+use Rattle.changing.proofs.Homes.{fits-none, fits-one, ready-sound, slot-read, spot-held, spot-lost}
 use Rattle.changing.proofs.Removing.{remove-absent, remove-held}
 use Rattle.changing.proofs.remove_plan.Tie as tie
 
 returns : tie.Need-returns
 returns c =
-    let at-is-held = c .before .before in let s = at-is-held .before .before .before .before .before in let xs = s .args .file .now in
-    let ys = at-is-held .before .slot-at .result .now in
-    let t = sym (at-is-held .is-held .ensures) ∙ not-true (at-is-held .is-held .result) (c .before .if1 .taken) in (
-      fits-none (c .no-store .result) (c .no-store .result) (s .args .checked .size) refl (c .no-store .ensures) (s .pre .said .sized .legal),
-      (λ fs e n g q.
-          let p = at-is-held .before .before .spot-of .ensures .right fs e n g q in
-          remove-absent (s .args .checked .size .b) p (c .no-store .result) (test-lost xs e (ready-sound (s .pre) e) p ys (at-is-held .before .slot-at .ensures .0) (keyValue (s .args .name)) g q t) (c .no-store .ensures .0)),
+    let s = c .before .before .before .before .before .before .before .before .before .before in let a = s .args in let n = a .name .now in let key = c .before .before .before .before .before .before .key-at in let home = c .before .before .before .before .before .home-of in let slot = c .before .before .before .before .slot-at in let spot = c .before .before .before .spot-in in
+    let y = a .checked .size .layout in (
+      fits-none (c .no-store .result) (c .no-store .result) (a .checked .size) refl (c .no-store .ensures) (s .pre .said .sized .legal),
+      (λ fs e g.
+          let q = key-whole n (keyValue (key .result)) g (key .ensures) in
+          let H = home .ensures .right fs e g in
+          let R = subst (λ (z : List ℕ). ReadAs y z (H .0) (H .1) (H .2)) (sym (slot .ensures .0)) (slot-read (a .file .now) e (ready-sound (s .pre) e) (home .result) (H .3 .is)) in
+          let P = spot .ensures .1 (H .0) (H .1) (H .2) R n g q in
+          remove-absent y (H .3) (c .no-store .result) (spot-lost P (not-true (spot .result .held) (c .before .if1 .taken))) (c .no-store .ensures .0)),
     )
 
 lessened-requires : tie.Need-lessened-requires
 lessened-requires c κs =
-    let at-slot-at = c .before .before in let s = at-slot-at .before .before .before .before in
-    let r = at-slot-at .before .spot-of .result in
-    let t = sym (c .before .is-held .ensures) ∙ not-false (c .before .is-held .result) (c .if1 .left) in
-    (at-slot-at .slot-at .ensures .1, s .pre .said .sized .legal .b-most, at-slot-at .before .spot-of .ensures .inside .count-most, held-below (at-slot-at .slot-at .result .now) (r .count) (r .place) (keyValue (s .args .name)) t)
+    let slot = c .before .before .before .slot-at in let spot = c .before .before .spot-in in
+    (slot .ensures .1, spot .ensures .0, spot .ensures .0 .held-there (not-false (spot .result .held) (c .if1 .left)))
 
 returns-2 : tie.Need-returns-2
 returns-2 c =
-    let at-is-held = c .before .before .before .before in let s = at-is-held .before .before .before .before .before in let xs = s .args .file .now in
-    let ys = at-is-held .before .slot-at .result .now in let zs = c .before .before .lessened .result in
-    let i = at-is-held .before .slot-at .ensures .0 in let r = at-is-held .before .before .spot-of .result in
-    let t = sym (at-is-held .is-held .ensures) ∙ not-false (at-is-held .is-held .result) (c .before .before .before .if1 .left) in (
-      fits-one (c .one-store .result) (c .one-store .result) (r .slot) zs (s .args .checked .size) refl (c .one-store .ensures) (at-is-held .before .before .spot-of .ensures .inside .slot-inside) (s .pre .said .sized .legal),
-      (λ fs e n g q.
-          let p = at-is-held .before .before .spot-of .ensures .right fs e n g q in
-          let S = ready-sound (s .pre) e in
-          let h = test-held xs e S p ys i (keyValue (s .args .name)) g q t in
-          let z = lessened-is xs e S p ys i (s .pre .said .sized .legal .b-most) zs (h .1 .0) (h .1 .1) (c .before .before .lessened .ensures) in
-          remove-held (s .args .checked .size .b) p (c .one-store .result) zs (h .1 .0) (h .1 .1) z (c .one-store .ensures)),
+    let s = c .before .before .before .before .before .before .before .before .before .before .before .before in let a = s .args in let n = a .name .now in let key = c .before .before .before .before .before .before .before .before .key-at in let home = c .before .before .before .before .before .before .before .home-of in let slot = c .before .before .before .before .before .before .slot-at in let spot = c .before .before .before .before .before .spot-in in
+    let new = c .before .before .lessened in let o = c .one-store in let y = a .checked .size .layout in (
+      fits-one (o .result) (o .result) (home .result) (new .result) (a .checked .size) refl (o .ensures) (home .ensures .inside) (s .pre .said .sized .legal),
+      (λ fs e g.
+          let q = key-whole n (keyValue (key .result)) g (key .ensures) in
+          let H = home .ensures .right fs e g in
+          let R = subst (λ (z : List ℕ). ReadAs y z (H .0) (H .1) (H .2)) (sym (slot .ensures .0)) (slot-read (a .file .now) e (ready-sound (s .pre) e) (home .result) (H .3 .is)) in
+          let P = spot .ensures .1 (H .0) (H .1) (H .2) R n g q in
+          let f = spot-held P (not-false (spot .result .held) (c .before .before .before .if1 .left)) in
+          remove-held y (H .3) (o .result) (new .result) (f .0) (f .1) (new .ensures (H .0) (H .1) (H .2) R n g P (f .0) (f .1)) (o .ensures)),
     )
 
 pub remove-plan-spec : {M : Type 1} → Rattle.changing.proofs.remove_plan.Statement.statement M
 remove-plan-spec =
-    tie.close (tie.spec (λ c κs. search needs) (λ c κs. search needs) (λ c κs. search needs) (λ c κs. search needs) returns lessened-requires
+    tie.close (tie.spec (λ c κs. search needs) (λ c κs. search needs) (λ c κs. search needs) (λ c κs. search needs) (λ c κs. search needs) returns lessened-requires
     (λ c κs. search needs) returns-2)

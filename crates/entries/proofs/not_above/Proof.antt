@@ -1,41 +1,76 @@
 -- `entries::not_above` meets its contract.
-use Rattle.model.proofs.Prelude.{_*_, _+_, _-_, _∙_, _≡_, _≤_, ap, arith, drop, false, ltb, needs, sym, take, true, ℕ}
+use Rattle.model.proofs.Prelude.{_*_, _-_, _∙_, _≡_, _≤_, ap, arith, drop, false, ltb, needs, not-false, not-true, refl, sym, take, true, ℕ}
 use Rattle.digits.specs.Keys.{keyValue, value}
 use Rattle.entries.specs.Rows.{notAbove, values}
-use Rattle.entries.proofs.Steps.{notAbove-end, notAbove-last, notAbove-next, notAbove-start}
+use Rattle.entries.proofs.Searches.{notAbove-found, notAbove-less, notAbove-none}
 use Rattle.entries.proofs.not_above.Tie as tie
 
 abbrev Inv-loop : tie.InvT-loop
-Inv-loop entries count string i₀ i = (i ≤ count) × (notAbove (keyValue string) (values count entries) ≡ i + notAbove (keyValue string) (values (count - i) (drop (32 * i) entries)))
+Inv-loop entries e count string n₀ n = (n ≤ count) × (notAbove (keyValue string) (values e count entries) ≡ notAbove (keyValue string) (values e n entries))
 
 abbrev μ-loop : tie.MeasureT-loop
-μ-loop entries count string i₀ i = count - i
+μ-loop entries e count string n₀ n = n
 
 loop-holds : tie.Need-loop-holds Inv-loop μ-loop
-loop-holds c =
-    let a = c .before .args in
-    (omega arith, notAbove-start (a .entries .now) (a .count) (keyValue (a .string)))
+loop-holds c = (omega arith, refl)
+
+sub-whole-at : tie.Need-sub-whole-at Inv-loop μ-loop
+sub-whole-at c = search needs
+
+whole-at-requires : tie.Need-whole-at-requires Inv-loop μ-loop
+whole-at-requires c κs = search needs
+
+key-at-requires : tie.Need-key-at-requires Inv-loop μ-loop
+key-at-requires c κs = search needs
+
+is-below-requires : tie.Need-is-below-requires Inv-loop μ-loop
+is-below-requires c κs = search needs
 
 returns : tie.Need-returns Inv-loop μ-loop
 returns c =
-    let l = c .before .before .before .before in let a = l .before .before .args in let xs = a .entries .now in
+    let l = c .before .before .before .before .before in
+    let a = l .before .before .args in
+    let xs = a .entries .now in
     let v = keyValue (a .string) in
-    let t : ltb v (value (take 24 (drop (32 * l .loop .i) xs))) ≡ true = ap (λ (w : ℕ). ltb v w) (sym (c .before .before .key-at .ensures)) ∙ sym (c .before .is-below .ensures) ∙ c .if1 .taken in
-    (omega arith, sym (l .loop .inv .1 ∙ notAbove-last xs (a .count) (l .loop .i) (omega arith) v t))
+    let k : keyValue (c .before .before .key-at .result) ≡ value (take 24 (drop (a .e * (l .loop .n - 1)) xs)) = rw (c .before .before .before .whole-at .ensures .is) at (c .before .before .key-at .ensures) in
+    let t : ltb v (value (take 24 (drop (a .e * (l .loop .n - 1)) xs))) ≡ false = ap (λ (w : ℕ). ltb v w) (sym k) ∙ sym (c .before .is-below .ensures) ∙ not-true (c .before .is-below .result) (c .if1 .taken) in
+    (omega arith, sym (l .loop .inv .1 ∙ notAbove-found (a .e) (l .loop .n) (l .loop .n - 1) xs v (omega arith) t))
+
+sub-n : tie.Need-sub-n Inv-loop μ-loop
+sub-n c = search needs
+
+loop-less : tie.Need-loop-less Inv-loop μ-loop
+loop-less c = search needs
 
 loop-again : tie.Need-loop-again Inv-loop μ-loop
 loop-again c =
-    let l = c .before .before .before .before in let a = l .before .before .args in let xs = a .entries .now in
+    let l = c .before .before .before .before .before in
+    let a = l .before .before .args in
+    let xs = a .entries .now in
     let v = keyValue (a .string) in
-    let t : ltb v (value (take 24 (drop (32 * l .loop .i) xs))) ≡ false = ap (λ (w : ℕ). ltb v w) (sym (c .before .before .key-at .ensures)) ∙ sym (c .before .is-below .ensures) ∙ c .if1 .left in
-    (omega arith, l .loop .inv .1 ∙ notAbove-next xs (a .count) (l .loop .i) (omega arith) v t)
+    let k : keyValue (c .before .before .key-at .result) ≡ value (take 24 (drop (a .e * (l .loop .n - 1)) xs)) = rw (c .before .before .before .whole-at .ensures .is) at (c .before .before .key-at .ensures) in
+    let t : ltb v (value (take 24 (drop (a .e * (l .loop .n - 1)) xs))) ≡ true = ap (λ (w : ℕ). ltb v w) (sym k) ∙ sym (c .before .is-below .ensures) ∙ not-false (c .before .is-below .result) (c .if1 .left) in
+    (omega arith, l .loop .inv .1 ∙ notAbove-less (a .e) (l .loop .n) (l .loop .n - 1) xs v (omega arith) t)
 
 returns-2 : tie.Need-returns-2 Inv-loop μ-loop
 returns-2 c =
-    let l = c .before in let a = l .before .before .args in
-    (omega arith, sym (l .loop .inv .1 ∙ notAbove-end (drop (32 * l .loop .i) (a .entries .now)) (a .count) (l .loop .i) (omega arith) (keyValue (a .string)) (omega arith)))
+    let l = c .before in
+    let a = l .before .before .args in
+    (omega arith, sym (l .loop .inv .1 ∙ notAbove-none (a .e) (l .loop .n) (a .entries .now) (keyValue (a .string)) (omega arith)))
 
 pub not-above-spec : {M : Type 1} → Rattle.entries.proofs.not_above.Statement.statement M
 not-above-spec =
-    tie.close (tie.spec Inv-loop μ-loop loop-holds (λ c. search needs) (λ c κs. search needs) (λ c κs. search needs) returns (λ c. search needs)
-    (λ c. search needs) loop-again returns-2)
+    tie.close
+    (tie.spec
+    Inv-loop
+    μ-loop
+    loop-holds
+    sub-whole-at
+    whole-at-requires
+    key-at-requires
+    is-below-requires
+    returns
+    sub-n
+    loop-less
+    loop-again
+    returns-2)

@@ -10,12 +10,12 @@ returns-2 c =
 
 returns-3 : tie.Need-returns-3
 returns-3 c =
-    let m = c .before .before .before .before .before in
+    let m = c .before .before .before .before in
     told (m .before .before .before .before .args .file .now) (c .sizes .result) _ _
     (sym (m .before .is-marked .ensures) ∙ not-false (m .before .is-marked .result) (m .if2 .left))
-    (c .before .before .before .usize-of-u8 .ensures .0) (c .before .usize-of-u82 .ensures .0) (c .sizes .ensures)
+    (c .before .before .before .layout-of .ensures) (c .before .usize-of-u8 .ensures .0) (c .sizes .ensures)
 
 pub header-of-spec : {M : Type 1} → Rattle.file.proofs.header_of.Statement.statement M
 header-of-spec =
-    tie.close (tie.spec (λ c. too-short (c .before .before .args .file .now) (omega arith)) (λ c κs. search needs) returns-2 (λ c. search needs)
-    (λ c κs. search needs) (λ c. search needs) (λ c κs. search needs) (λ c κs. search needs) returns-3)
+    tie.close (tie.spec (λ c. too-short (c .before .before .args .file .now) (omega arith)) (λ c κs. search needs) returns-2 (λ c κs. search needs)
+    (λ c. search needs) (λ c κs. search needs) (λ c κs. search needs) returns-3)

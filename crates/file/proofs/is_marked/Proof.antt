@@ -17,19 +17,12 @@ unfolding headerBytes
 returns-3 c = sym (not-marked (c .before .before .before .before .before .before .before .args .file .now) 2 _ _ (omega arith) refl (c .if3 .taken))
 
 returns-4 : tie.Need-returns-4
-unfolding headerBytes
-returns-4 c = sym (not-marked (c .before .before .before .before .before .before .before .before .before .args .file .now) 3 _ _ (omega arith) refl (c .if4 .taken))
-
-returns-5 : tie.Need-returns-5
-unfolding headerBytes
-returns-5 c = sym (not-marked (c .before .before .before .before .before .before .before .before .before .before .before .args .file .now) 4 _ _ (omega arith) refl (c .if5 .taken))
-
-returns-6 : tie.Need-returns-6
-returns-6 c =
-    let at-if3 = c .before .before .before .before .before .before in let s = at-if3 .before .before .before .before .before .before .before in
-    c .is-zero .ensures ∙ marked-last (s .args .file .now) (s .pre) (at-if3 .before .before .before .before .if1 .left) (at-if3 .before .before .if2 .left) (at-if3 .if3 .left) (c .before .before .before .before .if4 .left) (c .before .before .if5 .left)
+returns-4 c =
+    let s = c .before .before .before .before .before .before .before .before .before in
+    let at-if1 = c .before .before .before .before .before .before in
+    c .is-zero .ensures ∙ marked-last (s .args .file .now) (s .pre) (at-if1 .if1 .left) (c .before .before .before .before .if2 .left) (c .before .before .if3 .left) (omega (arith, at-if1 .before .before .shared-slice-known .given 3))
 
 pub is-marked-spec : {M : Type 1} → Rattle.file.proofs.is_marked.Statement.statement M
 is-marked-spec =
-    tie.close (tie.spec (λ c. search needs) returns (λ c. search needs) returns-2 (λ c. search needs) returns-3 (λ c. search needs) returns-4
-    (λ c. search needs) returns-5 (λ c. search needs) (λ c. search needs) (λ c. search needs) (λ c κs. search needs) returns-6)
+    tie.close (tie.spec (λ c. search needs) returns (λ c. search needs) returns-2 (λ c. search needs) returns-3 (λ c. search needs) (λ c. search needs)
+    (λ c. search needs) (λ c κs. search needs) returns-4)

@@ -1,5 +1,6 @@
 -- `slot_at` meets its contract: slot k lies within the file.
 use Rattle.model.proofs.Prelude.{_*_, _+_, _∙_, arith, needs}
+use Rattle.model.specs.Format.{slotAt, slotSize}
 use Rattle.file.proofs.Laws.{part-is, part-length, room}
 use Rattle.file.proofs.slot_at.Tie as tie
 
@@ -28,10 +29,11 @@ part-result-end c =
     omega arith
 
 returns : tie.Need-returns
+unfolding slotAt slotSize
 returns c =
     let s = c .before .before .before in let n = c .before .slot-size .result in let e = c .before .slot-size .ensures in
     let h = room _ (s .args .k) n (s .args .size) (s .pre .0) (s .pre .1) e in
-    (part-is (s .args .file .now) (s .args .k) n _ e, part-length (s .args .file .now) (16 + s .args .k * n) n (h .slot-end) ∙ e)
+    (part-is (s .args .file .now) (s .args .k) n _ (e .0), (part-length (s .args .file .now) (16 + s .args .k * n) n (h .slot-end) ∙ e .0, s .pre .0 .legal .b-most))
 
 pub slot-at-spec : {M : Type 1} → Rattle.file.proofs.slot_at.Statement.statement M
 slot-at-spec = tie.close (tie.spec (λ c κs. search needs) mul-at add-at add-end (λ c. search needs) (λ c. search needs) part-result-end returns)

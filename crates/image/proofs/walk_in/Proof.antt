@@ -1,6 +1,7 @@
 -- `walk_in` is the walk over the trie of the image: each cell that it meets is read where it stands.
 use Rattle.model.proofs.Prelude.{_*_, _+_, _∙_, ap, arith, needs, sym, ℕ}
-use Rattle.trie.specs.Walks.{Underway, walkOf}
+use Rattle.model.specs.Tries.{walkOf}
+use Rattle.trie.specs.Walks.{Underway}
 use Rattle.trie.proofs.Laws.{before, ends, no-cell}
 use Rattle.image.specs.Images.{cellFrom, trieOf}
 use Rattle.image.proofs.Images.{cell-of}

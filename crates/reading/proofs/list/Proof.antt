@@ -1,8 +1,7 @@
 -- `list` meets its contract: each refusal is the model's, and what passed the checks is listed.
 use Rattle.model.proofs.Prelude.{_∙_, needs, sym}
-use Rattle.model.specs.Names.{filled}
 use Rattle.model.proofs.Names.{legalName-legal}
-use Rattle.checking.proofs.Laws.{filled-value, fine-agreed, naming-illegal, naming-legal, refused-looked}
+use Rattle.checking.proofs.Laws.{fine-agreed, naming-illegal, naming-legal, refused-looked}
 use Rattle.reading.proofs.Listing.{first-illegal, list-fine, list-refused, second-illegal}
 use Rattle.reading.proofs.list.Tie as tie
 
@@ -19,7 +18,7 @@ returns-2 c =
 
 list-checked-requires : tie.Need-list-checked-requires
 list-checked-requires c κs =
-    let at-enum-told5 = c .before .before .before .before .before .before .before in
+    let at-enum-told5 = c .before .before .before .before .before in
     fine-agreed (at-enum-told5 .before .before .checks-of .result) (at-enum-told5 .enum-told5 .given .1) (at-enum-told5 .before .before .checks-of .ensures) .ready
 
 returns-3 : tie.Need-returns-3
@@ -32,7 +31,7 @@ returns-3 c =
 
 returns-4 : tie.Need-returns-4
 returns-4 c =
-    let at-filled2 = c .before .before .before .before .before .before .before .before in
+    let at-filled2 = c .before .before .before .before .before .before in
     let at-checks-of = at-filled2 .before .before .before .before in
     let a = at-checks-of .before .before .before .before .before .before .before .before .before .before .before .args in let low = a .first .now in
     let high = a .second .now in
@@ -40,12 +39,10 @@ returns-4 c =
     let f = naming-legal _ (sym (at-checks-of .before .enum-told3 .given .1) ∙ at-checks-of .before .before .before .named2 .ensures) in
     let A = fine-agreed (at-checks-of .checks-of .result) (at-filled2 .before .before .enum-told5 .given .1) (at-checks-of .checks-of .ensures) in
     list-fine (a .file .now) (a .trie) low high (a .output .now) _ _ e f (A .looked)
-    (c .before .before .list-checked .ensures (A .ready) (filled low) (filled high) (legalName-legal low e) (legalName-legal high f)
-    (filled-value low _ _ (at-filled2 .before .filled .ensures) (c .before .before .before .before .before .before .key-at .ensures)) (filled-value high _ _ (at-filled2 .filled2 .ensures) (c .before .before .before .before .key-at2 .ensures)))
+    (rw (at-filled2 .before .filled .ensures, at-filled2 .filled2 .ensures) at (c .before .before .list-checked .ensures) (A .ready) (legalName-legal low e) (legalName-legal high f))
 
 pub list-spec : {M : Type 1} → Rattle.reading.proofs.list.Statement.statement M
 list-spec =
     tie.close (tie.spec (λ c κs. search needs) (λ c. search needs) (λ c. search needs) returns (λ c κs. search needs) (λ c. search needs)
     (λ c. search needs) returns-2 (λ c κs. search needs) (λ c. search needs) (λ c. search needs) (λ c κs. search needs) (λ c κs. search needs)
-    (λ c. search needs) (λ c κs. search needs) (λ c. search needs) (λ c κs. search needs) list-checked-requires returns-3 (λ c. search needs)
-    returns-4)
+    list-checked-requires returns-3 (λ c. search needs) returns-4)

@@ -1,6 +1,7 @@
 -- `look_up` meets its contract: the walk is the trie's own.
 use Rattle.model.proofs.Prelude.{List, _∙_, needs, subst, ℕ}
-use Rattle.trie.specs.Walks.{Walks, walkOf}
+use Rattle.model.specs.Tries.{walkOf}
+use Rattle.trie.specs.Walks.{Walks}
 use Rattle.reading.proofs.LookingUp.{walked-looked}
 use Rattle.reading.proofs.look_up.Tie as tie
 

@@ -1,7 +1,7 @@
 -- `walk_of` is the definition's walk: whatever the walk under way has met, the rest ends as the whole does.
 use Rattle.model.proofs.Prelude.{ap, arith, needs, refl, sym}
-use Rattle.model.specs.Tries.{at-cell}
-use Rattle.trie.specs.Walks.{Underway, walkOf}
+use Rattle.model.specs.Tries.{at-cell, walkOf}
+use Rattle.trie.specs.Walks.{Underway}
 use Rattle.trie.proofs.Laws.{before, ends, no-cell}
 use Rattle.trie.proofs.walk_of.Tie as tie
 

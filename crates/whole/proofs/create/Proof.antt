@@ -1,24 +1,23 @@
 -- `create` meets its contract.
 use Rattle.model.proofs.Prelude.{needs, refl}
-use Rattle.whole.proofs.Creating.{create-given, fitting-right, fitting-wrong, sizes-refused, version-refused}
+use Rattle.whole.proofs.Creating.{create-given, fitting-right, fitting-wrong, sizes-refused}
 use Rattle.whole.proofs.create.Tie as tie
 
-returns-2 : tie.Need-returns-2
-returns-2 c =
+returns : tie.Need-returns
+returns c =
     let s = c .before .before .before in
-    sizes-refused _ _ _ _ _ (s .before .before .small .ensures) (s .before .small2 .ensures) (c .refused2 .ensures) (fitting-wrong _ _ _ (c .before .enum-told .given .1) (s .sizes .ensures))
+    sizes-refused _ _ _ _ (s .before .before .before .small .ensures) (s .before .before .small2 .ensures) (s .before .small3 .ensures) (c .refused .result) (c .refused .ensures) (fitting-wrong _ _ _ (c .before .enum-told .given .1) (s .sizes .ensures))
 
 create-requires : tie.Need-create-requires
 create-requires c κs = fitting-right (c .before .before .size .given .1) (c .before .before .before .before .sizes .ensures) .0
 
-returns-3 : tie.Need-returns-3
-returns-3 c =
+returns-2 : tie.Need-returns-2
+returns-2 c =
     let s = c .before .before .before .before .before .before .before .before in
     let f = fitting-right (c .before .before .before .before .before .before .size .given .1) (s .sizes .ensures) in
-    create-given _ _ _ _ _ _ _ (s .before .before .before .if1 .left) (s .before .before .small .ensures) (s .before .small2 .ensures) (f .0) (f .1) (f .2) (c .before .before .before .create .ensures) refl (c .without-cells .ensures)
+    create-given _ _ _ _ (s .before .before .before .small .ensures) (s .before .before .small2 .ensures) (s .before .small3 .ensures) _ _ _ (f .0) (f .1) (f .2) (c .before .before .before .create .ensures) refl (c .without-cells .ensures)
 
 pub create-spec : {M : Type 1} → Rattle.whole.proofs.create.Statement.statement M
 create-spec =
-    tie.close (tie.spec (λ c κs. search needs) (λ c. version-refused _ _ _ _ _ (c .refused .ensures) (c .before .if1 .taken)) (λ c κs. search needs)
-    (λ c κs. search needs) (λ c κs. search needs) (λ c. search needs) (λ c. search needs) (λ c κs. search needs) returns-2 create-requires
-    (λ c κs. search needs) (λ c. search needs) returns-3)
+    tie.close (tie.spec (λ c κs. search needs) (λ c κs. search needs) (λ c κs. search needs) (λ c κs. search needs) (λ c. search needs)
+    (λ c. search needs) (λ c κs. search needs) returns create-requires (λ c κs. search needs) (λ c. search needs) returns-2)

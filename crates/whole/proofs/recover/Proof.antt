@@ -15,15 +15,15 @@ survey-of-requires c κs = right-sized _ (c .before .before .size .given .1) (c 
 
 commit-requires : tie.Need-commit-requires
 commit-requires c κs =
-    let at-survey-of = c .before .before .before .before .before in let at-size = at-survey-of .before .before .before in
+    let at-survey-of = c .before .before .before .before in let at-size = at-survey-of .before .before .before in
     let h = right-said (at-size .size .given .1) (at-size .before .before .header-of .ensures) in
-    (h .sized, recover-fits _ 0 _ (surveyed-is (at-survey-of .survey-of .result) h (at-survey-of .survey-of .ensures) (c .before .before .before .enum-told4 .given .1)) h (c .before .one-store .result) (c .before .one-store .ensures) (at-survey-of .survey-of .ensures .inner-inside))
+    (h .sized, recover-fits _ 0 _ (surveyed-is (at-survey-of .survey-of .result) h (at-survey-of .survey-of .ensures) (c .before .before .enum-told4 .given .1)) h (c .before .freeing .result) (c .before .freeing .ensures) (at-survey-of .survey-of .ensures .inner-inside))
 
 returns-3 : tie.Need-returns-3
 returns-3 c =
-    let at-commit = c .before .before .before in let at-survey-of = at-commit .before .before .before .before .before .before in let at-size = at-survey-of .before .before .before in
+    let at-commit = c .before .before .before in let at-survey-of = at-commit .before .before .before .before .before in let at-size = at-survey-of .before .before .before in
     let h = right-said (at-size .size .given .1) (at-size .before .before .header-of .ensures) in
-    recover-stopped _ _ _ (surveyed-is (at-survey-of .survey-of .result) h (at-survey-of .survey-of .ensures) (at-commit .before .before .before .before .enum-told4 .given .1)) h (at-commit .before .before .one-store .result) (at-commit .before .before .one-store .ensures) _ (at-commit .commit .result) (at-commit .commit .ensures) (c .if2 .taken)
+    recover-stopped _ _ _ (surveyed-is (at-survey-of .survey-of .result) h (at-survey-of .survey-of .ensures) (at-commit .before .before .before .enum-told4 .given .1)) h (at-commit .before .before .freeing .result) (at-commit .before .before .freeing .ensures) _ (at-commit .commit .result) (at-commit .commit .ensures) (c .if2 .taken)
 
 returns-4 : tie.Need-returns-4
 returns-4 c =
@@ -39,9 +39,9 @@ returns-5 c =
 
 returns-6 : tie.Need-returns-6
 returns-6 c =
-    let at-commit = c .before .before .before in let at-survey-of = at-commit .before .before .before .before .before .before in let at-size = at-survey-of .before .before .before in
+    let at-commit = c .before .before .before in let at-survey-of = at-commit .before .before .before .before .before in let at-size = at-survey-of .before .before .before in
     let h = right-said (at-size .size .given .1) (at-size .before .before .header-of .ensures) in
-    recover-freed _ _ _ (surveyed-is (at-survey-of .survey-of .result) h (at-survey-of .survey-of .ensures) (at-commit .before .before .before .before .enum-told4 .given .1)) h (at-commit .before .before .one-store .result) (at-commit .before .before .one-store .ensures) _ (at-commit .commit .result) (at-commit .commit .ensures) (omega (arith, at-size .before .before .before .before .if1 .left)) (c .if2 .left)
+    recover-freed _ _ _ (surveyed-is (at-survey-of .survey-of .result) h (at-survey-of .survey-of .ensures) (at-commit .before .before .before .enum-told4 .given .1)) h (at-commit .before .before .freeing .result) (at-commit .before .before .freeing .ensures) _ (at-commit .commit .result) (at-commit .commit .ensures) (omega (arith, at-size .before .before .before .before .if1 .left)) (c .if2 .left)
 
 pub recover-spec : {M : Type 1} → Rattle.whole.proofs.recover.Statement.statement M
 recover-spec =

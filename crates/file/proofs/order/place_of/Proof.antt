@@ -9,7 +9,7 @@ use Rattle.file.proofs.order.place_of.Tie as tie
 abbrev Inv-loop : tie.InvT-loop
 Inv-loop file size order count low high least₀ most₀ least most =
     (least ≤ most) × (most ≤ count)
-    × ((fs : List Slot) → Known (size .b) file fs → Listed fs order count
+    × ((fs : List Slot) → Known (size .layout) file fs → Listed fs order count
     → ((j : ℕ) → suc j ≡ least → stands (keyValue high) (keyValue low) (placed fs order j) ≡ false)
     × (most < count → stands (keyValue high) (keyValue low) (placed fs order most) ≡ true))
 
@@ -28,22 +28,22 @@ loop-again : tie.Need-loop-again Inv-loop μ-loop
 loop-again c =
     let s = c .before .before .before .before .before .before .before .before in let l = c .before .before .before .before .before .before .loop in
     let m = l .least + (l .most - l .least) / 2 in
-    let told : (fs : List Slot) → Known (s .args .size .b) (s .args .file .now) fs → Listed fs (s .args .order .now) (s .args .count)
+    let told : (fs : List Slot) → Known (s .args .size .layout) (s .args .file .now) fs → Listed fs (s .args .order .now) (s .args .count)
     → stands (keyValue (s .args .high)) (keyValue (s .args .low)) (placed fs (s .args .order .now) m) ≡ true =
     λ fs. λ K. λ L.
     let y = place-read K (s .args .order .now) (s .args .count) L m (omega arith) _ (c .before .before .before .usize-of-u8 .ensures .0) _ (c .before .before .slot-at .ensures .0) in
-    sym (c .before .is-before .ensures (s .args .size .b) (placed fs (s .args .order .now) m) (L m (omega arith)) y (K .well (getD (s .args .order .now) m 0))) ∙ c .if1 .taken in
+    sym (c .before .is-before .ensures (s .args .size .layout) (placed fs (s .args .order .now) m) (L m (omega arith)) y (K .well (getD (s .args .order .now) m 0))) ∙ c .if1 .taken in
     (omega arith, omega arith, λ fs. λ K. λ L. (l .inv .2 fs K L .0, λ h. told fs K L))
 
 loop-again-2 : tie.Need-loop-again-2 Inv-loop μ-loop
 loop-again-2 c =
     let s = c .before .before .before .before .before .before .before .before in let l = c .before .before .before .before .before .before .loop in
     let m = l .least + (l .most - l .least) / 2 in
-    let told : (fs : List Slot) → Known (s .args .size .b) (s .args .file .now) fs → Listed fs (s .args .order .now) (s .args .count)
+    let told : (fs : List Slot) → Known (s .args .size .layout) (s .args .file .now) fs → Listed fs (s .args .order .now) (s .args .count)
     → stands (keyValue (s .args .high)) (keyValue (s .args .low)) (placed fs (s .args .order .now) m) ≡ false =
     λ fs. λ K. λ L.
     let y = place-read K (s .args .order .now) (s .args .count) L m (omega arith) _ (c .before .before .before .usize-of-u8 .ensures .0) _ (c .before .before .slot-at .ensures .0) in
-    sym (c .before .is-before .ensures (s .args .size .b) (placed fs (s .args .order .now) m) (L m (omega arith)) y (K .well (getD (s .args .order .now) m 0))) ∙ c .if1 .left in
+    sym (c .before .is-before .ensures (s .args .size .layout) (placed fs (s .args .order .now) m) (L m (omega arith)) y (K .well (getD (s .args .order .now) m 0))) ∙ c .if1 .left in
     (omega arith, omega arith, λ fs. λ K. λ L. (λ j. λ e. subst (λ (n : ℕ). stands (keyValue (s .args .high)) (keyValue (s .args .low)) (placed fs (s .args .order .now) n) ≡ false) (omega arith) (told fs K L), l .inv .2 fs K L .1))
 
 returns : tie.Need-returns Inv-loop μ-loop

@@ -9,7 +9,7 @@ use Rattle.file.proofs.survey.is_chain.Tie as tie
 
 abbrev Inv-loop : tie.InvT-loop
 Inv-loop file size order count end₀ j₀ end j =
-    (j ≤ count) × ((fs : List Slot) → Known (size .b) file fs → Listed fs order count → Ended fs (take count order) j (keyValue end))
+    (j ≤ count) × ((fs : List Slot) → Known (size .layout) file fs → Listed fs order count → Ended fs (take count order) j (keyValue end))
 
 abbrev μ-loop : tie.MeasureT-loop
 μ-loop file size order count end₀ j₀ end j = count - j

@@ -9,7 +9,7 @@ use Rattle.file.proofs.survey.repeated_upper.Tie as tie
 
 abbrev Inv-loop : tie.InvT-loop
 Inv-loop file size order count j₀ j =
-    (1 ≤ j) × ((fs : List Slot) → Known (size .b) file fs → Listed fs order count
+    (1 ≤ j) × ((fs : List Slot) → Known (size .layout) file fs → Listed fs order count
     → (i : ℕ) → suc i < j → suc i < count → upper-of (head (placed fs order i)) ≡ upper-of (head (placed fs order (suc i))) → ⊥)
 
 abbrev μ-loop : tie.MeasureT-loop
@@ -48,7 +48,7 @@ loop-again c =
     let at-high-key = c .before .before .before in let at-slot-at = at-high-key .before .before .before .before in
     let s = at-slot-at .before .before .before .before .before .before in let l = at-slot-at .before .before .before .before .loop in
     let o = s .args .order .now in let n = s .args .count in
-    let now : (fs : List Slot) → Known (s .args .size .b) (s .args .file .now) fs → Listed fs o n
+    let now : (fs : List Slot) → Known (s .args .size .layout) (s .args .file .now) fs → Listed fs o n
     → upper-of (head (placed fs o (l .j - 1))) ≡ upper-of (head (placed fs o (l .j))) → ⊥ =
     λ fs. λ K. λ L. other-upper K o n (omega (arith, s .pre .3)) L (l .j - 1) (l .j) (omega arith) (omega arith)
     (keyValue (at-high-key .high-key .result)) (keyValue (c .before .before .high-key2 .result))

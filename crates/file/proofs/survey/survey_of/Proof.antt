@@ -39,7 +39,7 @@ returns c =
     let y = at-vacancy-of .before .slot-at .ensures in
     let z = vacant-taken _ (sym (c .before .before .before .before .before .enum-told2 .given .1) ∙ at-vacancy-of .vacancy-of .ensures) in
     let h = some-slot _ size (s .pre) .0 in
-    let ill = subst (λ (r : Form). Formed (size .b) (at-vacancy-of .before .slot-at .result .now) r) (c .before .before .enum-told3 .given .1) (c .before .before .before .before .form-of .ensures) in
+    let ill = subst (λ (r : Form). Formed (size .layout) (at-vacancy-of .before .slot-at .result .now) r) (c .before .before .enum-told3 .given .1) (c .before .before .before .before .form-of .ensures) in
     surveyed (c .found .result) _ _ _ (replicate 64 0) _ Bad 0 (c .found .ensures) (below-zeros 64 _ h) (omega arith) h
     (ill-said L (omega arith) (s .pre .legal .slots-most) _ (y .0) (y .1) z ill)
     (ill-order L (omega arith) (s .pre .legal .slots-most) _ (y .0) (y .1) z ill (replicate 64 0) 0)
@@ -61,7 +61,7 @@ loop-again-2 c =
     let L : Laid xs size (suc (l .k - 1)) (l .order) (l .count) (l .used) = subst (λ (n : ℕ). Laid xs size n (l .order) (l .count) (l .used)) (omega arith) (l .inv .3) in
     let y = at-vacancy-of .before .slot-at .ensures in
     let z = vacant-taken _ (sym (at-form-of .before .enum-told2 .given .1) ∙ at-vacancy-of .vacancy-of .ensures) in
-    let W = subst (λ (r : Form). Formed (size .b) (at-vacancy-of .before .slot-at .result .now) r) (c .before .before .before .before .before .before .before .form .given .1) (at-form-of .form-of .ensures) in
+    let W = subst (λ (r : Form). Formed (size .layout) (at-vacancy-of .before .slot-at .result .now) r) (c .before .before .before .before .before .before .before .form .given .1) (at-form-of .form-of .ensures) in
     let n = c .before .insert .ensures in
     let p = c .before .before .before .before .place-of in (
       omega (arith, t, l .inv .0),

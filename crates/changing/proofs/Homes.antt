@@ -1,0 +1,117 @@
+-- The home of a name in a file that is read and sound, what its slot holds, and plans of no store and of one.
+use Rattle.model.proofs.Prelude.{Bool, List, Option, _<_, _^_, _∙_, _≡_, _≤_, ap, arith, clash, false, getD, getD-take, length, nothing, refl, some, subst, sym, take, true, ℕ}
+use Rattle.model.specs.declared.Layout.{Layout}
+use Rattle.model.specs.Order.{Low, Str}
+use Rattle.model.specs.Entries.{Entry, find, insert}
+use Rattle.model.specs.Files.{In, Slot, Sound, free, head, order-of, slot-at, used}
+use Rattle.model.specs.Changes.{holds?}
+use Rattle.model.specs.Format.{Bytes, Sizes, entrySize, readFile, slotAt}
+use Rattle.model.proofs.Files.{first-right, one-range, used-inside, well-parts}
+use Rattle.model.proofs.Format.{contents-readSlot, entry-size, readSlot-readFile}
+use Rattle.entries.specs.declared.Content.{Content}
+use Rattle.entries.specs.Rows.{contentNumber}
+use Rattle.entries.proofs.Contents.{content-fits, contents-find}
+use Rattle.entries.proofs.Parts.{length-held, length-new}
+use Rattle.bucket.specs.Forms.{ReadAs}
+use Rattle.bucket.proofs.Slots.{read-used}
+use Rattle.slots.specs.declared.Spot.{Spot}
+use Rattle.slots.specs.Spots.{Fits, SpotIn, isSome}
+use Rattle.file.specs.declared.Plan.{Plan}
+use Rattle.file.specs.declared.Size.{Size}
+use Rattle.file.specs.Plans.{Fits as PlanFits}
+use Rattle.file.specs.Holders.{Holder, Ordered}
+use Rattle.file.proofs.Readings.{used-read}
+use Rattle.checking.specs.declared.Checked.{Checked}
+use Rattle.checking.specs.Ready.{Ready}
+use Rattle.changing.specs.Homes.{Home}
+
+-- What the checks found is what is read.
+module _ {c : Checked} {xs : List ℕ} {fs : List Slot} (R : Ready c xs) (e : readFile xs ≡ some (c .size .layout, fs)) where
+  same-slots : R .slots ≡ fs
+  same-slots =
+      let f : _≡_ {A = Option (Layout × List Slot)} (some (c .size .layout, R .slots)) (some (c .size .layout, fs)) = sym (R .is) ∙ e in
+      let g : _≡_ {A = Layout × List Slot} (c .size .layout, R .slots) (c .size .layout, fs) = cc in
+      ap (λ (x : Layout × List Slot). x .1) g
+
+  pub ready-sound : Sound (c .size .layout .b) fs
+  ready-sound = subst (Sound (c .size .layout .b)) same-slots (R .sound)
+
+  ready-order : take (c .survey .count) (c .survey .order) ≡ order-of fs
+  ready-order = R .order-is ∙ ap order-of same-slots
+
+  ready-count : c .survey .count ≡ length (order-of fs)
+  ready-count = R .count-is ∙ ap (λ (gs : List Slot). length (order-of gs)) same-slots
+
+  pub ready-ordered : Ordered xs (c .size) (c .survey .order) (c .survey .count) fs
+  ready-ordered = record { is = e; sound = ready-sound; order-is = ready-order; count-is = ready-count }
+
+  -- The slot at the place where the name's range stands in order.
+  pub holder-slot : {n : Str} (r k : ℕ) → Holder fs n r → k ≡ getD (c .survey .order) r 0 → In (head (slot-at fs k)) n
+  holder-slot {n} r k H i =
+      let q : getD (order-of fs) r 0 ≡ k =
+      ap (λ (l : List ℕ). getD l r 0) (sym ready-order) ∙ getD-take (c .survey .count) (c .survey .order) r 0 (omega (arith, H .inside, ready-count)) ∙ sym i in
+      subst (λ (j : ℕ). In (head (slot-at fs j)) n) q (H .range)
+
+-- The slot of a file that is read, as its bytes are read.
+pub slot-read : (xs : List ℕ) {y : Layout} {fs : List Slot} → readFile xs ≡ some (y, fs) → Sound (y .b) fs → (k : ℕ) {l : Low} {u : Str} {es : List Entry}
+    → slot-at fs k ≡ used l u es → ReadAs y (slotAt y k xs) l u es
+slot-read xs {y} {fs} e S k {l} {u} {es} i =
+    (used-read y (slotAt y k xs) (used l u es) tt (readSlot-readFile xs e k (used-inside fs k (rw i tt)) ∙ ap some i), rw i at (S .well k))
+
+-- The one slot whose range holds a name.
+pub home-right : {b : ℕ} {fs : List Slot} → Sound b fs → (k : ℕ) (n : Str) → In (head (slot-at fs k)) n → (l : Low) × (u : Str) × (es : List Entry) × Home k fs n l u es
+home-right {b} {fs} S k n h = go (slot-at fs k) refl h
+  where
+    go : (x : Slot) → slot-at fs k ≡ x → In (head x) n → (l : Low) × (u : Str) × (es : List Entry) × Home k fs n l u es
+    go free f p = absurd (p .0)
+    go (used l u es) f p = (l, u, es, record { slot-is = one-range b S n h (first-right (holds? n) fs k h (λ z. z .0)); is = f; above = p .1; within = p .2 })
+
+-- Whether a name is held, by its spot.
+module _ {s : Spot} {n : Str} {es : List Entry} (P : SpotIn s n es) where
+  pub spot-lost : s .held ≡ false → find n es ≡ nothing
+  unfolding isSome
+  spot-lost t = go (find n es) refl
+    where
+      go : (o : Option ℕ) → find n es ≡ o → o ≡ nothing
+      go nothing f = refl
+      go (some w) f = let z : _≡_ {A = Bool} true false = sym (P .held-is ∙ ap isSome f) ∙ t in clash cc
+
+  pub spot-held : s .held ≡ true → (w : ℕ) × (find n es ≡ some w)
+  unfolding isSome
+  spot-held t = go (find n es) refl
+    where
+      go : (o : Option ℕ) → find n es ≡ o → (w : ℕ) × (find n es ≡ some w)
+      go nothing f = let z : _≡_ {A = Bool} false true = sym (P .held-is ∙ ap isSome f) ∙ t in clash cc
+      go (some w) f = (w, f)
+
+-- How many entries there are then.
+pub held-fits : (y : Layout) (xs : List ℕ) {l : Low} {u : Str} {es : List Entry} → ReadAs y xs l u es → (n : Str) (c w : ℕ) → find n es ≡ some w → length (insert n c es) ≤ y .b
+held-fits y xs R n c w h = let p = well-parts (y .b) (R .1) in omega (arith, length-held n c w (p .3) h, p .4)
+
+pub new-fits : {s : Spot} {n : Str} {es : List Entry} → SpotIn s n es → (c b : ℕ) → find n es ≡ nothing → s .count < b → length (insert n c es) ≤ b
+new-fits {n = n} {es = es} P c b h k = omega (arith, length-new n c es h, P .counted)
+
+-- The content that is replaced, where entries have no run.
+pub old-value : (y : Layout) (xs : List ℕ) {l : Low} {u : Str} {es : List Entry} → Bytes xs → ReadAs y xs l u es → (n : Str) (c : Content) (w : ℕ) → find n es ≡ some w
+    → contentNumber c ≡ w → c .value ≡ w
+unfolding contentNumber entrySize
+old-value y xs {es = es} bytes R n c w f q = omega (arith, q, contents-find (entrySize y) n es w (contents-readSlot y xs bytes (read-used y xs (R .0))) f)
+
+-- A value alone is a content that has room.
+pub value-fits : (y : Layout) (c : Content) (v : ℕ) → c .value ≡ v → c .run ≡ 0 → v < 2 ^ 64 → Fits y c × (contentNumber c ≡ v)
+unfolding contentNumber
+value-fits y c v p q h =
+    (content-fits (entrySize y) c (entry-size y) (omega (arith, p)) (omega (arith, q)) (λ i. q), omega (arith, p, q))
+
+-- What the plans of no store and of one ensure; their slots are the file's.
+abbrev pub NoStore : Plan → Type 0
+NoStore p = (p .stores ≡ 0) × (p .first ≡ 0) × (p .second ≡ 0)
+
+abbrev pub OneStore : Plan → ℕ → List ℕ → Type 0
+OneStore p k bytes = (p .stores ≡ 1) × (p .first ≡ k) × (p .one ≡ bytes) × (p .second ≡ 0)
+
+pub fits-none : (r p : Plan) (size : Size) → r ≡ p → NoStore p → Sizes (size .layout) (size .slots) → PlanFits r size
+fits-none r p size e q l = rw (e, q .1, q .2) (l .slots-least, l .slots-least)
+
+pub fits-one : (r p : Plan) (k : ℕ) (bytes : List ℕ) (size : Size) → r ≡ p → OneStore p k bytes → k < size .slots → Sizes (size .layout) (size .slots) → PlanFits r size
+fits-one r p k bytes size e q h l = rw (e, q .1, q .3) (h, l .slots-least)

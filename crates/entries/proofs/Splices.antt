@@ -1,0 +1,42 @@
+-- The copies of which the code makes a splice.
+use Rattle.model.proofs.Prelude.{List, [], _*_, _++_, _+_, _-_, _∙_, _≡_, _≤_, ap₂, append-assoc, arith, drop, length, length-append, length-drop, length-take-le, paste, refl, replicate, sym, take, ℕ}
+use Rattle.model.specs.Format.{padded}
+use Rattle.entries.specs.Rows.{room, splicedBytes}
+use Rattle.entries.proofs.Padding.{copied, zeros-padded}
+use Rattle.entries.proofs.Products.{part-least, parts-are, rest-is}
+
+module _ (e count i taken : ℕ) (xs middle : List ℕ) (fits : e * count ≤ length xs) (inside : i + taken ≤ count) where
+  abbrev front : List ℕ
+  front = take (e * i) xs
+
+  abbrev back : List ℕ
+  back = take (e * (count - (i + taken))) (drop (e * (i + taken)) xs)
+
+  pub length-front : length front ≡ e * i
+  length-front = length-take-le (e * i) xs (omega (arith, part-least e i count (omega arith)))
+
+  pub length-back : length back ≡ e * (count - (i + taken))
+  length-back =
+      length-take-le (e * (count - (i + taken))) (drop (e * (i + taken)) xs)
+      (omega (arith, length-drop (e * (i + taken)) xs, parts-are e (i + taken) count inside))
+
+  pub length-spliced : length (splicedBytes e xs count i taken middle) + e * taken ≡ e * count + length middle
+  unfolding splicedBytes
+  length-spliced =
+      omega (arith, length-append front (middle ++ back), length-append middle back, length-front, length-back, parts-are e (i + taken) count inside)
+
+  pub splice-copies : (at next end : ℕ) (m₁ m₂ m₃ : List ℕ) → at ≡ e * i → next ≡ e * (i + taken) → end ≡ e * count → e * count ≤ 640 → length middle ≤ 40
+      → m₁ ≡ paste (replicate room 0) 0 (take (at - 0) (drop 0 xs)) (length (take (at - 0) (drop 0 xs)))
+      → m₂ ≡ paste m₁ at middle (length middle)
+      → m₃ ≡ paste m₂ (at + length middle) (take (end - next) (drop next xs)) (length (take (end - next) (drop next xs)))
+      → m₃ ≡ padded room (splicedBytes e xs count i taken middle)
+  unfolding splicedBytes
+  splice-copies at next end m₁ m₂ m₃ a b c most short q₁ q₂ q₃ =
+      let z : at - 0 ≡ e * i = omega arith in
+      let d : end - next ≡ e * (count - (i + taken)) = ap₂ (λ (x y : ℕ). x - y) c b ∙ rest-is e (i + taken) count in
+      let p = parts-are e (i + taken) count inside in
+      let e₁ : m₁ ≡ padded room front = copied 0 [] (take (at - 0) (drop 0 xs)) front (zeros-padded room) refl (rw z) (omega (arith, length-front)) q₁ in
+      let e₂ : m₂ ≡ padded room (front ++ middle) = copied at front middle middle e₁ (length-front ∙ sym a) refl (omega arith) q₂ in
+      let e₃ : m₃ ≡ padded room (front ++ middle ++ back) =
+      copied (at + length middle) (front ++ middle) (take (end - next) (drop next xs)) back e₂ (omega (arith, length-append front middle, length-front)) (rw (d, b)) (omega (arith, length-back)) q₃ in
+      e₃ ∙ simp append-assoc

@@ -1,0 +1,4 @@
+pub mod Written
+pub mod Spots
+pub mod Halves
+pub mod Parts
