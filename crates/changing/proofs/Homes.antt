@@ -5,17 +5,17 @@ use Rattle.model.specs.Order.{Low, Str}
 use Rattle.model.specs.Entries.{Entry, find, insert}
 use Rattle.model.specs.Files.{In, Slot, Sound, free, head, order-of, slot-at, used}
 use Rattle.model.specs.Changes.{holds?}
-use Rattle.model.specs.Format.{Bytes, Sizes, entrySize, readFile, slotAt}
+use Rattle.model.specs.Format.{AreBytes, Sizes, bytes-at-slot, entry-length, read-file}
 use Rattle.model.proofs.Files.{first-right, one-range, used-inside, well-parts}
-use Rattle.model.proofs.Format.{contents-readSlot, entry-size, readSlot-readFile}
+use Rattle.model.proofs.Format.{contents-read-slot, entry-size, read-slot-read-file}
 use Rattle.entries.specs.declared.Content.{Content}
-use Rattle.entries.specs.Rows.{contentNumber}
+use Rattle.entries.specs.Rows.{content-number}
 use Rattle.entries.proofs.Contents.{content-fits, contents-find}
 use Rattle.entries.proofs.Parts.{length-held, length-new}
 use Rattle.bucket.specs.Forms.{ReadAs}
 use Rattle.bucket.proofs.Slots.{read-used}
 use Rattle.slots.specs.declared.Spot.{Spot}
-use Rattle.slots.specs.Spots.{Fits, SpotIn, isSome}
+use Rattle.slots.specs.Spots.{Fits, SpotIn, is-some-value}
 use Rattle.file.specs.declared.Plan.{Plan}
 use Rattle.file.specs.declared.Size.{Size}
 use Rattle.file.specs.Plans.{Fits as PlanFits}
@@ -26,7 +26,7 @@ use Rattle.checking.specs.Ready.{Ready}
 use Rattle.changing.specs.Homes.{Home}
 
 -- What the checks found is what is read.
-module _ {c : Checked} {xs : List ℕ} {fs : List Slot} (R : Ready c xs) (e : readFile xs ≡ some (c .size .layout, fs)) where
+module _ {c : Checked} {xs : List ℕ} {fs : List Slot} (R : Ready c xs) (e : read-file xs ≡ some (c .size .layout, fs)) where
   same-slots : R .slots ≡ fs
   same-slots =
       let f : _≡_ {A = Option (Layout × List Slot)} (some (c .size .layout, R .slots)) (some (c .size .layout, fs)) = sym (R .is) ∙ e in
@@ -53,10 +53,10 @@ module _ {c : Checked} {xs : List ℕ} {fs : List Slot} (R : Ready c xs) (e : re
       subst (λ (j : ℕ). In (head (slot-at fs j)) n) q (H .range)
 
 -- The slot of a file that is read, as its bytes are read.
-pub slot-read : (xs : List ℕ) {y : Layout} {fs : List Slot} → readFile xs ≡ some (y, fs) → Sound (y .b) fs → (k : ℕ) {l : Low} {u : Str} {es : List Entry}
-    → slot-at fs k ≡ used l u es → ReadAs y (slotAt y k xs) l u es
+pub slot-read : (xs : List ℕ) {y : Layout} {fs : List Slot} → read-file xs ≡ some (y, fs) → Sound (y .b) fs → (k : ℕ) {l : Low} {u : Str} {es : List Entry}
+    → slot-at fs k ≡ used l u es → ReadAs y (bytes-at-slot y k xs) l u es
 slot-read xs {y} {fs} e S k {l} {u} {es} i =
-    (used-read y (slotAt y k xs) (used l u es) tt (readSlot-readFile xs e k (used-inside fs k (rw i tt)) ∙ ap some i), rw i at (S .well k))
+    (used-read y (bytes-at-slot y k xs) (used l u es) tt (read-slot-read-file xs e k (used-inside fs k (rw i tt)) ∙ ap some i), rw i at (S .well k))
 
 -- The one slot whose range holds a name.
 pub home-right : {b : ℕ} {fs : List Slot} → Sound b fs → (k : ℕ) (n : Str) → In (head (slot-at fs k)) n → (l : Low) × (u : Str) × (es : List Entry) × Home k fs n l u es
@@ -69,19 +69,19 @@ home-right {b} {fs} S k n h = go (slot-at fs k) refl h
 -- Whether a name is held, by its spot.
 module _ {s : Spot} {n : Str} {es : List Entry} (P : SpotIn s n es) where
   pub spot-lost : s .held ≡ false → find n es ≡ nothing
-  unfolding isSome
+  unfolding is-some-value
   spot-lost t = go (find n es) refl
     where
       go : (o : Option ℕ) → find n es ≡ o → o ≡ nothing
       go nothing f = refl
-      go (some w) f = let z : _≡_ {A = Bool} true false = sym (P .held-is ∙ ap isSome f) ∙ t in clash cc
+      go (some w) f = let z : _≡_ {A = Bool} true false = sym (P .held-is ∙ ap is-some-value f) ∙ t in clash cc
 
   pub spot-held : s .held ≡ true → (w : ℕ) × (find n es ≡ some w)
-  unfolding isSome
+  unfolding is-some-value
   spot-held t = go (find n es) refl
     where
       go : (o : Option ℕ) → find n es ≡ o → (w : ℕ) × (find n es ≡ some w)
-      go nothing f = let z : _≡_ {A = Bool} false true = sym (P .held-is ∙ ap isSome f) ∙ t in clash cc
+      go nothing f = let z : _≡_ {A = Bool} false true = sym (P .held-is ∙ ap is-some-value f) ∙ t in clash cc
       go (some w) f = (w, f)
 
 -- How many entries there are then.
@@ -92,16 +92,16 @@ pub new-fits : {s : Spot} {n : Str} {es : List Entry} → SpotIn s n es → (c b
 new-fits {n = n} {es = es} P c b h k = omega (arith, length-new n c es h, P .counted)
 
 -- The content that is replaced, where entries have no run.
-pub old-value : (y : Layout) (xs : List ℕ) {l : Low} {u : Str} {es : List Entry} → Bytes xs → ReadAs y xs l u es → (n : Str) (c : Content) (w : ℕ) → find n es ≡ some w
-    → contentNumber c ≡ w → c .value ≡ w
-unfolding contentNumber entrySize
-old-value y xs {es = es} bytes R n c w f q = omega (arith, q, contents-find (entrySize y) n es w (contents-readSlot y xs bytes (read-used y xs (R .0))) f)
+pub old-value : (y : Layout) (xs : List ℕ) {l : Low} {u : Str} {es : List Entry} → AreBytes xs → ReadAs y xs l u es → (n : Str) (c : Content) (w : ℕ) → find n es ≡ some w
+    → content-number c ≡ w → c .value ≡ w
+unfolding content-number entry-length
+old-value y xs {es = es} bytes R n c w f q = omega (arith, q, contents-find (entry-length y) n es w (contents-read-slot y xs bytes (read-used y xs (R .0))) f)
 
 -- A value alone is a content that has room.
-pub value-fits : (y : Layout) (c : Content) (v : ℕ) → c .value ≡ v → c .run ≡ 0 → v < 2 ^ 64 → Fits y c × (contentNumber c ≡ v)
-unfolding contentNumber
+pub value-fits : (y : Layout) (c : Content) (v : ℕ) → c .value ≡ v → c .run ≡ 0 → v < 2 ^ 64 → Fits y c × (content-number c ≡ v)
+unfolding content-number
 value-fits y c v p q h =
-    (content-fits (entrySize y) c (entry-size y) (omega (arith, p)) (omega (arith, q)) (λ i. q), omega (arith, p, q))
+    (content-fits (entry-length y) c (entry-size y) (omega (arith, p)) (omega (arith, q)) (λ i. q), omega (arith, p, q))
 
 -- What the plans of no store and of one ensure; their slots are the file's.
 abbrev pub NoStore : Plan → Type 0

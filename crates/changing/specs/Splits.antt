@@ -10,10 +10,10 @@ use Rattle.model.specs.Names.{Legal}
 use Rattle.model.specs.Entries.{Entry, find}
 use Rattle.model.specs.Files.{Slot, Sound}
 use Rattle.model.specs.Changes.{call, put as asked, remove}
-use Rattle.model.specs.Format.{readFile}
+use Rattle.model.specs.Format.{read-file}
 use Rattle.model.specs.Places.{place-of}
 use Rattle.entries.specs.declared.Content.{Content}
-use Rattle.entries.specs.Rows.{contentNumber}
+use Rattle.entries.specs.Rows.{content-number}
 use Rattle.file.specs.declared.Plan.{Plan}
 use Rattle.file.specs.declared.Size.{Size}
 use Rattle.slots.specs.declared.Spot.{Spot}
@@ -26,7 +26,7 @@ use Rattle.changing.specs.Plans.{PutPlanned, RemovePlanned}
 -- Remove.
 abbrev pub RemoveTold : Plan → List ℕ → Size → Str → Type 0
 RemoveTold r xs size n =
-    (fs : List Slot) → readFile xs ≡ some (size .layout, fs) → Legal n
+    (fs : List Slot) → read-file xs ≡ some (size .layout, fs) → Legal n
     → RemovePlanned r (size .layout) (call (size .layout .b) (place-of (size .layout)) fs (remove n))
 
 -- Put, of the name n with the content c.
@@ -34,24 +34,24 @@ abbrev pub PutAsked : PutPlan → Trie → Layout → List Slot → Str → ℕ 
 PutAsked r t y fs n c = PutPlanned r t y fs n c (call (y .b) (place-of y) fs (asked n c))
 
 abbrev pub PutTold : PutPlan → List ℕ → Trie → Size → Str → ℕ → Type 0
-PutTold r xs t size n v = (fs : List Slot) → readFile xs ≡ some (size .layout, fs) → Legal n → PutAsked r t (size .layout) fs n v
+PutTold r xs t size n v = (fs : List Slot) → read-file xs ≡ some (size .layout, fs) → Legal n → PutAsked r t (size .layout) fs n v
 
 -- On a name that slot A holds.
 abbrev pub ReplaceTold : PutPlan → List ℕ → Trie → Size → ℕ → Spot → Str → Content → Type 0
 ReplaceTold r xs t size A s n c =
-    (fs : List Slot) → readFile xs ≡ some (size .layout, fs) → Sound (size .layout .b) fs → Legal n → (l : Low) (u : Str) (es : List Entry)
+    (fs : List Slot) → read-file xs ≡ some (size .layout, fs) → Sound (size .layout .b) fs → Legal n → (l : Low) (u : Str) (es : List Entry)
     → Home A fs n l u es → SpotIn s n es → Fits (size .layout) c → (w : ℕ) → find n es ≡ some w
-    → PutAsked r t (size .layout) fs n (contentNumber c)
+    → PutAsked r t (size .layout) fs n (content-number c)
 
 -- Of a new name that fits into slot A.
 abbrev pub AddTold : PutPlan → List ℕ → Trie → Size → ℕ → Spot → Str → Content → Type 0
 AddTold r xs t size A s n c =
-    (fs : List Slot) → readFile xs ≡ some (size .layout, fs) → Sound (size .layout .b) fs → Legal n → (l : Low) (u : Str) (es : List Entry)
+    (fs : List Slot) → read-file xs ≡ some (size .layout, fs) → Sound (size .layout .b) fs → Legal n → (l : Low) (u : Str) (es : List Entry)
     → Home A fs n l u es → SpotIn s n es → Fits (size .layout) c → find n es ≡ nothing
-    → PutAsked r t (size .layout) fs n (contentNumber c)
+    → PutAsked r t (size .layout) fs n (content-number c)
 
 -- Of a new name whose bucket, slot A, is full.
 abbrev pub SplitTold : PutPlan → List ℕ → Trie → Size → ℕ → List ℕ → Type 0
 SplitTold r xs t size A row =
-    (fs : List Slot) → readFile xs ≡ some (size .layout, fs) → (n : Str) (c : ℕ) (l : Low) (u : Str) (es : List Entry)
+    (fs : List Slot) → read-file xs ≡ some (size .layout, fs) → (n : Str) (c : ℕ) (l : Low) (u : Str) (es : List Entry)
     → Full (size .layout) fs A n c l u es row → PutAsked r t (size .layout) fs n c

@@ -3,7 +3,7 @@
 ghost use mathlib.Core.Path.{_≡_};
 ghost use Prim.Native.Nat.{_≤_, _<_, _+_};
 ghost use lib.ListN.{length, take};
-ghost use Rattle.model.specs.Calls.{putOf, removeOf};
+ghost use Rattle.model.specs.Calls.{put-of, remove-of};
 ghost use Rattle.slots.specs.Spots.{Spotted};
 ghost use Rattle.file.specs.Plans.{Fits};
 ghost use Rattle.file.specs.Sizes.{Sized};
@@ -211,7 +211,7 @@ fn put_plan(file: &[u8], checked: Checked, name: &[u8; 24], value: u64, trie: Tr
 
 // Puts a name with its value.
 pub fn put(file: &mut [u8], trie: Trie, name: &[u8], value: u64, limit: u64) -> PutGiven
-    ensures { λ r. ⌜ putDone r (now (file .exit)) ≡ putOf (now (file .entry)) trie (now (name .entry)) value limit ⌝ }
+    ensures { λ r. ⌜ putDone r (now (file .exit)) ≡ put-of (now (file .entry)) trie (now (name .entry)) value limit ⌝ }
 {
     if 2 < limit {
         return refused(Cause::WrongSize, trie);
@@ -255,7 +255,7 @@ fn remove_plan(file: &[u8], checked: Checked, name: &[u8; 24]) -> Plan
 
 // Removes a name, one store; a name that is absent needs none.
 pub fn remove(file: &mut [u8], trie: Trie, name: &[u8], limit: u64) -> RemoveAnswer
-    ensures { λ r. ⌜ removeDone r (now (file .exit)) ≡ removeOf (now (file .entry)) trie (now (name .entry)) limit ⌝ }
+    ensures { λ r. ⌜ removeDone r (now (file .exit)) ≡ remove-of (now (file .entry)) trie (now (name .entry)) limit ⌝ }
 {
     if 2 < limit {
         return RemoveAnswer::Refused(Cause::WrongSize);

@@ -12,7 +12,7 @@ use Rattle.model.specs.Changes.{Map, Means, meant, put as to-put, remove as to-
 use Rattle.promises.specs.Demand1.{LegalName}
 use Rattle.promises.specs.Demand2.{LeadsRight}
 use Rattle.promises.specs.Demand3.{replaced}
-use Rattle.image.specs.Images.{trieOf}
+use Rattle.image.specs.Images.{trie-from}
 use Rattle.interface.specs.Calls.{CCalls, IsImage}
 use Rattle.interface.specs.Demand1.{IsRefusal, change-refusal, recover-refusal}
 
@@ -109,7 +109,7 @@ module _ (C : CCalls) where
   -- With an image in hand.
   pub record KeptC (xs image : List ℕ) (m : Map) : Type 0 where
     pub size : IsImage image
-    pub leads : LeadsRight xs (trieOf image)
+    pub leads : LeadsRight xs (trie-from image)
     pub means : Means (leads .file .slots) m
     pub looks-up : (name out : List ℕ) → LegalName name → C .look-up xs image name out ≡ held-says (m (filled name)) out
 

@@ -15,7 +15,7 @@ use Rattle.model.specs.Names.{filled}
 use Rattle.model.specs.Entries.{find}
 use Rattle.model.specs.Files.{In, Slot, entries-of, head, slot-at}
 use Rattle.model.specs.Tries.{Agrees, walk-trie}
-use Rattle.model.specs.Format.{Bytes, SoundFile}
+use Rattle.model.specs.Format.{AreBytes, SoundFile}
 use Rattle.promises.specs.Calls.{Calls}
 use Rattle.promises.specs.Demand1.{LegalName}
 
@@ -52,7 +52,7 @@ pub record Demand2 (C : Calls) : Type 0 where
   -- and the value has 64 bits a caller knows by their types.
   pub created : (xs : List ℕ) (v b slots : ℕ) → C .create xs v b slots .answer ≡ Given
       → LeadsRight (C .create xs v b slots .file) (C .create xs v b slots .trie)
-  pub grown : (xs : List ℕ) (t : Trie) (name : List ℕ) (v limit : ℕ) → Bytes xs → v < 2 ^ 64 → Made (C .put xs t name v limit .answer)
+  pub grown : (xs : List ℕ) (t : Trie) (name : List ℕ) (v limit : ℕ) → AreBytes xs → v < 2 ^ 64 → Made (C .put xs t name v limit .answer)
       → LeadsRight (C .put xs t name v limit .file) (C .put xs t name v limit .trie)
   -- The trie that rebuild makes from the bounds alone.
   pub rebuilt : (xs : List ℕ) → C .rebuild xs .answer ≡ Given → LeadsRight xs (C .rebuild xs .trie)
