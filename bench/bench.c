@@ -43,7 +43,7 @@ static struct field make_field(const struct setting *setting, const struct scene
     enter(&field, "LMDB", &lmdb, &unsynced, false);
     enter(&field, "LMDB, sync", &lmdb, &synced, true);
     enter(&field, "SQLite", &sqlite, &in_memory, false);
-    enter(&field, "SQLite, disk", &sqlite, &rollback, true);
+    enter(&field, "SQLite, rollback", &sqlite, &rollback, true);
     enter(&field, "SQLite, WAL", &sqlite, &wal, true);
     enter(&field, "array", &array, NULL, false);
     enter(&field, "reads", &reading, NULL, false);
@@ -103,7 +103,7 @@ static void print_contestants(const struct setting *setting)
            MDB_VERSION_PATCH);
     printf("contestant\tLMDB, sync\tthe same as LMDB is by itself: each change waits for the disk\n");
     printf("contestant\tSQLite\tSQLite %s in memory, prepared statements\n", sqlite3_libversion());
-    printf("contestant\tSQLite, disk\tthe same on disk with its rollback journal; each change waits for the disk\n");
+    printf("contestant\tSQLite, rollback\tthe same on disk with its rollback journal; each change waits for the disk\n");
     printf("contestant\tSQLite, WAL\tthe same on disk with its write-ahead log; each change waits for the disk\n");
     printf("contestant\tarray\ta sorted array in memory, binary search and memmove\n");
     printf("contestant\treads\tone read of the file, a sum over its words: the floor\n");

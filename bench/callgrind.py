@@ -10,26 +10,26 @@ from pathlib import Path
 from figures import Key
 
 LABEL = re.compile(r"^desc: Trigger: Client Request: (.*)\|(.*)\|(.*)$", re.MULTILINE)
-TOTALS = re.compile(r"^totals: (\d+)$", re.MULTILINE)
+SUMMARY = re.compile(r"^summary: (\d+)$", re.MULTILINE)
 
 
 def total(text: str) -> tuple[Key, int] | None:
     """The label and the instructions of one file; None for the last one, which holds what came behind all labels.
 
-    >>> total("desc: Trigger: Client Request: small|check|now\\nevents: Ir\\nsummary: 12\\n\\ntotals: 12\\n")
+    >>> total("desc: Trigger: Client Request: small|check|now\\nevents: Ir\\nsummary: 12\\n")
     (('small', 'check', 'now'), 12)
-    >>> total("desc: Trigger: Program termination\\ntotals: 0\\n")
+    >>> total("desc: Trigger: Program termination\\nsummary: 0\\n")
     """
     label = LABEL.search(text)
     if not label:
         return None
-    return label.groups(), int(TOTALS.search(text)[1])
+    return label.groups(), int(SUMMARY.search(text)[1])
 
 
 def instructions(texts: Iterable[str], counts: dict[Key, int]) -> dict[Key, float]:
     """Instructions an operation; an operation that is measured in parts has one file a part.
 
-    >>> part = "desc: Trigger: Client Request: small|put|now\\ntotals: {}\\n"
+    >>> part = "desc: Trigger: Client Request: small|put|now\\nsummary: {}\\n"
     >>> instructions([part.format(30), part.format(12)], {("small", "put", "now"): 4})
     {('small', 'put', 'now'): 10.5}
     """

@@ -74,8 +74,8 @@ class Measured:
     counts: dict[Key, int] = field(default_factory=dict)  # operations that callgrind has seen
 
     def operations(self) -> list[str]:
-        """In the order in which they were measured or counted."""
-        return list(dict.fromkeys(operation for _, operation, _ in (*self.laps, *self.counts)))
+        """In the order in which they were measured."""
+        return list(dict.fromkeys(operation for _, operation, _ in self.laps))
 
     def time(self, scene: str, operation: str, contestant: str) -> Figure | None:
         return figure(self.laps.get((scene, operation, contestant), {}).values())

@@ -12,6 +12,7 @@ struct state {
     MDB_env *kept, *opened;
     MDB_txn *reads, *opened_reads;
     MDB_dbi table;
+    unsigned flags;
 };
 
 static MDB_env *open_folder(const char *path, unsigned flags)
@@ -63,7 +64,8 @@ static void *start(const struct scene *s, const void *with)
     struct state *self = room(sizeof *self);
     self->folder = new_folder();
     self->copy_folder = new_folder();
-    self->kept = open_folder(self->folder, ((const struct lmdb_kind *)with)->flags);
+    self->flags = ((const struct lmdb_kind *)with)->flags;
+    self->kept = open_folder(self->folder, self->flags);
     MDB_txn *txn = begin(self->kept, 0);
     EXPECT(mdb_dbi_open(txn, NULL, 0, &self->table) == 0);
     for (size_t i = 0; i < s->held_count; i++)
@@ -139,11 +141,12 @@ static size_t list(void *state, const struct name *first, const struct name *sec
     return count;
 }
 
+/* Opened for changes too, as ours is. */
 static bool opened_lookup(void *state, const struct name *n, uint64_t *value)
 {
     struct state *self = state;
     MDB_dbi from;
-    self->opened = open_folder(self->copy_folder, MDB_RDONLY);
+    self->opened = open_folder(self->copy_folder, self->flags);
     self->opened_reads = begin(self->opened, MDB_RDONLY);
     EXPECT(mdb_dbi_open(self->opened_reads, NULL, 0, &from) == 0);
     return get(self->opened_reads, from, n, value);

@@ -27,16 +27,17 @@ def ns(time: float) -> str:
 
 
 def quotient(value: float) -> str:
-    """Three digits that matter, and two where they stand behind zeros.
+    """Three digits that matter, and below 1 two.
 
-    >>> [quotient(value) for value in (1234.5, 123.4, 12.34, 1.234, 0.1234, 0.01234, 0.0001234)]
-    ['1,234', '123', '12.3', '1.23', '0.12', '0.012', '0.00012']
+    >>> [quotient(value) for value in (1234.5, 99.96, 12.34, 9.996, 1.234, 0.1234, 0.0996, 0.04, 0.0001234)]
+    ['1,234', '100', '12.3', '10.0', '1.23', '0.12', '0.10', '0.040', '0.00012']
     """
     if value >= 99.95:
         return f"{value:,.0f}"
     if value >= 9.995:
         return f"{value:.1f}"
-    return f"{value:.2f}" if value >= 0.0995 else f"{float(f'{value:.1e}'):.10f}".rstrip("0")
+    exponent = int(f"{value:.1e}".partition("e")[2])
+    return f"{value:.{max(2, 1 - exponent)}f}"
 
 
 def cell(shown: Figure | None, number=quotient) -> str:
@@ -76,14 +77,13 @@ def times(measured: Measured, scene: str) -> Iterator[str]:
 
 def about(scene: Scene) -> str:
     ended = f"; refusal {scene.ended_by} ended the filling" if scene.ended_by else ""
-    return (f"{scene.length:,} bytes, {scene.held:,} of {scene.b * scene.slots:,} entries, {scene.used} slots used, {scene.cells} cells"
-            f"{ended}. A tenth is {scene.tenth} entries.")
+    return (f"{scene.length:,} bytes, {scene.held:,} of {scene.b * scene.slots:,} entries, {scene.used} slots used, "
+            f"{scene.cells} cells{ended}. A tenth is {scene.tenth} entries.")
 
 
 def growth(measured: Measured, small: str, large: str) -> Iterator[str]:
     """How many times as long everyone takes in the larger of two files, within a round."""
-    # The floor is told for no operation of its own, so its growth is that of the file.
-    titles = [title for title, what in measured.contestants.items()]
+    titles = list(measured.contestants)
     rows = []
     for operation in measured.operations():
         ratios = [measured.ratio((large, operation, title), (small, operation, title)) for title in titles]
@@ -101,11 +101,11 @@ def growths(measured: Measured) -> Iterator[tuple[Scene, Scene]]:
                 yield small, large
 
 
-def counted(measured: Measured, instructions: dict[Key, float]) -> Iterator[str]:
+def counted(instructions: dict[Key, float]) -> Iterator[str]:
     """Instructions an operation, and in brackets their ratio to those of the earlier commit."""
     scenes = list(dict.fromkeys(scene for scene, _, _ in instructions))
     rows = []
-    for operation in measured.operations():
+    for operation in dict.fromkeys(operation for _, operation, _ in instructions):
         row = [operation]
         for scene in scenes:
             ours, before = (instructions.get((scene, operation, title)) for title in (OURS, BEFORE))
@@ -117,8 +117,8 @@ def counted(measured: Measured, instructions: dict[Key, float]) -> Iterator[str]
 
 def opening(measured: Measured) -> Iterator[str]:
     rounds = max((len(laps) for laps in measured.laps.values()), default=0)
-    yield (f"Medians of {rounds} rounds. The first column is our time in ns an operation. In each other column our time is divided by that "
-           "contestant's, within each round: below 1 we are faster. ± is half the distance between the quartiles.")
+    yield (f"Medians of {rounds} rounds. The first column is our time in ns an operation. In each other column our time is divided "
+           "by that contestant's, within each round: below 1 we are faster. ± is half the distance between the quartiles.")
     yield ""
     for title, what in measured.contestants.items():
         commit = measured.facts.get(title)
@@ -141,7 +141,7 @@ def tables(measured: Measured, instructions: dict[Key, float]) -> Iterator[str]:
     if instructions:
         yield from ("", "## Instructions an operation", "", "Counted by callgrind, inside our calls alone"
                     + ("; in brackets: now / before." if BEFORE in measured.contestants else "."), "")
-        yield from counted(measured, instructions)
+        yield from counted(instructions)
 
 
 def everything(measured: Measured, instructions: dict[Key, float]) -> dict:
@@ -152,7 +152,7 @@ def everything(measured: Measured, instructions: dict[Key, float]) -> dict:
         time, ratio = measured.time(*key), measured.ratio((scene, operation, OURS), key)
         lines.append({"scene": scene, "operation": operation, "contestant": contestant,
                       "ns": time and time._asdict(), "ours / theirs": ratio and ratio._asdict(),
-                      "laps": measured.laps.get(key), "instructions": instructions.get(key)})
+                      "laps": list(measured.laps.get(key, {}).values()), "instructions": instructions.get(key)})
     return {"facts": measured.facts, "contestants": measured.contestants,
             "scenes": [scene._asdict() for scene in measured.scenes.values()], "measured": lines}
 
@@ -162,7 +162,7 @@ def main(lines: str, folder: str, markdown: str, kept: str) -> None:
     instructions = callgrind.read(Path(folder), measured.counts)
     text = "\n".join(tables(measured, instructions)) + "\n"
     Path(markdown).write_text(text, encoding="utf-8")
-    Path(kept).write_text(json.dumps(everything(measured, instructions), indent=1) + "\n", encoding="utf-8")
+    Path(kept).write_text(json.dumps(everything(measured, instructions)) + "\n", encoding="utf-8")
     print(text, end="")
 
 

@@ -3,7 +3,7 @@
 #
 # BEFORE         an earlier commit to compare with, or a library's file
 # ROUNDS         how many rounds; 21 if not given
-# VERSIONS       versions of the file, as in 12; all that the library offers if not given
+# VERSIONS       versions of the file, as in "1 2"; all that the library offers if not given
 # PALHAVENTO_LIB the library to measure, static or shared; target/staticlib/libcapi.a if not given
 # CC             the compiler; gcc if not given
 #
@@ -105,6 +105,7 @@ fi
 
 facts > "$room/lines"
 echo "bench: counting instructions" >&2
-(cd "$room/callgrind" && valgrind -q --tool=callgrind --toggle-collect='pal_*' --callgrind-out-file=out ../count "$@") >> "$room/lines"
+(cd "$room/callgrind" && valgrind -q --tool=callgrind --toggle-collect='pal_*' --callgrind-out-file=out ../count "$@") \
+    >> "$room/lines"
 "$room/bench" "$@" -r "${ROUNDS:-$rounds}" -t "$microseconds" -d "$room" >> "$room/lines"
 python3 bench/report.py "$room/lines" "$room/callgrind" build/bench.md build/bench.json

@@ -12,7 +12,7 @@ static void usage(const char *program)
     fprintf(stderr,
             "usage: %s -n NOW.so [-b BEFORE.so] [-v VERSIONS] [-r ROUNDS] [-t MICROSECONDS] [-d FOLDER]\n"
             "  -n  the library to measure           -b  the one to compare it with\n"
-            "  -v  versions of the file, as in 12; all that the library offers if not given\n"
+            "  -v  versions of the file, as in '1 2'; all that the library offers if not given\n"
             "  -r  rounds, 21 if not given          -t  how long a contestant's turn takes, 4000 if not given\n"
             "  -d  where the engines on disk keep their files, the folder of the call if not given\n",
             program);
@@ -63,6 +63,8 @@ struct setting make_setting(int argc, char **argv)
     for (unsigned version = 1; !versions && version <= MOST_VERSIONS; version++)
         wanted[version] = offers_version(&setting.now, version);
     for (const char *v = versions; v && *v; v++) {
+        if (*v == ' ')
+            continue;
         if (*v < '1' || *v > '9' || !offers_version(&setting.now, (unsigned)(*v - '0'))) {
             fprintf(stderr, "bench: the library offers no version %c of a file\n", *v);
             exit(2);
