@@ -99,8 +99,9 @@ extern "C" {
     ANSWER(PAL_STALE_TRIE,       4,   "The trie does not agree with the file: rebuild.") \
     ANSWER(PAL_NO_FREE_SLOT,     5,   "A split is needed and there is no free slot.") \
     ANSWER(PAL_TOO_MANY_STRINGS, 6,   "The file would have more than 256 strings: bounds and their beginnings.") \
-    ANSWER(PAL_SHORT_OUTPUT,     7,   "The output is too short: it needs 32 bytes for each entry.") \
+    ANSWER(PAL_SHORT_OUTPUT,     7,   "The output is too short: it needs 32 bytes for each entry, in version 3 40.") \
     ANSWER(PAL_OUTSIDE_LIMITS,   8,   "The store limit is above 2; or create's version, b, slots or length is wrong.") \
+    ANSWER(PAL_OLDER_RUN,        12,  "The name is held with a higher run.") \
     \
     ANSWER(PAL_FOUND,            100, "The file holds the name.") \
     ANSWER(PAL_ABSENT,           101, "The file does not hold the name.") \
@@ -135,8 +136,8 @@ static inline const char *pal_answer_text(uint64_t answer)
 
 /*
  * Write a new file without names over the whole buffer, and its trie.
- * version is 1 or 2: where a bucket splits, at the middle or by the shortest of three strings about
- * it (rule R7.3). All other calls read it from the file. Releases before 1.3 take a file of version 2
+ * version is 1, 2 or 3: where a bucket splits, at the middle or, in versions 2 and 3, by the shortest
+ * of three strings about it (rule R7.3); and whether entries keep the run, as those of version 3 do. All other calls read it from the file. Releases before 1.3 take a file of version 2
  * for a bad one. file_length is PAL_FILE_BYTES(b, slots).
  *
  * PAL_CREATED. Refusals: 8.
@@ -173,7 +174,7 @@ uint64_t pal_rebuild(const uint8_t *file, size_t file_length,
  * Look up a name. Reads the header and one bucket. With a sound file and any trie at all the answer
  * is true or the trie is refused as stale.
  *
- * PAL_FOUND (out[0]: the value, out[1]: its run, now 0), PAL_ABSENT. Refusals: 1, 2, 4 (out[0]: where
+ * PAL_FOUND (out[0]: the value, out[1]: its run, 0 in versions 1 and 2), PAL_ABSENT. Refusals: 1, 2, 4 (out[0]: where
  * the name left the range, or PAL_NO_DIGIT).
  */
 uint64_t pal_lookup(const uint8_t *file, size_t file_length,
@@ -182,7 +183,8 @@ uint64_t pal_lookup(const uint8_t *file, size_t file_length,
                     uint64_t out[4]);
 
 /*
- * Put a name with a value, and keep the trie in step with the file. run is ignored for now.
+ * Put a name with a value, and keep the trie in step with the file. Files of version 3 keep
+ * run, and refuse a put on a name that is held with a higher one; versions 1 and 2 ignore it.
  *
  * limit, 0 to 2, is how many stores the call may make, each of one whole slot; 2 is always enough.
  * A lower one stops the call where a kill could. After a stop or a kill discard the trie, recover
@@ -192,8 +194,8 @@ uint64_t pal_lookup(const uint8_t *file, size_t file_length,
  * the lent file is as its first stores leave it, each whole, but for the store under way. For the
  * order in which the machine sees the writes of one call, the compiler is trusted.
  *
- * PAL_ADDED, PAL_REPLACED (out[0]: the old value, out[1]: its run, now 0), PAL_STOPPED (out[0]:
- * stores made). Refusals: 8, 1, 2, 3, 4 (out[0]: PAL_NO_DIGIT), 5, 6.
+ * PAL_ADDED, PAL_REPLACED (out[0]: the old value, out[1]: its run, 0 in versions 1 and 2), PAL_STOPPED (out[0]:
+ * stores made). Refusals: 8, 1, 2, 3, 4 (out[0]: PAL_NO_DIGIT), 12, 5, 6.
  */
 uint64_t pal_put(uint8_t *file, size_t file_length,
                  uint8_t *trie, size_t trie_length,

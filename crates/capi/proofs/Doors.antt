@@ -40,9 +40,9 @@ module _ (image : List ℕ) (ill : length image ≡ imageSize → ⊥) where
   unfolding palLookUpOf
   lookUp-malformed file name out = rw (ne-eqb (length image) imageSize ill)
 
-  pub put-malformed : (file name : List ℕ) (value limit : ℕ) (out : List ℕ) → palPutOf file image name value limit out ≡ (malformed, file, image, out)
+  pub put-malformed : (file name : List ℕ) (value run limit : ℕ) (out : List ℕ) → palPutOf file image name value run limit out ≡ (malformed, file, image, out)
   unfolding palPutOf
-  put-malformed file name value limit out = rw (ne-eqb (length image) imageSize ill)
+  put-malformed file name value run limit out = rw (ne-eqb (length image) imageSize ill)
 
   pub remove-malformed : (file name : List ℕ) (limit : ℕ) (out : List ℕ) → palRemoveOf file image name limit out ≡ (malformed, file, image, out)
   unfolding palRemoveOf
@@ -69,11 +69,11 @@ module _ (image : List ℕ) (well : length image ≡ imageSize) where
   unfolding palLookUpOf
   lookUp-said file name out t e s w = rw (eq-eqb (length image) imageSize well, ← e, s, w, t)
 
-  pub put-said : (file name : List ℕ) (value limit : ℕ) (out : List ℕ) (g : PutGiven) {t : Trie} {a : PutAnswer} {ys zs ws : List ℕ} {n : ℕ}
-      → t ≡ trieOf image → g .answer ≡ a → put g ys ≡ putOf file t name value limit → n ≡ putSays a .0 → zs ≡ imageAfter a (g .trie) image
-      → ws ≡ outAfter (putSays a) out → palPutOf file image name value limit out ≡ (n, ys, zs, ws)
+  pub put-said : (file name : List ℕ) (value run limit : ℕ) (out : List ℕ) (g : PutGiven) {t : Trie} {a : PutAnswer} {ys zs ws : List ℕ} {n : ℕ}
+      → t ≡ trieOf image → g .answer ≡ a → put g ys ≡ putOf file t name value run limit → n ≡ putSays a .0 → zs ≡ imageAfter a (g .trie) image
+      → ws ≡ outAfter (putSays a) out → palPutOf file image name value run limit out ≡ (n, ys, zs, ws)
   unfolding palPutOf
-  put-said file name value limit out g d t e s z w = rw (eq-eqb (length image) imageSize well, ← d, ← e, s, z, w, t)
+  put-said file name value run limit out g d t e s z w = rw (eq-eqb (length image) imageSize well, ← d, ← e, s, z, w, t)
 
   pub remove-said : (file name : List ℕ) (limit : ℕ) (out : List ℕ) {t : Trie} {x a : RemoveAnswer} {ys ws : List ℕ} {n : ℕ}
       → t ≡ trieOf image → x ≡ a → removed x ys ≡ removeOf file t name limit → n ≡ removeSays a .0

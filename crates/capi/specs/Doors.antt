@@ -57,14 +57,14 @@ palLookUpOf file image name out =
 -- A refused or stopped call leaves every byte of the image; a replaced value leaves the trie.
 abbrev pub imageAfter : PutAnswer → Trie → List ℕ → List ℕ
 imageAfter Added t image = imageOf t
-imageAfter (Replaced v) t image = image
+imageAfter (Replaced v r) t image = image
 imageAfter (PutStopped n) t image = image
 imageAfter (PutRefused c) t image = image
 
 -- The number, the file, the image, `out`.
-unfoldable pub palPutOf : List ℕ → List ℕ → List ℕ → ℕ → ℕ → List ℕ → ℕ × List ℕ × List ℕ × List ℕ
-palPutOf file image name value limit out =
-    let o = putOf file (trieOf image) name value limit in
+unfoldable pub palPutOf : List ℕ → List ℕ → List ℕ → ℕ → ℕ → ℕ → List ℕ → ℕ × List ℕ × List ℕ × List ℕ
+palPutOf file image name value run limit out =
+    let o = putOf file (trieOf image) name value run limit in
     let s = putSays (o .answer) in
     whole image (s .0, o .file, imageAfter (o .answer) (o .trie) image, outAfter s out) (malformed, file, image, out)
 

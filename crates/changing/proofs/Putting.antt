@@ -9,10 +9,11 @@ use Rattle.model.specs.declared.PutGiven.{PutGiven}
 use Rattle.model.specs.declared.Trie.{Trie}
 use Rattle.model.specs.Order.{Low, Str}
 use Rattle.model.specs.Names.{filled, legalName}
-use Rattle.model.specs.Entries.{Entry, find, insert}
-use Rattle.model.specs.Files.{Slot, entries-of, first, slot-at, used}
-use Rattle.model.specs.Changes.{Result, call, holds?, put as asked, put-in, refuse, stores}
-use Rattle.model.specs.Calls.{fine, lookedOf, putAnswer, putLooked, putMade, putOf, refusing, storesBytes, trieAfter}
+use Rattle.model.specs.Entries.{Entry, contentOf, find, insert}
+use Rattle.model.specs.Files.{Slot, used}
+use Rattle.model.specs.Changes.{Result, call, put as asked, put-in, refuse, stores}
+use Rattle.model.specs.Calls.{fine, held, lookedOf, putAnswer, putLooked, putMade, putOf, putTakes, refusing, storesBytes, trieAfter}
+use Rattle.model.specs.Format.{keptRun}
 use Rattle.model.proofs.Entries.{chosen-yes}
 use Rattle.file.specs.declared.Plan.{Plan}
 use Rattle.file.specs.Plans.{Committed}
@@ -35,7 +36,7 @@ module _ (t : Trie) (y : Layout) {fs : List Slot} {A : ℕ} {n : Str} (c : ℕ) 
       → (r .plan ≡ p) × (r .answer ≡ putAnswer o) × (r .trie ≡ t) → PutAsked r t y fs n c
   unfolding trieAfter
   put-one r p bytes f z q g =
-      let a : r .answer ≡ putAnswer (find n (entries-of (slot-at fs (first (holds? n) fs)))) = rw (← H .slot-is, H .is, f) (g .1) in
+      let a : r .answer ≡ putAnswer (held fs n) = rw (← H .slot-is, H .is, f) (g .1) in
       subst (PutPlanned r t y fs n c) (sym call-put) (rw (g .0) (q .0, (q .1, rw (q .2) z)), a, g .2)
 
 -- What is left of a plan that is committed.
@@ -57,21 +58,21 @@ module _ (xs ys : List ℕ) (t : Trie) (y : Layout) (fs : List Slot) (n : Str) (
       rw (h, k .0, take-all limit ss (ltb-false limit (length ss) h), g .0, g .1, q .1, q .2)
 
 -- Of any file: what is refused before, and the rest.
-module _ (xs : List ℕ) (t : Trie) (name : List ℕ) (v limit : ℕ) (r : PutGiven) where
-  pub limit-refused : 2 < limit → (r .answer ≡ Refused WrongSize) × (r .trie ≡ t) → put r xs ≡ putOf xs t name v limit
+module _ (xs : List ℕ) (t : Trie) (name : List ℕ) (v run limit : ℕ) (r : PutGiven) where
+  pub limit-refused : 2 < limit → (r .answer ≡ Refused WrongSize) × (r .trie ≡ t) → put r xs ≡ putOf xs t name v run limit
   unfolding putOf
   limit-refused h g = rw (lt-ltb 2 limit h, g .0, g .1)
 
-  pub name-refused : limit ≤ 2 → legalName name ≡ false → (r .answer ≡ Refused IllegalName) × (r .trie ≡ t) → put r xs ≡ putOf xs t name v limit
+  pub name-refused : limit ≤ 2 → legalName name ≡ false → (r .answer ≡ Refused IllegalName) × (r .trie ≡ t) → put r xs ≡ putOf xs t name v run limit
   unfolding putOf
   name-refused h e g = rw (le-ltb 2 limit h, e, g .0, g .1)
 
   pub file-refused : (cause : Cause) → limit ≤ 2 → legalName name ≡ true → lookedOf xs t ≡ refusing cause → (r .answer ≡ Refused cause) × (r .trie ≡ t)
-      → put r xs ≡ putOf xs t name v limit
+      → put r xs ≡ putOf xs t name v run limit
   unfolding putOf putLooked
   file-refused cause h e f g = rw (le-ltb 2 limit h, e, f, g .0, g .1)
 
   pub put-fine : (ys : List ℕ) (y : Layout) (fs : List Slot) → limit ≤ 2 → legalName name ≡ true → lookedOf xs t ≡ fine y fs
-      → put r ys ≡ putMade xs t y fs (filled name) v limit (call (y .b) (place-of y) fs (asked (filled name) v)) → put r ys ≡ putOf xs t name v limit
+      → put r ys ≡ putMade xs t y fs (filled name) (contentOf v (keptRun y run)) limit (putTakes y fs (filled name) (contentOf v (keptRun y run)) (keptRun y run)) → put r ys ≡ putOf xs t name v run limit
   unfolding putOf putLooked
   put-fine ys y fs h e f m = rw (le-ltb 2 limit h, e, f) m

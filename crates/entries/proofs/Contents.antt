@@ -1,13 +1,13 @@
 -- Little-endian numbers, one after the other, are the sum; the content of an entry as value and run; and an entry as the code writes it.
-use Rattle.model.proofs.Prelude.{List, Option, [], _%_, _*_, _++_, _+_, _-_, _/_, _<_, _^_, _∙_, _∷_, _≡_, _≤_, _⊎_, ap, append-assoc, arith, clash, decLt, drop, inl, inr, length, length-append, mul-assoc, mul-le-mul-left, paste, pow-succ', pow-zero, refl, replicate, some, suc, sym, take, zero, ℕ}
+use Rattle.model.proofs.Prelude.{List, Option, [], _%_, _*_, _++_, _+_, _-_, _/_, _<_, _^_, _∙_, _∷_, _≡_, _≤_, _⊎_, ap, append-assoc, arith, clash, decLt, drop, inl, inr, length, length-append, mul-assoc, paste, pow-succ', pow-zero, refl, replicate, some, suc, sym, take, zero, ℕ}
 use Rattle.model.specs.Order.{Str}
-use Rattle.model.specs.Entries.{Entry, find}
+use Rattle.model.specs.Entries.{Entry, contentOf, find, runPart, valuePart}
 use Rattle.model.specs.Format.{entryBytes, littleEndian, padded, valueOf}
 use Rattle.model.specs.Deciding.{str?}
 use Rattle.model.proofs.Entries.{chosen-no, chosen-yes}
-use Rattle.model.proofs.Format.{Contents, EntrySize, length-entryBytes, length-littleEndian}
+use Rattle.model.proofs.Format.{Contents, EntrySize, both-below, length-entryBytes, length-littleEndian, run-part, value-part}
 use Rattle.digits.proofs.Bytes.{valueOf-split}
-use Rattle.entries.specs.Rows.{contentNumber, runPart, valuePart}
+use Rattle.entries.specs.Rows.{contentNumber}
 use Rattle.entries.specs.declared.Content.{Content}
 use Rattle.entries.proofs.Padding.{copied, take-padded-whole, zeros-padded}
 
@@ -57,23 +57,20 @@ sizes {e} s = elim (decLt e 40) [ yes h ↦ inl (omega arith) | no h ↦ inr (om
 
 -- Value and run of a content, and back.
 pub value-is : (c : Content) → c .value < 2 ^ 64 → valuePart (contentNumber c) ≡ c .value
-unfolding valuePart contentNumber
-value-is c h = omega arith
+unfolding contentNumber
+value-is c h = value-part (c .value) (c .run) h
 
 pub run-is : (c : Content) → c .value < 2 ^ 64 → runPart (contentNumber c) ≡ c .run
-unfolding runPart contentNumber
-run-is c h = omega arith
+unfolding contentNumber
+run-is c h = run-part (c .value) (c .run) h
 
 -- A content of 32 bytes has the run 0.
 pub run-none : (n : ℕ) → n < 256 ^ (32 - 24) → (runPart n ≡ 0) × (valuePart n ≡ n)
 unfolding valuePart runPart
 run-none n h = omega arith
 
-both-below : (a b v r : ℕ) → v < a → r < b → v + a * r < a * b
-both-below a b v r h k = let l : suc r ≤ b = k in omega (arith, mul-le-mul-left a l)
-
 pub content-fits : (e : ℕ) (c : Content) → EntrySize e → c .value < 2 ^ 64 → c .run < 2 ^ 64 → (e ≡ 32 → c .run ≡ 0) → contentNumber c < 256 ^ (e - 24)
-unfolding contentNumber
+unfolding contentNumber contentOf
 content-fits e c s h k f = go (sizes s)
   where
     go : (e ≡ 32) ⊎ (e ≡ 40) → c .value + 2 ^ 64 * c .run < 256 ^ (e - 24)

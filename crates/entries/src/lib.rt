@@ -5,7 +5,7 @@
 ghost use mathlib.Core.Bool.{_&&_, cond};
 ghost use mathlib.Core.List.{[]};
 ghost use mathlib.Core.Path.{_≡_};
-ghost use Prim.Native.Nat.{_≤_, _<_, _+_, _-_, _*_};
+ghost use Prim.Native.Nat.{_≤_, _<_, _+_, _-_, _*_, _^_};
 ghost use lib.Dec.{leb, ltb};
 ghost use lib.ListN.{drop, length, take};
 ghost use lib.Seq.{paste};
@@ -13,7 +13,7 @@ ghost use Rattle.model.specs.Checks.{sameStr};
 ghost use Rattle.model.specs.Format.{entryBytes, littleEndian, padded, valueOf};
 ghost use Rattle.model.proofs.Format.{EntrySize};
 ghost use Rattle.digits.specs.Keys.{keyValue};
-ghost use Rattle.entries.specs.Rows.{Stands, Whole, areAmong, areEntries, below, contentNumber, entriesFrom, heldNumber, heldUnder, isAt, notAbove, partBetween, pieces, room, splicedBytes, values};
+ghost use Rattle.entries.specs.Rows.{Stands, Valued, Whole, areAmong, areEntries, below, contentNumber, entriesFrom, heldNumber, heldUnder, isAt, notAbove, partBetween, pieces, room, splicedBytes, values};
 use digits::Key;
 
 // The most bytes that the entries of one bucket and one more have: 17 of 40.
@@ -105,7 +105,7 @@ pub fn are_entries(entries: &[u8], e: usize, count: usize, low: Key, high: Key) 
 // The content of entry i of so many.
 pub fn content_at(entries: &[u8], e: usize, i: usize, count: usize) -> Content
     requires { ⌜ (e * count ≤ length (now entries)) × (i < count) × (count ≤ 17) × EntrySize e ⌝ }
-    ensures { λ r. ⌜ contentNumber r ≡ valueOf (take (e - 24) (drop (e * i + 24) (now (entries .entry)))) ⌝ }
+    ensures { λ r. ⌜ (contentNumber r ≡ valueOf (take (e - 24) (drop (e * i + 24) (now (entries .entry))))) × (r .value < 2 ^ 64) ⌝ }
 {
     let at = whole_at(e, i, count);
     let value = digits::little_endian(entries, at + 24);
@@ -131,7 +131,7 @@ pub fn is_at(entries: &[u8], e: usize, count: usize, i: usize, name: Key) -> boo
 // The content under a name.
 pub fn held_under(entries: &[u8], e: usize, count: usize, name: Key) -> Held
     requires { ⌜ (e * count ≤ length (now entries)) × (count ≤ 16) × EntrySize e ⌝ }
-    ensures { λ r. ⌜ heldNumber r ≡ heldUnder e (now (entries .entry)) count (keyValue name) ⌝ }
+    ensures { λ r. ⌜ (heldNumber r ≡ heldUnder e (now (entries .entry)) count (keyValue name)) × Valued r ⌝ }
 {
     let i = rank(entries, e, count, name);
     if count <= i {

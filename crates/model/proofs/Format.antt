@@ -3,10 +3,10 @@ use Rattle.model.proofs.Prelude.{Bool, List, List·getD-eq-default, Opt
 use Rattle.model.specs.declared.Layout.{Layout}
 use Rattle.model.specs.Order.{Low, Str, _◁_, above, at, least, top}
 use Rattle.model.specs.Names.{BoundLow, Digits, Legal, filled, limit, unlimited}
-use Rattle.model.specs.Entries.{Entry, Row, entry, no-entries}
+use Rattle.model.specs.Entries.{Entry, Row, contentOf, entry, no-entries, runPart, valuePart}
 use Rattle.model.specs.Files.{Slot, Well, entries-of, free, slot-at, used, well-used}
 use Rattle.model.specs.Checks.{sameStr}
-use Rattle.model.specs.Format.{Bytes, Sizes, entriesBytes, entriesOf, entryBytes, entrySize, fileBytes, fileSize, headerBytes, headerOf, isOffered, joined, laidOut, layoutOf, legalSizes, littleEndian, lowDigits, lowOf, padded, readBy, readFile, readSlot, readSlots, readUsed, rightHeader, slotAt, slotBytes, slotSize, slotsBytes, storeBytes, usedOf, valueOf}
+use Rattle.model.specs.Format.{Bytes, Sizes, entriesBytes, entriesOf, entryBytes, entrySize, fileBytes, fileSize, headerBytes, headerOf, isOffered, joined, keptRun, laidOut, layoutOf, legalSizes, littleEndian, lowDigits, lowOf, padded, readBy, readFile, readSlot, readSlots, readUsed, rightHeader, slotAt, slotBytes, slotSize, slotsBytes, storeBytes, usedOf, valueOf}
 use Rattle.model.proofs.Lists.{at-taken, drop-past, drop-take, length-made, made-short, take-past}
 use Rattle.model.proofs.Names.{both-true, legal-length}
 use Rattle.model.proofs.Checks.{sameStr-equal, sameStr-self}
@@ -19,14 +19,39 @@ pub record EntrySize (e : ℕ) : Type 0 where
 
 pub entry-size : (y : Layout) → EntrySize (entrySize y)
 unfolding entrySize
-entry-size y = record { least = omega arith; most = omega arith; eights = refl }
+entry-size y = go (eqb (y .version) 3)
+  where
+    go : (t : Bool) → EntrySize (cond t 40 32)
+    go true = record { least = omega arith; most = omega arith; eights = refl }
+    go false = record { least = omega arith; most = omega arith; eights = refl }
 
--- A value of eight bytes fits every entry.
-pub value-fits : (y : Layout) (v : ℕ) → v < 2 ^ 64 → v < 256 ^ (entrySize y - 24)
-unfolding entrySize
-value-fits y v h = h
+pub both-below : (a b v r : ℕ) → v < a → r < b → v + a * r < a * b
+both-below a b v r h k = let l : suc r ≤ b = k in omega (arith, mul-le-mul-left a l)
 
--- Contents that the bytes behind a name hold. The content of an entry is one number, its value.
+-- The content of a put fits every entry: a value and a run of eight bytes each, of which versions 1 and 2 keep the value alone.
+pub put-fits : (y : Layout) (v r : ℕ) → v < 2 ^ 64 → r < 2 ^ 64 → contentOf v (keptRun y r) < 256 ^ (entrySize y - 24)
+unfolding entrySize keptRun contentOf
+put-fits y v r h k = go (eqb (y .version) 3)
+  where
+    go : (t : Bool) → v + 2 ^ 64 * cond t r 0 < 256 ^ (cond t 40 32 - 24)
+    go true = let z : 256 ^ 16 ≡ 2 ^ 64 * 2 ^ 64 = refl in rw z (both-below (2 ^ 64) (2 ^ 64) v r h k)
+    go false = omega arith
+
+-- The two parts of a content.
+pub value-part : (v r : ℕ) → v < 2 ^ 64 → valuePart (contentOf v r) ≡ v
+unfolding valuePart contentOf
+value-part v r h = omega arith
+
+pub run-part : (v r : ℕ) → v < 2 ^ 64 → runPart (contentOf v r) ≡ r
+unfolding runPart contentOf
+run-part v r h = omega arith
+
+-- Versions 1 and 2 keep no run: what fits their entries has none.
+pub no-run : (y : Layout) (c : ℕ) → eqb (y .version) 3 ≡ false → c < 256 ^ (entrySize y - 24) → runPart c ≡ 0
+unfolding entrySize runPart
+no-run y c e h = let k : c < 256 ^ (32 - 24) = rw e at h in omega arith
+
+-- Contents that the bytes behind a name hold. The content of an entry is one number, its value and its run.
 abbrev pub Contents : ℕ → List Entry → Type 0
 Contents e [] = Unit {0}
 Contents e (x ∷ es) = (x .1 < 256 ^ (e - 24)) × Contents e es
@@ -228,7 +253,7 @@ legalSizes-sizes y slots e =
 -- The versions that are offered are bytes, and below the greatest.
 pub offered-small : (v : ℕ) → isOffered v ≡ true → v < 255
 unfolding isOffered
-offered-small v e = omega (arith, leb-true v 2 (both-true (leb 1 v) (leb v 2) e .1))
+offered-small v e = omega (arith, leb-true v 3 (both-true (leb 1 v) (leb v 3) e .1))
 
 -- What a header that is right says.
 pub record Headed (y : Layout) (slots : ℕ) (xs : List ℕ) : Type 0 where

@@ -14,7 +14,7 @@ determined = record {
   recover = λ xs limit. by-equation (recoverOf xs limit);
   rebuild = λ xs. by-equation (rebuildOf xs);
   look-up = λ xs t name. by-equation (lookUpOf xs t name);
-  put = λ xs t name v limit. by-equation (putOf xs t name v limit);
+  put = λ xs t name v run limit. by-equation (putOf xs t name v run limit);
   remove = λ xs t name limit. by-equation (removeOf xs t name limit);
   list = λ xs t low high out. by-equation (listOf xs t low high out);
 }

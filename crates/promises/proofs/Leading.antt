@@ -7,17 +7,17 @@ use Rattle.model.specs.declared.PutAnswer.the-variants.{Refused as PutRefused, 
 use Rattle.model.specs.declared.TrieAnswer.the-variants.{Given, Refused as TrieRefused}
 use Rattle.model.specs.Order.{Str}
 use Rattle.model.specs.Names.{Legal, filled, legalName}
-use Rattle.model.specs.Entries.{find, insert}
+use Rattle.model.specs.Entries.{contentOf, find, insert}
 use Rattle.model.specs.Files.{Slot, Sound, created, entries-of, first, slot-at, string-count}
 use Rattle.model.specs.Tries.{Agrees}
 use Rattle.model.specs.Rebuilding.{rebuilt-trie}
 use Rattle.model.specs.Changes.{Result, Store, holds?, put, stored}
 use Rattle.model.specs.Checks.{Kind, is-bad, is-cut, is-sound}
 use Rattle.model.specs.Agreeing.{isAgreeing}
-use Rattle.model.specs.Format.{Bytes, SoundFile, checkFile, fileBytes, fileSize, legalSizes, readFile}
+use Rattle.model.specs.Format.{Bytes, SoundFile, checkFile, fileBytes, fileSize, keptRun, legalSizes, readFile}
 use Rattle.model.specs.Places.{place-of}
 use Rattle.model.specs.Answers.{stale-trie}
-use Rattle.model.specs.Calls.{Created, Looked, PutDone, createOf, fine, lookedBy, lookedOf, new-trie, no-rebuilt, putAnswer, putLooked, putMade, putOf, rebuildBy, rebuildOf, refusing, storesBytes, trieAfter}
+use Rattle.model.specs.Calls.{Created, Looked, PutDone, createOf, fine, held, lookedBy, lookedOf, new-trie, no-rebuilt, putAnswer, putLooked, putMade, putOf, putTakes, rebuildBy, rebuildOf, refusing, storesBytes, trieAfter}
 use Rattle.model.proofs.Names.{both-true, legalName-legal}
 use Rattle.model.proofs.Files.{one-range}
 use Rattle.model.proofs.Agreement.{agrees-walk, rebuilt-trie-agrees}
@@ -25,9 +25,9 @@ use Rattle.model.proofs.Agreeing.{isAgreeing-agrees}
 use Rattle.model.proofs.Entries.{row-insert}
 use Rattle.model.proofs.Places.{place-lt}
 use Rattle.model.proofs.Changes.{Change, fits, one-sound, second-sound, splits, well-a}
-use Rattle.model.proofs.Calls.{Answered, is-denied, is-made, put-right}
+use Rattle.model.proofs.Calls.{Answered, is-denied, is-made, put-right, put-taken}
 use Rattle.model.proofs.CheckedFiles.{CheckedFile, checkFile-right}
-use Rattle.model.proofs.Format.{fileBytes-readFile, legalSizes-sizes, value-fits}
+use Rattle.model.proofs.Format.{fileBytes-readFile, legalSizes-sizes, put-fits}
 use Rattle.model.proofs.Created.{created-agrees, created-fine, created-left}
 use Rattle.model.proofs.GrownTries.{change-agrees}
 use Rattle.model.proofs.Stores.{read-stored, trieAfter-is}
@@ -131,18 +131,22 @@ put-sound y h {fs} S (splits {A = A} {N = N} {l = l} {u = u} {es = es} {n = n} {
 abbrev Right : PutDone → Type 0
 Right d = Made (d .answer) → LeadsRight (d .file) (d .trie)
 
-module _ (xs : List ℕ) (t : Trie) (name : List ℕ) (v limit : ℕ) (bytes : Bytes xs) (small : v < 2 ^ 64) where
+module _ (xs : List ℕ) (t : Trie) (name : List ℕ) (v run limit : ℕ) (bytes : Bytes xs) (small : v < 2 ^ 64) (low : run < 2 ^ 64) where
   abbrev n : Str
   n = filled name
 
-  after : (y : Layout) (fs : List Slot) → Passed xs t y fs → {ss : List Store} → Change (y .b) (place-of y) fs (put n v) ss → LeadsRight (storesBytes y ss xs) (trieAfter (y .b) (place-of y) fs n v ss t)
+  -- What the put asks to be stored.
+  abbrev content : Layout → ℕ
+  content y = contentOf v (keptRun y run)
+
+  after : (y : Layout) (fs : List Slot) → Passed xs t y fs → {ss : List Store} → Change (y .b) (place-of y) fs (put n (content y)) ss → LeadsRight (storesBytes y ss xs) (trieAfter (y .b) (place-of y) fs n (content y) ss t)
   after y fs p {ss} c =
       let two : 2 ≤ y .b = fileBytes-readFile xs (p .is) .1 .b-least in
       let S : Sound (y .b) (stored ss fs) = put-sound y two (p .sound) c in
-      let F : SoundFile (storesBytes y ss xs) = record { layout = y; slots = stored ss fs; is = read-stored y xs bytes (p .is) (place-of y) c (value-fits y v small) S; sound = S } in
-      leads (storesBytes y ss xs) (trieAfter (y .b) (place-of y) fs n v ss t) F (rw (trieAfter-is (y .b) (place-of y) n v c t) (change-agrees (y .b) (place-of y) (place-lt y two) (p .sound) c (p .agrees)))
+      let F : SoundFile (storesBytes y ss xs) = record { layout = y; slots = stored ss fs; is = read-stored y xs bytes (p .is) (place-of y) c (put-fits y v run small low) S; sound = S } in
+      leads (storesBytes y ss xs) (trieAfter (y .b) (place-of y) fs n (content y) ss t) F (rw (trieAfter-is (y .b) (place-of y) n (content y) c t) (change-agrees (y .b) (place-of y) (place-lt y two) (p .sound) c (p .agrees)))
 
-  made : (y : Layout) (fs : List Slot) → Passed xs t y fs → {r : Result} → Answered (y .b) (place-of y) fs (put n v) r → Right (putMade xs t y fs n v limit r)
+  made : (y : Layout) (fs : List Slot) → Passed xs t y fs → {r : Result} → Answered (y .b) (place-of y) fs (put n (content y)) r → Right (putMade xs t y fs n (content y) limit r)
   unfolding putMade
   made y fs p (is-denied d) h = absurd h
   made y fs p (is-made {ss = ss} c) h = stopped (ltb limit (length ss)) h
@@ -151,19 +155,19 @@ module _ (xs : List ℕ) (t : Trie) (name : List ℕ) (v limit : ℕ) (bytes : B
       short = record { answer = PutStopped limit; file = storesBytes y (take limit ss) xs; trie = t }
 
       whole : PutDone
-      whole = record { answer = putAnswer (find n (entries-of (slot-at fs (first (holds? n) fs)))); file = storesBytes y ss xs; trie = trieAfter (y .b) (place-of y) fs n v ss t }
+      whole = record { answer = putAnswer (held fs n); file = storesBytes y ss xs; trie = trieAfter (y .b) (place-of y) fs n (content y) ss t }
 
       stopped : (s : Bool) → Right (cond s short whole)
       stopped true h = absurd h
       stopped false h = after y fs p c
 
-  looked : (l : Looked) → lookedOf xs t ≡ l → Legal n → Right (putLooked xs t n v limit l)
-  unfolding putLooked
+  looked : (l : Looked) → lookedOf xs t ≡ l → Legal n → Right (putLooked xs t n v run limit l)
+  unfolding putLooked putMade
   looked (refusing c) e g h = absurd h
-  looked (fine y fs) e g h = let p = looked-passed xs t y fs e in made y fs p (put-right (y .b) (place-of y) fs (p .sound) n v g) h
+  looked (fine y fs) e g h = let p = looked-passed xs t y fs e in put-taken (λ (r : Result). Right (putMade xs t y fs n (content y) limit r)) y fs n (content y) (keptRun y run) (λ e h. absurd h) (λ e. made y fs p (put-right (y .b) (place-of y) fs (p .sound) n (content y) g)) h
 
   -- R13.2, of the grown trie: after every put that is made, from whatever agreeing trie.
-  pub put-leads : Made (putOf xs t name v limit .answer) → LeadsRight (putOf xs t name v limit .file) (putOf xs t name v limit .trie)
+  pub put-leads : Made (putOf xs t name v run limit .answer) → LeadsRight (putOf xs t name v run limit .file) (putOf xs t name v run limit .trie)
   unfolding putOf
   put-leads h = limited (ltb 2 limit) h
     where
@@ -173,10 +177,10 @@ module _ (xs : List ℕ) (t : Trie) (name : List ℕ) (v limit : ℕ) (bytes : B
       illegal : PutDone
       illegal = record { answer = PutRefused IllegalName; file = xs; trie = t }
 
-      legal : (g : Bool) → legalName name ≡ g → Right (cond g (putLooked xs t n v limit (lookedOf xs t)) illegal)
+      legal : (g : Bool) → legalName name ≡ g → Right (cond g (putLooked xs t n v run limit (lookedOf xs t)) illegal)
       legal true e h = looked (lookedOf xs t) refl (legalName-legal name e) h
       legal false e h = absurd h
 
-      limited : (c : Bool) → Right (cond c big (cond (legalName name) (putLooked xs t n v limit (lookedOf xs t)) illegal))
+      limited : (c : Bool) → Right (cond c big (cond (legalName name) (putLooked xs t n v run limit (lookedOf xs t)) illegal))
       limited true h = absurd h
       limited false h = legal (legalName name) refl h

@@ -13,26 +13,26 @@ use Rattle.model.specs.declared.Trie.{Trie}
 use Rattle.model.specs.declared.TrieAnswer.the-variants.{Given, Refused as TrieRefused}
 use Rattle.model.specs.Order.{Str}
 use Rattle.model.specs.Names.{atMost, broken, filled, legalName}
-use Rattle.model.specs.Entries.{Entry, find, insert, keep, without}
+use Rattle.model.specs.Entries.{Entry, contentOf, find, insert, keep, without}
 use Rattle.model.specs.Files.{Slot, Sound, Well, created, entries-of, first, free, slot-at, used, well-used}
 use Rattle.model.specs.Tries.{root, root-side, walkOf, walkRun}
 use Rattle.model.specs.Changes.{Request, Result, Store, holds?, put, remove, stored}
 use Rattle.model.specs.Places.{place-of}
 use Rattle.model.specs.Checks.{Kind, check, is-bad, is-cut, is-sound, isAbove, isWell}
-use Rattle.model.specs.Format.{BadFile, Bytes, CutFile, checkFile, checkRead, checkReadWith, entrySize, fileBytes, fileSize, headerOf, layoutOf, legalSizes, readFile, readSlot, rightHeader, slotAt, storeBytes}
-use Rattle.model.specs.Calls.{Created, Looked, PutDone, Recovered, RemoveDone, arrivedAnswer, createOf, fine, headedAnswer, heldAnswer, landed, listLooked, listOf, listWith, lookUpOf, lookUpWith, lookedBy, lookedOf, new-trie, no-rebuilt, putAnswer, putLooked, putMade, putOf, putWith, rebuildBy, rebuildOf, recoverBy, recoverOf, recoverWith, refusing, removeAnswer, removeLooked, removeMade, removeOf, removeWith, slotAnswer, storesBytes, trieAfter}
+use Rattle.model.specs.Format.{BadFile, Bytes, CutFile, checkFile, checkRead, checkReadWith, entrySize, fileBytes, fileSize, headerOf, keptRun, layoutOf, legalSizes, readFile, readSlot, rightHeader, slotAt, storeBytes}
+use Rattle.model.specs.Calls.{Created, Looked, PutDone, Recovered, RemoveDone, arrivedAnswer, createOf, fine, headedAnswer, held, heldAnswer, landed, listLooked, listOf, listWith, lookUpOf, lookUpWith, lookedBy, lookedOf, new-trie, no-rebuilt, putAnswer, putLooked, putMade, putOf, putTakes, putWith, rebuildBy, rebuildOf, recoverBy, recoverOf, recoverWith, refusing, removeAnswer, removeLooked, removeMade, removeOf, removeWith, slotAnswer, storesBytes, trieAfter}
 use Rattle.model.specs.Deciding.{le?, not?, str?}
 use Rattle.model.proofs.Names.{both-true, legalName-legal, length-filled}
 use Rattle.model.proofs.Entries.{chosen-no, chosen-yes, length-keep, row-insert, row-keep}
 use Rattle.model.proofs.Changes.{Change, absent, at-set, fits, inside-a, new-well, old-well, removes, splits, well-a}
-use Rattle.model.proofs.Calls.{Answered, is-denied, is-made, put-right, remove-right}
+use Rattle.model.proofs.Calls.{Answered, is-denied, is-made, put-right, put-taken, remove-right}
 use Rattle.model.proofs.Created.{created-left}
 use Rattle.model.proofs.Places.{place-lt}
 use Rattle.model.proofs.Stores.{Asked, change-legal, left-freed, left-stored, legal-take}
 use Rattle.model.proofs.Checks.{well-isWell}
 use Rattle.model.proofs.CheckedFiles.{CheckedFile, checkFile-right}
 use Rattle.model.proofs.Files.{cut-well}
-use Rattle.model.proofs.Format.{contents-readFile, fileBytes-readFile, headed-headerOf, headed-layout, headed-slots, legalSizes-sizes, readFile-read, readSlot-readFile, value-fits}
+use Rattle.model.proofs.Format.{contents-readFile, fileBytes-readFile, headed-headerOf, headed-layout, headed-slots, legalSizes-sizes, put-fits, readFile-read, readSlot-readFile}
 use Rattle.promises.specs.Calls.{our-calls}
 use Rattle.promises.specs.Demand1.{Arrives, RightHeader, here, left-of, right-of, slots-of}
 use Rattle.promises.specs.Older.{BlankFile, HoldsBlank, Older, PlainFile, Reads, older-calls, olderArrived, olderCheck, olderHeaded, olderKind, olderLooked, olderName, olderRebuild, olderSlotAnswer}
@@ -97,9 +97,9 @@ unfolding rebuildOf
 same-rebuild xs n = rw (older-check xs n)
 
 module _ (xs : List ℕ) (t : Trie) where
-  same-put : (name : List ℕ) (v limit : ℕ) → PlainFile xs → olderName name ≡ true → putWith olderName olderLooked xs t name v limit ≡ putOf xs t name v limit
+  same-put : (name : List ℕ) (v run limit : ℕ) → PlainFile xs → olderName name ≡ true → putWith olderName olderLooked xs t name v run limit ≡ putOf xs t name v run limit
   unfolding putOf
-  same-put name v limit n e = rw (e, older-legalName name e, older-looked xs t n)
+  same-put name v run limit n e = rw (e, older-legalName name e, older-looked xs t n)
 
   same-remove : (name : List ℕ) (limit : ℕ) → PlainFile xs → olderName name ≡ true → removeWith olderName olderLooked xs t name limit ≡ removeOf xs t name limit
   unfolding removeOf
@@ -264,10 +264,10 @@ unfolding rebuildBy
 refuses-rebuild xs F = rw (older-bad xs F)
 
 module _ (xs : List ℕ) (t : Trie) (F : BlankFile xs) where
-  refuses-put : (name : List ℕ) (v limit : ℕ) → olderName name ≡ true → limit ≤ 2
-      → putWith olderName olderLooked xs t name v limit ≡ record { answer = PutRefused bad-file; file = xs; trie = t }
+  refuses-put : (name : List ℕ) (v run limit : ℕ) → olderName name ≡ true → limit ≤ 2
+      → putWith olderName olderLooked xs t name v run limit ≡ record { answer = PutRefused bad-file; file = xs; trie = t }
   unfolding putLooked
-  refuses-put name v limit e h = rw (le-ltb 2 limit h, e, bad-looked xs t F)
+  refuses-put name v run limit e h = rw (le-ltb 2 limit h, e, bad-looked xs t F)
 
   refuses-remove : (name : List ℕ) (limit : ℕ) → olderName name ≡ true → limit ≤ 2
       → removeWith olderName olderLooked xs t name limit ≡ record { answer = RemoveRefused bad-file; file = xs }
@@ -407,27 +407,30 @@ recover-plain xs limit bytes n = limited (ltb 2 limit)
     limited false = by (checkFile xs) (checkFile-right xs)
 
 module _ (xs : List ℕ) (bytes : Bytes xs) (plain : PlainFile xs) (t : Trie) (name : List ℕ) where
-  put-plain : (v limit : ℕ) → v < 2 ^ 64 → olderName name ≡ true → PlainFile (putOf xs t name v limit .file)
+  put-plain : (v run limit : ℕ) → v < 2 ^ 64 → run < 2 ^ 64 → olderName name ≡ true → PlainFile (putOf xs t name v run limit .file)
   unfolding putOf putLooked putMade PlainAsked
-  put-plain v limit small legal = rw (older-legalName name legal) (limited (ltb 2 limit))
+  put-plain v run limit small low legal = rw (older-legalName name legal) (limited (ltb 2 limit))
     where
       n : Str
       n = filled name
 
-      made : {y : Layout} {fs : List Slot} → Passed xs t y fs → {r : Result} → Answered (y .b) (place-of y) fs (put n v) r → PlainFile (putMade xs t y fs n v limit r .file)
+      content : Layout → ℕ
+      content y = contentOf v (keptRun y run)
+
+      made : {y : Layout} {fs : List Slot} → Passed xs t y fs → {r : Result} → Answered (y .b) (place-of y) fs (put n (content y)) r → PlainFile (putMade xs t y fs n (content y) limit r .file)
       made p (is-denied d) = plain
-      made {y} {fs} p (is-made {ss = ss} c) = go (ltb limit (length ss)) (find n (entries-of (slot-at fs (first (holds? n) fs))))
+      made {y} {fs} p (is-made {ss = ss} c) = go (ltb limit (length ss)) (held fs n)
         where
           go : (s : Bool) (o : Option ℕ)
-              → PlainFile (cond {A = PutDone} s (record { answer = PutStopped limit; file = storesBytes y (take limit ss) xs; trie = t }) (record { answer = putAnswer o; file = storesBytes y ss xs; trie = trieAfter (y .b) (place-of y) fs n v ss t }) .file)
-          go true o = stored-plain xs bytes plain t p c (value-fits y v small) (filled-plain name legal) limit
-          go false o = all-plain xs bytes plain t p c (value-fits y v small) (filled-plain name legal)
+              → PlainFile (cond {A = PutDone} s (record { answer = PutStopped limit; file = storesBytes y (take limit ss) xs; trie = t }) (record { answer = putAnswer o; file = storesBytes y ss xs; trie = trieAfter (y .b) (place-of y) fs n (content y) ss t }) .file)
+          go true o = stored-plain xs bytes plain t p c (put-fits y v run small low) (filled-plain name legal) limit
+          go false o = all-plain xs bytes plain t p c (put-fits y v run small low) (filled-plain name legal)
 
-      looked : (l : Looked) → lookedOf xs t ≡ l → PlainFile (putLooked xs t n v limit l .file)
+      looked : (l : Looked) → lookedOf xs t ≡ l → PlainFile (putLooked xs t n v run limit l .file)
       looked (refusing c) e = plain
-      looked (fine y fs) e = let p = looked-passed xs t y fs e in made p (put-right (y .b) (place-of y) fs (p .sound) n v (legalName-legal name (older-legalName name legal)))
+      looked (fine y fs) e = let p = looked-passed xs t y fs e in put-taken (λ (r : Result). PlainFile (putMade xs t y fs n (content y) limit r .file)) y fs n (content y) (keptRun y run) (λ e. plain) (λ e. made p (put-right (y .b) (place-of y) fs (p .sound) n (content y) (legalName-legal name (older-legalName name legal))))
 
-      limited : (c : Bool) → PlainFile (cond {A = PutDone} c (record { answer = PutRefused WrongSize; file = xs; trie = t }) (putLooked xs t n v limit (lookedOf xs t)) .file)
+      limited : (c : Bool) → PlainFile (cond {A = PutDone} c (record { answer = PutRefused WrongSize; file = xs; trie = t }) (putLooked xs t n v run limit (lookedOf xs t)) .file)
       limited true = plain
       limited false = looked (lookedOf xs t) refl
 
@@ -493,14 +496,14 @@ older-build = record {
   stays = record {
     create = create-plain;
     recover = recover-plain;
-    put = λ xs t name v limit bytes small n e. put-plain xs bytes n t name v limit small e;
+    put = λ xs t name v run limit bytes small low n e. put-plain xs bytes n t name v run limit small low e;
     remove = λ xs t name limit bytes n. remove-plain xs bytes n t name limit;
   };
   refuses = record {
     check = older-bad;
     recover = refuses-recover;
     rebuild = refuses-rebuild;
-    put = λ xs t name v limit F e h. refuses-put xs t F name v limit e h;
+    put = λ xs t name v run limit F e h. refuses-put xs t F name v run limit e h;
     remove = λ xs t name limit F e h. refuses-remove xs t F name limit e h;
     list = λ xs t low high out F e f. refuses-list xs t F low high out e f;
   };

@@ -97,7 +97,7 @@ says-where C D = record {
     λ L. (D .look-up xs t name (StaleTrie k) .1 (left-first xs t name k L), omega (arith, left-fits xs t name k L)),
   );
   look-up-carries = λ xs t name k e. fits xs t name k (first-left xs t name k (D .look-up xs t name (StaleTrie k) .0 e));
-  put = λ xs t name v limit k e. bare-first Is255 (put-table xs t name v limit) (λ j z. clash cc, (λ j z. clash cc, (λ j z. clash cc, (λ j z. clash cc, (carries, (λ j z. clash cc, (λ j z. clash cc, tt))))))) k (D .put xs t name v limit (StaleTrie k) .0 e);
+  put = λ xs t name v run limit k e. bare-first Is255 (put-table xs t name v run limit) (λ j z. clash cc, (λ j z. clash cc, (λ j z. clash cc, (λ j z. clash cc, (carries, (λ j z. clash cc, (λ j z. clash cc, (λ j z. clash cc, tt)))))))) k (D .put xs t name v run limit (StaleTrie k) .0 e);
   remove = λ xs t name limit k e. bare-first Is255 (remove-table xs t name limit) (λ j z. clash cc, (λ j z. clash cc, (λ j z. clash cc, (λ j z. clash cc, (carries, tt))))) k (D .remove xs t name limit (StaleTrie k) .0 e);
   list = λ xs t low high out k e. bare-first Is255 (list-table xs t low high out) (λ j z. clash cc, (λ j z. clash cc, (λ j z. clash cc, (carries, (λ j z. clash cc, tt))))) k (D .list xs t low high out (StaleTrie k) .0 e);
   create = λ xs v b slots k e. bare-first (λ j. ⊥) (create-table xs v b slots) (λ j z. clash cc, tt) k (D .create xs v b slots (StaleTrie k) .0 e);
