@@ -2,14 +2,14 @@
 use Rattle.model.proofs.Prelude.{Bool, List, Option, [], _<_, _∙_, _∷_, _≡_, _≤_, ap, arith, clash, cond, decLe, decLt, false, length, lt-ltb, ltb-true, nothing, refl, some, subst, sym, true, ℕ}
 use Rattle.model.specs.Order.{Low, Str, _⊑_, _◁_, at}
 use Rattle.model.specs.Names.{Legal}
-use Rattle.model.specs.Entries.{Entry, chosen, find, insert, isOlder, runPart, without}
+use Rattle.model.specs.Entries.{Entry, chosen, find, insert, is-older, run-of-content, without}
 use Rattle.model.specs.Files.{In, Slot, Sound, entries-of, first, free, head, slot-at, string-count, used}
 use Rattle.model.specs.Changes.{Denied, Lowest, Request, Result, Store, call, free?, halves, holds?, no-room, put, put-in, refuse, remove, remove-in, stored, stores, stores-if, too-many}
 use Rattle.model.proofs.Entries.{chosen-no, chosen-yes}
 use Rattle.model.proofs.Files.{bucket, first-before, first-passes, first-right, one-range}
 use Rattle.model.specs.declared.Layout.{Layout}
 use Rattle.model.specs.Places.{place-of}
-use Rattle.model.specs.Calls.{held, putTakes}
+use Rattle.model.specs.Calls.{held, put-takes}
 use Rattle.model.proofs.Changes.{Change, absent, fits, removes, splits}
 
 pub lowest-unique : {fs : List Slot} {M N : ℕ} → Lowest fs M → Lowest fs N → M ≡ N
@@ -118,20 +118,20 @@ module _ (b : ℕ) (place : List Entry → ℕ) (fs : List Slot) where
                 ]
 
 -- What a put takes: it is refused by the runs, or takes what its request takes.
-pub put-taken : (P : Result → Type 0) (y : Layout) (fs : List Slot) (n : Str) (c run : ℕ) → (isOlder run (held fs n) ≡ true → P (refuse 12))
-    → (isOlder run (held fs n) ≡ false → P (call (y .b) (place-of y) fs (put n c))) → P (putTakes y fs n c run)
-unfolding putTakes
-put-taken P y fs n c run f g = go (isOlder run (held fs n)) refl
+pub put-taken : (P : Result → Type 0) (y : Layout) (fs : List Slot) (n : Str) (c run : ℕ) → (is-older run (held fs n) ≡ true → P (refuse 12))
+    → (is-older run (held fs n) ≡ false → P (call (y .b) (place-of y) fs (put n c))) → P (put-takes y fs n c run)
+unfolding put-takes
+put-taken P y fs n c run f g = go (is-older run (held fs n)) refl
   where
-    go : (t : Bool) → isOlder run (held fs n) ≡ t → P (cond t (refuse 12) (call (y .b) (place-of y) fs (put n c)))
+    go : (t : Bool) → is-older run (held fs n) ≡ t → P (cond t (refuse 12) (call (y .b) (place-of y) fs (put n c)))
     go true e = f e
     go false e = g e
 
-pub older-held : (run : ℕ) (o : Option ℕ) → isOlder run o ≡ true → (w : ℕ) × (o ≡ some w) × (run < runPart w)
-unfolding isOlder
+pub older-held : (run : ℕ) (o : Option ℕ) → is-older run o ≡ true → (w : ℕ) × (o ≡ some w) × (run < run-of-content w)
+unfolding is-older
 older-held run nothing e = clash cc
-older-held run (some w) e = (w, refl, ltb-true run (runPart w) e)
+older-held run (some w) e = (w, refl, ltb-true run (run-of-content w) e)
 
-pub held-older : (run : ℕ) {o : Option ℕ} (w : ℕ) → o ≡ some w → run < runPart w → isOlder run o ≡ true
-unfolding isOlder
-held-older run w q h = rw (q, lt-ltb run (runPart w) h)
+pub held-older : (run : ℕ) {o : Option ℕ} (w : ℕ) → o ≡ some w → run < run-of-content w → is-older run o ≡ true
+unfolding is-older
+held-older run w q h = rw (q, lt-ltb run (run-of-content w) h)

@@ -3,7 +3,7 @@ use Rattle.model.proofs.Prelude.{List, List·Memᴰ, List·getD-eq-defa
 use Rattle.model.specs.Order.{Low, Str, _≺_, _◁_, at, none}
 use Rattle.model.specs.Names.{Bound, BoundLow}
 use Rattle.model.specs.Entries.{Entry, Row}
-use Rattle.model.specs.Files.{Begins, BoundOf, Chain, Cut, Head, In, IsString, IsUsed, Ranges, Slot, Sound, Starts, Well, all, bounds, entries-of, first, free, head, last, lower-bound, lower-of, next, no-range, order-from, order-of, range, ranges, slot-at, starts?, string-count, strings-of, upper-bound, upper-of, used, well-free, well-used}
+use Rattle.model.specs.Files.{Begins, BoundOf, Chain, Cut, In, IsString, IsUsed, RangeTable, Slot, SlotHead, Sound, Starts, Well, all, bounds, entries-of, first, free, head, last, lower-bound, lower-of, next, no-range, order-from, order-of, range, ranges, slot-at, starts?, string-count, strings-of, upper-bound, upper-of, used, well-free, well-used}
 use Rattle.model.specs.Tries.{occ, one-if}
 use Rattle.model.specs.Rebuilding.{rebuilt}
 use Rattle.model.specs.Deciding.{le?, nil-not-le, over, str?}
@@ -56,7 +56,7 @@ first-before t (x ∷ xs) (suc B) h = elim (t x) [
     lower : (i : ℕ) → suc B < suc i → B < i
     lower i h = omega arith
 
-pub chain-once : (F : Ranges) (Bs : List ℕ) {l : Low} → Chain F l Bs → (i : ℕ) → occ i Bs ≤ 1
+pub chain-once : (F : RangeTable) (Bs : List ℕ) {l : Low} → Chain F l Bs → (i : ℕ) → occ i Bs ≤ 1
 chain-once F Bs (last {B = B} u e f) i = go (ℕ-discrete i B)
   where
     go : (d : Dec (i ≡ B)) → one-if d + 0 ≤ 1
@@ -192,7 +192,7 @@ module _ (b : ℕ) where
     pub strings-only : (x : Str) → List·Memᴰ x (strings-of fs) → IsString fs x
     strings-only x m = go (all-begins (bounds (ranges fs) (S .order)) x (rw strings-right at m))
       where
-        upper : (h : Head) → IsUsed h → BoundOf h (upper-of h)
+        upper : (h : SlotHead) → IsUsed h → BoundOf h (upper-of h)
         upper no-range u = absurd u
         upper (range l u) h = upper-bound
 
@@ -206,7 +206,7 @@ module _ (b : ℕ) where
     pub strings-every : (x : Str) → IsString fs x → List·Memᴰ x (strings-of fs)
     strings-every x i = rw strings-right (begins-in (bounds (ranges fs) (S .order)) (i .bound) x (go (parts (head (slot-at fs (i .bucket))) (i .bound) (i .is-bound))) (i .begins))
       where
-        parts : (h : Head) (y : Str) → BoundOf h y → IsUsed h × ((lower-of h ≡ at y) ⊎ (y ≡ upper-of h))
+        parts : (h : SlotHead) (y : Str) → BoundOf h y → IsUsed h × ((lower-of h ≡ at y) ⊎ (y ≡ upper-of h))
         parts (range (at l) u) y lower-bound = (tt, inl refl)
         parts (range l u) y upper-bound = (tt, inr refl)
 

@@ -7,8 +7,8 @@ use Rattle.model.specs.declared.Trie.{Trie}
 use Rattle.model.specs.Order.{Low, Str, _⊑_, _◁_, at, diff}
 use Rattle.model.specs.Names.{Legal}
 use Rattle.model.specs.Entries.{Entry, Row, insert, name-at, without}
-use Rattle.model.specs.Files.{Ranges, Slot, Sound, by-heads, ranges, slot-at, string-count, used}
-use Rattle.model.specs.Tries.{Agrees, Reads, Tree, first-leaf-of, here, leaf, node, root, root-side, there, trie-of, walk-trie, walkOf}
+use Rattle.model.specs.Files.{RangeTable, Slot, Sound, by-heads, ranges, slot-at, string-count, used}
+use Rattle.model.specs.Tries.{Agrees, Reads, Tree, first-leaf-of, here, leaf, node, root, root-side, there, trie-of, walk-of, walk-trie}
 use Rattle.model.specs.Rebuilding.{side-of}
 use Rattle.model.specs.Growth.{grown-trie, placed, turn, turn-side}
 use Rattle.model.specs.Changes.{Lowest, Request, Store, split-string, stored}
@@ -31,7 +31,7 @@ module _ {b : ℕ} {fs : List Slot} (S : Sound b fs) {t : Trie} (A : Agrees fs t
   abbrev top : Side
   top = top-side t
 
-  parts : walkOf t n ≡ some (path-cells live n (suc (length live)) [] top, spot-cells live n (suc (length live)) [] root top, walk-cells live n (suc (length live)) [] top)
+  parts : walk-of t n ≡ some (path-cells live n (suc (length live)) [] top, spot-cells live n (suc (length live)) [] root top, walk-cells live n (suc (length live)) [] top)
   parts =
       let h : length (A .visits) < suc (length live) = omega (arith, visit-count A, live-count A) in
       rw (path-reads n (suc (length live)) [] (A .reads) h, spot-reads n (suc (length live)) [] root (A .reads) h, walk-reads n (suc (length live)) [] (A .reads) h)
@@ -41,7 +41,7 @@ module _ {b : ℕ} {fs : List Slot} (S : Sound b fs) {t : Trie} (A : Agrees fs t
   pub walk-live : walk-trie t n ≡ walk-cells live n (suc (length live)) [] top
   walk-live = rw parts
 
-  pub agreed-walk : walkOf t n ≡ some (path-cells live n (suc (length live)) [] top, spot-cells live n (suc (length live)) [] root top, walk-trie t n)
+  pub agreed-walk : walk-of t n ≡ some (path-cells live n (suc (length live)) [] top, spot-cells live n (suc (length live)) [] root top, walk-trie t n)
   agreed-walk = rw parts
 
   pub grown-trie-is : (s : Str) (B N : ℕ) → grown-trie t n s B N ≡ trie-of (cells-turned live top n s B N) (root-turned live top n s B N)
@@ -52,7 +52,7 @@ pub root-further : (count first : ℕ) → (count ≡ 0 → ⊥) → further 0 �
 root-further zero first h = absurd (h refl)
 root-further (suc count) first h = refl
 
-root-right : {F : Ranges} {Bs : List ℕ} {cs : List Cell} {a : Side} → CellsAgree F Bs cs a → ((m : ℕ) → a ≡ further m → m ≡ 0) → a ≡ root-side (length cs) (first-leaf-of a)
+root-right : {F : RangeTable} {Bs : List ℕ} {cs : List Cell} {a : Side} → CellsAgree F Bs cs a → ((m : ℕ) → a ≡ further m → m ≡ 0) → a ≡ root-side (length cs) (first-leaf-of a)
 root-right {cs = cs} {a = a} A zero-root = go a (A .reads) (visits-count (A .reads) (A .each)) zero-root
   where
     go : (a : Side) {t : Tree} {vs : List ℕ} → Reads cs a t vs → length vs ≡ length cs → ((m : ℕ) → a ≡ further m → m ≡ 0) → a ≡ root-side (length cs) (first-leaf-of a)

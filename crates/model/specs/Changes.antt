@@ -8,7 +8,7 @@ use native.Mathlib.Decide.{decLe, decLt}
 use native.Mathlib.Omega.{arith}
 use lib.ListN.{length, set}
 use Rattle.model.specs.Order.{Low, Str, _⊑_, _◁_, at}
-use Rattle.model.specs.Names.{splitString}
+use Rattle.model.specs.Names.{split-beginning}
 use Rattle.model.specs.Entries.{Entry, chosen, find, insert, move, name-at, stay, without}
 use Rattle.model.specs.Files.{In, Slot, entries-of, first, free, head, slot-at, string-count, used}
 use Rattle.model.specs.Deciding.{le?, low?, str?}
@@ -34,7 +34,7 @@ pub record Lowest (fs : List Slot) (N : ℕ) : Type 0 where
 
 -- The split string of the names at two places, counted from 0.
 abbrev pub split-string : ℕ → ℕ → List Entry → Str
-split-string i j ws = splitString (name-at ws i) (name-at ws j)
+split-string i j ws = split-beginning (name-at ws i) (name-at ws j)
 
 -- Over any rule that names, of b + 1 sorted entries, the place of the split key, counted from 0: its position less one.
 module _ (b : ℕ) (place : List Entry → ℕ) where
