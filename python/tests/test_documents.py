@@ -166,11 +166,13 @@ class Documents(InFolder):
     def test_what_is_left_of_a_bad_file(self):
         operations = (PROJECT / "docs/OPERATIONS.md").read_text(encoding="utf-8")
         program = re.search(r"```python\n(.*?)```", operations, re.DOTALL)
-        file = bytearray(self.path.read_bytes())
-        file[16 + 192 * 2 + 4] = 1
-        self.path.write_bytes(file)
-        printed = subprocess.check_output([sys.executable, "-c", program[1], str(self.path)], text=True)
-        self.assertEqual(sorted(printed.split()[::2]), sorted(WORDS))
+        for version, size in ((1, 192), (3, 224)):
+            file = bytearray(sound_file(WORDS, 4, 8, version))
+            file[16 + size * 2 + 4] = 1
+            self.path.write_bytes(file)
+            printed = subprocess.check_output([sys.executable, "-c", program[1], str(self.path)], text=True)
+            found = {name: int(value) for name, value in map(str.split, printed.splitlines())}
+            self.assertEqual(found, {word: place for place, word in enumerate(WORDS, 1)})
 
 
 if __name__ == "__main__":
