@@ -143,7 +143,7 @@ module _ (xs image name out : List ℕ) (w : IsImage image) where
   )
 
   look-up-answers : (a : LookUpAnswer) → look-up-of xs (trie-from image) name ≡ a → Answers (look-up-refusal out) (100 ∷ 101 ∷ []) look-up-left (said-by-look-up a .0)
-  look-up-answers (Found v) e = first-of
+  look-up-answers (Found v run) e = first-of
   look-up-answers NotFound e = second-of
   look-up-answers (LookUpRefused c) e = inl (c, look-up-refuses c e)
 
