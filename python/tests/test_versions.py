@@ -120,6 +120,21 @@ class Stores(InFolder):
             self.assertEqual(reasons.state(bytes(file)).reason, says)
 
 
+class EveryVersion(unittest.TestCase):
+    def test_stores_of_every_version_do_the_same(self) -> None:
+        """The tests of the mapping, of its refusals, of failing disks and of readers, where new stores are of another version."""
+        program = (
+            "import sys, unittest; sys.path.insert(0, sys.argv[1]); import support, palhavento;"
+            "usual = list(palhavento.open.__defaults__); assert usual[6] == 2; usual[6] = int(sys.argv[2]);"
+            "palhavento.open.__defaults__ = tuple(usual);"
+            "unittest.main(None, argv=['', 'test_mapping', 'test_errors', 'test_faults', 'test_sharing', 'test_reading'])"
+        )
+        for version in (1, 3):
+            ran = subprocess.run([sys.executable, "-c", program, os.path.dirname(__file__), str(version)], capture_output=True, text=True)
+            self.assertEqual(ran.returncode, 0, ran.stderr)
+            self.assertRegex(ran.stderr, r"Ran 1\d\d tests")
+
+
 LARGEST = 2**64 - 1
 
 
