@@ -31,7 +31,7 @@ use Rattle.model.proofs.Changes.{Fine, change-made, fits, splits}
 use Rattle.model.proofs.Calls.{Answered, in-range, is-denied, is-made, older-held, put-right, put-taken, remove-right}
 use Rattle.model.proofs.CheckedFiles.{sound-not-cut}
 use Rattle.model.proofs.Stores.{read-stored}
-use Rattle.model.proofs.Format.{Contents, bytes-bytes-at-slot, contents-find, contents-read-file, contents-read-slot, file-bytes-read-file, headed-layout, no-run, read-file-read}
+use Rattle.model.proofs.Format.{Contents, bytes-bytes-at-slot, contents-find, contents-read-file, contents-read-slot, file-bytes-read-file, headed-layout, no-run, read-file-read, run-part, value-part}
 use Rattle.promises.specs.Calls.{our-calls}
 use Rattle.promises.specs.Demand1.{FirstHolding, HeldHigher, put-table, slots-of}
 use Rattle.promises.specs.Runs.{Reached, Runs}
@@ -322,6 +322,7 @@ pub runs : Runs our-calls
 runs = record {
   sizes = sizes;
   largest = largest;
+  told = λ v run h. (ap₂ Found (value-part v run h) (run-part v run h), ap₂ Replaced (value-part v run h) (run-part v run h));
   refused = λ xs t name v run limit R. (
     λ e. first-higher xs t name v run limit (demand-1 .put xs t name v run limit OlderRun .0 e),
     λ h. demand-1 .put xs t name v run limit OlderRun .1 (higher-first xs t name v run limit R h),
