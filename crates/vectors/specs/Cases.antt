@@ -3665,8 +3665,8 @@ puttings =
     ∷ puts file162 trie3 (text "!}" ∷ []) 698 5 1 (111, 18446744073709551615 ∷ 3 ∷ []) file163 trie3
     ∷ puts file164 trie77 (text "ba" ∷ []) 11336671929650614169 0 2 (110, []) file165 trie78
     ∷ puts file166 trie70 (text "b" ∷ byte 0x20 ∷ text "a" ∷ []) 273 2 2 (5, []) file166 trie70
-    ∷ puts file167 trie79 (text "b" ∷ byte 0x20 ∷ text "a" ∷ []) 268 2 2 (111, 16825305363868156751 ∷ 1
-    ∷ []) file168 trie79
+    ∷ puts file167 trie79 (text "b" ∷ byte 0x20 ∷ text "a" ∷ []) 268 2 2
+    (111, 16825305363868156751 ∷ 1 ∷ []) file168 trie79
     ∷ puts file169 trie80 (text "n" ∷ byte 0x20 ∷ text "nin" ∷ []) 1376886965354732403 3 2 (110, []) file170 trie81
     ∷ puts file171 trie82 (text "zx" ∷ []) 755 0 2 (110, []) file172 trie83
     ∷ puts file173 trie84 (text "a!" ∷ []) 305 1 2 (110, []) file174 trie85
