@@ -45,13 +45,13 @@ NEVER = 2**64 - 1
 PATIENCE = 30
 # Numbers of Linux for x86-64: memory whose missing pages a process is told of.
 USERFAULTFD, UFFDIO_API, UFFDIO_REGISTER = 323, 0xC018AA3F, 0xC020AA00
-# The word of an answer that has none, as `tests/src/door.rs` finds it.
-UNWRITTEN = 0xA5A5_0000_1111_5A5A
+# The words of an answer that has none, as `tests/src/door.rs` finds them.
+UNWRITTEN = (0xA5A5_0000_1111_5A5A, 0xA5A5_2222_3333_5A5A)
 
 
-def say(call: int, number: int, answer: int, word: int = UNWRITTEN) -> None:
+def say(call: int, number: int, answer: int, *words: int) -> None:
     """One record, out before the next step."""
-    os.write(sys.stdout.fileno(), struct.pack("<4Q", call, number, answer, word))
+    os.write(sys.stdout.fileno(), struct.pack("<5Q", call, number, answer, *words, *UNWRITTEN[len(words) :]))
 
 
 def die_at(moments: int) -> None:
@@ -180,31 +180,30 @@ def opened(path: str, names: list[str], sync: bool) -> palhavento.Store:
     say(REBUILD, 0, REBUILT)
     found = {}
     for number, name in enumerate(names):
-        value = store.get(name)
-        if value is None:
-            say(LOOK_UP, number, ABSENT)
-        else:
-            say(LOOK_UP, number, FOUND, value)
+        if name in store:
+            value, run = store.entry(name)
+            say(LOOK_UP, number, FOUND, value, run)
             found[name] = value
+        else:
+            say(LOOK_UP, number, ABSENT)
     entries = store.range()
     assert entries == sorted(found.items()), "the list differs from the names looked up"
     say(LIST, 0, LISTED, len(entries))
     return store
 
 
-def put(store: palhavento.Store, number: int, name: str, value: int) -> None:
+def put(store: palhavento.Store, number: int, name: str, value: int, run: int) -> None:
     """Make a put, and say so before and after."""
     say(PUT, number, ABOUT_TO)
-    old = store.get(name)
     try:
-        store[name] = value
-    except (palhavento.FileFull, palhavento.TrieFull) as refused:
+        old = store.put(name, value, run=run)
+    except (palhavento.FileFull, palhavento.TrieFull, palhavento.OlderRun) as refused:
         say(PUT, number, refused.number)
     else:
         if old is None:
             say(PUT, number, ADDED)
         else:
-            say(PUT, number, REPLACED, old)
+            say(PUT, number, REPLACED, *old)
 
 
 def remove(store: palhavento.Store, number: int, name: str) -> None:
@@ -227,8 +226,8 @@ def live(path: str, first: int, end: int, moment: int, inside: int) -> None:
     store = opened(path, names.splitlines(), sync=inside == NEVER)
     for number, request in enumerate(requests.splitlines()[first:end], start=first):
         match request.split("\t"):
-            case [name, value]:
-                put(store, number, name, int(value))
+            case [name, value, run]:
+                put(store, number, name, int(value), int(run))
             case [name]:
                 remove(store, number, name)
 

@@ -20,8 +20,9 @@ pub const POSSIBLE: [(&str, &[u64]); 8] = [
     // Its own order has 1, 2 and 4 only.
     ("lookup", &[1, 2, 4, 100, 101, 255]),
     // No output, so not 7.
-    ("put", &[1, 2, 3, 4, 5, 6, 8, 110, 111, 112, 255]),
-    // It splits nothing, so neither 5 nor 6 (a file with too many strings agrees with no trie: 4). No output, so not 7.
+    ("put", &[1, 2, 3, 4, 5, 6, 8, 12, 110, 111, 112, 255]),
+    // It splits nothing, so neither 5 nor 6 (a file with too many strings agrees with no trie: 4). No output, so not 7. It
+    // takes no run, so not 12.
     ("remove", &[1, 2, 3, 4, 8, 101, 112, 120, 255]),
     // No split, so neither 5 nor 6; no limit, so not 8.
     ("list", &[1, 2, 3, 4, 7, 152, 255]),

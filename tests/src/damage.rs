@@ -22,6 +22,7 @@ fn damage_file(chance: &mut Chance, file: &mut Vec<u8>, names: &[Vec<u8>]) {
     };
     let Header { b, slots, .. } = header;
     let length = header.slot_length();
+    let entry_length = header.entry_length();
     let slot = chance.below(slots);
     let at = HEADER + slot * length;
     match chance.below(22) {
@@ -51,7 +52,7 @@ fn damage_file(chance: &mut Chance, file: &mut Vec<u8>, names: &[Vec<u8>]) {
         7 | 8 => {
             let count = (file[at + 1] as usize).min(b);
             let entry = if chance.percent(50) && count < b { chance.between(count, b - 1) } else { chance.below(b) };
-            let place = at + 64 + 32 * entry + chance.below(32);
+            let place = at + 64 + entry_length * entry + chance.below(entry_length);
             file[place] = if chance.percent(50) { file[place].wrapping_add(1) } else { chance.byte() };
         }
         // A bound's length or digit.
@@ -76,18 +77,18 @@ fn damage_file(chance: &mut Chance, file: &mut Vec<u8>, names: &[Vec<u8>]) {
         }
         // Two entries change places, or one stands twice.
         15 => {
-            let (one, other) = (at + 64 + 32 * chance.below(b), at + 64 + 32 * chance.below(b));
+            let (one, other) = (at + 64 + entry_length * chance.below(b), at + 64 + entry_length * chance.below(b));
             if chance.percent(50) {
-                for place in 0..32 {
+                for place in 0..entry_length {
                     file.swap(one + place, other + place);
                 }
             } else {
-                file.copy_within(one..one + 32, other);
+                file.copy_within(one..one + entry_length, other);
             }
         }
-        // A value: the file stays sound if the entry is used.
+        // A value or a run: the file stays sound if the entry is used.
         16 => {
-            let place = at + 64 + 32 * chance.below(b) + 24 + chance.below(8);
+            let place = at + 64 + entry_length * chance.below(b) + chance.between(24, entry_length - 1);
             file[place] = file[place].wrapping_add(1);
         }
         17 => file[at] = *chance.pick(&[0, 1, 2, 255]),

@@ -1,6 +1,6 @@
 //! The C interface as values: a call, what it leaves behind, and what the model leaves behind for the same call.
 
-use crate::model::calls::{self, Answer, TRIE_STALE};
+use crate::model::calls::{self, Answer, Content, TRIE_STALE};
 use crate::model::trie::{Cell, Side, Trie, CELLS};
 
 /// A trie image has exactly this many bytes.
@@ -97,11 +97,11 @@ pub fn number_and_words(answer: Answer) -> (u64, Vec<u64>) {
         Answer::Refused(number) => (number, vec![]),
         // Word 0 is the digit number, or 255.
         Answer::Stale(digit) => (TRIE_STALE, vec![digit]),
-        // Word 0 is the value; word 1, for the run of a later version, is 0.
-        Answer::Found(value) => (100, vec![value, 0]),
+        // Word 0 is the value, word 1 the run.
+        Answer::Found(value, run) => (100, vec![value, run]),
         Answer::Absent => (101, vec![]),
         Answer::Added => (110, vec![]),
-        Answer::Replaced(old) => (111, vec![old, 0]),
+        Answer::Replaced(old, old_run) => (111, vec![old, old_run]),
         Answer::Stopped(made) => (112, vec![made]),
         Answer::Removed => (120, vec![]),
         Answer::Freed(slot) => (130, vec![slot]),
@@ -156,14 +156,15 @@ pub fn by_model(call: &Call) -> Outcome {
             }
             calls::look_up(file, &read_image(trie), name)
         }
-        Call::Put { file, trie, name, value, run: _, limit } => {
+        Call::Put { file, trie, name, value, run, limit } => {
             outcome.file.clone_from(file);
             outcome.trie.clone_from(trie);
             if trie.len() != IMAGE {
                 return outcome;
             }
             let mut grown = read_image(trie);
-            let answer = calls::put(&mut outcome.file, &mut grown, name, *value, *limit);
+            let content = Content::new(*value, *run);
+            let answer = calls::put(&mut outcome.file, &mut grown, name, content, *limit);
             outcome.trie = write_image(&grown);
             answer
         }

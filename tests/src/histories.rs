@@ -34,7 +34,8 @@ pub fn tell(seed: u64, mut call: impl FnMut(Call) -> Outcome) {
     let slots = chance.between(1, 24);
     let header = Header::new(make::version(&mut chance), b, slots);
     let names = world(&mut chance);
-    let mut history: BTreeMap<Vec<u8>, u64> = BTreeMap::new();
+    // Each name's value and run; a version without runs gives 0.
+    let mut history: BTreeMap<Vec<u8>, [u64; 2]> = BTreeMap::new();
     let made = call(Call::Create {
         file: vec![chance.byte(); header.file_length()],
         version: header.version,
@@ -54,11 +55,16 @@ pub fn tell(seed: u64, mut call: impl FnMut(Call) -> Outcome) {
             _ => (name.clone(), limit),
         };
         let outcome = if chance.percent(75) {
-            let value = chance.word();
-            let outcome = call(Call::Put { file: file.clone(), trie: trie.clone(), name: asked, value, run: 0, limit });
+            let (value, run) = (chance.word(), make::run(&mut chance));
+            let outcome = call(Call::Put { file: file.clone(), trie: trie.clone(), name: asked, value, run, limit });
+            let content = [value, if header.has_runs() { run } else { 0 }];
             match outcome.answer {
-                110 => assert!(history.insert(name, value).is_none()),
-                111 => assert_eq!(history.insert(name, value), Some(outcome.out[0])),
+                110 => assert!(history.insert(name, content).is_none()),
+                111 => {
+                    let old = history.insert(name, content).expect("what is replaced is held");
+                    assert!(old == outcome.out[..2] && old[1] <= content[1]);
+                }
+                12 => assert!(history[&name][1] > content[1], "only a higher run refuses"),
                 _ => {}
             }
             outcome
@@ -97,7 +103,7 @@ pub fn tell(seed: u64, mut call: impl FnMut(Call) -> Outcome) {
                 let asked = Call::Lookup { file: file.clone(), trie: trie.clone(), name: name.clone() };
                 let outcome = call(asked);
                 match history.get(name) {
-                    Some(value) => assert!(outcome.answer == 100 && outcome.out[0] == *value),
+                    Some(content) => assert!(outcome.answer == 100 && outcome.out[..2] == *content),
                     None => assert_eq!(outcome.answer, 101),
                 }
             }

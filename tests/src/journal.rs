@@ -21,7 +21,8 @@ fn sum(bytes: &[u8]) -> u64 {
 
 /// The file after all stores that its journal tells of.
 pub fn finished(file: &[u8], journal: &[u8]) -> Vec<u8> {
-    let slot = 64 + 32 * file[5] as usize;
+    // An entry of version 3 has 40 bytes.
+    let slot = 64 + if file[3] == 3 { 40 } else { 32 } * file[5] as usize;
     let stride = (32 + slot).next_multiple_of(SECTOR);
     let records = (SECTOR + file.len()).next_multiple_of(PAGE);
     let half = (records + PLACES * stride).next_multiple_of(PAGE);

@@ -48,6 +48,8 @@ pub struct Tally {
     pub recovering: u64,
     /// Recoveries that freed a slot.
     pub freed: u64,
+    /// Requests refused because the name was held with a higher run.
+    pub older: u64,
     pub requests: u64,
     pub names: u64,
     pub files: u64,
@@ -145,7 +147,8 @@ struct Trial<'a> {
     nursery: Option<Nursery>,
     /// What the file holds, by the model.
     file: Vec<u8>,
-    journal: BTreeMap<Vec<u8>, u64>,
+    /// Each name's value and run; a version without runs gives 0.
+    journal: BTreeMap<Vec<u8>, [u64; 2]>,
     /// The first request that does not count yet.
     next: u64,
     refused: u64,
@@ -257,7 +260,7 @@ impl<'a> Trial<'a> {
                 "check" => assert_eq!(answer, by_model(&Call::Check { file }).answer, "check"),
                 "recover" => {
                     let outcome = by_model(&Call::Recover { file, limit: 1 });
-                    assert_eq!((answer, said.word), (outcome.answer, outcome.out[0]), "recover");
+                    assert_eq!((answer, &said.words[..]), (outcome.answer, &outcome.out[..2]), "recover");
                     self.tally.freed += (answer == 130) as u64;
                     self.file = outcome.file;
                     flight = Flight::Nothing;
@@ -269,19 +272,20 @@ impl<'a> Trial<'a> {
                 }
                 "lookup" => {
                     let name = &self.world.names[said.number as usize];
-                    let found = (answer == 100).then_some(said.word);
+                    let found = (answer == 100).then_some(said.words);
                     assert!(answer == 100 || answer == 101, "look up refused {answer}");
                     assert_eq!(found, self.journal.get(name).copied(), "{name:?} against the journal");
                     self.tally.names += 1;
                 }
-                "list" => assert_eq!((answer, said.word), (152, self.journal.len() as u64), "list"),
+                "list" => assert_eq!((answer, said.words[0]), (152, self.journal.len() as u64), "list"),
                 "put" | "remove" if answer == ABOUT_TO => {
                     assert_eq!(said.number, self.next, "requests come in order");
                     flight = Flight::Request(said.number);
                 }
                 "put" | "remove" => {
                     let outcome = by_model(&call_for(&self.world.request(said.number), &file, &trie, 2));
-                    assert_eq!((answer, said.word), (outcome.answer, outcome.out[0]), "request {}", said.number);
+                    let expected = (outcome.answer, &outcome.out[..2]);
+                    assert_eq!((answer, &said.words[..]), expected, "request {}", said.number);
                     self.count(&outcome);
                     trie = outcome.trie;
                     flight = Flight::Nothing;
@@ -295,20 +299,23 @@ impl<'a> Trial<'a> {
     /// The next request counts, with what it leaves behind.
     fn count(&mut self, outcome: &Outcome) {
         let request = self.world.request(self.next);
-        let old = match request.value {
+        let run = request.content.filter(|_| self.world.header.has_runs()).map_or(0, |content| content.run);
+        let old = match request.content {
             _ if outcome.answer < 100 => self.journal.get(request.name).copied(),
-            Some(value) => self.journal.insert(request.name.to_vec(), value),
+            Some(content) => self.journal.insert(request.name.to_vec(), [content.value, run]),
             None => self.journal.remove(request.name),
         };
         match outcome.answer {
-            // Only a put of a new name splits, and only a split is refused here.
-            5 | 6 => assert!(request.value.is_some() && old.is_none()),
+            // Only a put of a new name splits, and only a split or an older run is refused here.
+            5 | 6 => assert!(request.content.is_some() && old.is_none()),
+            12 => assert!(old.is_some_and(|old| old[1] > run)),
             110 | 101 => assert_eq!(old, None),
-            111 => assert_eq!(old, Some(outcome.out[0])),
+            111 => assert!(old.is_some_and(|old| old == outcome.out[..2] && old[1] <= run)),
             120 => assert!(old.is_some()),
             other => panic!("request {} was answered by {other}", self.next),
         }
-        self.refused += (outcome.answer < 100) as u64;
+        self.refused += matches!(outcome.answer, 5 | 6) as u64;
+        self.tally.older += (outcome.answer == 12) as u64;
         self.tally.requests += 1;
         self.next += 1;
         self.file.clone_from(&outcome.file);
@@ -484,7 +491,7 @@ impl std::fmt::Display for Tally {
         write!(
             to,
             "{} kills, {} between the two stores of a split, {} after a last store, {} in a recovery; {} recoveries \
-             freed a slot; {} names compared, {} requests, {} files; {} inside a write, {} slots torn",
+             freed a slot; {} names compared, {} requests, {} with an older run, {} files; {} inside a write, {} slots torn",
             self.kills,
             self.between,
             self.unsaid,
@@ -492,6 +499,7 @@ impl std::fmt::Display for Tally {
             self.freed,
             self.names,
             self.requests,
+            self.older,
             self.files,
             self.inside,
             self.torn

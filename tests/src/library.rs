@@ -209,11 +209,11 @@ pub struct Grounds {
 impl Default for Grounds {
     fn default() -> Grounds {
         Grounds {
-            file: Ground::new(40_000),
+            file: Ground::new(46_000),
             trie: Ground::new(4_000),
             first: Ground::new(100),
             second: Ground::new(100),
-            output: Ground::new(40_000),
+            output: Ground::new(46_000),
             out: Ground::new(32),
         }
     }

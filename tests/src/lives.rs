@@ -17,6 +17,7 @@ use crate::chance::Chance;
 use crate::door::{Call, Outcome, IMAGE};
 use crate::library::{by_library, Grounds};
 use crate::make;
+use crate::model::calls::Content;
 use crate::model::file::{Header, HEADER, VERSIONS};
 
 /// The answer of a call that its limit stopped.
@@ -32,10 +33,10 @@ pub struct World {
 /// b, slots and how many names: small buckets, which split often, and the size that a file has unless it is said.
 pub const SIZES: [(usize, usize, usize); 4] = [(2, 64, 250), (3, 64, 350), (16, 24, 500), (16, 64, 1000)];
 
-/// A put of the value, or a remove.
+/// A put of a value by a run, or a remove.
 pub struct Request<'a> {
     pub name: &'a [u8],
-    pub value: Option<u64>,
+    pub content: Option<Content>,
 }
 
 impl World {
@@ -49,20 +50,23 @@ impl World {
         World { header: Header::new(version, b, slots), names: make::names(&mut chance, style, names), seed }
     }
 
-    /// The request of a number. Its value is no other request's, so that every store changes a byte.
+    /// The request of a number. Its value is no other request's, so that every store changes a byte. Later requests mostly
+    /// have later runs; some come late.
     pub fn request(&self, number: u64) -> Request<'_> {
         let mut chance = Chance::new(self.seed ^ ((number + 1) << 32));
         let name = chance.pick(&self.names);
-        Request { name, value: chance.percent(85).then_some(number + 1) }
+        let content = chance.percent(85).then(|| Content::new(number + 1, number / 8 + chance.below(40) as u64));
+        Request { name, content }
     }
 
     /// The world in words, with so many of its requests, for a process without this `Chance`: each name on a line, an
-    /// empty line, then on a line each request's name, and after a tab, which no name has, the value that is put.
+    /// empty line, then on a line each request's name and, of a put, the value and the run, each after a tab, which no name
+    /// has.
     pub fn text(&self, requests: u64) -> String {
         let word = |name: &[u8]| String::from_utf8(name.to_vec()).expect("digits are ASCII");
         let names = self.names.iter().map(|name| word(name) + "\n");
-        let requests = (0..requests).map(|number| self.request(number)).map(|request| match request.value {
-            Some(value) => format!("{}\t{value}\n", word(request.name)),
+        let requests = (0..requests).map(|number| self.request(number)).map(|request| match request.content {
+            Some(Content { value, run }) => format!("{}\t{value}\t{run}\n", word(request.name)),
             None => format!("{}\n", word(request.name)),
         });
         names.chain(["\n".to_string()]).chain(requests).collect()
@@ -72,13 +76,13 @@ impl World {
 /// The call that makes a request.
 pub fn call_for(request: &Request, file: &[u8], trie: &[u8], limit: u64) -> Call {
     let (file, trie, name) = (file.to_vec(), trie.to_vec(), request.name.to_vec());
-    match request.value {
-        Some(value) => Call::Put { file, trie, name, value, run: 0, limit },
+    match request.content {
+        Some(Content { value, run }) => Call::Put { file, trie, name, value, run, limit },
         None => Call::Remove { file, trie, name, limit },
     }
 }
 
-/// What a process says of a call: which one, for which request or name, its answer, and word 0 of `out`.
+/// What a process says of a call: which one, for which request or name, its answer, and words 0 and 1 of `out`.
 #[derive(Clone, Copy, Debug)]
 pub struct Said {
     /// The place in `door::CALLS`.
@@ -86,7 +90,7 @@ pub struct Said {
     pub number: u64,
     /// `ABOUT_TO` before the call is made.
     pub answer: u64,
-    pub word: u64,
+    pub words: [u64; 2],
 }
 
 /// No call answers this.
@@ -94,16 +98,17 @@ pub const ABOUT_TO: u64 = 0;
 
 impl Said {
     pub fn write(&self, to: &mut impl Write) {
-        let words = [self.call, self.number, self.answer, self.word].map(u64::to_le_bytes);
+        let [zero, one] = self.words;
+        let words = [self.call, self.number, self.answer, zero, one].map(u64::to_le_bytes);
         to.write_all(&words.concat()).expect("somebody listens");
     }
 
     /// None at the end. What was said in part was not said.
     pub fn read(from: &mut impl Read) -> Option<Said> {
-        let mut bytes = [0; 32];
+        let mut bytes = [0; 40];
         from.read_exact(&mut bytes).ok()?;
         let word = |place: usize| u64::from_le_bytes(bytes[8 * place..][..8].try_into().unwrap());
-        Some(Said { call: word(0), number: word(1), answer: word(2), word: word(3) })
+        Some(Said { call: word(0), number: word(1), answer: word(2), words: [word(3), word(4)] })
     }
 }
 
@@ -164,7 +169,8 @@ impl Life {
     }
 
     fn say(&mut self, call: &Call, number: u64, outcome: &Outcome) {
-        let said = Said { call: call.number() as u64, number, answer: outcome.answer, word: outcome.out[0] };
+        let words = [outcome.out[0], outcome.out[1]];
+        let said = Said { call: call.number() as u64, number, answer: outcome.answer, words };
         said.write(&mut self.listener);
     }
 
@@ -194,7 +200,7 @@ impl Life {
     /// Makes a request, and says so before and after.
     fn ask(&mut self, number: u64, request: &Request) {
         let call = call_for(request, &self.file, &self.trie, 0);
-        let about = Said { call: call.number() as u64, number, answer: ABOUT_TO, word: 0 };
+        let about = Said { call: call.number() as u64, number, answer: ABOUT_TO, words: [0, 0] };
         about.write(&mut self.listener);
         self.change(number, |life, limit| call_for(request, &life.file, &life.trie, limit));
     }

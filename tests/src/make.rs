@@ -224,7 +224,7 @@ pub fn entries(chance: &mut Chance, names: &[Vec<u8>], lower: &Bound, upper: &Bo
             found.insert(filled(&name));
         }
     }
-    found.into_iter().map(|name| Entry { name, value: value(chance) }).collect()
+    found.into_iter().map(|name| Entry { name, value: value(chance), run: run(chance) }).collect()
 }
 
 /// A value: zero and the greatest too.
@@ -233,6 +233,17 @@ pub fn value(chance: &mut Chance) -> u64 {
         0 => 0,
         1 => u64::MAX,
         _ => chance.word(),
+    }
+}
+
+/// A run: mostly one of a few, so that equal, older and newer ones meet; zero, the greatest and any other too.
+pub fn run(chance: &mut Chance) -> u64 {
+    match chance.below(12) {
+        0 => 0,
+        1 => u64::MAX,
+        2 => u64::MAX - 1,
+        3 => chance.word(),
+        _ => chance.between(0, 5) as u64,
     }
 }
 
@@ -465,7 +476,7 @@ pub fn cut_file(chance: &mut Chance, file: &File, names: &[Vec<u8>], nearly: boo
     let one_more = |chance: &mut Chance, copy: &mut Bucket| {
         let more = entries(chance, names, &copy.lower, &copy.upper, 3);
         let more =
-            more.into_iter().find(|entry| kept.value_of(&entry.name).is_none() && copy.value_of(&entry.name).is_none());
+            more.into_iter().find(|entry| kept.entry(&entry.name).is_none() && copy.entry(&entry.name).is_none());
         if let (Some(more), true) = (more, copy.entries.len() < file.header.b) {
             copy.entries.push(more);
             copy.entries.sort_by_key(|entry| entry.name);
@@ -477,8 +488,12 @@ pub fn cut_file(chance: &mut Chance, file: &File, names: &[Vec<u8>], nearly: boo
     if nearly {
         match chance.below(8) {
             0 if !copy.entries.is_empty() => {
-                let place = chance.below(copy.entries.len());
-                copy.entries[place].value ^= 1 << chance.below(64);
+                // Value and run together are the entry's content.
+                let entry = chance.below(copy.entries.len());
+                let entry = &mut copy.entries[entry];
+                let number =
+                    if file.header.has_runs() && chance.percent(50) { &mut entry.run } else { &mut entry.value };
+                *number ^= 1 << chance.below(64);
             }
             1 if !copy.entries.is_empty() => {
                 copy.entries.remove(chance.below(copy.entries.len()));

@@ -2,13 +2,16 @@
 
 use crate::door::{read_image, Call, Outcome, IMAGE, OUT_AT_ENTRY};
 use crate::make::file_bytes;
-use crate::model::calls::{self, entries_between, Answer};
+use crate::model::calls::{self, entries_between, Answer, Content};
 use crate::model::file::{Bucket, Entry, File, Header, Slot, VERSIONS};
 use crate::model::names::{filled, unfilled, Bound};
 use crate::model::trie::{row, strings, walk, Side};
 
 /// Who answers: the model or the library.
 pub type Door<'a> = &'a mut dyn FnMut(&Call) -> Outcome;
+
+/// The run of each put that says no other.
+const RUN: u64 = 99;
 
 /// A file and its trie on a desk, and who answers for them.
 struct Desk<'a> {
@@ -43,11 +46,33 @@ impl<'a> Desk<'a> {
     }
 
     fn put_all(&mut self, name: &[u8], value: u64, limit: u64) -> (u64, [u64; 4]) {
+        self.put_run(name, value, RUN, limit)
+    }
+
+    fn put_run(&mut self, name: &[u8], value: u64, run: u64, limit: u64) -> (u64, [u64; 4]) {
         let (file, trie, name) = (self.file.clone(), self.trie.clone(), name.to_vec());
-        let outcome = (self.door)(&Call::Put { file, trie, name, value, run: 99, limit });
+        let outcome = (self.door)(&Call::Put { file, trie, name, value, run, limit });
         self.file = outcome.file;
         self.trie = outcome.trie;
         (outcome.answer, outcome.out)
+    }
+
+    /// The run of what is put without one being said: versions without runs give 0.
+    fn run(&self) -> u64 {
+        if self.header().has_runs() {
+            RUN
+        } else {
+            0
+        }
+    }
+
+    fn header(&self) -> Header {
+        self.read().header
+    }
+
+    /// What look up says of a name that is held with this value.
+    fn found(&self, value: u64) -> (u64, [u64; 4]) {
+        (100, words(&[value, self.run()]))
     }
 
     fn remove(&mut self, name: &str, limit: u64) -> (u64, [u64; 4]) {
@@ -153,7 +178,7 @@ pub fn program(input: &[u8]) -> String {
     // R12.1: the last line may end without a line feed.
     let lines = input.strip_suffix(b"\n").unwrap_or(input).split(|byte| *byte == b'\n');
     for (number, name) in (1..).zip(lines).filter(|_| !input.is_empty()) {
-        if let Answer::Refused(refusal) = calls::put(&mut file, &mut trie, name, number, 2) {
+        if let Answer::Refused(refusal) = calls::put(&mut file, &mut trie, name, Content::new(number, 0), 2) {
             return format!("refused {refusal} {number}\n");
         }
     }
@@ -169,7 +194,7 @@ pub fn a_name_of_24_bytes_is_legal(door: Door) {
     for version in VERSIONS {
         let mut desk = Desk::of_version(version, 4, 8, &mut *door);
         assert_eq!(desk.put("abcdefghijklmnopqrstuvwx", 5, 2), 110);
-        assert_eq!(desk.look_up(b"abcdefghijklmnopqrstuvwx"), (100, words(&[5, 0])));
+        assert_eq!(desk.look_up(b"abcdefghijklmnopqrstuvwx"), desk.found(5));
     }
 }
 
@@ -189,7 +214,7 @@ pub fn digit_7d_is_legal_and_7e_is_refused(door: Door) {
     for version in VERSIONS {
         let mut desk = Desk::of_version(version, 4, 8, &mut *door);
         assert_eq!(desk.put("}", 5, 2), 110);
-        assert_eq!(desk.look_up(b"}"), (100, words(&[5, 0])));
+        assert_eq!(desk.look_up(b"}"), desk.found(5));
         for name in ["~", "a~", "~a", "a~a"] {
             assert_eq!(desk.put(name, 5, 2), 1);
             assert_eq!(desk.look_up(name.as_bytes()), (1, words(&[])));
@@ -203,7 +228,7 @@ pub fn a_blank_is_legal_inside_a_name_alone(door: Door) {
         let mut desk = Desk::of_version(version, 4, 8, &mut *door);
         for (place, name) in ["a b", "a  b", "GDP real", "a                      b"].iter().enumerate() {
             assert_eq!(desk.put(name, place as u64, 2), 110);
-            assert_eq!(desk.look_up(name.as_bytes()), (100, words(&[place as u64, 0])));
+            assert_eq!(desk.look_up(name.as_bytes()), desk.found(place as u64));
         }
         let file = desk.file.clone();
         for name in [" ", "a ", " a", "a b ", " a b", "  a", "a  ", "                        "] {
@@ -216,9 +241,13 @@ pub fn a_blank_is_legal_inside_a_name_alone(door: Door) {
         assert!(desk.file == file);
         // "a" is the beginning of all but one, and absent.
         assert_eq!(desk.look_up(b"a"), (101, words(&[])));
-        let listed = desk.list("a  b", "a b", 64);
+        let entry = desk.header().entry_length();
+        let listed = desk.list("a  b", "a b", 2 * entry);
         assert_eq!((listed.answer, listed.out), (152, words(&[2])));
-        assert_eq!((&listed.output[..24], &listed.output[32..56]), (&filled(b"a  b")[..], &filled(b"a b")[..]));
+        assert_eq!(
+            (&listed.output[..24], &listed.output[entry..entry + 24]),
+            (&filled(b"a  b")[..], &filled(b"a b")[..])
+        );
         // A slot whose first name begins with a blank is not well formed, and one whose first name is blank is not.
         for changed in [&b" b"[..], b" "] {
             desk.file = file.clone();
@@ -346,7 +375,7 @@ pub fn razz_and_rz_add_no_cell(door: Door) {
             assert_eq!(desk.leads_to(name), slot, "{name}");
         }
         for (place, name) in ["rate1", "rate2", "rate3", "razz", "rz"].iter().enumerate() {
-            assert_eq!(desk.look_up(name.as_bytes()), (100, words(&[place as u64 + 1, 0])));
+            assert_eq!(desk.look_up(name.as_bytes()), desk.found(place as u64 + 1));
         }
     }
 }
@@ -365,7 +394,7 @@ pub fn the_last_put_stopped_after_one_store(door: Door) {
         let stopped = desk.read();
         assert!(stopped.bucket(1).upper.is_empty());
         assert_eq!(stopped.bucket(1).entries.len(), 2, "rate3 and razz are still there");
-        assert_eq!(stopped.bucket(2).entries, [Entry { name: filled(b"rz"), value: 5 }]);
+        assert_eq!(stopped.bucket(2).entries, [Entry { name: filled(b"rz"), value: 5, run: desk.run() }]);
         assert_eq!(stopped.bucket(2).lower, Bound(b"ra".to_vec()));
         assert_eq!(desk.check(), 141);
         // Nobody but recover takes a cut file.
@@ -382,7 +411,7 @@ pub fn the_last_put_stopped_after_one_store(door: Door) {
         assert_eq!(desk.recover(0), (131, words(&[])));
         assert_eq!(desk.rebuild(), 151);
         assert_eq!(desk.look_up(b"rz"), (101, words(&[])));
-        assert_eq!(desk.look_up(b"razz"), (100, words(&[4, 0])));
+        assert_eq!(desk.look_up(b"razz"), desk.found(4));
     }
 }
 
@@ -530,6 +559,137 @@ pub fn a_file_with_splits_of_another_version(door: Door) {
     }
 }
 
+/// Version 3: a held name with a higher run is refused with 12, an equal or a lower one replaced; removal forgets the run.
+pub fn an_older_run_is_refused(door: Door) {
+    let mut desk = Desk::of_version(3, 4, 8, door);
+    assert_eq!(desk.put_run(b"GDP", 70, 5, 2), (110, words(&[])));
+    assert_eq!(desk.look_up(b"GDP"), (100, words(&[70, 5])));
+    let (file, trie) = (desk.file.clone(), desk.trie.clone());
+    for limit in [2, 1, 0] {
+        // A refusal comes before a stop.
+        assert_eq!(desk.put_run(b"GDP", 71, 4, limit), (12, words(&[])));
+        assert_eq!(desk.put_run(b"GDP", 70, 0, limit), (12, words(&[])));
+    }
+    assert_eq!(desk.put_run(b"GDP", 71, 4, 3), (8, words(&[])));
+    assert_eq!(desk.put_run(b"GDP", 72, 5, 0), (112, words(&[0])));
+    assert!(desk.file == file && desk.trie == trie);
+    assert_eq!(desk.put_run(b"GDP", 72, 5, 1), (111, words(&[70, 5])));
+    assert_eq!(desk.put_run(b"GDP", 73, 6, 2), (111, words(&[72, 5])));
+    assert_eq!(desk.look_up(b"GDP"), (100, words(&[73, 6])));
+    assert_eq!(desk.put_run(b"GDP", 74, u64::MAX, 2), (111, words(&[73, 6])));
+    assert_eq!(desk.put_run(b"GDP", 75, u64::MAX - 1, 2), (12, words(&[])));
+    assert_eq!(desk.put_run(b"GDP", 75, u64::MAX, 2), (111, words(&[74, u64::MAX])));
+    assert_eq!(desk.put_run(b"GDP", 76, 0, 2), (12, words(&[])));
+    assert_eq!(desk.look_up(b"GDP"), (100, words(&[75, u64::MAX])));
+    // Another name has a run of its own.
+    assert_eq!(desk.put_run(b"GDP real", 1, 0, 2), (110, words(&[])));
+    assert_eq!(desk.remove("GDP", 2), (120, words(&[])));
+    assert_eq!(desk.put_run(b"GDP", 77, 0, 2), (110, words(&[])));
+    assert_eq!(desk.look_up(b"GDP"), (100, words(&[77, 0])));
+    assert_eq!(desk.put_run(b"GDP", 78, 0, 2), (111, words(&[77, 0])));
+}
+
+/// 12 stands behind 8, 1, 2, 3 and 4. It never meets 5 and 6, since a name that is held splits nothing.
+pub fn where_12_stands(door: Door) {
+    let mut desk = Desk::of_version(3, 2, 2, door);
+    desk.add(&["a", "c"]);
+    let (file, trie) = (desk.file.clone(), desk.trie.clone());
+    let older = RUN - 1;
+    assert_eq!(desk.put_run(b"a", 5, older, 2), (12, words(&[])));
+    assert_eq!(desk.put_run(b"a", 5, older, 3), (8, words(&[])));
+    desk.trie[2] = 1;
+    assert_eq!(desk.put_run(b"a", 5, older, 2), (4, words(&[255])));
+    desk.trie = trie.clone();
+    // Stopped after its first store, a put of b leaves the file cut.
+    assert_eq!(desk.put_run(b"b", 5, older, 1), (112, words(&[1])));
+    assert_eq!(desk.put_run(b"a", 5, older, 2), (3, words(&[])));
+    desk.file[4] = 1;
+    assert_eq!(desk.put_run(b"a", 5, older, 2), (2, words(&[])));
+    // No slot is free, and a and b have the same bucket: only a new name is refused with 5.
+    desk.file = file;
+    assert_eq!(desk.put_run(b"b", 5, older, 2), (110, words(&[])));
+    assert_eq!(desk.put_run(b"aa", 5, older, 2), (5, words(&[])));
+    assert_eq!(desk.put_run(b"a", 5, older, 2), (12, words(&[])));
+    assert_eq!(desk.put_run(b"b", 6, older, 2), (111, words(&[5, older])));
+}
+
+/// Versions 1 and 2 ignore the run given, and give 0.
+pub fn versions_without_runs(door: Door) {
+    for version in [1, 2] {
+        let mut files = Vec::new();
+        for runs in [[5, 4, 3], [0, 0, 0], [u64::MAX, 0, 7]] {
+            let mut desk = Desk::of_version(version, 2, 4, &mut *door);
+            assert_eq!(desk.put_run(b"a", 1, runs[0], 2), (110, words(&[])));
+            assert_eq!(desk.look_up(b"a"), (100, words(&[1, 0])));
+            assert_eq!(desk.put_run(b"a", 2, runs[1], 2), (111, words(&[1, 0])));
+            assert_eq!(desk.put_run(b"a", 3, runs[2], 2), (111, words(&[2, 0])));
+            desk.add(&["b", "c"]);
+            files.push(desk.file);
+        }
+        assert!(files[0] == files[1] && files[0] == files[2]);
+    }
+}
+
+/// Version 3 has entries of 40 bytes: the lengths of files, where the run stands, and lists.
+pub fn entries_of_40_bytes(door: Door) {
+    assert_eq!(Header::new(3, 2, 1).file_length(), 160);
+    assert_eq!(Header::new(3, 16, 64).file_length(), 45_072);
+    // The largest file, and lengths that are not its own: those of version 1, and one byte beside.
+    for (length, answer) in [(45_072, 150), (36_880, 8), (45_071, 8), (45_073, 8)] {
+        let file = vec![9; length];
+        let made = door(&Call::Create { file, version: 3, b: 16, slots: 64, trie: vec![9; IMAGE] });
+        assert_eq!(made.answer, answer);
+        assert!(made.trie == [0; IMAGE]);
+        assert_eq!(door(&Call::Check { file: made.file }).answer, if answer == 150 { 140 } else { 142 });
+    }
+    let made = door(&Call::Create { file: vec![9; 45_072], version: 2, b: 16, slots: 64, trie: vec![9; IMAGE] });
+    assert_eq!(made.answer, 8);
+    let mut desk = Desk::of_version(3, 2, 2, door);
+    assert_eq!(desk.file.len(), 16 + 2 * 144);
+    for (name, value, run) in [("b", 0x0102, 0x0304), ("a", 0x0506, 0x0708)] {
+        assert_eq!(desk.put_run(name.as_bytes(), value, run, 2).0, 110);
+    }
+    let entry = |name: &str, value: u64, run: u64| {
+        [&filled(name.as_bytes())[..], &value.to_le_bytes(), &run.to_le_bytes()].concat()
+    };
+    let entries = [entry("a", 0x0506, 0x0708), entry("b", 0x0102, 0x0304)].concat();
+    assert!(desk.file[80..160] == entries);
+    let listed = desk.list("a", "b", 83);
+    assert_eq!((listed.answer, listed.out), (152, words(&[2])));
+    assert!(listed.output[..80] == entries && listed.output[80..] == [0x55; 3]);
+    for length in [79, 64, 0] {
+        let short = desk.list("a", "b", length);
+        assert_eq!((short.answer, short.out), (7, words(&[])));
+        assert!(short.output.iter().all(|byte| *byte == 0x55));
+    }
+    assert_eq!(desk.list("b", "b", 40).out, words(&[1]));
+    assert_eq!(desk.list("b", "a", 0).out, words(&[0]));
+}
+
+/// R4.13: what N copied is compared with value and run.
+pub fn a_copied_entry_has_value_and_run(door: Door) {
+    let mut desk = Desk::of_version(3, 2, 2, door);
+    desk.add(&["a", "c"]);
+    let before = desk.file.clone();
+    // a b c splits at "b": c moves, so N is a copy of what A has in the range.
+    assert_eq!(desk.put_all(b"b", 9, 1), (112, words(&[1])));
+    let cut = desk.file.clone();
+    assert_eq!(desk.check(), 141);
+    // Slot 1 begins at 160, its entry at 224: the name, the value from 248 on, the run from 256 on.
+    assert_eq!(desk.file[224..248], filled(b"c"));
+    for place in 248..264 {
+        desk.file = cut.clone();
+        desk.file[place] ^= 0x10;
+        assert_eq!(desk.check(), 142);
+        assert_eq!(desk.recover(1).0, 2);
+    }
+    desk.file = cut;
+    assert_eq!(desk.recover(1), (130, words(&[1])));
+    assert!(desk.file == before);
+    assert_eq!(desk.rebuild(), 151);
+    assert_eq!(desk.look_up(b"c"), (100, words(&[2, RUN])));
+}
+
 /// Put on a held name, remove, and what stops them.
 pub fn replace_remove_and_stops(door: Door) {
     for version in VERSIONS {
@@ -538,9 +698,9 @@ pub fn replace_remove_and_stops(door: Door) {
         let (file, trie) = (desk.file.clone(), desk.trie.clone());
         assert_eq!(desk.put_all(b"of", 77, 0), (112, words(&[0])));
         assert!(desk.file == file && desk.trie == trie);
-        assert_eq!(desk.put_all(b"of", 77, 1), (111, words(&[2, 0])));
-        assert_eq!(desk.put_all(b"of", 0, 2), (111, words(&[77, 0])));
-        assert_eq!(desk.look_up(b"of"), (100, words(&[0, 0])));
+        assert_eq!(desk.put_all(b"of", 77, 1), (111, words(&[2, desk.run()])));
+        assert_eq!(desk.put_all(b"of", 0, 2), (111, words(&[77, desk.run()])));
+        assert_eq!(desk.look_up(b"of"), desk.found(0));
         assert_eq!(desk.remove("of", 0), (112, words(&[0])));
         assert_eq!(desk.remove("of", 1), (120, words(&[])));
         assert_eq!(desk.look_up(b"of"), (101, words(&[])));
@@ -578,10 +738,11 @@ pub fn each_refusal_number(door: Door) {
         assert_eq!(desk.look_up(b"d"), (4, words(&[0])));
         desk.trie = trie.clone();
         desk.file = file;
-        let short = desk.list("a", "c", 95);
+        let three = 3 * desk.header().entry_length();
+        let short = desk.list("a", "c", three - 1);
         assert_eq!((short.answer, short.out), (7, words(&[])));
-        assert!(short.output == [0x55; 95]);
-        assert_eq!(desk.list("a", "c", 96).answer, 152);
+        assert!(short.output.len() == three - 1 && short.output.iter().all(|byte| *byte == 0x55));
+        assert_eq!(desk.list("a", "c", three).answer, 152);
         let none = desk.list("c", "a", 0);
         assert_eq!((none.answer, none.out), (152, words(&[0])));
         // Every bit of the header counts.
@@ -727,6 +888,11 @@ macro_rules! every_situation {
             shorter_separators
             the_nine_words_in_version_2
             a_file_with_splits_of_another_version
+            an_older_run_is_refused
+            where_12_stands
+            versions_without_runs
+            entries_of_40_bytes
+            a_copied_entry_has_value_and_run
             replace_remove_and_stops
             each_refusal_number
             where_a_name_left_the_range

@@ -43,6 +43,7 @@ pub const SITUATIONS: &[&str] = &[
     "a split into slot 63",
     "a split in a file of version 1",
     "a split in a file of version 2",
+    "a split in a file of version 3",
     "a split by the key before the middle one",
     "a split by the key before the middle one, b = 2",
     "a tie of two split strings, which the middle key wins",
@@ -78,6 +79,18 @@ pub const SITUATIONS: &[&str] = &[
     "a leaf that no legal name reaches was changed, remove refuses",
     "a leaf that no legal name reaches was changed, list refuses",
     "a leaf that no legal name reaches was changed, a lookup answers",
+    "an older run is refused",
+    "an older run is refused with limit 0",
+    "an equal run replaces",
+    "a newer run replaces",
+    "the run 0 replaces the run 0",
+    "the greatest run replaces itself",
+    "the greatest run refuses the one below it",
+    "an older run is ignored by a version without runs",
+    "8 stands before 12",
+    "2 stands before 12",
+    "3 stands before 12",
+    "4 stands before 12",
     "a list into an output that is exactly long enough",
     "a list into an output one byte too short",
     "a list whose first name is above its second",
@@ -196,8 +209,10 @@ impl Story<'_> {
         let file = self.file.clone();
         let trie = self.trie.clone();
         let outcome = if self.chance.percent(self.puts) {
-            let (value, run) = (value(&mut self.chance), self.chance.word());
-            self.run.call(Call::Put { file, trie, name: name.clone(), value, run, limit })
+            let (value, run) = (value(&mut self.chance), make::run(&mut self.chance));
+            let outcome = self.run.call(Call::Put { file, trie, name: name.clone(), value, run, limit });
+            mark_run(&self.file, &name, run, limit, &outcome);
+            outcome
         } else {
             self.run.call(Call::Remove { file, trie, name: name.clone(), limit })
         };
@@ -212,7 +227,7 @@ impl Story<'_> {
         self.trie = outcome.trie;
         if stopped && outcome.out[0] == 1 {
             if let Kind::Cut(n) = kind(&self.file) {
-                let moved = File::read(&self.file).unwrap().bucket(n).value_of(&filled(&name)).is_some();
+                let moved = File::read(&self.file).unwrap().bucket(n).entry(&filled(&name)).is_some();
                 mark(if moved {
                     "a split stopped after one store, the new name moved"
                 } else {
@@ -359,10 +374,11 @@ impl Story<'_> {
             }
             30..=59 => {
                 let (name, limit) = (self.some_name(), self.some_limit());
-                let (value, run) = (value(&mut self.chance), self.chance.word());
+                let (value, run) = (value(&mut self.chance), make::run(&mut self.chance));
                 let call = Call::Put { file: file.clone(), trie: trie.clone(), name: name.clone(), value, run, limit };
                 let outcome = self.run.call(call);
                 mark_order(limit, &name, kind, &file, &trie, outcome.answer);
+                mark_run(&file, &name, run, limit, &outcome);
                 if outcome.answer == 110 && outcome.trie != trie {
                     mark_growth(&trie, &outcome.trie, &file, &outcome.file);
                     if trie != self.trie
@@ -416,14 +432,14 @@ impl Story<'_> {
             Some(read) if legal => entries_between(&read, &filled(&first), &filled(&second)).len(),
             _ => 0,
         };
-        let exactly = 32 * entries;
+        let exactly = header(file).map_or(32, |header| header.entry_length()) * entries;
         let length = match self.chance.below(8) {
             0 => 0,
             1 | 2 => exactly.saturating_sub(1),
             3 | 4 => exactly,
             5 => exactly + 1,
             6 => exactly + self.chance.below(100),
-            _ => self.chance.below(exactly + 33),
+            _ => self.chance.below(exactly + 41),
         };
         let output = vec![self.chance.byte(); length];
         let call = Call::List { file: file.to_vec(), trie, first: first.clone(), second: second.clone(), output };
@@ -521,7 +537,8 @@ fn mark_growth(before: &[u8], after: &[u8], file: &[u8], file_after: &[u8]) {
 /// Notes which split key of a version was taken. The file has just been split, and the new bucket has the upper part.
 fn mark_keys(file: &File, upper: &Bucket) {
     let Header { version, b, .. } = file.header;
-    mark(if version == 1 { "a split in a file of version 1" } else { "a split in a file of version 2" });
+    let each = ["a split in a file of version 1", "a split in a file of version 2", "a split in a file of version 3"];
+    mark(each[version as usize - 1]);
     let (_, lower) = file.used().find(|(_, bucket)| bucket.upper == upper.lower).expect("there is a lower part");
     let names: Vec<&Filled> = lower.entries.iter().chain(&upper.entries).map(|entry| &entry.name).collect();
     let strings: Vec<Bound> =
@@ -550,10 +567,10 @@ fn mark_lookup(file: &[u8], kind: u64, trie: &[u8], name: &[u8], outcome: &Outco
         SOUND if trie.len() == IMAGE && is_legal_name(name) => {
             // R13.2: with a sound file, whatever the trie, a lookup tells the truth or refuses as stale.
             let read = File::read(file).unwrap();
-            let truth = read.bucket_of(&filled(name)).1.value_of(&filled(name));
+            let truth = read.bucket_of(&filled(name)).1.entry(&filled(name));
             match truth {
                 _ if outcome.answer == 4 => {}
-                Some(value) => assert!(outcome.answer == 100 && outcome.out[0] == value),
+                Some(entry) => assert!(outcome.answer == 100 && outcome.out[..2] == [entry.value, entry.run]),
                 None => assert_eq!(outcome.answer, 101),
             }
             if answers && strings(&read).len() > CELLS {
@@ -586,6 +603,43 @@ fn mark_stale(file: &[u8], trie: &[u8], name: &[u8]) {
     }
 }
 
+/// Notes what became of a put whose name the file holds, by its run.
+fn mark_run(file: &[u8], name: &[u8], run: u64, limit: u64, outcome: &Outcome) {
+    let Some(read) = File::read(file).filter(|_| is_legal_name(name)) else { return };
+    let Some(held) = read.used().find_map(|(_, bucket)| bucket.entry(&filled(name))) else { return };
+    if !read.header.has_runs() {
+        if outcome.answer == 111 && run < 5 {
+            mark("an older run is ignored by a version without runs");
+        }
+        return;
+    }
+    match outcome.answer {
+        12 => {
+            mark("an older run is refused");
+            if limit == 0 {
+                mark("an older run is refused with limit 0");
+            }
+            if held.run == u64::MAX && run == u64::MAX - 1 {
+                mark("the greatest run refuses the one below it");
+            }
+        }
+        111 => {
+            mark(if held.run == run { "an equal run replaces" } else { "a newer run replaces" });
+            if held.run == run && run == 0 {
+                mark("the run 0 replaces the run 0");
+            }
+            if held.run == run && run == u64::MAX {
+                mark("the greatest run replaces itself");
+            }
+        }
+        8 if held.run > run => mark("8 stands before 12"),
+        2 if held.run > run => mark("2 stands before 12"),
+        3 if held.run > run => mark("3 stands before 12"),
+        4 if held.run > run => mark("4 stands before 12"),
+        _ => {}
+    }
+}
+
 /// Notes which causes of refusal held together with the one that was given.
 fn mark_order(limit: u64, name: &[u8], kind: u64, file: &[u8], trie: &[u8], answer: u64) {
     let illegal = !is_legal_name(name);
@@ -613,7 +667,7 @@ fn mark_order(limit: u64, name: &[u8], kind: u64, file: &[u8], trie: &[u8], answ
         4 | 5 => {
             let file = File::read(file).unwrap();
             let (_, bucket) = file.bucket_of(&filled(name));
-            let splits = bucket.entries.len() == file.header.b && bucket.value_of(&filled(name)).is_none();
+            let splits = bucket.entries.len() == file.header.b && bucket.entry(&filled(name)).is_none();
             let full = file.used().count() == file.slots.len();
             if answer == 4 && splits && full {
                 mark("4 stands before 5");
@@ -631,7 +685,7 @@ fn strings_after_a_split(file: &File, name: &[u8]) -> usize {
     let name = filled(name);
     let (_, bucket) = file.bucket_of(&name);
     let mut entries = bucket.entries.clone();
-    entries.push(Entry { name, value: 0 });
+    entries.push(Entry { name, value: 0, run: 0 });
     entries.sort_by_key(|entry| entry.name);
     let mut after = strings(file);
     after.extend(strings_of([&split(file.header.version, &entries).string].into_iter()));

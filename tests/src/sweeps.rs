@@ -6,7 +6,7 @@ use crate::answers::mark;
 use crate::chance::Chance;
 use crate::door::{write_image, Call, IMAGE};
 use crate::make::{self, file_bytes, sound_file};
-use crate::model::file::{Bucket, Entry, File, Header, Slot, VERSIONS};
+use crate::model::file::{Bucket, Entry, File, Header, Slot, HEADER, VERSIONS};
 use crate::model::names::{filled, is_in_range, is_legal_name, Bound};
 use crate::model::trie::{rebuilt, Cell, Side, Trie, CELLS};
 use crate::run::Run;
@@ -16,7 +16,7 @@ fn bound(digits: &str) -> Bound {
 }
 
 fn entry(name: &str, value: u64) -> Entry {
-    Entry { name: filled(name.as_bytes()), value }
+    Entry { name: filled(name.as_bytes()), value, run: value + 1000 }
 }
 
 fn bucket(lower: &str, upper: &str, entries: &[(&str, u64)]) -> Slot {
@@ -53,7 +53,8 @@ pub fn create_arguments(_: u64, run: &mut Run) {
         for b in (0..=20).chain(big) {
             for slots in (0..=66).chain(big) {
                 // The length that would belong to it, if it is not out of all reason.
-                let slot = b.wrapping_mul(32).wrapping_add(64);
+                let entry = Header::new(version, 0, 0).entry_length() as u64;
+                let slot = b.wrapping_mul(entry).wrapping_add(64);
                 let length = (slots.wrapping_mul(slot).wrapping_add(16) % (1 << 16)) as usize;
                 create(run, length, version, b, slots);
                 if slots % 5 == 0 || slots > 60 || b > 14 {
@@ -103,6 +104,14 @@ pub fn headers(_: u64, run: &mut Run) {
             }
         }
     }
+    // The length of one version with another in the header.
+    for version in VERSIONS {
+        for other in VERSIONS {
+            let mut file = with_header(version, 4, 3);
+            file[3] = other as u8;
+            all_calls(run, &file, &[0; IMAGE]);
+        }
+    }
     // 257 has 1 in both bytes.
     for version in (0..=5).chain([255, 256, 257, 258, 259, 512, 513, 514, 0xFF01, 0xFFFF]) {
         all_calls(run, &with_header(version, 4, 3), &[0; IMAGE]);
@@ -138,7 +147,7 @@ fn all_with_name(run: &mut Run, file: &[u8], trie: &[u8], name: &[u8]) {
     let (f, t, n) = (file.to_vec(), trie.to_vec(), name.to_vec());
     run.call(Call::Put { file: f.clone(), trie: t.clone(), name: n.clone(), value: 5, run: 6, limit: 2 });
     run.call(Call::Remove { file: f.clone(), trie: t.clone(), name: n.clone(), limit: 2 });
-    let output = vec![0x99; 96];
+    let output = vec![0x99; 120];
     let (first, second) = (n.clone(), b"z".to_vec());
     run.call(Call::List { file: f.clone(), trie: t.clone(), first, second, output: output.clone() });
     run.call(Call::List { file: f, trie: t, first: b"a".to_vec(), second: n, output });
@@ -203,16 +212,20 @@ pub fn fullest_file(story: u64, run: &mut Run) {
     for (bucket, number) in names.chunks(16).zip(numbers) {
         let last = Bound(bucket[15].clone());
         let upper = if bucket[15] == names[1023] { Bound::empty() } else { last };
-        let entries = bucket.iter().map(|name| Entry { name: filled(name), value: 1 << (number as u64) }).collect();
+        let (value, run) = (1 << (number as u64), number as u64 % 9);
+        let entries = bucket.iter().map(|name| Entry { name: filled(name), value, run }).collect();
         slots[number] = Slot::Used(Bucket { lower, upper: upper.clone(), entries });
         lower = upper;
     }
-    let file = file_bytes(VERSIONS[story as usize % VERSIONS.len()], 16, &slots);
+    let version = VERSIONS[story as usize % VERSIONS.len()];
+    let file = file_bytes(version, 16, &slots);
+    assert_eq!(file.len(), if version == 3 { 45_072 } else { 36_880 });
+    let entry = Header::new(version, 16, 64).entry_length();
     let trie = image_of(&file);
     run.call(Call::Check { file: file.clone() });
     run.call(Call::Recover { file: file.clone(), limit: 0 });
     run.call(Call::Rebuild { file: file.clone(), trie: vec![0x55; IMAGE] });
-    for length in [32 * 1024, 32 * 1024 - 1, 32 * 1024 + 7, 32 * 1023, 65_536 + 32, 0] {
+    for length in [entry * 1024, entry * 1024 - 1, entry * 1024 + 7, entry * 1023, 65_536 + entry, 32 * 1024, 0] {
         let (first, second) = (vec![0x21], vec![0x7D; 24]);
         let call = Call::List { file: file.clone(), trie: trie.clone(), first, second, output: vec![0x66; length] };
         let outcome = run.call(call);
@@ -248,7 +261,7 @@ fn all_calls(run: &mut Run, file: &[u8], trie: &[u8]) {
     run.call(Call::Put { file: f.clone(), trie: t.clone(), name: b"cc".to_vec(), value: 5, run: 6, limit: 2 });
     run.call(Call::Remove { file: f.clone(), trie: t.clone(), name: b"gold".to_vec(), limit: 1 });
     let (first, second) = (b"!".to_vec(), b"}".to_vec());
-    run.call(Call::List { file: f, trie: t, first, second, output: vec![0x99; 100] });
+    run.call(Call::List { file: f, trie: t, first, second, output: vec![0x99; 120] });
 }
 
 /// Every single bit of a sound and a cut file, and every byte of what is not an entry.
@@ -263,7 +276,8 @@ pub fn bits_of_a_file(story: u64, run: &mut Run) {
                 all_calls(run, &damaged, &trie);
             }
         }
-        for place in (0..16 + 64).chain(144..144 + 64) {
+        let second = HEADER + Header::new(version, 2, 3).slot_length();
+        for place in (0..16 + 64).chain(second..second + 64) {
             for byte in 0..=255 {
                 let mut damaged = file.clone();
                 damaged[place] = byte;
@@ -280,20 +294,18 @@ pub fn bits_of_a_file(story: u64, run: &mut Run) {
     }
 }
 
-/// Every single bit of a trie image, and every byte of its first cells.
-pub fn bits_of_a_trie(story: u64, run: &mut Run) {
-    let file = file_bytes(
-        VERSIONS[story as usize],
-        2,
-        &[
-            bucket("", "ga", &[("a", 7)]),
-            bucket("ga", "gold", &[("gb", 8), ("gold", 9)]),
-            bucket("gold", "", &[("i", 10)]),
-            Slot::Free,
-        ],
-    );
-    let trie = image_of(&file);
-    let some = |run: &mut Run, trie: Vec<u8>| {
+/// Every single bit of a trie image, and every byte of its first cells. The versions take turns.
+pub fn bits_of_a_trie(_: u64, run: &mut Run) {
+    let slots = [
+        bucket("", "ga", &[("a", 7)]),
+        bucket("ga", "gold", &[("gb", 8), ("gold", 9)]),
+        bucket("gold", "", &[("i", 10)]),
+        Slot::Free,
+    ];
+    let files = VERSIONS.map(|version| file_bytes(version, 2, &slots));
+    let trie = image_of(&files[0]);
+    let some = |run: &mut Run, turn: usize, trie: Vec<u8>| {
+        let file = &files[turn % files.len()];
         for name in [&b"a"[..], b"gold", b"i"] {
             run.call(Call::Lookup { file: file.clone(), trie: trie.clone(), name: name.to_vec() });
         }
@@ -312,14 +324,14 @@ pub fn bits_of_a_trie(story: u64, run: &mut Run) {
         for bit in 0..8 {
             let mut damaged = trie.clone();
             damaged[place] ^= 1 << bit;
-            some(run, damaged);
+            some(run, place + bit, damaged);
         }
     }
     for place in 0..4 + 6 * 7 {
         for byte in 0..=255 {
             let mut damaged = trie.clone();
             damaged[place] = byte;
-            some(run, damaged);
+            some(run, place + byte as usize, damaged);
         }
     }
 }
@@ -362,19 +374,19 @@ pub fn orders(story: u64, run: &mut Run) {
             let value = *place as u64;
             for limit in [0, 1] {
                 let (f, t, n) = (file.clone(), trie.clone(), name.clone());
-                let stopped = run.call(Call::Put { file: f, trie: t, name: n, value, run: 0, limit });
+                let stopped = run.call(Call::Put { file: f, trie: t, name: n, value, run: value, limit });
                 if stopped.answer == 112 && limit == 1 {
                     let mended = run.call(Call::Recover { file: stopped.file, limit: 1 });
                     assert!(mended.file == file, "recovery gives the file before the call");
                 }
             }
-            let outcome = run.call(Call::Put { file, trie, name, value, run: 0, limit: 2 });
+            let outcome = run.call(Call::Put { file, trie, name, value, run: value, limit: 2 });
             file = outcome.file;
             trie = outcome.trie;
         }
         run.call(Call::Rebuild { file: file.clone(), trie: vec![0x55; IMAGE] });
         let (first, second) = (b"!".to_vec(), b"}}}}".to_vec());
-        run.call(Call::List { file, trie, first, second, output: vec![0x99; 32 * names.len()] });
+        run.call(Call::List { file, trie, first, second, output: vec![0x99; 40 * names.len()] });
     });
 }
 

@@ -12,9 +12,9 @@ use crate::chance::Chance;
 use crate::damage::{damaged_file, damaged_trie};
 use crate::door::{read_image, write_image};
 use crate::make::{
-    bound, cut_file, file_bytes, file_with_strings, illegal_name, names_near, shaped, value, version, Roots,
+    bound, cut_file, file_bytes, file_with_strings, illegal_name, names_near, run, shaped, value, version, Roots,
 };
-use crate::model::calls::{self, Answer};
+use crate::model::calls::{self, Answer, Content};
 use crate::model::file::{kind, Bucket, Entry, File, Header, Kind, Slot, HEADER};
 use crate::model::names::{filled, is_legal_name, is_within, unfilled, Bound, BLANK};
 use crate::model::trie::{agrees, strings, Cell, Place, Side, Trie, CELLS};
@@ -80,6 +80,7 @@ impl Wanted {
 /// The sort of a case by its answer.
 fn sort(answer: Answer) -> &'static str {
     match answer {
+        Answer::Refused(calls::OLDER_RUN) => "12",
         Answer::Refused(number) => ["0", "1", "2", "3", "4", "5", "6", "7", "8"][number as usize],
         Answer::Stale(calls::NO_DIGIT) => "4",
         Answer::Stale(0) => "left at 0",
@@ -91,10 +92,10 @@ fn sort(answer: Answer) -> &'static str {
         Answer::Freed(_) => "freed",
         Answer::NothingToDo => "nothing",
         Answer::Rebuilt => "rebuilt",
-        Answer::Found(_) => "found",
+        Answer::Found(..) => "found",
         Answer::Absent => "absent",
         Answer::Added => "added",
-        Answer::Replaced(_) => "replaced",
+        Answer::Replaced(..) => "replaced",
         Answer::Removed => "removed",
         Answer::Stopped(0) => "stopped 0",
         Answer::Stopped(_) => "stopped 1",
@@ -134,12 +135,13 @@ fn few_names(chance: &mut Chance) -> Vec<Vec<u8>> {
     names
 }
 
-/// A small value, or any.
-fn some_value(chance: &mut Chance) -> u64 {
-    match chance.percent(70) {
+/// A small value, or any, and a run.
+fn some_content(chance: &mut Chance) -> Content {
+    let value = match chance.percent(70) {
         true => chance.below(1000) as u64,
         false => value(chance),
-    }
+    };
+    Content::new(value, run(chance))
 }
 
 /// A file as create makes it.
@@ -173,18 +175,18 @@ impl Small {
             if chance.percent(10) {
                 calls::remove(&mut small.file, &small.trie, &name, 2);
             } else {
-                small.put(&name, some_value(chance));
+                small.put(&name, some_content(chance));
             }
         }
         small
     }
 
-    fn put(&mut self, name: &[u8], value: u64) {
+    fn put(&mut self, name: &[u8], content: Content) {
         let (mut stopped, trie) = (self.file.clone(), self.trie.clone());
-        if calls::put(&mut stopped, &mut self.trie, name, value, 1) == Answer::Stopped(1) {
+        if calls::put(&mut stopped, &mut self.trie, name, content, 1) == Answer::Stopped(1) {
             self.cut = Some(stopped);
         }
-        calls::put(&mut self.file, &mut self.trie, name, value, 2);
+        calls::put(&mut self.file, &mut self.trie, name, content, 2);
         if self.trie != trie {
             self.older = trie;
         }
@@ -383,7 +385,7 @@ fn check(sheet: &mut Sheet, file: &[u8]) {
 /// Two slots, both without an upper limit: the second has a copy of what the first has above "b", or nearly so.
 fn cut_or_not(sheet: &mut Sheet) {
     let bucket = |lower: &str, entries: &str| {
-        let entry = |word: &str| Entry { name: filled(&word.as_bytes()[..1]), value: word.len() as u64 };
+        let entry = |word: &str| Entry { name: filled(&word.as_bytes()[..1]), value: word.len() as u64, run: 0 };
         let entries = entries.split(' ').filter(|word| !word.is_empty()).map(entry).collect();
         Slot::Used(Bucket { lower: Bound(lower.as_bytes().to_vec()), upper: Bound::empty(), entries })
     };
@@ -432,7 +434,10 @@ fn creates(sheet: &mut Sheet) {
         (length(2, 2, 2), [2, 2, 2]),
         (length(2, 3, 3) - 1, [2, 3, 3]),
         (length(1, 2, 2), [0, 2, 2]),
+        (length(3, 2, 2), [3, 2, 2]),
         (length(1, 2, 2), [3, 2, 2]),
+        (length(3, 2, 2), [2, 2, 2]),
+        (length(1, 2, 2), [4, 2, 2]),
         (length(1, 2, 2), [257, 2, 2]),
         (length(1, 1, 1), [1, 1, 1]),
         (HEADER, [1, 2, 0]),
@@ -503,7 +508,7 @@ fn look_ups(sheet: &mut Sheet) {
         let (file, trie, name) = (small.some_file(chance), small.some_trie(chance), small.some_name(chance));
         let sort = match calls::look_up(&file, &trie, &name) {
             // Look up reads one bucket: nothing else needs to be right.
-            Answer::Found(_) if !matches!(kind(&file), Kind::Sound(read) if agrees(&trie, &read)) => "found anyhow",
+            Answer::Found(..) if !matches!(kind(&file), Kind::Sound(read) if agrees(&trie, &read)) => "found anyhow",
             answer => sort(answer),
         };
         if small.trie.count > 1 && wanted.takes(sort) {
@@ -517,7 +522,7 @@ fn look_ups(sheet: &mut Sheet) {
 fn wrong_tries(sheet: &mut Sheet) {
     let (mut file, mut trie) = new_file(1, 2, 4);
     for name in ["rate1", "rate2", "rate3"] {
-        calls::put(&mut file, &mut trie, name.as_bytes(), 1, 2);
+        calls::put(&mut file, &mut trie, name.as_bytes(), Content::new(1, 0), 2);
     }
     let set = |place: Place, side: Side| move |trie: &mut Trie| trie.set(place, side);
     let changes: [&dyn Fn(&mut Trie); 18] = [
@@ -577,13 +582,13 @@ fn changed(trie: &Trie, change: &dyn Fn(&mut Trie)) -> Trie {
 }
 
 /// What is put, and how many stores may be made.
-struct Put<'a>(&'a [u8], u64, u64);
+struct Put<'a>(&'a [u8], Content, u64);
 
 fn put(sheet: &mut Sheet, list: &'static str, file: &[u8], trie: &Trie, put: Put) -> (Vec<u8>, Trie) {
-    let Put(name, value, limit) = put;
+    let Put(name, content, limit) = put;
     let (mut new_file, mut new_trie) = (file.to_vec(), trie.clone());
-    let answer = calls::put(&mut new_file, &mut new_trie, name, value, limit);
-    let asked = format!("{} {value} {limit}", bytes(name));
+    let answer = calls::put(&mut new_file, &mut new_trie, name, content, limit);
+    let asked = format!("{} {} {} {limit}", bytes(name), content.value, content.run);
     let words = [sheet.file(file), sheet.trie(trie), asked, said(answer), sheet.file(&new_file), sheet.trie(&new_trie)];
     sheet.case(list, "puts", &words);
     (new_file, new_trie)
@@ -591,13 +596,15 @@ fn put(sheet: &mut Sheet, list: &'static str, file: &[u8], trie: &Trie, put: Put
 
 fn puts(sheet: &mut Sheet) {
     let sorts = "added 3, replaced 2, no cell 3, one cell 2, cells 4, many cells 1, stopped 0 2, stopped 1 2, \
-                 1 1, 2 1, 3 1, 4 3, 5 2, 8 1";
+                 equal run 1, newer run 2, 1 1, 2 1, 3 1, 4 3, 5 2, 8 1, 12 3";
     gather(11_000, sorts, |chance, wanted| {
         let small = Small::new(chance);
         let (file, trie, name) = (small.some_file(chance), small.some_trie(chance), small.some_name(chance));
-        let (value, limit) = (some_value(chance), *chance.pick(&[0, 1, 2, 2, 2, 2, 3]));
+        let (content, limit) = (some_content(chance), *chance.pick(&[0, 1, 2, 2, 2, 2, 3]));
         let mut grown = trie.clone();
-        let sort = match calls::put(&mut file.clone(), &mut grown, &name, value, limit) {
+        let sort = match calls::put(&mut file.clone(), &mut grown, &name, content, limit) {
+            Answer::Replaced(_, old) if old == content.run => "equal run",
+            Answer::Replaced(_, old) if old > 0 => "newer run",
             Answer::Added if grown != trie => match grown.count - trie.count {
                 5.. => "many cells",
                 _ if trie.count < 2 => return,
@@ -608,7 +615,7 @@ fn puts(sheet: &mut Sheet) {
             answer => sort(answer),
         };
         if wanted.takes(sort) {
-            put(sheet, "puttings", &file, &trie, Put(&name, value, limit));
+            put(sheet, "puttings", &file, &trie, Put(&name, content, limit));
         }
     });
 }
@@ -633,11 +640,12 @@ fn lists(sheet: &mut Sheet) {
         let small = Small::new(chance);
         let (file, trie) = (small.some_file(chance), small.some_trie(chance));
         let (first, second) = (small.some_name(chance), small.some_name(chance));
-        let output = vec![0x20; 32 * chance.below(7) + chance.below(3)];
+        let entry = small.read().header.entry_length();
+        let output = vec![0x20; entry * chance.below(7) + chance.below(3)];
         let mut after = output.clone();
         let answer = calls::list(&file, &trie, &first, &second, &mut after);
         let sort = match answer {
-            Answer::Listed(many) if many > 0 && output.len() as u64 == 32 * many => "exact",
+            Answer::Listed(many) if many > 0 && output.len() as u64 == entry as u64 * many => "exact",
             _ => sort(answer),
         };
         if small.trie.count > 1 && wanted.takes(sort) {
@@ -652,11 +660,11 @@ fn lists(sheet: &mut Sheet) {
 fn worked_puts(sheet: &mut Sheet) {
     let (mut file, mut trie) = new_file(1, 2, 4);
     for (name, value) in [("rate1", 1), ("rate2", 2), ("rate3", 3), ("razz", 4)] {
-        (file, trie) = put(sheet, "worked", &file, &trie, Put(name.as_bytes(), value, 2));
+        (file, trie) = put(sheet, "worked", &file, &trie, Put(name.as_bytes(), Content::new(value, 0), 2));
     }
     look_up(sheet, "worked", &file, &trie, b"rb");
-    put(sheet, "worked", &file, &trie, Put(b"rz", 5, 2));
-    let (cut, _) = put(sheet, "worked", &file, &trie, Put(b"rz", 5, 1));
+    put(sheet, "worked", &file, &trie, Put(b"rz", Content::new(5, 0), 2));
+    let (cut, _) = put(sheet, "worked", &file, &trie, Put(b"rz", Content::new(5, 0), 1));
     let recovered = recover(sheet, "worked", &cut, 1);
     let trie = rebuild(sheet, "worked", &recovered);
     look_up(sheet, "worked", &recovered, &trie, b"rz");
@@ -676,11 +684,11 @@ fn shorter_separators(sheet: &mut Sheet) {
         let (mut file, mut trie) = new_file(2, b, 2);
         let (last, before) = names.split_last().expect("there are names");
         for name in before {
-            assert_eq!(calls::put(&mut file, &mut trie, name.as_bytes(), 1, 2), Answer::Added);
+            assert_eq!(calls::put(&mut file, &mut trie, name.as_bytes(), Content::new(1, 0), 2), Answer::Added);
         }
         for version in [2, 1] {
             file[3] = version;
-            put(sheet, "worked", &file, &trie, Put(last.as_bytes(), 2, 2));
+            put(sheet, "worked", &file, &trie, Put(last.as_bytes(), Content::new(2, 0), 2));
         }
     }
 }
@@ -692,7 +700,8 @@ fn worked_words(sheet: &mut Sheet) {
         let lent = sheet.file(&vec![0; Header::new(1, 4, slots).file_length()]);
         let (mut file, mut trie) = new_file(1, 4, slots);
         for (place, word) in words.iter().enumerate() {
-            let answer = calls::put(&mut file, &mut trie, word.as_bytes(), place as u64 + 1, 2);
+            let content = Content::new(place as u64 + 1, 0);
+            let answer = calls::put(&mut file, &mut trie, word.as_bytes(), content, 2);
             assert_eq!(answer, Answer::Added);
         }
         let words: Vec<String> = words.iter().map(|word| bytes(word.as_bytes())).collect();
@@ -713,9 +722,9 @@ fn most_strings(sheet: &mut Sheet) {
     let too_many = file_with_strings(&mut chance, Header::new(1, 2, 12), 12, CELLS + 1);
     rebuild(sheet, "fullest", &too_many);
     let refused = |name: &Vec<u8>| {
-        let answer = calls::put(&mut most.clone(), &mut trie.clone(), name, 1, 2);
+        let answer = calls::put(&mut most.clone(), &mut trie.clone(), name, Content::new(1, 0), 2);
         answer == Answer::Refused(calls::TOO_MANY_STRINGS)
     };
     let name = names_near(&mut chance, &most).into_iter().find(refused).expect("a name that splits a bucket");
-    put(sheet, "fullest", &most, &trie, Put(&name, 1, 2));
+    put(sheet, "fullest", &most, &trie, Put(&name, Content::new(1, 0), 2));
 }

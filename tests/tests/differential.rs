@@ -124,7 +124,7 @@ fn bits_of_a_file() {
 
 #[test]
 fn bits_of_a_trie() {
-    run_part("bits_of_a_trie", 0, EACH_VERSION, sweeps::bits_of_a_trie);
+    run_part("bits_of_a_trie", 0, 1, sweeps::bits_of_a_trie);
 }
 
 #[test]

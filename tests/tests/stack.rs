@@ -221,10 +221,10 @@ fn each_call_uses_less_than_64_kb() {
                 let (f, t) = (file.clone(), trie.clone());
                 measure(Call::Lookup { file: f.clone(), trie: t.clone(), name: name.clone() });
                 measure(Call::Remove { file: f.clone(), trie: t.clone(), name: name.clone(), limit });
-                measure(Call::Put { file: f, trie: t, name, value: 1, run: 0, limit });
+                measure(Call::Put { file: f, trie: t, name, value: 1, run: 3, limit });
             }
             let (first, second) = (vec![0x21], vec![0x7D; 24]);
-            measure(Call::List { file: file.clone(), trie, first, second, output: vec![0; 32 * 16 * 64] });
+            measure(Call::List { file: file.clone(), trie, first, second, output: vec![0; 40 * 16 * 64] });
         }
     }
     let figures: Vec<String> = CALLS.iter().zip(deepest).map(|(call, used)| format!("{call} {used}")).collect();

@@ -116,10 +116,13 @@ pub fn count_of(slot: &[u8], b: usize) -> usize
     count
 }
 
-// The bytes of an entry follow from the version.
+// The bytes of an entry follow from the version: version 3 has room for the run.
 pub fn entry_size(layout: Layout) -> usize
     ensures { λ r. ⌜ (r ≡ entry-length layout) × EntrySize r ⌝ }
 {
+    if layout.version == 3 {
+        return 40;
+    }
     32
 }
 

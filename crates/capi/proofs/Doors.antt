@@ -40,9 +40,9 @@ module _ (image : List ℕ) (ill : length image ≡ image-length → ⊥) where
   unfolding pal-look-up-of
   look-up-is-malformed file name out = rw (ne-eqb (length image) image-length ill)
 
-  pub put-malformed : (file name : List ℕ) (value limit : ℕ) (out : List ℕ) → pal-put-of file image name value limit out ≡ (malformed, file, image, out)
+  pub put-malformed : (file name : List ℕ) (value run limit : ℕ) (out : List ℕ) → pal-put-of file image name value run limit out ≡ (malformed, file, image, out)
   unfolding pal-put-of
-  put-malformed file name value limit out = rw (ne-eqb (length image) image-length ill)
+  put-malformed file name value run limit out = rw (ne-eqb (length image) image-length ill)
 
   pub remove-malformed : (file name : List ℕ) (limit : ℕ) (out : List ℕ) → pal-remove-of file image name limit out ≡ (malformed, file, image, out)
   unfolding pal-remove-of
@@ -69,11 +69,11 @@ module _ (image : List ℕ) (well : length image ≡ image-length) where
   unfolding pal-look-up-of
   look-up-said file name out t e s w = rw (eq-eqb (length image) image-length well, ← e, s, w, t)
 
-  pub put-said : (file name : List ℕ) (value limit : ℕ) (out : List ℕ) (g : PutGiven) {t : Trie} {a : PutAnswer} {ys zs ws : List ℕ} {n : ℕ}
-      → t ≡ trie-from image → g .answer ≡ a → put g ys ≡ put-of file t name value limit → n ≡ said-by-put a .0 → zs ≡ image-after a (g .trie) image
-      → ws ≡ out-after (said-by-put a) out → pal-put-of file image name value limit out ≡ (n, ys, zs, ws)
+  pub put-said : (file name : List ℕ) (value run limit : ℕ) (out : List ℕ) (g : PutGiven) {t : Trie} {a : PutAnswer} {ys zs ws : List ℕ} {n : ℕ}
+      → t ≡ trie-from image → g .answer ≡ a → put g ys ≡ put-of file t name value run limit → n ≡ said-by-put a .0 → zs ≡ image-after a (g .trie) image
+      → ws ≡ out-after (said-by-put a) out → pal-put-of file image name value run limit out ≡ (n, ys, zs, ws)
   unfolding pal-put-of
-  put-said file name value limit out g d t e s z w = rw (eq-eqb (length image) image-length well, ← d, ← e, s, z, w, t)
+  put-said file name value run limit out g d t e s z w = rw (eq-eqb (length image) image-length well, ← d, ← e, s, z, w, t)
 
   pub remove-said : (file name : List ℕ) (limit : ℕ) (out : List ℕ) {t : Trie} {x a : RemoveAnswer} {ys ws : List ℕ} {n : ℕ}
       → t ≡ trie-from image → x ≡ a → removed x ys ≡ remove-of file t name limit → n ≡ said-by-remove a .0

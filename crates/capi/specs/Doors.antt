@@ -57,14 +57,14 @@ pal-look-up-of file image name out =
 -- A refused or stopped call leaves every byte of the image; a replaced value leaves the trie.
 abbrev pub image-after : PutAnswer → Trie → List ℕ → List ℕ
 image-after Added t image = image-of t
-image-after (Replaced v) t image = image
+image-after (Replaced v r) t image = image
 image-after (PutStopped n) t image = image
 image-after (PutRefused c) t image = image
 
 -- The number, the file, the image, `out`.
-unfoldable pub pal-put-of : List ℕ → List ℕ → List ℕ → ℕ → ℕ → List ℕ → ℕ × List ℕ × List ℕ × List ℕ
-pal-put-of file image name value limit out =
-    let o = put-of file (trie-from image) name value limit in
+unfoldable pub pal-put-of : List ℕ → List ℕ → List ℕ → ℕ → ℕ → ℕ → List ℕ → ℕ × List ℕ × List ℕ × List ℕ
+pal-put-of file image name value run limit out =
+    let o = put-of file (trie-from image) name value run limit in
     let s = said-by-put (o .answer) in
     whole image (s .0, o .file, image-after (o .answer) (o .trie) image, out-after s out) (malformed, file, image, out)
 

@@ -112,9 +112,9 @@ pub extern "C" fn pal_lookup(file: &[u8], trie: &[u8], name: &[u8], out: &mut [u
     let filled = digits::filled(name);
     let answer = reading::look_up_from(file, image::walk_in(trie, &filled), name);
     match answer {
-        LookUpAnswer::Found(value) => {
+        LookUpAnswer::Found(value, run) => {
             out[0] = value;
-            out[1] = 0;
+            out[1] = run;
             100
         }
         LookUpAnswer::Absent => 101,
@@ -122,7 +122,7 @@ pub extern "C" fn pal_lookup(file: &[u8], trie: &[u8], name: &[u8], out: &mut [u
     }
 }
 
-// `run` is taken for files that will keep it; files of version 1 do not.
+// Files of version 3 keep `run`; those of versions 1 and 2 do not.
 #[no_mangle]
 pub extern "C" fn pal_put(
     file: &mut [u8],
@@ -134,22 +134,22 @@ pub extern "C" fn pal_put(
     out: &mut [u64; 4],
 ) -> u64
     ensures { λ r.
-        ⌜ pal-put-of (now (file .entry)) (now (trie .entry)) (now (name .entry)) value limit (now (out .entry))
+        ⌜ pal-put-of (now (file .entry)) (now (trie .entry)) (now (name .entry)) value run limit (now (out .entry))
         ≡ (r, now (file .exit), now (trie .exit), now (out .exit)) ⌝ }
 {
     if trie.len() != image::BYTES {
         return MALFORMED;
     }
-    let given = changing::put(file, image::decoded(trie), name, value, limit);
+    let given = changing::put(file, image::decoded(trie), name, value, run, limit);
     let answer = given.answer;
     match answer {
         PutAnswer::Added => {
             image::encode(trie, given.trie);
             110
         }
-        PutAnswer::Replaced(old) => {
+        PutAnswer::Replaced(old, run) => {
             out[0] = old;
-            out[1] = 0;
+            out[1] = run;
             111
         }
         PutAnswer::Stopped(stores) => {

@@ -1,19 +1,21 @@
 -- The home of a name in a file that is read and sound, what its slot holds, and plans of no store and of one.
-use Rattle.model.proofs.Prelude.{Bool, List, Option, _<_, _^_, _∙_, _≡_, _≤_, ap, arith, clash, false, getD, getD-take, length, nothing, refl, some, subst, sym, take, true, ℕ}
+use Rattle.model.proofs.Prelude.{Bool, List, Option, _<_, _^_, _∙_, _≡_, _≤_, ap, arith, clash, false, getD, getD-take, le-ltb, length, lt-ltb, nothing, refl, some, subst, sym, take, true, ℕ}
 use Rattle.model.specs.declared.Layout.{Layout}
 use Rattle.model.specs.Order.{Low, Str}
-use Rattle.model.specs.Entries.{Entry, find, insert}
+use Rattle.model.specs.declared.PutAnswer.the-variants.{Replaced}
+use Rattle.model.specs.Entries.{Entry, content-from, find, insert, is-older, run-of-content}
 use Rattle.model.specs.Files.{In, Slot, Sound, free, head, order-of, slot-at, used}
-use Rattle.model.specs.Changes.{holds?}
-use Rattle.model.specs.Format.{AreBytes, Sizes, bytes-at-slot, entry-length, read-file}
+use Rattle.model.specs.Changes.{call, holds?, put as asked, refuse}
+use Rattle.model.specs.Calls.{held, put-answer, put-takes}
+use Rattle.model.specs.Places.{place-of}
+use Rattle.model.specs.Format.{Sizes, bytes-at-slot, kept-run, read-file}
 use Rattle.model.proofs.Files.{first-right, one-range, used-inside, well-parts}
-use Rattle.model.proofs.Format.{contents-read-slot, entry-size, read-slot-read-file}
+use Rattle.model.proofs.Format.{put-fits, read-slot-read-file}
 use Rattle.entries.specs.declared.Content.{Content}
 use Rattle.entries.specs.Rows.{content-number}
-use Rattle.entries.proofs.Contents.{content-fits, contents-find}
+use Rattle.entries.proofs.Contents.{run-is, value-is}
 use Rattle.entries.proofs.Parts.{length-held, length-new}
 use Rattle.bucket.specs.Forms.{ReadAs}
-use Rattle.bucket.proofs.Slots.{read-used}
 use Rattle.slots.specs.declared.Spot.{Spot}
 use Rattle.slots.specs.Spots.{Fits, SpotIn, is-some-value}
 use Rattle.file.specs.declared.Plan.{Plan}
@@ -91,17 +93,36 @@ held-fits y xs R n c w h = let p = well-parts (y .b) (R .1) in omega (arith, len
 pub new-fits : {s : Spot} {n : Str} {es : List Entry} → SpotIn s n es → (c b : ℕ) → find n es ≡ nothing → s .count < b → length (insert n c es) ≤ b
 new-fits {n = n} {es = es} P c b h k = omega (arith, length-new n c es h, P .counted)
 
--- The content that is replaced, where entries have no run.
-pub old-value : (y : Layout) (xs : List ℕ) {l : Low} {u : Str} {es : List Entry} → AreBytes xs → ReadAs y xs l u es → (n : Str) (c : Content) (w : ℕ) → find n es ≡ some w
-    → content-number c ≡ w → c .value ≡ w
-unfolding content-number entry-length
-old-value y xs {es = es} bytes R n c w f q = omega (arith, q, contents-find (entry-length y) n es w (contents-read-slot y xs bytes (read-used y xs (R .0))) f)
+-- What is said of the content that is replaced.
+pub old-said : (c : Content) (w : ℕ) → c .value < 2 ^ 64 → content-number c ≡ w → Replaced (c .value) (c .run) ≡ put-answer (some w)
+old-said c w small q = rw (← q, value-is c small, run-is c small)
 
--- A value alone is a content that has room.
-pub value-fits : (y : Layout) (c : Content) (v : ℕ) → c .value ≡ v → c .run ≡ 0 → v < 2 ^ 64 → Fits y c × (content-number c ≡ v)
+pub old-run : (c : Content) (w : ℕ) → c .value < 2 ^ 64 → content-number c ≡ w → run-of-content w ≡ c .run
+old-run c w small q = rw (← q) (run-is c small)
+
+-- The content of a put has room.
+pub put-content : (y : Layout) (c : Content) (v r : ℕ) → c .value ≡ v → c .run ≡ kept-run y r → v < 2 ^ 64 → r < 2 ^ 64
+    → Fits y c × (content-number c ≡ content-from v (kept-run y r))
 unfolding content-number
-value-fits y c v p q h =
-    (content-fits (entry-length y) c (entry-size y) (omega (arith, p)) (omega (arith, q)) (λ i. q), omega (arith, p, q))
+put-content y c v r p q h k = (rw (p, q) (put-fits y v r h k), rw (p, q))
+
+-- Where what is held has no higher run, a put takes what its request takes; else it is refused.
+module _ (y : Layout) {fs : List Slot} {A : ℕ} {n : Str} {l : Low} {u : Str} {es : List Entry} (H : Home A fs n l u es) (c run : ℕ) where
+  held-is : held fs n ≡ find n es
+  held-is = rw (← H .slot-is, H .is)
+
+  pub takes-new : find n es ≡ nothing → put-takes y fs n c run ≡ call (y .b) (place-of y) fs (asked n c)
+  unfolding put-takes is-older
+  takes-new f = rw (held-is, f)
+
+  module _ (w : ℕ) (f : find n es ≡ some w) where
+    pub takes-newer : run-of-content w ≤ run → put-takes y fs n c run ≡ call (y .b) (place-of y) fs (asked n c)
+    unfolding put-takes is-older
+    takes-newer k = rw (held-is, f, le-ltb run (run-of-content w) k)
+
+    pub takes-older : run < run-of-content w → put-takes y fs n c run ≡ refuse 12
+    unfolding put-takes is-older
+    takes-older k = rw (held-is, f, lt-ltb run (run-of-content w) k)
 
 -- What the plans of no store and of one ensure; their slots are the file's.
 abbrev pub NoStore : Plan → Type 0

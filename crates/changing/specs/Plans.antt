@@ -6,11 +6,10 @@ use Rattle.model.specs.declared.Layout.{Layout}
 use Rattle.model.specs.declared.PutAnswer.the-variants.{Refused}
 use Rattle.model.specs.declared.Trie.{Trie}
 use Rattle.model.specs.Order.{Str}
-use Rattle.model.specs.Entries.{find}
-use Rattle.model.specs.Files.{Slot, entries-of, first, slot-at}
-use Rattle.model.specs.Changes.{Result, holds?, refuse, stores}
+use Rattle.model.specs.Files.{Slot}
+use Rattle.model.specs.Changes.{Result, refuse, stores}
 use Rattle.model.specs.Places.{place-of}
-use Rattle.model.specs.Calls.{put-answer, refusal-of, trie-after-put}
+use Rattle.model.specs.Calls.{held, put-answer, refusal-of, trie-after-put}
 use Rattle.file.specs.declared.Plan.{Plan}
 use Rattle.file.specs.Plans.{Planned}
 use Rattle.changing.specs.declared.PutPlan.{PutPlan}
@@ -19,7 +18,7 @@ use Rattle.changing.specs.declared.PutPlan.{PutPlan}
 abbrev pub PutPlanned : PutPlan → Trie → Layout → List Slot → Str → ℕ → Result → Type 0
 PutPlanned p t y fs n v (refuse c) = Planned (p .plan) y [] × (p .answer ≡ Refused (refusal-of c)) × (p .trie ≡ t)
 PutPlanned p t y fs n v (stores ss) =
-    Planned (p .plan) y ss × (p .answer ≡ put-answer (find n (entries-of (slot-at fs (first (holds? n) fs)))))
+    Planned (p .plan) y ss × (p .answer ≡ put-answer (held fs n))
     × (p .trie ≡ trie-after-put (y .b) (place-of y) fs n v ss t)
 
 -- A remove's answer follows from its stores.

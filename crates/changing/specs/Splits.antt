@@ -7,10 +7,11 @@ use Rattle.model.specs.declared.Layout.{Layout}
 use Rattle.model.specs.declared.Trie.{Trie}
 use Rattle.model.specs.Order.{Low, Str}
 use Rattle.model.specs.Names.{Legal}
-use Rattle.model.specs.Entries.{Entry, find}
+use Rattle.model.specs.Entries.{Entry, content-from, find}
 use Rattle.model.specs.Files.{Slot, Sound}
 use Rattle.model.specs.Changes.{call, put as asked, remove}
-use Rattle.model.specs.Format.{read-file}
+use Rattle.model.specs.Calls.{put-takes}
+use Rattle.model.specs.Format.{kept-run, read-file}
 use Rattle.model.specs.Places.{place-of}
 use Rattle.entries.specs.declared.Content.{Content}
 use Rattle.entries.specs.Rows.{content-number}
@@ -33,10 +34,22 @@ RemoveTold r xs size n =
 abbrev pub PutAsked : PutPlan → Trie → Layout → List Slot → Str → ℕ → Type 0
 PutAsked r t y fs n c = PutPlanned r t y fs n c (call (y .b) (place-of y) fs (asked n c))
 
-abbrev pub PutTold : PutPlan → List ℕ → Trie → Size → Str → ℕ → Type 0
-PutTold r xs t size n v = (fs : List Slot) → read-file xs ≡ some (size .layout, fs) → Legal n → PutAsked r t (size .layout) fs n v
+-- The same where what is held may have a higher run.
+abbrev pub PutTaken : PutPlan → Trie → Layout → List Slot → Str → ℕ → ℕ → Type 0
+PutTaken r t y fs n c run = PutPlanned r t y fs n c (put-takes y fs n c run)
 
--- On a name that slot A holds.
+abbrev pub PutTold : PutPlan → List ℕ → Trie → Size → Str → ℕ → ℕ → Type 0
+PutTold p xs t size n v r =
+    (fs : List Slot) → read-file xs ≡ some (size .layout, fs) → Legal n
+    → PutTaken p t (size .layout) fs n (content-from v (kept-run (size .layout) r)) (kept-run (size .layout) r)
+
+-- On a name that slot A holds: first by the runs, then as the definitions have it.
+abbrev pub RenewTold : PutPlan → List ℕ → Trie → Size → ℕ → Spot → Str → Content → Type 0
+RenewTold r xs t size A s n c =
+    (fs : List Slot) → read-file xs ≡ some (size .layout, fs) → Sound (size .layout .b) fs → Legal n → (l : Low) (u : Str) (es : List Entry)
+    → Home A fs n l u es → SpotIn s n es → Fits (size .layout) c → (w : ℕ) → find n es ≡ some w
+    → PutTaken r t (size .layout) fs n (content-number c) (c .run)
+
 abbrev pub ReplaceTold : PutPlan → List ℕ → Trie → Size → ℕ → Spot → Str → Content → Type 0
 ReplaceTold r xs t size A s n c =
     (fs : List Slot) → read-file xs ≡ some (size .layout, fs) → Sound (size .layout .b) fs → Legal n → (l : Low) (u : Str) (es : List Entry)

@@ -4,6 +4,7 @@ ghost use mathlib.Core.Path.{_≡_};
 ghost use Prim.Native.Nat.{_≤_, _<_, _+_};
 ghost use lib.ListN.{length, take};
 ghost use Rattle.model.specs.Calls.{put-of, remove-of};
+ghost use Rattle.model.specs.Format.{kept-run};
 ghost use Rattle.slots.specs.Spots.{Spotted};
 ghost use Rattle.file.specs.Plans.{Fits};
 ghost use Rattle.file.specs.Sizes.{Sized};
@@ -12,7 +13,7 @@ ghost use Rattle.checking.specs.Ready.{Agreed, Ready};
 ghost use Rattle.splitting.specs.Parts.{Parted};
 ghost use Rattle.changing.specs.Full.{DivideTold};
 ghost use Rattle.changing.specs.Outcomes.{put as putDone, removed as removeDone};
-ghost use Rattle.changing.specs.Splits.{AddTold, PutTold, RemoveTold, ReplaceTold, SplitTold};
+ghost use Rattle.changing.specs.Splits.{AddTold, PutTold, RemoveTold, RenewTold, ReplaceTold, SplitTold};
 ghost use Rattle.changing.specs.Homes.{HomeTold};
 use checking::Checked;
 use checking::Verdict;
@@ -26,6 +27,7 @@ use file::Plan;
 use file::Room;
 use file::Size;
 use model::Cause;
+use model::Layout;
 use model::PutAnswer;
 use model::PutGiven;
 use model::RemoveAnswer;
@@ -87,7 +89,7 @@ fn replace(
     let new = slots::replaced(slot, size.layout, spot, name, content);
     planned(
         file::one_store(k, &new),
-        PutAnswer::Replaced(old.value),
+        PutAnswer::Replaced(old.value, old.run),
         trie,
     )
 }
@@ -187,20 +189,61 @@ fn split(file: &[u8], checked: Checked, a: usize, row: &[u8; ROOM], trie: Trie) 
     divide(file, checked, a, n, row, split, trie)
 }
 
+// The run that is kept of the one given: versions 1 and 2 keep none.
+fn kept_run(layout: Layout, run: u64) -> u64
+    ensures { λ r. ⌜ r ≡ kept-run layout run ⌝ }
+{
+    if layout.version == 3 {
+        return run;
+    }
+    0
+}
+
+// R10.14: on a name that is held, refused where what is held has a higher run.
+fn renew(
+    file: &[u8],
+    size: Size,
+    k: usize,
+    spot: Spot,
+    name: &[u8; 24],
+    content: Content,
+    trie: Trie,
+) -> PutPlan
+    requires { ⌜ (Sized (length (now file)) size) × (k < size .slots) × (Spotted spot (size .layout)) × (spot .place < spot .count) ⌝ }
+    ensures { λ r. ⌜ (Fits (r .plan) size) × (RenewTold r (now (file .entry)) trie size k spot (now (name .entry)) content) ⌝ }
+{
+    let old = slots::content_of(file::slot_at(file, size, k), size.layout, spot);
+    if content.run < old.run {
+        return planned(file::no_store(), PutAnswer::Refused(Cause::OlderRun), trie);
+    }
+    replace(file, size, k, spot, name, content, trie)
+}
+
 // Put into a file that passed the checks.
-fn put_plan(file: &[u8], checked: Checked, name: &[u8; 24], value: u64, trie: Trie) -> PutPlan
+fn put_plan(
+    file: &[u8],
+    checked: Checked,
+    name: &[u8; 24],
+    value: u64,
+    run: u64,
+    trie: Trie,
+) -> PutPlan
     requires { ⌜ Agreed checked (now file) trie ⌝ }
-    ensures { λ r. ⌜ (Fits (r .plan) (checked .size)) × (PutTold r (now (file .entry)) trie (checked .size) (now (name .entry)) value) ⌝ }
+    ensures { λ r. ⌜ (Fits (r .plan) (checked .size))
+        × (PutTold r (now (file .entry)) trie (checked .size) (now (name .entry)) value run) ⌝ }
 {
     let size = checked.size;
     let layout = size.layout;
-    let content = Content { value, run: 0 };
+    let content = Content {
+        value,
+        run: kept_run(layout, run),
+    };
     let key = digits::key_at(name, 0);
     let k = home_of(file, checked, name);
     let slot = file::slot_at(file, size, k);
     let spot = slots::spot_in(slot, layout, key);
     if spot.held {
-        return replace(file, size, k, spot, name, content, trie);
+        return renew(file, size, k, spot, name, content, trie);
     }
     if spot.count < layout.b {
         return add(file, size, k, spot, name, content, trie);
@@ -209,9 +252,9 @@ fn put_plan(file: &[u8], checked: Checked, name: &[u8; 24], value: u64, trie: Tr
     split(file, checked, k, &row, trie)
 }
 
-// Puts a name with its value.
-pub fn put(file: &mut [u8], trie: Trie, name: &[u8], value: u64, limit: u64) -> PutGiven
-    ensures { λ r. ⌜ putDone r (now (file .exit)) ≡ put-of (now (file .entry)) trie (now (name .entry)) value limit ⌝ }
+// Puts a name with its value and the run that writes it.
+pub fn put(file: &mut [u8], trie: Trie, name: &[u8], value: u64, run: u64, limit: u64) -> PutGiven
+    ensures { λ r. ⌜ putDone r (now (file .exit)) ≡ put-of (now (file .entry)) trie (now (name .entry)) value run limit ⌝ }
 {
     if 2 < limit {
         return refused(Cause::WrongSize, trie);
@@ -225,7 +268,7 @@ pub fn put(file: &mut [u8], trie: Trie, name: &[u8], value: u64, limit: u64) -> 
         Verdict::Refused(cause) => refused(cause, trie),
         Verdict::Fine => {
             let filled = digits::filled(name);
-            let change = put_plan(file, checked, &filled, value, trie);
+            let change = put_plan(file, checked, &filled, value, run, trie);
             let plan = change.plan;
             let answer = change.answer;
             if file::commit(file, checked.size, plan, limit) {

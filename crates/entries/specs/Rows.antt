@@ -4,11 +4,11 @@ use mathlib.Core.Bool.{Bool, _&&_, _||_, cond, false, not, true}
 use mathlib.Core.List.{List, [], _++_, _∷_}
 use mathlib.Core.Option.{Option, none as nothing, some}
 use mathlib.Core.Path.{_≡_}
-use Prim.Native.Nat.{_%_, _*_, _+_, _-_, _/_, _<_, _^_, _≤_, suc, zero, ℕ}
+use Prim.Native.Nat.{_*_, _+_, _-_, _<_, _^_, _≤_, suc, zero, ℕ}
 use lib.Dec.{eqb, ltb}
 use lib.ListN.{drop, take}
 use Rattle.model.specs.Checks.{same-str}
-use Rattle.model.specs.Entries.{Entry, chosen}
+use Rattle.model.specs.Entries.{Entry, chosen, content-from}
 use Rattle.model.specs.Format.{value-of}
 use Rattle.model.specs.Names.{is-legal-filled}
 use Rattle.model.specs.Order.{Str}
@@ -36,20 +36,19 @@ pub record Whole (e i count r : ℕ) : Type 0 where
   pub fits : r + e ≤ e * count
   pub most : e * count ≤ room
 
--- Value and run as one number, the content, and its two parts.
+-- Value and run as one number.
 unfoldable pub content-number : Content → ℕ
-content-number c = c .value + 2 ^ 64 * c .run
-
-unfoldable pub value-of-content : ℕ → ℕ
-value-of-content c = c % 2 ^ 64
-
-unfoldable pub run-of-content : ℕ → ℕ
-run-of-content c = c / 2 ^ 64
+content-number c = content-from (c .value) (c .run)
 
 -- What is held, as a number.
 abbrev pub held-number : Held → Option ℕ
 held-number (Holds c) = some (content-number c)
 held-number Absent = nothing
+
+-- Its value has 64 bits, so that it is a part of that number.
+abbrev pub Valued : Held → Type 0
+Valued (Holds c) = c .value < 2 ^ 64
+Valued Absent = Unit {0}
 
 -- The place of a name: how many entries are below it.
 unfoldable pub place : Str → List Entry → ℕ

@@ -5,7 +5,7 @@
 ghost use mathlib.Core.Bool.{_&&_, cond};
 ghost use mathlib.Core.List.{[]};
 ghost use mathlib.Core.Path.{_≡_};
-ghost use Prim.Native.Nat.{_≤_, _<_, _+_, _-_, _*_};
+ghost use Prim.Native.Nat.{_≤_, _<_, _+_, _-_, _*_, _^_};
 ghost use lib.Dec.{leb, ltb};
 ghost use lib.ListN.{drop, length, take};
 ghost use lib.Seq.{paste};
@@ -13,7 +13,7 @@ ghost use Rattle.model.specs.Checks.{same-str};
 ghost use Rattle.model.specs.Format.{bytes-of-entry, little-endian, padded, value-of};
 ghost use Rattle.model.proofs.Format.{EntrySize};
 ghost use Rattle.digits.specs.Keys.{key-value};
-ghost use Rattle.entries.specs.Rows.{Stands, Whole, are-among, are-entries, below, content-number, entries-from, held-number, held-under, is-at, is-not-above, part-in-between, pieces, room, spliced-bytes, values};
+ghost use Rattle.entries.specs.Rows.{Stands, Valued, Whole, are-among, are-entries, below, content-number, entries-from, held-number, held-under, is-at, is-not-above, part-in-between, pieces, room, spliced-bytes, values};
 use digits::Key;
 
 // The most bytes that the entries of one bucket and one more have: 17 of 40.
@@ -105,7 +105,7 @@ pub fn are_entries(entries: &[u8], e: usize, count: usize, low: Key, high: Key) 
 // The content of entry i of so many.
 pub fn content_at(entries: &[u8], e: usize, i: usize, count: usize) -> Content
     requires { ⌜ (e * count ≤ length (now entries)) × (i < count) × (count ≤ 17) × EntrySize e ⌝ }
-    ensures { λ r. ⌜ content-number r ≡ value-of (take (e - 24) (drop (e * i + 24) (now (entries .entry)))) ⌝ }
+    ensures { λ r. ⌜ (content-number r ≡ value-of (take (e - 24) (drop (e * i + 24) (now (entries .entry))))) × (r .value < 2 ^ 64) ⌝ }
 {
     let at = whole_at(e, i, count);
     let value = digits::little_endian(entries, at + 24);
@@ -131,7 +131,7 @@ pub fn is_at(entries: &[u8], e: usize, count: usize, i: usize, name: Key) -> boo
 // The content under a name.
 pub fn held_under(entries: &[u8], e: usize, count: usize, name: Key) -> Held
     requires { ⌜ (e * count ≤ length (now entries)) × (count ≤ 16) × EntrySize e ⌝ }
-    ensures { λ r. ⌜ held-number r ≡ held-under e (now (entries .entry)) count (key-value name) ⌝ }
+    ensures { λ r. ⌜ (held-number r ≡ held-under e (now (entries .entry)) count (key-value name)) × Valued r ⌝ }
 {
     let i = rank(entries, e, count, name);
     if count <= i {

@@ -49,7 +49,7 @@ pub enum Room {
 fn is_offered(version: usize) -> bool
     ensures { λ r. ⌜ r ≡ is-offered version ⌝ }
 {
-    1 <= version && version <= 2
+    1 <= version && version <= 3
 }
 
 // R2.3, R2.4, R2.5 and R2.7: the version is offered, b and slots are in range, and the length fits them.

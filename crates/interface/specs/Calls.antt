@@ -14,7 +14,7 @@ pub record CCalls : Type 0 where
   pub recover : List ℕ → ℕ → List ℕ → ℕ × List ℕ × List ℕ
   pub rebuild : List ℕ → List ℕ → ℕ × List ℕ
   pub look-up : List ℕ → List ℕ → List ℕ → List ℕ → ℕ × List ℕ
-  pub put : List ℕ → List ℕ → List ℕ → ℕ → ℕ → List ℕ → ℕ × List ℕ × List ℕ × List ℕ
+  pub put : List ℕ → List ℕ → List ℕ → ℕ → ℕ → ℕ → List ℕ → ℕ × List ℕ × List ℕ × List ℕ
   pub remove : List ℕ → List ℕ → List ℕ → ℕ → List ℕ → ℕ × List ℕ × List ℕ × List ℕ
   pub list : List ℕ → List ℕ → List ℕ → List ℕ → List ℕ → List ℕ → ℕ × List ℕ × List ℕ
 

@@ -57,8 +57,8 @@ pub record Demand1C (C : CCalls) : Type 0 where
   pub rebuild : (xs image : List ℕ) → IsImage image → Exactly rebuild-refusal (C .rebuild xs image) (rebuild-table xs)
   pub look-up : (xs image name out : List ℕ) → IsImage image → IsOut out
       → Exactly (look-up-refusal out) (C .look-up xs image name out) (look-up-table xs (trie-from image) name)
-  pub put : (xs image name : List ℕ) (v limit : ℕ) (out : List ℕ) → IsImage image → IsOut out
-      → Exactly (change-refusal xs image out) (C .put xs image name v limit out) (put-table xs (trie-from image) name v limit)
+  pub put : (xs image name : List ℕ) (v run limit : ℕ) (out : List ℕ) → IsImage image → IsOut out
+      → Exactly (change-refusal xs image out) (C .put xs image name v run limit out) (put-table xs (trie-from image) name v run limit)
   pub remove : (xs image name : List ℕ) (limit : ℕ) (out : List ℕ) → IsImage image → IsOut out
       → Exactly (change-refusal xs image out) (C .remove xs image name limit out) (remove-table xs (trie-from image) name limit)
   pub list : (xs image low high output out : List ℕ) → IsImage image → IsOut out
@@ -71,8 +71,8 @@ pub record Demand1C (C : CCalls) : Type 0 where
   pub rebuild-says : (xs image : List ℕ) → IsImage image → Answers rebuild-refusal (151 ∷ []) (C .rebuild xs image) (C .rebuild xs image .0)
   pub look-up-says : (xs image name out : List ℕ) → IsImage image
       → Answers (look-up-refusal out) (100 ∷ 101 ∷ []) (C .look-up xs image name out) (C .look-up xs image name out .0)
-  pub put-says : (xs image name : List ℕ) (v limit : ℕ) (out : List ℕ) → IsImage image
-      → Answers (change-refusal xs image out) (110 ∷ 111 ∷ 112 ∷ []) (C .put xs image name v limit out) (C .put xs image name v limit out .0)
+  pub put-says : (xs image name : List ℕ) (v run limit : ℕ) (out : List ℕ) → IsImage image
+      → Answers (change-refusal xs image out) (110 ∷ 111 ∷ 112 ∷ []) (C .put xs image name v run limit out) (C .put xs image name v run limit out .0)
   pub remove-says : (xs image name : List ℕ) (limit : ℕ) (out : List ℕ) → IsImage image
       → Answers (change-refusal xs image out) (120 ∷ 101 ∷ 112 ∷ []) (C .remove xs image name limit out) (C .remove xs image name limit out .0)
   pub list-says : (xs image low high output out : List ℕ) → IsImage image
@@ -83,8 +83,8 @@ pub record Demand1C (C : CCalls) : Type 0 where
   pub create-malformed : (xs : List ℕ) (v b slots : ℕ) (image : List ℕ) → ¬ IsImage image → C .create xs v b slots image ≡ (malformed, xs, image)
   pub rebuild-malformed : (xs image : List ℕ) → ¬ IsImage image → C .rebuild xs image ≡ (malformed, image)
   pub look-up-malformed : (xs image name out : List ℕ) → ¬ IsImage image → C .look-up xs image name out ≡ (malformed, out)
-  pub put-malformed : (xs image name : List ℕ) (v limit : ℕ) (out : List ℕ) → ¬ IsImage image
-      → C .put xs image name v limit out ≡ (malformed, xs, image, out)
+  pub put-malformed : (xs image name : List ℕ) (v run limit : ℕ) (out : List ℕ) → ¬ IsImage image
+      → C .put xs image name v run limit out ≡ (malformed, xs, image, out)
   pub remove-malformed : (xs image name : List ℕ) (limit : ℕ) (out : List ℕ) → ¬ IsImage image
       → C .remove xs image name limit out ≡ (malformed, xs, image, out)
   pub list-malformed : (xs image low high output out : List ℕ) → ¬ IsImage image

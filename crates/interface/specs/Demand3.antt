@@ -8,7 +8,9 @@ use lib.Dec.{eqb}
 use lib.Seq.{sets}
 use Rattle.model.specs.Order.{Str}
 use Rattle.model.specs.Names.{filled}
+use Rattle.model.specs.Entries.{content-from, run-of-content, value-of-content}
 use Rattle.model.specs.Changes.{Map, Means, meant, put as to-put, remove as to-remove}
+use Rattle.model.specs.Format.{kept-run, layout-of}
 use Rattle.promises.specs.Demand1.{LegalName}
 use Rattle.promises.specs.Demand2.{LeadsRight}
 use Rattle.promises.specs.Demand3.{replaced}
@@ -19,9 +21,9 @@ use Rattle.interface.specs.Demand1.{IsRefusal, change-refusal, recover-r
 -- What can happen: as in demand 3, but each call is lent an image and an `out`. A put or a remove has the image in hand, or any
 -- other bytes at all, of any length; a rebuilding is lent any bytes.
 pub data EventC : Type 0 where
-  put : List ℕ → (v : ℕ) → v < 2 ^ 64 → ℕ → List ℕ → EventC
+  put : List ℕ → (v : ℕ) → v < 2 ^ 64 → (run : ℕ) → run < 2 ^ 64 → ℕ → List ℕ → EventC
   remove : List ℕ → ℕ → List ℕ → EventC
-  put-with : List ℕ → List ℕ → (v : ℕ) → v < 2 ^ 64 → ℕ → List ℕ → EventC
+  put-with : List ℕ → List ℕ → (v : ℕ) → v < 2 ^ 64 → (run : ℕ) → run < 2 ^ 64 → ℕ → List ℕ → EventC
   remove-with : List ℕ → List ℕ → ℕ → List ℕ → EventC
   kill : EventC
   recover : ℕ → List ℕ → EventC
@@ -61,10 +63,10 @@ unfoldable pub after-rebuild : StateC → ℕ → List ℕ → StateC
 after-rebuild s k image = cond (eqb k 151) (running (file-of s) image (said s)) s
 
 module _ (C : CCalls) where
-  unfoldable pub put-by : StateC → List ℕ → List ℕ → ℕ → ℕ → List ℕ → StateC
-  put-by s image name v limit out =
-      let d = C .put (file-of s) image name v limit out in
-      after-put s (filled name) v (d .0) (d .1) (d .2)
+  unfoldable pub put-by : StateC → List ℕ → List ℕ → ℕ → ℕ → ℕ → List ℕ → StateC
+  put-by s image name v run limit out =
+      let d = C .put (file-of s) image name v run limit out in
+      after-put s (filled name) (content-from v (kept-run (layout-of (file-of s)) run)) (d .0) (d .1) (d .2)
 
   unfoldable pub remove-by : StateC → List ℕ → List ℕ → ℕ → List ℕ → StateC
   remove-by s image name limit out =
@@ -72,11 +74,11 @@ module _ (C : CCalls) where
       after-remove s (filled name) (d .0) (d .1) (d .2)
 
   unfoldable pub step : EventC → StateC → StateC
-  step (put name v small limit out) (running xs image m) = put-by (running xs image m) image name v limit out
-  step (put name v small limit out) (down xs m) = down xs m
+  step (put name v small run low limit out) (running xs image m) = put-by (running xs image m) image name v run limit out
+  step (put name v small run low limit out) (down xs m) = down xs m
   step (remove name limit out) (running xs image m) = remove-by (running xs image m) image name limit out
   step (remove name limit out) (down xs m) = down xs m
-  step (put-with image name v small limit out) s = put-by s image name v limit out
+  step (put-with image name v small run low limit out) s = put-by s image name v run limit out
   step (remove-with image name limit out) s = remove-by s image name limit out
   step kill s = down (file-of s) (said s)
   step (recover limit out) s =
@@ -98,7 +100,7 @@ start d = running (d .1) (d .2) (λ k. nothing)
 -- The lookup's number and words for what the history says of a name.
 abbrev pub held-says : Option ℕ → List ℕ → ℕ × List ℕ
 held-says nothing out = (101, out)
-held-says (some v) out = (100, sets out 0 (v ∷ 0 ∷ []))
+held-says (some c) out = (100, sets out 0 (value-of-content c ∷ run-of-content c ∷ []))
 
 -- A stopped call: word 0 is the limit, no other word has changed, and as many slots are others than before.
 pub record StoppedC (limit : ℕ) (xs ys out words : List ℕ) : Type 0 where
@@ -132,17 +134,17 @@ module _ (C : CCalls) where
     pub in-hand : InHandC s
     pub recovery : (limit : ℕ) (out : List ℕ) → limit ≤ 2 → RecoversC (file-of s) (said s) limit out (C .recover (file-of s) limit out)
     -- R13.3: a refused call, whose number is below 100, changes no byte, whatever the image.
-    pub put-refused : (image name : List ℕ) (v limit : ℕ) (out : List ℕ) → C .put (file-of s) image name v limit out .0 < 100
-        → IsRefusal (change-refusal (file-of s) image out) (C .put (file-of s) image name v limit out)
+    pub put-refused : (image name : List ℕ) (v run limit : ℕ) (out : List ℕ) → C .put (file-of s) image name v run limit out .0 < 100
+        → IsRefusal (change-refusal (file-of s) image out) (C .put (file-of s) image name v run limit out)
     pub remove-refused : (image name : List ℕ) (limit : ℕ) (out : List ℕ) → C .remove (file-of s) image name limit out .0 < 100
         → IsRefusal (change-refusal (file-of s) image out) (C .remove (file-of s) image name limit out)
     pub recover-refused : (limit : ℕ) (out : List ℕ) → C .recover (file-of s) limit out .0 < 100
         → IsRefusal (recover-refusal (file-of s) out) (C .recover (file-of s) limit out)
     -- R13.3: a call stopped after any of its stores; the image is as it was, byte for byte.
-    pub put-stopped : (image name : List ℕ) (v limit : ℕ) (out : List ℕ) → C .put (file-of s) image name v limit out .0 ≡ 112
-        → StoppedC limit (file-of s) (C .put (file-of s) image name v limit out .1) out (C .put (file-of s) image name v limit out .3)
-    pub put-image : (image name : List ℕ) (v limit : ℕ) (out : List ℕ) → C .put (file-of s) image name v limit out .0 ≡ 112
-        → C .put (file-of s) image name v limit out .2 ≡ image
+    pub put-stopped : (image name : List ℕ) (v run limit : ℕ) (out : List ℕ) → C .put (file-of s) image name v run limit out .0 ≡ 112
+        → StoppedC limit (file-of s) (C .put (file-of s) image name v run limit out .1) out (C .put (file-of s) image name v run limit out .3)
+    pub put-image : (image name : List ℕ) (v run limit : ℕ) (out : List ℕ) → C .put (file-of s) image name v run limit out .0 ≡ 112
+        → C .put (file-of s) image name v run limit out .2 ≡ image
     pub remove-stopped : (image name : List ℕ) (limit : ℕ) (out : List ℕ) → C .remove (file-of s) image name limit out .0 ≡ 112
         → StoppedC limit (file-of s) (C .remove (file-of s) image name limit out .1) out (C .remove (file-of s) image name limit out .3)
     pub remove-image : (image name : List ℕ) (limit : ℕ) (out : List ℕ) → C .remove (file-of s) image name limit out .2 ≡ image

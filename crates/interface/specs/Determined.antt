@@ -16,7 +16,7 @@ pub record DeterminedC : Type 0 where
   pub recover : (xs : List ℕ) (limit : ℕ) (out : List ℕ) → Determines (λ (o : ℕ × List ℕ × List ℕ). pal-recover-of xs limit out ≡ o)
   pub rebuild : (xs image : List ℕ) → Determines (λ (o : ℕ × List ℕ). pal-rebuild-of xs image ≡ o)
   pub look-up : (xs image name out : List ℕ) → Determines (λ (o : ℕ × List ℕ). pal-look-up-of xs image name out ≡ o)
-  pub put : (xs image name : List ℕ) (v limit : ℕ) (out : List ℕ) → Determines (λ (o : ℕ × List ℕ × List ℕ × List ℕ). pal-put-of xs image name v limit out ≡ o)
+  pub put : (xs image name : List ℕ) (v run limit : ℕ) (out : List ℕ) → Determines (λ (o : ℕ × List ℕ × List ℕ × List ℕ). pal-put-of xs image name v run limit out ≡ o)
   pub remove : (xs image name : List ℕ) (limit : ℕ) (out : List ℕ) → Determines (λ (o : ℕ × List ℕ × List ℕ × List ℕ). pal-remove-of xs image name limit out ≡ o)
   pub list : (xs image low high output out : List ℕ) → Determines (λ (o : ℕ × List ℕ × List ℕ). pal-list-of xs image low high output out ≡ o)
   -- `reading::look_up_from`, for every walk: the place at which it stands is all that counts.

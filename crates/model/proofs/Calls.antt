@@ -1,12 +1,15 @@
 -- Each request has one list of stores or one refusal, and the function gives it.
-use Rattle.model.proofs.Prelude.{List, Option, [], _<_, _∙_, _∷_, _≡_, _≤_, ap, arith, clash, decLe, decLt, length, nothing, refl, some, subst, sym, ℕ}
+use Rattle.model.proofs.Prelude.{Bool, List, Option, [], _<_, _∙_, _∷_, _≡_, _≤_, ap, arith, clash, cond, decLe, decLt, false, length, lt-ltb, ltb-true, nothing, refl, some, subst, sym, true, ℕ}
 use Rattle.model.specs.Order.{Low, Str, _⊑_, _◁_, at}
 use Rattle.model.specs.Names.{Legal}
-use Rattle.model.specs.Entries.{Entry, chosen, find, insert, without}
+use Rattle.model.specs.Entries.{Entry, chosen, find, insert, is-older, run-of-content, without}
 use Rattle.model.specs.Files.{In, Slot, Sound, entries-of, first, free, head, slot-at, string-count, used}
 use Rattle.model.specs.Changes.{Denied, Lowest, Request, Result, Store, call, free?, halves, holds?, no-room, put, put-in, refuse, remove, remove-in, stored, stores, stores-if, too-many}
 use Rattle.model.proofs.Entries.{chosen-no, chosen-yes}
 use Rattle.model.proofs.Files.{bucket, first-before, first-passes, first-right, one-range}
+use Rattle.model.specs.declared.Layout.{Layout}
+use Rattle.model.specs.Places.{place-of}
+use Rattle.model.specs.Calls.{held, put-takes}
 use Rattle.model.proofs.Changes.{Change, absent, fits, removes, splits}
 
 pub lowest-unique : {fs : List Slot} {M N : ℕ} → Lowest fs M → Lowest fs N → M ≡ N
@@ -75,7 +78,7 @@ module _ (b : ℕ) (place : List Entry → ℕ) (fs : List Slot) where
     is-denied : {r : ℕ} → Denied b place fs q r → Answered q (refuse r)
 
   module _ (S : Sound b fs) (n : Str) where
-    in-range : In (head (slot-at fs (first (holds? n) fs))) n
+    pub in-range : In (head (slot-at fs (first (holds? n) fs))) n
     in-range = let B = bucket b S n in first-right (holds? n) fs (B .0) (B .1) (λ h. h .0)
 
     pub remove-right : Answered (remove n) (call b place fs (remove n))
@@ -113,3 +116,22 @@ module _ (b : ℕ) (place : List Entry → ℕ) (fs : List Slot) where
                   | no i ↦ rw (chosen-no (decLe (string-count (stored (halves b place (first free? fs) A l u (insert n v es)) fs)) 256) i)
                       (let m : 256 < string-count (stored (halves b place (first free? fs) A l u (insert n v es)) fs) = omega arith in is-denied (too-many A (first free? fs) es e (h .1) (h .2) k (free-lowest fs j) m))
                 ]
+
+-- What a put takes: it is refused by the runs, or takes what its request takes.
+pub put-taken : (P : Result → Type 0) (y : Layout) (fs : List Slot) (n : Str) (c run : ℕ) → (is-older run (held fs n) ≡ true → P (refuse 12))
+    → (is-older run (held fs n) ≡ false → P (call (y .b) (place-of y) fs (put n c))) → P (put-takes y fs n c run)
+unfolding put-takes
+put-taken P y fs n c run f g = go (is-older run (held fs n)) refl
+  where
+    go : (t : Bool) → is-older run (held fs n) ≡ t → P (cond t (refuse 12) (call (y .b) (place-of y) fs (put n c)))
+    go true e = f e
+    go false e = g e
+
+pub older-held : (run : ℕ) (o : Option ℕ) → is-older run o ≡ true → (w : ℕ) × (o ≡ some w) × (run < run-of-content w)
+unfolding is-older
+older-held run nothing e = clash cc
+older-held run (some w) e = (w, refl, ltb-true run (run-of-content w) e)
+
+pub held-older : (run : ℕ) {o : Option ℕ} (w : ℕ) → o ≡ some w → run < run-of-content w → is-older run o ≡ true
+unfolding is-older
+held-older run w q h = rw (q, lt-ltb run (run-of-content w) h)

@@ -1,9 +1,9 @@
--- What the calls say: the refusal numbers (R10.1 to R10.8), and for each answer its number and values in the C
+-- What the calls say: the refusal numbers (R10.1 to R10.8, R10.14), and for each answer its number and values in the C
 -- interface.
 use mathlib.Core.List.{List, [], _∷_}
 use Prim.Native.Nat.{ℕ}
 use Rattle.model.specs.declared.Cause.{Cause}
-use Rattle.model.specs.declared.Cause.the-variants.{BadFile, CutFile, IllegalName, ManyStrings, NoFreeSlot, ShortOutput, StaleTrie, WrongSize}
+use Rattle.model.specs.declared.Cause.the-variants.{BadFile, CutFile, IllegalName, ManyStrings, NoFreeSlot, OlderRun, ShortOutput, StaleTrie, WrongSize}
 use Rattle.model.specs.declared.ListAnswer.{ListAnswer}
 use Rattle.model.specs.declared.ListAnswer.the-variants.{Listed, Refused as ListRefused}
 use Rattle.model.specs.declared.LookUpAnswer.{LookUpAnswer}
@@ -18,7 +18,7 @@ use Rattle.model.specs.declared.TrieAnswer.{TrieAnswer}
 use Rattle.model.specs.declared.TrieAnswer.the-variants.{Given, Refused as TrieRefused}
 use Rattle.model.specs.Checks.{Kind, is-bad, is-cut, is-sound}
 
--- R10.1 to R10.8
+-- R10.1 to R10.8, R10.14
 abbrev pub number : Cause → ℕ
 number IllegalName = 1
 number BadFile = 2
@@ -28,6 +28,7 @@ number NoFreeSlot = 5
 number ManyStrings = 6
 number ShortOutput = 7
 number WrongSize = 8
+number OlderRun = 12
 
 -- R10.13: the trie is stale, and no bound of a bucket that was read is broken.
 abbrev pub stale-trie : Cause
@@ -47,20 +48,21 @@ carried NoFreeSlot = []
 carried ManyStrings = []
 carried ShortOutput = []
 carried WrongSize = []
+carried OlderRun = []
 
 abbrev pub refused-with : Cause → Saying
 refused-with c = (number c, carried c)
 
--- R11.11: found with the value, or absent.
+-- R11.11: found with value and run, or absent.
 abbrev pub said-by-look-up : LookUpAnswer → Saying
-said-by-look-up (Found v) = (100, v ∷ 0 ∷ [])
+said-by-look-up (Found v r) = (100, v ∷ r ∷ [])
 said-by-look-up NotFound = (101, [])
 said-by-look-up (LookUpRefused c) = refused-with c
 
--- R7.2 and R7.8: added; R7.9: replaced, with the old value; R7.12: stopped, with the number of stores made.
+-- R7.2 and R7.8: added; R7.9: replaced, with the old value and run; R7.12: stopped, with the number of stores made.
 abbrev pub said-by-put : PutAnswer → Saying
 said-by-put Added = (110, [])
-said-by-put (Replaced v) = (111, v ∷ 0 ∷ [])
+said-by-put (Replaced v r) = (111, v ∷ r ∷ [])
 said-by-put (PutStopped n) = (112, n ∷ [])
 said-by-put (PutRefused c) = refused-with c
 

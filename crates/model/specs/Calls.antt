@@ -6,7 +6,7 @@ use Prim.Native.Nat.{_*_, ℕ}
 use lib.Dec.{eqb, leb, ltb}
 use lib.ListN.{drop, length, replicate, take}
 use Rattle.model.specs.declared.Cause.{Cause}
-use Rattle.model.specs.declared.Cause.the-variants.{BadFile, CutFile, IllegalName, ManyStrings, NoFreeSlot, ShortOutput, StaleTrie, WrongSize}
+use Rattle.model.specs.declared.Cause.the-variants.{BadFile, CutFile, IllegalName, ManyStrings, NoFreeSlot, OlderRun, ShortOutput, StaleTrie, WrongSize}
 use Rattle.model.specs.declared.Layout.{Layout}
 use Rattle.model.specs.declared.ListAnswer.{ListAnswer}
 use Rattle.model.specs.declared.ListAnswer.the-variants.{Listed, Refused as ListRefused}
@@ -23,7 +23,7 @@ use Rattle.model.specs.declared.TrieAnswer.{TrieAnswer}
 use Rattle.model.specs.declared.TrieAnswer.the-variants.{Given, Refused as TrieRefused}
 use Rattle.model.specs.Order.{Str}
 use Rattle.model.specs.Names.{broken, filled, is-at-most, is-legal-name}
-use Rattle.model.specs.Entries.{Entry, find, insert, name-at}
+use Rattle.model.specs.Entries.{Entry, content-from, find, insert, is-older, name-at, run-of-content, value-of-content}
 use Rattle.model.specs.Files.{Slot, created, entries-of, first, free, order-of, slot-at, string-count, used}
 use Rattle.model.specs.Tries.{Spot, walk-of, zero-cell}
 use Rattle.model.specs.Rebuilding.{rebuilt-trie}
@@ -33,7 +33,7 @@ use Rattle.model.specs.Places.{place-of}
 use Rattle.model.specs.Checks.{Kind, is-above, is-bad, is-cut, is-sound, is-well-formed}
 use Rattle.model.specs.Agreeing.{is-agreeing}
 use Rattle.model.specs.Answers.{stale-trie}
-use Rattle.model.specs.Format.{are-legal-sizes, bytes-at-slot, bytes-of-entries, check-file, entry-length, file-bytes, file-size, header-of, layout-of, read-file, read-slot, store-bytes}
+use Rattle.model.specs.Format.{are-legal-sizes, bytes-at-slot, bytes-of-entries, check-file, entry-length, file-bytes, file-size, header-of, kept-run, layout-of, read-file, read-slot, store-bytes}
 
 -- R9.1: a new file's trie.
 abbrev pub new-trie : Trie
@@ -99,10 +99,10 @@ abbrev pub landed : ℕ → Option (Str × Spot × ℕ) → Option ℕ
 landed slots nothing = nothing
 landed slots (some (p, k, s)) = cond (ltb s slots) (some s) nothing
 
--- R11.11: found with the value, or absent.
+-- R11.11: found with value and run, or absent.
 abbrev pub held-answer : Option ℕ → LookUpAnswer
 held-answer nothing = NotFound
-held-answer (some v) = Found v
+held-answer (some c) = Found (value-of-content c) (run-of-content c)
 
 -- R11.8 to R11.10, in this order. Where the range lacks the name, the refusal says how far off it is (R10.13).
 abbrev pub slot-answer-with : (ℕ → Slot → Bool) → ℕ → Str → Option Slot → LookUpAnswer
@@ -171,14 +171,22 @@ pub record PutDone : Type 0 where
   pub file : List ℕ
   pub trie : Trie
 
--- R7.2 and R7.8: added; R7.9: replaced, with the old value.
+-- R7.2 and R7.8: added; R7.9: replaced, with the old value and run.
 abbrev pub put-answer : Option ℕ → PutAnswer
 put-answer nothing = Added
-put-answer (some old) = Replaced old
+put-answer (some old) = Replaced (value-of-content old) (run-of-content old)
 
--- What a refusal 5 or 6 is called.
+-- What is held under a name, in the bucket whose range holds it.
+abbrev pub held : List Slot → Str → Option ℕ
+held fs n = find n (entries-of (slot-at fs (first (holds? n) fs)))
+
+-- R10.14: refused where what is held has a higher run; else what the request takes.
+unfoldable pub put-takes : Layout → List Slot → Str → ℕ → ℕ → Result
+put-takes y fs n c run = let r = call (y .b) (place-of y) fs (put n c) in cond (is-older run (held fs n)) (refuse 12) r
+
+-- What a refusal 5, 6 or 12 is called.
 unfoldable pub refusal-of : ℕ → Cause
-refusal-of r = cond (eqb r 5) NoFreeSlot ManyStrings
+refusal-of r = cond (eqb r 12) OlderRun (cond (eqb r 5) NoFreeSlot ManyStrings)
 
 -- R7.12: with a limit below the stores needed, as many as the limit says; the trie stays as it is.
 unfoldable pub put-by-stores : List ℕ → Trie → Layout → List Slot → Str → ℕ → ℕ → Result → PutDone
@@ -187,24 +195,26 @@ put-by-stores xs t y fs n v limit (stores ss) =
     cond (ltb limit (length ss))
     (record { answer = PutStopped limit; file = stores-bytes y (take limit ss) xs; trie = t })
     (record {
-      answer = put-answer (find n (entries-of (slot-at fs (first (holds? n) fs))));
+      answer = put-answer (held fs n);
       file = stores-bytes y ss xs;
       trie = trie-after-put (y .b) (place-of y) fs n v ss t;
     })
 
-unfoldable pub put-on-looked : List ℕ → Trie → Str → ℕ → ℕ → Looked → PutDone
-put-on-looked xs t n v limit (refusing c) = record { answer = PutRefused c; file = xs; trie = t }
-put-on-looked xs t n v limit (fine y fs) = put-by-stores xs t y fs n v limit (call (y .b) (place-of y) fs (put n v))
+unfoldable pub put-on-looked : List ℕ → Trie → Str → ℕ → ℕ → ℕ → Looked → PutDone
+put-on-looked xs t n v r limit (refusing c) = record { answer = PutRefused c; file = xs; trie = t }
+put-on-looked xs t n v r limit (fine y fs) =
+    let c = content-from v (kept-run y r) in
+    put-by-stores xs t y fs n c limit (put-takes y fs n c (kept-run y r))
 
--- Put, in the order 8, 1, 2, 3, 4, 5, 6 (R10.9).
-abbrev pub put-made-with : (List ℕ → Bool) → (List ℕ → Trie → Looked) → List ℕ → Trie → List ℕ → ℕ → ℕ → PutDone
-put-made-with legal looked xs t name v limit =
-    let d = put-on-looked xs t (filled name) v limit (looked xs t) in
+-- Put of a value with the run that writes it, in the order 8, 1, 2, 3, 4, 12, 5, 6 (R10.9).
+abbrev pub put-made-with : (List ℕ → Bool) → (List ℕ → Trie → Looked) → List ℕ → Trie → List ℕ → ℕ → ℕ → ℕ → PutDone
+put-made-with legal looked xs t name v r limit =
+    let d = put-on-looked xs t (filled name) v r limit (looked xs t) in
     cond (ltb 2 limit) (record { answer = PutRefused WrongSize; file = xs; trie = t })
     (cond (legal name) d (record { answer = PutRefused IllegalName; file = xs; trie = t }))
 
-unfoldable pub put-of : List ℕ → Trie → List ℕ → ℕ → ℕ → PutDone
-put-of xs t name v limit = put-made-with is-legal-name looked-of xs t name v limit
+unfoldable pub put-of : List ℕ → Trie → List ℕ → ℕ → ℕ → ℕ → PutDone
+put-of xs t name v r limit = put-made-with is-legal-name looked-of xs t name v r limit
 
 -- What remove leaves. The trie stays.
 pub record RemoveDone : Type 0 where

@@ -1,15 +1,31 @@
 -- The entries of one bucket: find, insert, keep.
+use mathlib.Core.Bool.{Bool, false}
 use mathlib.Core.Option.{Option, none as nothing, some}
 use mathlib.Core.List.{List, [], _∷_}
-use Prim.Native.Nat.{ℕ}
+use Prim.Native.Nat.{_%_, _*_, _+_, _/_, _^_, ℕ}
+use lib.Dec.{ltb}
 use lib.ListN.{getD}
 use Rattle.model.specs.Order.{Low, Str, _⊑_, _◁_, at}
 use Rattle.model.specs.Names.{Legal}
 use Rattle.model.specs.Deciding.{le?, not?, str?}
 
--- R3.13: an entry is the filled name and the value.
+-- R3.13: an entry is the filled name and the content: value and run as one number.
 abbrev pub Entry : Type 0
 Entry = Str × ℕ
+
+unfoldable pub content-from : ℕ → ℕ → ℕ
+content-from v r = v + 2 ^ 64 * r
+
+unfoldable pub value-of-content : ℕ → ℕ
+value-of-content c = c % 2 ^ 64
+
+unfoldable pub run-of-content : ℕ → ℕ
+run-of-content c = c / 2 ^ 64
+
+-- R10.14: what is held has a higher run than the one that is to write.
+unfoldable pub is-older : ℕ → Option ℕ → Bool
+is-older r nothing = false
+is-older r (some w) = ltb r (run-of-content w)
 
 abbrev pub name-at : List Entry → ℕ → Str
 name-at es i = getD es i ([], 0) .0
@@ -19,12 +35,12 @@ unfoldable pub chosen : {X Y : Type 0} → Dec X → Y → Y → Y
 chosen (yes h) a b = a
 chosen (no h) a b = b
 
--- R11.11: the value, or none.
+-- R11.11: the content, or none.
 unfoldable pub find : Str → List Entry → Option ℕ
 find n [] = nothing
 find n (e ∷ es) = chosen (str? n (e .0)) (some (e .1)) (find n es)
 
--- R7.2: a new name in its place; R7.9: a new value for a name that is held.
+-- R7.2: a new name in its place; R7.9: a new content for a name that is held.
 unfoldable pub insert : Str → ℕ → List Entry → List Entry
 insert n v [] = (n, v) ∷ []
 insert n v (e ∷ es) =

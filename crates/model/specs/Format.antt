@@ -13,20 +13,27 @@ use Rattle.model.specs.Entries.{Entry}
 use Rattle.model.specs.Files.{Cut, Slot, Sound, free, used}
 use Rattle.model.specs.Checks.{Kind, check, is-bad, same-str}
 
--- The layouts of a file of version 1 and of version 2.
+-- The layouts of a file of version 1, of version 2 and of version 3.
 abbrev pub version-1 : ℕ → Layout
 version-1 b = record { version = 1; b = b }
 
 abbrev pub version-2 : ℕ → Layout
 version-2 b = record { version = 2; b = b }
 
+abbrev pub version-3 : ℕ → Layout
+version-3 b = record { version = 3; b = b }
+
 -- R2.3: the versions that are offered.
 unfoldable pub is-offered : ℕ → Bool
-is-offered v = leb 1 v && leb v 2
+is-offered v = leb 1 v && leb v 3
 
--- How many bytes an entry has follows from the version (section 3).
+-- How many bytes an entry has follows from the version (section 3): version 3 has room for the run.
 unfoldable pub entry-length : Layout → ℕ
-entry-length y = 32
+entry-length y = cond (eqb (y .version) 3) 40 32
+
+-- The run that is kept of the one given: versions 1 and 2 keep none.
+unfoldable pub kept-run : Layout → ℕ → ℕ
+kept-run y r = cond (eqb (y .version) 3) r 0
 
 -- R2.7: the length of a file.
 unfoldable pub slot-size : Layout → ℕ
@@ -55,7 +62,7 @@ header-bytes y slots =
 unfoldable pub padded : ℕ → List ℕ → List ℕ
 padded k xs = take k (xs ++ replicate k 0)
 
--- R3.13: the value, eight bytes, little-endian.
+-- R3.13: a number, its lowest byte first; the value has eight bytes, and so has the run.
 unfoldable pub little-endian : ℕ → ℕ → List ℕ
 little-endian zero v = []
 little-endian (suc n) v = v % 256 ∷ little-endian n (v / 256)

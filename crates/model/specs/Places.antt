@@ -15,7 +15,7 @@ only-from low high (p ∷ ps) =
     let r = only-from low high ps in
     cond (leb low p && leb p high) (p ∷ r) r
 
--- R7.3: the positions, counted from 1, that version 2 chooses from: m, m − 1 and m + 1, those from 1 to b only.
+-- R7.3: the positions, counted from 1, that versions 2 and 3 choose from: m, m − 1 and m + 1, those from 1 to b only.
 unfoldable pub positions : ℕ → List ℕ
 positions b = let m = b / 2 + 1 in only-from 1 b (m ∷ (m - 1) ∷ (m + 1) ∷ [])
 
@@ -38,7 +38,7 @@ unfoldable pub winner : (ℕ → ℕ) → List ℕ → ℕ
 winner f [] = 1
 winner f (p ∷ ps) = shortest f p ps
 
--- R7.3: the place of the split key, counted from 0, is its position less one. Version 1 has it at m = b/2 + 1, version 2
--- at the position that wins.
+-- R7.3: the place of the split key, counted from 0, is its position less one. Version 1 has it at m = b/2 + 1, versions 2
+-- and 3 at the position that wins.
 unfoldable pub place-of : Layout → List Entry → ℕ
 place-of y ws = cond (eqb (y .version) 1) (y .b / 2) (winner (digits-at (y .b) ws) (positions (y .b)) - 1)

@@ -39,12 +39,13 @@ pub enum Cause {
     ManyStrings,
     ShortOutput,
     WrongSize,
+    OlderRun,
 }
 
 // What a stale trie carries where no bound of a bucket that was read is broken.
 pub const NO_DIGIT: u64 = 255;
 
-// The number of each refusal (R10.1 to R10.8).
+// The number of each refusal (R10.1 to R10.8, R10.14).
 pub fn cause_number(cause: Cause) -> u64
     ensures { λ r. ⌜ r ≡ number cause ⌝ }
 {
@@ -57,18 +58,21 @@ pub fn cause_number(cause: Cause) -> u64
         Cause::ManyStrings => 6,
         Cause::ShortOutput => 7,
         Cause::WrongSize => 8,
+        Cause::OlderRun => 12,
     }
 }
 
+// Found carries the value and the run.
 pub enum LookUpAnswer {
-    Found(u64),
+    Found(u64, u64),
     Absent,
     Refused(Cause),
 }
 
+// Replaced carries the old value and the old run.
 pub enum PutAnswer {
     Added,
-    Replaced(u64),
+    Replaced(u64, u64),
     Stopped(u64),
     Refused(Cause),
 }

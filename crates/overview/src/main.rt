@@ -58,7 +58,7 @@ fn refusal_of(answer: PutAnswer) -> u64 {
     match answer {
         PutAnswer::Refused(cause) => cause_number(cause),
         PutAnswer::Added => 0,
-        PutAnswer::Replaced(_) => 0,
+        PutAnswer::Replaced(_, _) => 0,
         PutAnswer::Stopped(_) => 0,
     }
 }
@@ -74,7 +74,7 @@ fn put_name(
     requires { ⌜ len ≤ 25 ⌝ }
 {
     let whole = &bytes[..];
-    changing::put(file, trie, &whole[0..len], number, 2)
+    changing::put(file, trie, &whole[0..len], number, 0, 2)
 }
 
 // The line under way has ended.

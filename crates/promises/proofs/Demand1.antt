@@ -3,7 +3,7 @@ use Rattle.model.proofs.Prelude.{Bool, List, Option, [], _&&_, _*_, _++_, _<_, 
 use Rattle.model.specs.declared.Trie.{Trie}
 use Rattle.model.specs.declared.Layout.{Layout}
 use Rattle.model.specs.declared.Cause.{Cause}
-use Rattle.model.specs.declared.Cause.the-variants.{BadFile as bad-file, CutFile as cut-file, IllegalName as illegal-name, ManyStrings as many-strings, NoFreeSlot as no-free-slot, ShortOutput as short-output, StaleTrie, WrongSize as wrong-size}
+use Rattle.model.specs.declared.Cause.the-variants.{BadFile as bad-file, CutFile as cut-file, IllegalName as illegal-name, ManyStrings as many-strings, NoFreeSlot as no-free-slot, OlderRun as older-run, ShortOutput as short-output, StaleTrie, WrongSize as wrong-size}
 use Rattle.model.specs.declared.ListAnswer.the-variants.{Listed, Refused as ListRefused}
 use Rattle.model.specs.declared.LookUpAnswer.{LookUpAnswer}
 use Rattle.model.specs.declared.LookUpAnswer.the-variants.{Refused as LookUpRefused}
@@ -11,27 +11,28 @@ use Rattle.model.specs.declared.PutAnswer.the-variants.{Refused as PutRefused, 
 use Rattle.model.specs.declared.RecoverAnswer.the-variants.{Freed, Refused as RecoverRefused, Stopped as RecoverStopped}
 use Rattle.model.specs.declared.RemoveAnswer.the-variants.{Refused as RemoveRefused, Stopped as RemoveStopped}
 use Rattle.model.specs.declared.TrieAnswer.the-variants.{Given, Refused as TrieRefused}
+use Rattle.model.proofs.Files.{one-range}
 use Rattle.model.specs.Order.{Str}
-use Rattle.model.specs.Names.{are-digits, broken, filled, first-digit, is-at-most, is-blank-digit, is-legal-name, last-of}
-use Rattle.model.specs.Entries.{Entry, find}
-use Rattle.model.specs.Files.{In, Slot, Well, created, entries-of, first, free, head, order-of, slot-at, string-count, used, well-free}
+use Rattle.model.specs.Names.{Legal, are-digits, broken, filled, first-digit, is-at-most, is-blank-digit, is-legal-name, last-of}
+use Rattle.model.specs.Entries.{Entry, content-from, find, is-older}
+use Rattle.model.specs.Files.{In, Slot, Well, created, first, free, head, order-of, slot-at, string-count, used, well-free}
 use Rattle.model.specs.Tries.{Agrees, root, root-side, walk-of, walk-run}
 use Rattle.model.specs.Rebuilding.{rebuilt-trie}
 use Rattle.model.specs.Changes.{Denied, Request, Result, Store, holds?, no-room, put, remove, too-many}
 use Rattle.model.specs.Checks.{Kind, is-above, is-bad, is-cut, is-sound, is-well-formed, same-str}
 use Rattle.model.specs.Agreeing.{is-agreeing}
-use Rattle.model.specs.Format.{BadFile, SoundFile, are-legal-sizes, bytes-at-slot, bytes-of-entries, bytes-of-slot, check-file, entry-length, file-bytes, file-size, header-bytes, header-of, is-right-header, layout-of, read-file, read-slot, store-bytes}
+use Rattle.model.specs.Format.{BadFile, SoundFile, are-legal-sizes, bytes-at-slot, bytes-of-entries, bytes-of-slot, check-file, entry-length, file-bytes, file-size, header-bytes, header-of, is-right-header, kept-run, layout-of, read-file, read-slot, store-bytes}
 use Rattle.model.specs.Answers.{stale-trie}
 use Rattle.model.specs.Places.{place-of}
-use Rattle.model.specs.Calls.{CreateDone, ListDone, Looked, PutDone, RebuildDone, RecoverDone, RemoveDone, arrived-answer, between, create-of, entries-in, fine, headed-answer, held-answer, landed, list-entries, list-of, list-on-looked, look-up-of, looked-at-by, looked-of, new-trie, no-rebuilt, put-answer, put-by-stores, put-of, put-on-looked, rebuild-by, rebuild-of, recover-by, recover-of, refusal-of, refusing, remove-answer, remove-by-stores, remove-of, remove-on-looked, slot-answer, stores-bytes, trie-after-put}
+use Rattle.model.specs.Calls.{CreateDone, ListDone, Looked, PutDone, RebuildDone, RecoverDone, RemoveDone, arrived-answer, between, create-of, entries-in, fine, headed-answer, held, held-answer, landed, list-entries, list-of, list-on-looked, look-up-of, looked-at-by, looked-of, new-trie, no-rebuilt, put-answer, put-by-stores, put-of, put-on-looked, put-takes, rebuild-by, rebuild-of, recover-by, recover-of, refusal-of, refusing, remove-answer, remove-by-stores, remove-of, remove-on-looked, slot-answer, stores-bytes, trie-after-put}
 use Rattle.model.proofs.Names.{are-digits-digits, blank-no, both-true, digits-are-digits, is-at-most-le, is-legal-name-legal, le-is-at-most, length-filled, never-both, no-blank}
 use Rattle.model.proofs.Checks.{above-is-above, both-join, is-above-above, is-well-formed-well, same-str-equal, same-str-self, well-is-well-formed}
 use Rattle.model.proofs.Agreeing.{agrees-is-agreeing}
-use Rattle.model.proofs.Calls.{Answered, denied-not-made, denied-one, is-denied, is-made, put-right, remove-right}
+use Rattle.model.proofs.Calls.{Answered, denied-not-made, denied-one, held-older, in-range, is-denied, is-made, older-held, put-right, put-taken, remove-right}
 use Rattle.model.proofs.CheckedFiles.{CheckedFile, check-file-right, sound-not-cut}
 use Rattle.model.proofs.Format.{are-legal-sizes-sizes, bytes-of-slot-read-slot, read-slot-bytes-of-slot, sizes-are-legal-sizes}
 use Rattle.promises.specs.Calls.{our-calls}
-use Rattle.promises.specs.Demand1.{Breaks, Creatable, Demand1, Ends, IsCut, IsMalformed, IsZero, Lacks, LegalName, Listing, Lost, Many, PutDenied, RightHeader, Short, Stale, Strays, Table, because, create-table, list-table, look-up-table, off-at, put-table, rebuild-table, recover-table, remove-table, slots-of}
+use Rattle.promises.specs.Demand1.{Breaks, Creatable, Demand1, Ends, HeldHigher, IsCut, IsMalformed, IsZero, Lacks, LegalName, Listing, Lost, Many, PutDenied, Reason, RightHeader, Short, Stale, Strays, Table, because, create-table, list-table, look-up-table, off-at, put-table, rebuild-table, recover-table, remove-table, slots-of}
 use Rattle.promises.proofs.Differing.{breaks-one, breaks-out, out-breaks}
 use Rattle.promises.proofs.Leading.{Passed, looked-passed}
 use Rattle.promises.proofs.Listings.{listed-right, listings-same}
@@ -207,15 +208,19 @@ module _ {A D : Type 0} {Refused : Cause → A} {answer : D → A} {Kept : D →
       go false true d e = skip (above-2 d) (skip (λ n. n (legal-name name e)) (f e))
 
 -- Put.
-module _ (xs : List ℕ) (t : Trie) (name : List ℕ) (v limit : ℕ) where
+module _ (xs : List ℕ) (t : Trie) (name : List ℕ) (v run limit : ℕ) where
   abbrev n : Str
   n = filled name
+
+  -- What the put asks to be stored.
+  abbrev content : Layout → ℕ
+  content y = content-from v (kept-run y run)
 
   abbrev PutVerdict : Table → PutDone → Type 0
   PutVerdict rs d = Verdict PutRefused (λ (d : PutDone). d .answer) (λ (d : PutDone). (d .file ≡ xs) × (d .trie ≡ t)) rs d
 
   abbrev rest : Table
-  rest = because no-free-slot (PutDenied xs name v 5) ∷ because many-strings (PutDenied xs name v 6) ∷ []
+  rest = because no-free-slot (PutDenied xs name v run 5) ∷ because many-strings (PutDenied xs name v run 6) ∷ []
 
   put-passed : (y : Layout) (ss : List Store) (t′ : Trie) (s : Bool) (o : Option ℕ)
       → PutVerdict [] (cond s (record { answer = PutStopped limit; file = stores-bytes y (take limit ss) xs; trie = t }) (record { answer = put-answer o; file = stores-bytes y ss xs; trie = t′ }))
@@ -224,31 +229,48 @@ module _ (xs : List ℕ) (t : Trie) (name : List ℕ) (v limit : ℕ) where
   put-passed y ss t′ false (some old) = pass (λ c q. clash cc)
 
   module _ (y : Layout) (fs : List Slot) (p : Passed xs t y fs) where
-    denied-here : {why : ℕ} → PutDenied xs name v why → Denied (y .b) (place-of y) fs (put n v) why
+    denied-here : {why : ℕ} → PutDenied xs name v run why → Denied (y .b) (place-of y) fs (put n (content y)) why
     denied-here D = rw (same-layout (p .is) (D .file), same-slots (p .is) (D .file)) at (D .denied)
 
-    here-denied : {why : ℕ} → Denied (y .b) (place-of y) fs (put n v) why → PutDenied xs name v why
+    here-denied : {why : ℕ} → Denied (y .b) (place-of y) fs (put n (content y)) why → PutDenied xs name v run why
     here-denied d = record { file = record { layout = y; slots = fs; is = p .is; sound = p .sound }; denied = d }
 
-    put-made : {r : Result} → Answered (y .b) (place-of y) fs (put n v) r → PutVerdict rest (put-by-stores xs t y fs n v limit r)
+    here-higher : HeldHigher xs name run → is-older (kept-run y run) (held fs n) ≡ true
+    here-higher H =
+        let l = same-layout (p .is) (H .file) in let s = same-slots (p .is) (H .file) in
+        let i : In (head (slot-at fs (H .bucket))) n = rw s at (H .in-range) in
+        let b = one-range (y .b) (p .sound) n i (in-range (y .b) (place-of y) fs (p .sound) n) in
+        held-older (kept-run y run) (H .content) (rw (← b) (rw s at (H .found))) (rw l at (H .higher))
+
+    put-made : {r : Result} → Answered (y .b) (place-of y) fs (put n (content y)) r → PutVerdict rest (put-by-stores xs t y fs n (content y) limit r)
     unfolding put-by-stores refusal-of
     put-made (is-made {ss = ss} c) =
         skip (λ D. denied-not-made (y .b) (place-of y) (p .sound) (denied-here D) c)
         (skip (λ D. denied-not-made (y .b) (place-of y) (p .sound) (denied-here D) c)
-        (put-passed y ss (trie-after-put (y .b) (place-of y) fs n v ss t) (ltb limit (length ss)) (find n (entries-of (slot-at fs (first (holds? n) fs))))))
+        (put-passed y ss (trie-after-put (y .b) (place-of y) fs n (content y) ss t) (ltb limit (length ss)) (held fs n)))
     put-made (is-denied (no-room A es is lo up h f)) = stop refl (refl, refl) (here-denied (no-room A es is lo up h f))
     put-made (is-denied (too-many A N es is lo up h L k)) =
         skip (λ D. absurd (omega (arith, denied-one (y .b) (place-of y) (p .sound) (denied-here D) (too-many A N es is lo up h L k))))
         (stop refl (refl, refl) (here-denied (too-many A N es is lo up h L k)))
 
-  put-verdict : PutVerdict (put-table xs t name v limit) (put-of xs t name v limit)
+    abbrev higher : Reason
+    higher = because older-run (HeldHigher xs name run)
+
+    put-taking : Legal n → PutVerdict (higher ∷ rest) (put-by-stores xs t y fs n (content y) limit (put-takes y fs n (content y) (kept-run y run)))
+    unfolding put-by-stores refusal-of
+    put-taking g = put-taken (λ (r : Result). PutVerdict (higher ∷ rest) (put-by-stores xs t y fs n (content y) limit r)) y fs n (content y) (kept-run y run)
+        (λ e. let w = older-held (kept-run y run) (held fs n) e in
+        stop refl (refl, refl) (record { file = record { layout = y; slots = fs; is = p .is; sound = p .sound }; bucket = first (holds? n) fs; in-range = in-range (y .b) (place-of y) fs (p .sound) n; content = w .0; found = w .1; higher = w .2 }))
+        (λ e. skip (λ H. never-both (is-older (kept-run y run) (held fs n)) (here-higher H) e) (put-made (put-right (y .b) (place-of y) fs (p .sound) n (content y) g)))
+
+  put-verdict : PutVerdict (put-table xs t name v run limit) (put-of xs t name v run limit)
   unfolding put-of put-on-looked
   put-verdict =
-      asked-verdict name limit (because bad-file (BadFile xs) ∷ because cut-file (IsCut xs) ∷ because stale-trie (Stale xs t) ∷ rest)
-      (put-on-looked xs t n v limit (looked-of xs t)) (record { answer = PutRefused wrong-size; file = xs; trie = t }) (record { answer = PutRefused illegal-name; file = xs; trie = t })
+      asked-verdict name limit (because bad-file (BadFile xs) ∷ because cut-file (IsCut xs) ∷ because stale-trie (Stale xs t) ∷ because older-run (HeldHigher xs name run) ∷ rest)
+      (put-on-looked xs t n v run limit (looked-of xs t)) (record { answer = PutRefused wrong-size; file = xs; trie = t }) (record { answer = PutRefused illegal-name; file = xs; trie = t })
       refl (refl, refl) refl (refl, refl)
-      (λ e. looked-verdict xs t rest (put-on-looked xs t n v limit) (λ c. refl) (λ c. (refl, refl))
-      (λ y fs p. put-made y fs p (put-right (y .b) (place-of y) fs (p .sound) n v (is-legal-name-legal name e))))
+      (λ e. looked-verdict xs t (because older-run (HeldHigher xs name run) ∷ rest) (put-on-looked xs t n v run limit) (λ c. refl) (λ c. (refl, refl))
+      (λ y fs p. put-taking y fs p (is-legal-name-legal name e)))
 
 -- Remove, which is never denied.
 abbrev IsPut : Request → Type 0
@@ -462,20 +484,20 @@ demand-1 = record {
   recover = λ xs limit. exactly (λ c d e. cc) (recover-table xs limit) (recover-verdict xs limit);
   rebuild = λ xs. exactly (λ c d e. cc) (rebuild-table xs) (rebuild-verdict xs);
   look-up = λ xs t name. exactly (λ c d e. cc) (look-up-table xs t name) (look-up-verdict xs t name);
-  put = λ xs t name v limit. exactly (λ c d e. cc) (put-table xs t name v limit) (put-verdict xs t name v limit);
+  put = λ xs t name v run limit. exactly (λ c d e. cc) (put-table xs t name v run limit) (put-verdict xs t name v run limit);
   remove = λ xs t name limit. exactly (λ c d e. cc) (remove-table xs t name limit) (remove-verdict xs t name limit);
   list = λ xs t low high out. exactly (λ c d e. cc) (list-table xs t low high out) (list-verdict xs t low high out);
   create-leaves = λ xs v b slots. leaves (create-verdict xs v b slots);
   recover-leaves = λ xs limit. leaves (recover-verdict xs limit);
   rebuild-leaves = λ xs. leaves (rebuild-verdict xs);
-  put-leaves = λ xs t name v limit. leaves (put-verdict xs t name v limit);
+  put-leaves = λ xs t name v run limit. leaves (put-verdict xs t name v run limit);
   remove-leaves = λ xs t name limit. leaves (remove-verdict xs t name limit);
   list-leaves = λ xs t low high out. leaves (list-verdict xs t low high out);
   create-order = λ xs v b slots. refl;
   recover-order = λ xs limit. refl;
   rebuild-order = λ xs. refl;
   look-up-order = λ xs t name. refl;
-  put-order = λ xs t name v limit. refl;
+  put-order = λ xs t name v run limit. refl;
   remove-order = λ xs t name limit. refl;
   list-order = λ xs t low high out. refl;
 }

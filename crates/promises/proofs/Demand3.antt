@@ -10,21 +10,21 @@ use Rattle.model.specs.declared.RemoveAnswer.the-variants.{Refused as RemoveRef
 use Rattle.model.specs.declared.TrieAnswer.the-variants.{Given, Refused as TrieRefused}
 use Rattle.model.specs.Order.{Str}
 use Rattle.model.specs.Names.{Legal, filled, is-legal-name}
-use Rattle.model.specs.Entries.{find}
-use Rattle.model.specs.Files.{Cut, Slot, Well, created, entries-of, first, free, slot-at, string-count}
+use Rattle.model.specs.Entries.{content-from}
+use Rattle.model.specs.Files.{Cut, Slot, Well, created, free, slot-at, string-count}
 use Rattle.model.specs.Tries.{Agrees, walk-trie}
-use Rattle.model.specs.Changes.{Map, Request, Result, Store, holds?, meant, put as to-put, remove as to-remove, stored}
-use Rattle.model.specs.Format.{CutFile, SoundFile, are-legal-sizes, check-file, entry-length, file-bytes, file-size, layout-of, read-file, store-bytes}
+use Rattle.model.specs.Changes.{Map, Request, Result, Store, meant, put as to-put, remove as to-remove, stored}
+use Rattle.model.specs.Format.{CutFile, SoundFile, are-legal-sizes, check-file, entry-length, file-bytes, file-size, kept-run, layout-of, read-file, store-bytes}
 use Rattle.model.specs.Places.{place-of}
-use Rattle.model.specs.Calls.{CreateDone, Looked, PutDone, RecoverDone, RemoveDone, create-of, fine, held-answer, looked-of, new-trie, put-answer, put-by-stores, put-of, put-on-looked, rebuild-by, rebuild-of, recover-by, recover-of, refusing, remove-by-stores, remove-of, remove-on-looked, stores-bytes, trie-after-put}
+use Rattle.model.specs.Calls.{CreateDone, Looked, PutDone, RecoverDone, RemoveDone, create-of, fine, held, held-answer, looked-of, new-trie, put-answer, put-by-stores, put-of, put-on-looked, put-takes, rebuild-by, rebuild-of, recover-by, recover-of, refusing, remove-by-stores, remove-of, remove-on-looked, stores-bytes, trie-after-put}
 use Rattle.model.proofs.Names.{both-true, is-legal-name-legal}
 use Rattle.model.proofs.Files.{cut-not-sound, cut-well}
 use Rattle.model.proofs.Agreement.{agrees-walk, rebuilt-trie-agrees}
 use Rattle.model.proofs.LookUps.{lookup-agrees}
 use Rattle.model.proofs.Places.{place-lt}
 use Rattle.model.proofs.Changes.{Change, Fine, absent, change-made, change-stopped, removes, trie-after}
-use Rattle.model.proofs.Calls.{Answered, is-denied, is-made, put-right, remove-right}
-use Rattle.model.proofs.Format.{are-legal-sizes-sizes, contents-read-file, file-bytes-read-file, value-fits}
+use Rattle.model.proofs.Calls.{Answered, is-denied, is-made, put-right, put-taken, remove-right}
+use Rattle.model.proofs.Format.{are-legal-sizes-sizes, contents-read-file, file-bytes-read-file, headed-layout, put-fits, read-file-read}
 use Rattle.model.proofs.CheckedFiles.{check-file-cut, check-file-sound}
 use Rattle.model.proofs.Stores.{Asked, Left, change-legal, left-freed, left-stored, legal-take, trie-after-put-is}
 use Rattle.model.proofs.GrownTries.{change-agrees}
@@ -253,35 +253,44 @@ module _ (s : State) (g : Good s) (t : Trie) where
   up : {y : Layout} {fs : List Slot} → Passed xs t y fs → Up xs t m
   up p = passed-up xs m (fallen s g) t p
 
-  module _ (name : List ℕ) (v limit : ℕ) (small : v < 2 ^ 64) where
+  module _ (name : List ℕ) (v run limit : ℕ) (small : v < 2 ^ 64) (low : run < 2 ^ 64) where
     abbrev n : Str
     n = filled name
 
-    abbrev Fit : PutDone → Type 0
-    Fit d = Good (after-put s n v (d .answer) (d .file) (d .trie))
+    -- What the put asks to be stored.
+    abbrev content : Layout → ℕ
+    content y = content-from v (kept-run y run)
 
-    put-made : (y : Layout) (fs : List Slot) → Passed xs t y fs → {r : Result} → Answered (y .b) (place-of y) fs (to-put n v) r → Fit (put-by-stores xs t y fs n v limit r)
+    abbrev Fit : Layout → PutDone → Type 0
+    Fit y d = Good (after-put s n (content y) (d .answer) (d .file) (d .trie))
+
+    put-made : (y : Layout) (fs : List Slot) → Passed xs t y fs → {r : Result} → Answered (y .b) (place-of y) fs (to-put n (content y)) r → Fit y (put-by-stores xs t y fs n (content y) limit r)
     unfolding put-by-stores after-put
     put-made y fs p (is-denied d) = stays s g
-    put-made y fs p (is-made {ss = ss} c) = go (ltb limit (length ss)) refl (find n (entries-of (slot-at fs (first (holds? n) fs))))
+    put-made y fs p (is-made {ss = ss} c) = go (ltb limit (length ss)) refl (held fs n)
       where
         go : (c : Bool) → ltb limit (length ss) ≡ c → (o : Option ℕ)
-            → Fit (cond c (record { answer = PutStopped limit; file = stores-bytes y (take limit ss) xs; trie = t }) (record { answer = put-answer o; file = stores-bytes y ss xs; trie = trie-after-put (y .b) (place-of y) fs n v ss t }))
-        go true e o = stopped-down xs t m (up p) y fs p c (value-fits y v small) limit (ltb-true limit (length ss) e)
-        go false e nothing = rw (trie-after-put-is (y .b) (place-of y) n v c t) (made-up xs t m (up p) y fs p c (value-fits y v small))
-        go false e (some w) = rw (trie-after-put-is (y .b) (place-of y) n v c t) (made-up xs t m (up p) y fs p c (value-fits y v small))
+            → Fit y (cond c (record { answer = PutStopped limit; file = stores-bytes y (take limit ss) xs; trie = t }) (record { answer = put-answer o; file = stores-bytes y ss xs; trie = trie-after-put (y .b) (place-of y) fs n (content y) ss t }))
+        go true e o = stopped-down xs t m (up p) y fs p c (put-fits y v run small low) limit (ltb-true limit (length ss) e)
+        go false e nothing = rw (trie-after-put-is (y .b) (place-of y) n (content y) c t) (made-up xs t m (up p) y fs p c (put-fits y v run small low))
+        go false e (some w) = rw (trie-after-put-is (y .b) (place-of y) n (content y) c t) (made-up xs t m (up p) y fs p c (put-fits y v run small low))
 
-    put-looked : (l : Looked) → looked-of xs t ≡ l → Legal n → Fit (put-on-looked xs t n v limit l)
-    unfolding put-on-looked after-put
+    put-looked : (l : Looked) → looked-of xs t ≡ l → Legal n → Fit (layout-of xs) (put-on-looked xs t n v run limit l)
+    unfolding put-on-looked put-by-stores after-put
     put-looked (refusing c) e h = stays s g
-    put-looked (fine y fs) e h = let p = looked-passed xs t y fs e in put-made y fs p (put-right (y .b) (place-of y) fs (p .sound) n v h)
+    put-looked (fine y fs) e h =
+        let p = looked-passed xs t y fs e in
+        let k : layout-of xs ≡ y = headed-layout (read-file-read xs (p .is) .headed) in
+        subst (λ (z : Layout). Fit z (put-by-stores xs t y fs n (content y) limit (put-takes y fs n (content y) (kept-run y run)))) (sym k)
+        (put-taken (λ (r : Result). Fit y (put-by-stores xs t y fs n (content y) limit r)) y fs n (content y) (kept-run y run) (λ e. stays s g)
+        (λ e. put-made y fs p (put-right (y .b) (place-of y) fs (p .sound) n (content y) h)))
 
-    put-good : Good (put-by our-calls s t name v limit)
+    put-good : Good (put-by our-calls s t name v run limit)
     unfolding put-by put-of after-put
     put-good = limited (ltb 2 limit) (is-legal-name name) refl
       where
         limited : (c h : Bool) → is-legal-name name ≡ h
-            → Fit (cond c (record { answer = PutRefused WrongSize; file = xs; trie = t }) (cond h (put-on-looked xs t n v limit (looked-of xs t)) (record { answer = PutRefused IllegalName; file = xs; trie = t })))
+            → Fit (layout-of xs) (cond c (record { answer = PutRefused WrongSize; file = xs; trie = t }) (cond h (put-on-looked xs t n v run limit (looked-of xs t)) (record { answer = PutRefused IllegalName; file = xs; trie = t })))
         limited true h e = stays s g
         limited false true e = put-looked (looked-of xs t) refl (is-legal-name-legal name e)
         limited false false e = stays s g
@@ -326,11 +335,11 @@ module _ (s : State) (g : Good s) (t : Trie) where
 
 step-good : (e : Event) (s : State) → Good s → Good (step our-calls e s)
 unfolding step
-step-good (put name v small limit) (running xs t m) U = put-good (running xs t m) U t name v limit small
-step-good (put name v small limit) (down xs m) D = D
+step-good (put name v small run low limit) (running xs t m) U = put-good (running xs t m) U t name v run limit small low
+step-good (put name v small run low limit) (down xs m) D = D
 step-good (remove name limit) (running xs t m) U = remove-good (running xs t m) U t name limit
 step-good (remove name limit) (down xs m) D = D
-step-good (put-with t name v small limit) s g = put-good s g t name v limit small
+step-good (put-with t name v small run low limit) s g = put-good s g t name v run limit small low
 step-good (remove-with t name limit) s g = remove-good s g t name limit
 step-good kill s g = fallen s g
 step-good (recover limit) s g = recover-good s g limit

@@ -14,7 +14,7 @@ determined = record {
   recover = λ xs limit. by-equation (recover-of xs limit);
   rebuild = λ xs. by-equation (rebuild-of xs);
   look-up = λ xs t name. by-equation (look-up-of xs t name);
-  put = λ xs t name v limit. by-equation (put-of xs t name v limit);
+  put = λ xs t name v run limit. by-equation (put-of xs t name v run limit);
   remove = λ xs t name limit. by-equation (remove-of xs t name limit);
   list = λ xs t low high out. by-equation (list-of xs t low high out);
 }

@@ -7,17 +7,17 @@ use Rattle.model.specs.declared.PutAnswer.the-variants.{Refused as PutRefused, 
 use Rattle.model.specs.declared.TrieAnswer.the-variants.{Given, Refused as TrieRefused}
 use Rattle.model.specs.Order.{Str}
 use Rattle.model.specs.Names.{Legal, filled, is-legal-name}
-use Rattle.model.specs.Entries.{find, insert}
-use Rattle.model.specs.Files.{Slot, Sound, created, entries-of, first, slot-at, string-count}
+use Rattle.model.specs.Entries.{content-from, insert}
+use Rattle.model.specs.Files.{Slot, Sound, created, string-count}
 use Rattle.model.specs.Tries.{Agrees}
 use Rattle.model.specs.Rebuilding.{rebuilt-trie}
-use Rattle.model.specs.Changes.{Result, Store, holds?, put, stored}
+use Rattle.model.specs.Changes.{Result, Store, put, stored}
 use Rattle.model.specs.Checks.{Kind, is-bad, is-cut, is-sound}
 use Rattle.model.specs.Agreeing.{is-agreeing}
-use Rattle.model.specs.Format.{AreBytes, SoundFile, are-legal-sizes, check-file, file-bytes, file-size, read-file}
+use Rattle.model.specs.Format.{AreBytes, SoundFile, are-legal-sizes, check-file, file-bytes, file-size, kept-run, read-file}
 use Rattle.model.specs.Places.{place-of}
 use Rattle.model.specs.Answers.{stale-trie}
-use Rattle.model.specs.Calls.{CreateDone, Looked, PutDone, create-of, fine, looked-at-by, looked-of, new-trie, no-rebuilt, put-answer, put-by-stores, put-of, put-on-looked, rebuild-by, rebuild-of, refusing, stores-bytes, trie-after-put}
+use Rattle.model.specs.Calls.{CreateDone, Looked, PutDone, create-of, fine, held, looked-at-by, looked-of, new-trie, no-rebuilt, put-answer, put-by-stores, put-of, put-on-looked, rebuild-by, rebuild-of, refusing, stores-bytes, trie-after-put}
 use Rattle.model.proofs.Names.{both-true, is-legal-name-legal}
 use Rattle.model.proofs.Files.{one-range}
 use Rattle.model.proofs.Agreement.{agrees-walk, rebuilt-trie-agrees}
@@ -25,9 +25,9 @@ use Rattle.model.proofs.Agreeing.{is-agreeing-agrees}
 use Rattle.model.proofs.Entries.{row-insert}
 use Rattle.model.proofs.Places.{place-lt}
 use Rattle.model.proofs.Changes.{Change, fits, one-sound, second-sound, splits, well-a}
-use Rattle.model.proofs.Calls.{Answered, is-denied, is-made, put-right}
+use Rattle.model.proofs.Calls.{Answered, is-denied, is-made, put-right, put-taken}
 use Rattle.model.proofs.CheckedFiles.{CheckedFile, check-file-right}
-use Rattle.model.proofs.Format.{are-legal-sizes-sizes, file-bytes-read-file, value-fits}
+use Rattle.model.proofs.Format.{are-legal-sizes-sizes, file-bytes-read-file, put-fits}
 use Rattle.model.proofs.Created.{created-agrees, created-fine, created-left}
 use Rattle.model.proofs.GrownTries.{change-agrees}
 use Rattle.model.proofs.Stores.{read-stored, trie-after-put-is}
@@ -131,18 +131,22 @@ put-sound y h {fs} S (splits {A = A} {N = N} {l = l} {u = u} {es = es} {n = n} {
 abbrev Right : PutDone → Type 0
 Right d = Made (d .answer) → LeadsRight (d .file) (d .trie)
 
-module _ (xs : List ℕ) (t : Trie) (name : List ℕ) (v limit : ℕ) (bytes : AreBytes xs) (small : v < 2 ^ 64) where
+module _ (xs : List ℕ) (t : Trie) (name : List ℕ) (v run limit : ℕ) (bytes : AreBytes xs) (small : v < 2 ^ 64) (low : run < 2 ^ 64) where
   abbrev n : Str
   n = filled name
 
-  after : (y : Layout) (fs : List Slot) → Passed xs t y fs → {ss : List Store} → Change (y .b) (place-of y) fs (put n v) ss → LeadsRight (stores-bytes y ss xs) (trie-after-put (y .b) (place-of y) fs n v ss t)
+  -- What the put asks to be stored.
+  abbrev content : Layout → ℕ
+  content y = content-from v (kept-run y run)
+
+  after : (y : Layout) (fs : List Slot) → Passed xs t y fs → {ss : List Store} → Change (y .b) (place-of y) fs (put n (content y)) ss → LeadsRight (stores-bytes y ss xs) (trie-after-put (y .b) (place-of y) fs n (content y) ss t)
   after y fs p {ss} c =
       let two : 2 ≤ y .b = file-bytes-read-file xs (p .is) .1 .b-least in
       let S : Sound (y .b) (stored ss fs) = put-sound y two (p .sound) c in
-      let F : SoundFile (stores-bytes y ss xs) = record { layout = y; slots = stored ss fs; is = read-stored y xs bytes (p .is) (place-of y) c (value-fits y v small) S; sound = S } in
-      leads (stores-bytes y ss xs) (trie-after-put (y .b) (place-of y) fs n v ss t) F (rw (trie-after-put-is (y .b) (place-of y) n v c t) (change-agrees (y .b) (place-of y) (place-lt y two) (p .sound) c (p .agrees)))
+      let F : SoundFile (stores-bytes y ss xs) = record { layout = y; slots = stored ss fs; is = read-stored y xs bytes (p .is) (place-of y) c (put-fits y v run small low) S; sound = S } in
+      leads (stores-bytes y ss xs) (trie-after-put (y .b) (place-of y) fs n (content y) ss t) F (rw (trie-after-put-is (y .b) (place-of y) n (content y) c t) (change-agrees (y .b) (place-of y) (place-lt y two) (p .sound) c (p .agrees)))
 
-  made : (y : Layout) (fs : List Slot) → Passed xs t y fs → {r : Result} → Answered (y .b) (place-of y) fs (put n v) r → Right (put-by-stores xs t y fs n v limit r)
+  made : (y : Layout) (fs : List Slot) → Passed xs t y fs → {r : Result} → Answered (y .b) (place-of y) fs (put n (content y)) r → Right (put-by-stores xs t y fs n (content y) limit r)
   unfolding put-by-stores
   made y fs p (is-denied d) h = absurd h
   made y fs p (is-made {ss = ss} c) h = stopped (ltb limit (length ss)) h
@@ -151,19 +155,19 @@ module _ (xs : List ℕ) (t : Trie) (name : List ℕ) (v limit : ℕ) (bytes : A
       short = record { answer = PutStopped limit; file = stores-bytes y (take limit ss) xs; trie = t }
 
       whole : PutDone
-      whole = record { answer = put-answer (find n (entries-of (slot-at fs (first (holds? n) fs)))); file = stores-bytes y ss xs; trie = trie-after-put (y .b) (place-of y) fs n v ss t }
+      whole = record { answer = put-answer (held fs n); file = stores-bytes y ss xs; trie = trie-after-put (y .b) (place-of y) fs n (content y) ss t }
 
       stopped : (s : Bool) → Right (cond s short whole)
       stopped true h = absurd h
       stopped false h = after y fs p c
 
-  looked : (l : Looked) → looked-of xs t ≡ l → Legal n → Right (put-on-looked xs t n v limit l)
-  unfolding put-on-looked
+  looked : (l : Looked) → looked-of xs t ≡ l → Legal n → Right (put-on-looked xs t n v run limit l)
+  unfolding put-on-looked put-by-stores
   looked (refusing c) e g h = absurd h
-  looked (fine y fs) e g h = let p = looked-passed xs t y fs e in made y fs p (put-right (y .b) (place-of y) fs (p .sound) n v g) h
+  looked (fine y fs) e g h = let p = looked-passed xs t y fs e in put-taken (λ (r : Result). Right (put-by-stores xs t y fs n (content y) limit r)) y fs n (content y) (kept-run y run) (λ e h. absurd h) (λ e. made y fs p (put-right (y .b) (place-of y) fs (p .sound) n (content y) g)) h
 
   -- R13.2, of the grown trie: after every put that is made, from whatever agreeing trie.
-  pub put-leads : Made (put-of xs t name v limit .answer) → LeadsRight (put-of xs t name v limit .file) (put-of xs t name v limit .trie)
+  pub put-leads : Made (put-of xs t name v run limit .answer) → LeadsRight (put-of xs t name v run limit .file) (put-of xs t name v run limit .trie)
   unfolding put-of
   put-leads h = limited (ltb 2 limit) h
     where
@@ -173,10 +177,10 @@ module _ (xs : List ℕ) (t : Trie) (name : List ℕ) (v limit : ℕ) (bytes : A
       illegal : PutDone
       illegal = record { answer = PutRefused IllegalName; file = xs; trie = t }
 
-      legal : (g : Bool) → is-legal-name name ≡ g → Right (cond g (put-on-looked xs t n v limit (looked-of xs t)) illegal)
+      legal : (g : Bool) → is-legal-name name ≡ g → Right (cond g (put-on-looked xs t n v run limit (looked-of xs t)) illegal)
       legal true e h = looked (looked-of xs t) refl (is-legal-name-legal name e) h
       legal false e h = absurd h
 
-      limited : (c : Bool) → Right (cond c big (cond (is-legal-name name) (put-on-looked xs t n v limit (looked-of xs t)) illegal))
+      limited : (c : Bool) → Right (cond c big (cond (is-legal-name name) (put-on-looked xs t n v run limit (looked-of xs t)) illegal))
       limited true h = absurd h
       limited false h = legal (is-legal-name name) refl h

@@ -12,6 +12,7 @@ pub mod Demand3
 pub mod Limits
 pub mod Meanings
 pub mod Separators
+pub mod Runs
 pub mod Determined
 pub mod Blanks
 pub mod Older

@@ -2,14 +2,15 @@
 use Rattle.model.proofs.Prelude.{Bool, List, [], _≤_, _∙_, _∷_, _≡_, ap, arith, cond, false, le-ltb, length, ltb, ltb-false, refl, suc, sym, take, take-all, take-nil, true, zero, ℕ}
 use Rattle.model.specs.declared.Layout.{Layout}
 use Rattle.model.specs.declared.Trie.{Trie}
+use Rattle.model.specs.Entries.{content-from}
 use Rattle.model.specs.Order.{Str}
 use Rattle.model.specs.Names.{filled, is-legal-name}
 use Rattle.model.specs.Files.{Slot, free}
 use Rattle.model.specs.Changes.{Result, Store, call, put, refuse, remove, stores}
 use Rattle.model.specs.Places.{place-of}
 use Rattle.model.specs.Checks.{Kind, is-bad, is-cut, is-sound}
-use Rattle.model.specs.Format.{check-file, layout-of, store-bytes}
-use Rattle.model.specs.Calls.{Looked, PutDone, RemoveDone, fine, looked-of, put-by-stores, put-of, put-on-looked, recover-by, recover-of, refusing, remove-by-stores, remove-of, remove-on-looked, stores-bytes}
+use Rattle.model.specs.Format.{check-file, kept-run, layout-of, store-bytes}
+use Rattle.model.specs.Calls.{Looked, PutDone, RemoveDone, fine, looked-of, put-by-stores, put-of, put-on-looked, put-takes, recover-by, recover-of, refusing, remove-by-stores, remove-of, remove-on-looked, stores-bytes}
 use Rattle.model.proofs.Format.{headed-layout, read-file-read}
 use Rattle.promises.specs.Calls.{our-calls}
 use Rattle.promises.specs.Limits.{Further, InOrder, Limits, no-store, one-store}
@@ -58,14 +59,15 @@ module _ (xs : List ℕ) (t : Trie) (name : List ℕ) where
   layout-is : (y : Layout) (fs : List Slot) → looked-of xs t ≡ fine y fs → layout-of xs ≡ y
   layout-is y fs e = headed-layout (read-file-read xs (looked-passed xs t y fs e .is) .headed)
 
-  put-in-order : (v : ℕ) (g : Bool) (l : Looked) → is-legal-name name ≡ g → looked-of xs t ≡ l → InOrder xs (λ (limit : ℕ). put-of xs t name v limit .file)
+  put-in-order : (v run : ℕ) (g : Bool) (l : Looked) → is-legal-name name ≡ g → looked-of xs t ≡ l → InOrder xs (λ (limit : ℕ). put-of xs t name v run limit .file)
   unfolding put-of put-on-looked stores-bytes
-  put-in-order v false l e f = in-order xs (λ (limit : ℕ). put-of xs t name v limit .file) [] (λ limit h. rw (le-ltb 2 limit h, e, take-nil limit))
-  put-in-order v true (refusing c) e f = in-order xs (λ (limit : ℕ). put-of xs t name v limit .file) [] (λ limit h. rw (le-ltb 2 limit h, e, f, take-nil limit))
-  put-in-order v true (fine y fs) e f =
-      let r = call (y .b) (place-of y) fs (put (filled name) v) in
-      in-order xs (λ (limit : ℕ). put-of xs t name v limit .file) (asked r)
-      (λ limit h. rw (le-ltb 2 limit h, e, f, layout-is y fs f) (put-left xs t y fs (filled name) v limit r))
+  put-in-order v run false l e f = in-order xs (λ (limit : ℕ). put-of xs t name v run limit .file) [] (λ limit h. rw (le-ltb 2 limit h, e, take-nil limit))
+  put-in-order v run true (refusing c) e f = in-order xs (λ (limit : ℕ). put-of xs t name v run limit .file) [] (λ limit h. rw (le-ltb 2 limit h, e, f, take-nil limit))
+  put-in-order v run true (fine y fs) e f =
+      let c = content-from v (kept-run y run) in
+      let r = put-takes y fs (filled name) c (kept-run y run) in
+      in-order xs (λ (limit : ℕ). put-of xs t name v run limit .file) (asked r)
+      (λ limit h. rw (le-ltb 2 limit h, e, f, layout-is y fs f) (put-left xs t y fs (filled name) c limit r))
 
   remove-in-order : (g : Bool) (l : Looked) → is-legal-name name ≡ g → looked-of xs t ≡ l → InOrder xs (λ (limit : ℕ). remove-of xs t name limit .file)
   unfolding remove-of remove-on-looked stores-bytes
@@ -90,7 +92,7 @@ recover-in-order xs (is-cut N) e =
 
 pub limits : Limits our-calls
 limits = record {
-  put = λ xs t name v. put-in-order xs t name v (is-legal-name name) (looked-of xs t) refl refl;
+  put = λ xs t name v run. put-in-order xs t name v run (is-legal-name name) (looked-of xs t) refl refl;
   remove = λ xs t name. remove-in-order xs t name (is-legal-name name) (looked-of xs t) refl refl;
   recover = λ xs. recover-in-order xs (check-file xs) refl;
 }

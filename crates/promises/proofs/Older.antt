@@ -13,26 +13,26 @@ use Rattle.model.specs.declared.Trie.{Trie}
 use Rattle.model.specs.declared.TrieAnswer.the-variants.{Given, Refused as TrieRefused}
 use Rattle.model.specs.Order.{Str}
 use Rattle.model.specs.Names.{broken, filled, is-at-most, is-legal-name}
-use Rattle.model.specs.Entries.{Entry, find, insert, keep, without}
-use Rattle.model.specs.Files.{Slot, Sound, Well, created, entries-of, first, free, slot-at, used, well-used}
+use Rattle.model.specs.Entries.{Entry, content-from, find, insert, keep, without}
+use Rattle.model.specs.Files.{Slot, Sound, Well, created, first, free, slot-at, used, well-used}
 use Rattle.model.specs.Tries.{root, root-side, walk-of, walk-run}
-use Rattle.model.specs.Changes.{Request, Result, Store, holds?, put, remove, stored}
+use Rattle.model.specs.Changes.{Request, Result, Store, put, remove, stored}
 use Rattle.model.specs.Places.{place-of}
 use Rattle.model.specs.Checks.{Kind, check, is-above, is-bad, is-cut, is-sound, is-well-formed}
-use Rattle.model.specs.Format.{AreBytes, BadFile, CutFile, are-legal-sizes, bytes-at-slot, check-file, check-read, check-read-with, entry-length, file-bytes, file-size, header-of, is-right-header, layout-of, read-file, read-slot, store-bytes}
-use Rattle.model.specs.Calls.{CreateDone, Looked, PutDone, RecoverDone, RemoveDone, arrived-answer, create-of, fine, headed-answer, held-answer, landed, list-of, list-on-looked, list-with, look-up-of, look-up-with, looked-at-by, looked-of, new-trie, no-rebuilt, put-answer, put-by-stores, put-made-with, put-of, put-on-looked, rebuild-by, rebuild-of, recover-by, recover-of, recover-with, refusing, remove-answer, remove-by-stores, remove-made-with, remove-of, remove-on-looked, slot-answer, stores-bytes, trie-after-put}
+use Rattle.model.specs.Format.{AreBytes, BadFile, CutFile, are-legal-sizes, bytes-at-slot, check-file, check-read, check-read-with, entry-length, file-bytes, file-size, header-of, is-right-header, kept-run, layout-of, read-file, read-slot, store-bytes}
+use Rattle.model.specs.Calls.{CreateDone, Looked, PutDone, RecoverDone, RemoveDone, arrived-answer, create-of, fine, headed-answer, held, held-answer, landed, list-of, list-on-looked, list-with, look-up-of, look-up-with, looked-at-by, looked-of, new-trie, no-rebuilt, put-answer, put-by-stores, put-made-with, put-of, put-on-looked, rebuild-by, rebuild-of, recover-by, recover-of, recover-with, refusing, remove-answer, remove-by-stores, remove-made-with, remove-of, remove-on-looked, slot-answer, stores-bytes, trie-after-put}
 use Rattle.model.specs.Deciding.{le?, not?, str?}
 use Rattle.model.proofs.Names.{both-true, is-legal-name-legal, length-filled}
 use Rattle.model.proofs.Entries.{chosen-no, chosen-yes, length-keep, row-insert, row-keep}
 use Rattle.model.proofs.Changes.{Change, absent, at-set, fits, inside-a, new-well, old-well, removes, splits, well-a}
-use Rattle.model.proofs.Calls.{Answered, is-denied, is-made, put-right, remove-right}
+use Rattle.model.proofs.Calls.{Answered, is-denied, is-made, put-right, put-taken, remove-right}
 use Rattle.model.proofs.Created.{created-left}
 use Rattle.model.proofs.Places.{place-lt}
 use Rattle.model.proofs.Stores.{Asked, change-legal, left-freed, left-stored, legal-take}
 use Rattle.model.proofs.Checks.{well-is-well-formed}
 use Rattle.model.proofs.CheckedFiles.{CheckedFile, check-file-right}
 use Rattle.model.proofs.Files.{cut-well}
-use Rattle.model.proofs.Format.{are-legal-sizes-sizes, contents-read-file, file-bytes-read-file, headed-header-of, headed-layout, headed-slots, read-file-read, read-slot-read-file, value-fits}
+use Rattle.model.proofs.Format.{are-legal-sizes-sizes, contents-read-file, file-bytes-read-file, headed-header-of, headed-layout, headed-slots, put-fits, read-file-read, read-slot-read-file}
 use Rattle.promises.specs.Calls.{our-calls}
 use Rattle.promises.specs.Demand1.{Arrives, RightHeader, here, left-of, right-of, slots-of}
 use Rattle.promises.specs.Older.{BlankFile, HoldsBlank, Older, PlainFile, Reads, checked-by-older, is-older-name, kind-of-older, looked-by-older, older-arrived, older-calls, older-headed, older-rebuild, older-slot-answer}
@@ -97,9 +97,9 @@ unfolding rebuild-of
 same-rebuild xs n = rw (older-check xs n)
 
 module _ (xs : List ℕ) (t : Trie) where
-  same-put : (name : List ℕ) (v limit : ℕ) → PlainFile xs → is-older-name name ≡ true → put-made-with is-older-name looked-by-older xs t name v limit ≡ put-of xs t name v limit
+  same-put : (name : List ℕ) (v run limit : ℕ) → PlainFile xs → is-older-name name ≡ true → put-made-with is-older-name looked-by-older xs t name v run limit ≡ put-of xs t name v run limit
   unfolding put-of
-  same-put name v limit n e = rw (e, older-is-legal-name name e, older-looked xs t n)
+  same-put name v run limit n e = rw (e, older-is-legal-name name e, older-looked xs t n)
 
   same-remove : (name : List ℕ) (limit : ℕ) → PlainFile xs → is-older-name name ≡ true → remove-made-with is-older-name looked-by-older xs t name limit ≡ remove-of xs t name limit
   unfolding remove-of
@@ -264,10 +264,10 @@ unfolding rebuild-by
 refuses-rebuild xs F = rw (older-bad xs F)
 
 module _ (xs : List ℕ) (t : Trie) (F : BlankFile xs) where
-  refuses-put : (name : List ℕ) (v limit : ℕ) → is-older-name name ≡ true → limit ≤ 2
-      → put-made-with is-older-name looked-by-older xs t name v limit ≡ record { answer = PutRefused bad-file; file = xs; trie = t }
+  refuses-put : (name : List ℕ) (v run limit : ℕ) → is-older-name name ≡ true → limit ≤ 2
+      → put-made-with is-older-name looked-by-older xs t name v run limit ≡ record { answer = PutRefused bad-file; file = xs; trie = t }
   unfolding put-on-looked
-  refuses-put name v limit e h = rw (le-ltb 2 limit h, e, bad-looked xs t F)
+  refuses-put name v run limit e h = rw (le-ltb 2 limit h, e, bad-looked xs t F)
 
   refuses-remove : (name : List ℕ) (limit : ℕ) → is-older-name name ≡ true → limit ≤ 2
       → remove-made-with is-older-name looked-by-older xs t name limit ≡ record { answer = RemoveRefused bad-file; file = xs }
@@ -407,27 +407,30 @@ recover-plain xs limit bytes n = limited (ltb 2 limit)
     limited false = by (check-file xs) (check-file-right xs)
 
 module _ (xs : List ℕ) (bytes : AreBytes xs) (plain : PlainFile xs) (t : Trie) (name : List ℕ) where
-  put-plain : (v limit : ℕ) → v < 2 ^ 64 → is-older-name name ≡ true → PlainFile (put-of xs t name v limit .file)
+  put-plain : (v run limit : ℕ) → v < 2 ^ 64 → run < 2 ^ 64 → is-older-name name ≡ true → PlainFile (put-of xs t name v run limit .file)
   unfolding put-of put-on-looked put-by-stores PlainAsked
-  put-plain v limit small legal = rw (older-is-legal-name name legal) (limited (ltb 2 limit))
+  put-plain v run limit small low legal = rw (older-is-legal-name name legal) (limited (ltb 2 limit))
     where
       n : Str
       n = filled name
 
-      made : {y : Layout} {fs : List Slot} → Passed xs t y fs → {r : Result} → Answered (y .b) (place-of y) fs (put n v) r → PlainFile (put-by-stores xs t y fs n v limit r .file)
+      content : Layout → ℕ
+      content y = content-from v (kept-run y run)
+
+      made : {y : Layout} {fs : List Slot} → Passed xs t y fs → {r : Result} → Answered (y .b) (place-of y) fs (put n (content y)) r → PlainFile (put-by-stores xs t y fs n (content y) limit r .file)
       made p (is-denied d) = plain
-      made {y} {fs} p (is-made {ss = ss} c) = go (ltb limit (length ss)) (find n (entries-of (slot-at fs (first (holds? n) fs))))
+      made {y} {fs} p (is-made {ss = ss} c) = go (ltb limit (length ss)) (held fs n)
         where
           go : (s : Bool) (o : Option ℕ)
-              → PlainFile (cond {A = PutDone} s (record { answer = PutStopped limit; file = stores-bytes y (take limit ss) xs; trie = t }) (record { answer = put-answer o; file = stores-bytes y ss xs; trie = trie-after-put (y .b) (place-of y) fs n v ss t }) .file)
-          go true o = stored-plain xs bytes plain t p c (value-fits y v small) (filled-plain name legal) limit
-          go false o = all-plain xs bytes plain t p c (value-fits y v small) (filled-plain name legal)
+              → PlainFile (cond {A = PutDone} s (record { answer = PutStopped limit; file = stores-bytes y (take limit ss) xs; trie = t }) (record { answer = put-answer o; file = stores-bytes y ss xs; trie = trie-after-put (y .b) (place-of y) fs n (content y) ss t }) .file)
+          go true o = stored-plain xs bytes plain t p c (put-fits y v run small low) (filled-plain name legal) limit
+          go false o = all-plain xs bytes plain t p c (put-fits y v run small low) (filled-plain name legal)
 
-      looked : (l : Looked) → looked-of xs t ≡ l → PlainFile (put-on-looked xs t n v limit l .file)
+      looked : (l : Looked) → looked-of xs t ≡ l → PlainFile (put-on-looked xs t n v run limit l .file)
       looked (refusing c) e = plain
-      looked (fine y fs) e = let p = looked-passed xs t y fs e in made p (put-right (y .b) (place-of y) fs (p .sound) n v (is-legal-name-legal name (older-is-legal-name name legal)))
+      looked (fine y fs) e = let p = looked-passed xs t y fs e in put-taken (λ (r : Result). PlainFile (put-by-stores xs t y fs n (content y) limit r .file)) y fs n (content y) (kept-run y run) (λ e. plain) (λ e. made p (put-right (y .b) (place-of y) fs (p .sound) n (content y) (is-legal-name-legal name (older-is-legal-name name legal))))
 
-      limited : (c : Bool) → PlainFile (cond {A = PutDone} c (record { answer = PutRefused WrongSize; file = xs; trie = t }) (put-on-looked xs t n v limit (looked-of xs t)) .file)
+      limited : (c : Bool) → PlainFile (cond {A = PutDone} c (record { answer = PutRefused WrongSize; file = xs; trie = t }) (put-on-looked xs t n v run limit (looked-of xs t)) .file)
       limited true = plain
       limited false = looked (looked-of xs t) refl
 
@@ -493,14 +496,14 @@ older-build = record {
   stays = record {
     create = create-plain;
     recover = recover-plain;
-    put = λ xs t name v limit bytes small n e. put-plain xs bytes n t name v limit small e;
+    put = λ xs t name v run limit bytes small low n e. put-plain xs bytes n t name v run limit small low e;
     remove = λ xs t name limit bytes n. remove-plain xs bytes n t name limit;
   };
   refuses = record {
     check = older-bad;
     recover = refuses-recover;
     rebuild = refuses-rebuild;
-    put = λ xs t name v limit F e h. refuses-put xs t F name v limit e h;
+    put = λ xs t name v run limit F e h. refuses-put xs t F name v run limit e h;
     remove = λ xs t name limit F e h. refuses-remove xs t F name limit e h;
     list = λ xs t low high out F e f. refuses-list xs t F low high out e f;
   };

@@ -6,7 +6,7 @@ use Rattle.model.specs.Entries.{Entry}
 use Rattle.model.specs.Files.{Slot, Sound, string-count}
 use Rattle.model.specs.Changes.{Map, Means, Request, Result, Store, call, put, split-of, split-string, stores}
 use Rattle.model.specs.Places.{digits-at, place-of}
-use Rattle.model.specs.Format.{is-offered, version-1, version-2}
+use Rattle.model.specs.Format.{is-offered, version-1, version-2, version-3}
 use Rattle.model.proofs.Names.{both-true}
 use Rattle.model.proofs.Changes.{Change, Fine, change-made, change-stopped}
 use Rattle.model.proofs.Calls.{Answered, is-denied, is-made, put-right}
@@ -15,19 +15,20 @@ use Rattle.model.proofs.GrownTries.{change-agrees}
 use Rattle.model.proofs.Places.{place-first, place-lt, place-not-after, place-shortest, place-wins, positions-m, positions-three, positions-two, wins-one}
 use Rattle.promises.specs.Separators.{PutLeaves, Separators}
 
--- A version that is offered is one of the two.
-offered-one : (v : ℕ) → is-offered v ≡ true → (v ≡ 1) ⊎ (v ≡ 2)
+-- A version that is offered is one of the three.
+offered-one : (v : ℕ) → is-offered v ≡ true → (v ≡ 1) ⊎ (v ≡ 2) ⊎ (v ≡ 3)
 unfolding is-offered
 offered-one v e =
-    let p = both-true (leb 1 v) (leb v 2) e in
+    let p = both-true (leb 1 v) (leb v 3) e in
     let least : 1 ≤ v = leb-true 1 v (p .0) in
-    let most : v ≤ 2 = leb-true v 2 (p .1) in
-    elim (ℕ-discrete v 1) [ yes i ↦ inl i | no n ↦ inr (omega (arith, least, most, n)) ]
+    let most : v ≤ 3 = leb-true v 3 (p .1) in
+    elim (ℕ-discrete v 1) [ yes i ↦ inl i | no n ↦ elim (ℕ-discrete v 2) [ yes j ↦ inr (inl j) | no m ↦ inr (inr (omega (arith, least, most, n, m))) ] ]
 
-one-offered : (v : ℕ) → (v ≡ 1) ⊎ (v ≡ 2) → is-offered v ≡ true
+one-offered : (v : ℕ) → (v ≡ 1) ⊎ (v ≡ 2) ⊎ (v ≡ 3) → is-offered v ≡ true
 unfolding is-offered
 one-offered v (inl e) = rw e refl
-one-offered v (inr e) = rw e refl
+one-offered v (inr (inl e)) = rw e refl
+one-offered v (inr (inr e)) = rw e refl
 
 later : _≢_ {A = ℕ} 2 1
 later e = omega (arith, e)
@@ -58,8 +59,14 @@ leaves b place lt fs m S M few n v g ss e =
       agrees = λ t G. rw (trie-after-put-is b place n v c t) (change-agrees b place lt S c G);
     }
 
+-- Version 3 splits as version 2.
+same-place : (b : ℕ) (ws : List Entry) → place-of (version-3 b) ws ≡ place-of (version-2 b) ws
+unfolding place-of
+same-place b ws = refl
+
 pub separators : Separators
 separators = record {
+  third = λ b ws. same-place b ws;
   versions = λ v. (offered-one v, one-offered v);
   as-before = λ b ws. ap (λ (i : ℕ). split-string i b ws) (place-first (version-1 b) refl ws);
   three = positions-three;

@@ -8,17 +8,17 @@ use Rattle.model.specs.declared.RemoveAnswer.the-variants.{Refused as RemoveRef
 use Rattle.model.specs.declared.Trie.{Trie}
 use Rattle.model.specs.Order.{Low, Str}
 use Rattle.model.specs.Names.{filled, is-legal-name}
-use Rattle.model.specs.Entries.{Entry, find}
-use Rattle.model.specs.Files.{Slot, entries-of, first, free, slot-at, used}
-use Rattle.model.specs.Changes.{Result, Store, holds?, put, remove}
+use Rattle.model.specs.Entries.{Entry, content-from}
+use Rattle.model.specs.Files.{Slot, free, slot-at, used}
+use Rattle.model.specs.Changes.{Result, Store, put, remove}
 use Rattle.model.specs.Places.{place-of}
 use Rattle.model.specs.Checks.{Kind, is-bad, is-cut, is-sound}
-use Rattle.model.specs.Format.{bytes-at-slot, bytes-of-slot, check-file, file-size, layout-of, read-file, slot-size, store-bytes}
-use Rattle.model.specs.Calls.{Looked, PutDone, RecoverDone, RemoveDone, fine, looked-of, put-answer, put-by-stores, put-of, put-on-looked, recover-by, recover-of, refusing, remove-by-stores, remove-of, remove-on-looked, stores-bytes, trie-after-put}
+use Rattle.model.specs.Format.{bytes-at-slot, bytes-of-slot, check-file, file-size, kept-run, layout-of, read-file, slot-size, store-bytes}
+use Rattle.model.specs.Calls.{Looked, PutDone, RecoverDone, RemoveDone, fine, held, looked-of, put-answer, put-by-stores, put-of, put-on-looked, recover-by, recover-of, refusing, remove-by-stores, remove-of, remove-on-looked, stores-bytes, trie-after-put}
 use Rattle.model.specs.Deciding.{str?}
 use Rattle.model.proofs.Names.{is-legal-name-legal}
 use Rattle.model.proofs.Entries.{chosen-no, chosen-yes}
-use Rattle.model.proofs.Calls.{Answered, is-denied, is-made, put-right, remove-right}
+use Rattle.model.proofs.Calls.{Answered, is-denied, is-made, put-right, put-taken, remove-right}
 use Rattle.model.proofs.Format.{bytes-at-slot-store-bytes, bytes-of-slot-read-slot, headed-layout, headed-slots, others-store-bytes, read-file-read, read-slot-read-file}
 use Rattle.model.proofs.Lists.{at-replicate}
 use Rattle.model.proofs.Changes.{Change, absent, fits, removes, splits}
@@ -78,49 +78,53 @@ unfolding bytes-of-slot
 used-byte y l u es = refl
 
 -- Put.
-module _ (xs : List ℕ) (t : Trie) (name : List ℕ) (v limit made : ℕ) where
+module _ (xs : List ℕ) (t : Trie) (name : List ℕ) (v run limit made : ℕ) where
   abbrev n : Str
   n = filled name
+
+  -- What the put asks to be stored.
+  abbrev content : Layout → ℕ
+  content y = content-from v (kept-run y run)
 
   abbrev Stops : PutDone → Type 0
   Stops d = d .answer ≡ PutStopped made → StoppedAt limit made xs (d .file)
 
   -- The first of a put's stores, fewer than it needs.
-  first-ones : (y : Layout) (fs : List Slot) → read-file xs ≡ some (y, fs) → {ss : List Store} → Change (y .b) (place-of y) fs (put n v) ss → limit < length ss
+  first-ones : (y : Layout) (fs : List Slot) → read-file xs ≡ some (y, fs) → {ss : List Store} → Change (y .b) (place-of y) fs (put n (content y)) ss → limit < length ss
       → replaced xs (stores-bytes y (take limit ss) xs) ≡ limit
   unfolding stores-bytes
   first-ones y fs e c h = go limit c h
     where
-      go : (k : ℕ) {ss : List Store} → Change (y .b) (place-of y) fs (put n v) ss → k < length ss → replaced xs (stores-bytes y (take k ss) xs) ≡ k
+      go : (k : ℕ) {ss : List Store} → Change (y .b) (place-of y) fs (put n (content y)) ss → k < length ss → replaced xs (stores-bytes y (take k ss) xs) ≡ k
       go zero c h = replaced-none xs e
       go (suc k) (fits is g lo up f) h = absurd (omega arith)
       go (suc zero) (splits {N = N} is g lo up f L few) h = replaced-one xs e N (L .inside) (L .is-free) _ (used-byte y _ _ _)
       go (suc (suc k)) (splits is g lo up f L few) h = absurd (omega arith)
 
-  stops-made : (y : Layout) (fs : List Slot) → Passed xs t y fs → {r : Result} → Answered (y .b) (place-of y) fs (put n v) r → Stops (put-by-stores xs t y fs n v limit r)
+  stops-made : (y : Layout) (fs : List Slot) → Passed xs t y fs → {r : Result} → Answered (y .b) (place-of y) fs (put n (content y)) r → Stops (put-by-stores xs t y fs n (content y) limit r)
   unfolding put-by-stores
   stops-made y fs p (is-denied d) q = clash cc
-  stops-made y fs p (is-made {ss = ss} c) q = go (ltb limit (length ss)) refl (find n (entries-of (slot-at fs (first (holds? n) fs)))) q
+  stops-made y fs p (is-made {ss = ss} c) q = go (ltb limit (length ss)) refl (held fs n) q
     where
       go : (s : Bool) → ltb limit (length ss) ≡ s → (o : Option ℕ)
-          → Stops (cond s (record { answer = PutStopped limit; file = stores-bytes y (take limit ss) xs; trie = t }) (record { answer = put-answer o; file = stores-bytes y ss xs; trie = trie-after-put (y .b) (place-of y) fs n v ss t }))
+          → Stops (cond s (record { answer = PutStopped limit; file = stores-bytes y (take limit ss) xs; trie = t }) (record { answer = put-answer o; file = stores-bytes y ss xs; trie = trie-after-put (y .b) (place-of y) fs n (content y) ss t }))
       go true h o q =
           let z : made ≡ limit = cc in
           record { as-limited = z; as-made = first-ones y fs (p .is) c (ltb-true limit (length ss) h) ∙ sym z }
       go false h nothing q = clash cc
       go false h (some old) q = clash cc
 
-  stops-looked : (l : Looked) → looked-of xs t ≡ l → is-legal-name name ≡ true → Stops (put-on-looked xs t n v limit l)
-  unfolding put-on-looked
+  stops-looked : (l : Looked) → looked-of xs t ≡ l → is-legal-name name ≡ true → Stops (put-on-looked xs t n v run limit l)
+  unfolding put-on-looked put-by-stores
   stops-looked (refusing c) e g q = clash cc
-  stops-looked (fine y fs) e g q = let p = looked-passed xs t y fs e in stops-made y fs p (put-right (y .b) (place-of y) fs (p .sound) n v (is-legal-name-legal name g)) q
+  stops-looked (fine y fs) e g q = let p = looked-passed xs t y fs e in put-taken (λ (r : Result). Stops (put-by-stores xs t y fs n (content y) limit r)) y fs n (content y) (kept-run y run) (λ e q. clash cc) (λ e. stops-made y fs p (put-right (y .b) (place-of y) fs (p .sound) n (content y) (is-legal-name-legal name g))) q
 
-  pub put-stops : Stops (put-of xs t name v limit)
+  pub put-stops : Stops (put-of xs t name v run limit)
   unfolding put-of
   put-stops = go (ltb 2 limit) (is-legal-name name) refl
     where
       go : (l g : Bool) → is-legal-name name ≡ g
-          → Stops (cond l (record { answer = PutRefused WrongSize; file = xs; trie = t }) (cond g (put-on-looked xs t n v limit (looked-of xs t)) (record { answer = PutRefused IllegalName; file = xs; trie = t })))
+          → Stops (cond l (record { answer = PutRefused WrongSize; file = xs; trie = t }) (cond g (put-on-looked xs t n v run limit (looked-of xs t)) (record { answer = PutRefused IllegalName; file = xs; trie = t })))
       go true g e q = clash cc
       go false false e q = clash cc
       go false true e q = stops-looked (looked-of xs t) refl e q

@@ -21,17 +21,17 @@ use Rattle.model.specs.declared.RecoverAnswer.the-variants.{Freed, Nothing, Ref
 use Rattle.model.specs.declared.RemoveAnswer.the-variants.{Absent as NotHeld, Refused as RemoveRefused}
 use Rattle.model.specs.Order.{Str}
 use Rattle.model.specs.Names.{are-digits, filled, is-at-most, is-legal-bound, is-legal-filled, is-legal-name, not-greater, smaller, split-beginning, split-tried, within}
-use Rattle.model.specs.Entries.{chosen, find, insert, keep}
+use Rattle.model.specs.Entries.{chosen, content-from, find, insert, is-older, keep, run-of-content, value-of-content}
 use Rattle.model.specs.Files.{Slot, created, entries-of, first, free, order-from, slot-at, starts?, string-count}
 use Rattle.model.specs.Changes.{Map, Result, call, free?, holds?, put, put-in, refuse, remove, remove-in, split-of, split-string, stores, stores-if}
 use Rattle.model.specs.Checks.{all-well, are-same-entries, check, cut-among, has-one-more, has-twin, is-above, is-bad, is-chain, is-copied, is-cut-by, is-in, is-legal-low, is-listed, is-row, is-sound-file, is-twin, is-used-slot, is-well-formed, same-low, same-str}
 use Rattle.model.specs.Agreeing.{are-numbers, are-zero-cells, is-agreeing, is-each-once, is-trie-of, join-trees, read-tree, same-side, same-strs, slots-between, times}
-use Rattle.model.specs.Format.{are-legal-sizes, bytes-at-slot, bytes-of-entries, bytes-of-entry, bytes-of-slot, check-file, check-read, digits-of-low, entry-length, file-bytes, file-size, header-bytes, header-of, is-offered, is-right-header, joined, laid-out, layout-of, little-endian, low-of, padded, read-by, read-entries, read-file, read-slot, read-slots, read-used-slot, slot-size, slots-bytes, store-bytes, used-of, value-of, version-1}
+use Rattle.model.specs.Format.{are-legal-sizes, bytes-at-slot, bytes-of-entries, bytes-of-entry, bytes-of-slot, check-file, check-read, digits-of-low, entry-length, file-bytes, file-size, header-bytes, header-of, is-offered, is-right-header, joined, kept-run, laid-out, layout-of, little-endian, low-of, padded, read-by, read-entries, read-file, read-slot, read-slots, read-used-slot, slot-size, slots-bytes, store-bytes, used-of, value-of, version-1}
 use Rattle.model.specs.Places.{place-of}
 use Rattle.model.specs.Answers.{stale-trie}
-use Rattle.model.specs.Calls.{Looked, PutDone, arrived-answer, between, create-of, entries-in, fine, headed-answer, held-answer, list-entries, list-of, list-on-looked, look-up-of, looked-at-by, looked-of, new-trie, put-answer, put-by-stores, put-of, put-on-looked, rebuild-by, rebuild-of, recover-by, recover-of, refusal-of, refusing, remove-by-stores, remove-of, remove-on-looked, slot-answer, stores-bytes, trie-after-put}
+use Rattle.model.specs.Calls.{Looked, PutDone, arrived-answer, between, create-of, entries-in, fine, headed-answer, held, held-answer, list-entries, list-of, list-on-looked, look-up-of, looked-at-by, looked-of, new-trie, put-answer, put-by-stores, put-of, put-on-looked, put-takes, rebuild-by, rebuild-of, recover-by, recover-of, refusal-of, refusing, remove-by-stores, remove-of, remove-on-looked, slot-answer, stores-bytes, trie-after-put}
 use Rattle.model.specs.Deciding.{le?, low-same?, low?, not?, str?}
-use Rattle.model.proofs.Calls.{Answered, is-denied, is-made, put-right}
+use Rattle.model.proofs.Calls.{Answered, is-denied, is-made, put-right, put-taken}
 use Rattle.promises.specs.Texts.{bytes, name}
 use Rattle.promises.specs.Growing.{of-cells}
 use Rattle.promises.specs.Situations.{a-cell, entries, i-file, names, rates-slots, rz-slots}
@@ -52,22 +52,22 @@ abbrev buffer : List ℕ
 buffer = replicate 272 0
 
 abbrev put-a : Event
-put-a = put-event (bytes "a") 1 (omega arith) 2
+put-a = put-event (bytes "a") 1 (omega arith) 0 (omega arith) 2
 
 abbrev put-b : Event
-put-b = put-event (bytes "b") 2 (omega arith) 2
+put-b = put-event (bytes "b") 2 (omega arith) 0 (omega arith) 2
 
 abbrev put-c : Event
-put-c = put-event (bytes "c") 3 (omega arith) 2
+put-c = put-event (bytes "c") 3 (omega arith) 0 (omega arith) 2
 
 abbrev remove-a : Event
 remove-a = remove-event (bytes "a") 2
 
 abbrev put-b-stopped : Event
-put-b-stopped = put-event (bytes "b") 2 (omega arith) 1
+put-b-stopped = put-event (bytes "b") 2 (omega arith) 0 (omega arith) 1
 
 abbrev put-c-stopped : Event
-put-c-stopped = put-event (bytes "c") 3 (omega arith) 1
+put-c-stopped = put-event (bytes "c") 3 (omega arith) 0 (omega arith) 1
 
 abbrev new-file : List ℕ
 new-file = file-bytes (version-1 2) (created 2)
@@ -101,7 +101,7 @@ record Computed : Type 0 where
   recover-nothing : recover-of new-file 2 .answer ≡ Nothing
   rebuild-given : rebuild-of new-file .answer ≡ Given
   look-up-absent : look-up-of new-file new-trie (bytes "a") ≡ NotFound
-  put-added : put-of new-file new-trie (bytes "a") 1 2 .answer ≡ Added
+  put-added : put-of new-file new-trie (bytes "a") 1 0 2 .answer ≡ Added
   remove-absent : remove-of new-file new-trie (bytes "a") 2 .answer ≡ NotHeld
   list-none : list-of new-file new-trie (bytes "a") (bytes "b") [] .answer ≡ Listed 0
   created-file : create-of buffer 1 2 2 .file ≡ new-file
@@ -109,28 +109,28 @@ record Computed : Type 0 where
   new-sizes : are-legal-sizes (version-1 2) 2 ≡ true
   a-legal : is-legal-name (bytes "a") ≡ true
   c-legal : is-legal-name (bytes "c") ≡ true
-  put-found : look-up-of (put-of new-file new-trie (bytes "a") 1 2 .file) (put-of new-file new-trie (bytes "a") 1 2 .trie) (bytes "a") ≡ Found 1
+  put-found : look-up-of (put-of new-file new-trie (bytes "a") 1 0 2 .file) (put-of new-file new-trie (bytes "a") 1 0 2 .trie) (bytes "a") ≡ Found 1 0
   nothing-recovered : stores-nothing .recover (file-of (one-put stores-nothing)) 1 .answer ≡ Nothing
   nothing-found : rebuilt-look-up stores-nothing (one-put stores-nothing) "a" ≡ NotFound
-  nothing-said : held-answer (said (one-put stores-nothing) (name "a")) ≡ Found 1
+  nothing-said : held-answer (said (one-put stores-nothing) (name "a")) ≡ Found 1 0
   absent-recovered : removes-nothing .recover (file-of (put-and-removed removes-nothing)) 1 .answer ≡ Nothing
-  absent-found : rebuilt-look-up removes-nothing (put-and-removed removes-nothing) "a" ≡ Found 1
+  absent-found : rebuilt-look-up removes-nothing (put-and-removed removes-nothing) "a" ≡ Found 1 0
   absent-said : held-answer (said (put-and-removed removes-nothing) (name "a")) ≡ NotFound
   both-recovered : both-at-once .recover (file-of (stopped-put both-at-once)) 1 .answer ≡ Nothing
-  both-found : rebuilt-look-up both-at-once (stopped-put both-at-once) "c" ≡ Found 3
+  both-found : rebuilt-look-up both-at-once (stopped-put both-at-once) "c" ≡ Found 3 0
   both-said : held-answer (said (stopped-put both-at-once) (name "c")) ≡ NotFound
-  miscounted : miscounts .put (file-of (two-puts miscounts)) new-trie (bytes "c") 3 1 .answer ≡ PutStopped 2
-  idled : idles .put (file-of (two-puts idles)) new-trie (bytes "c") 3 1 .answer ≡ PutStopped 1
-  idle-file : replaced (file-of (two-puts idles)) (idles .put (file-of (two-puts idles)) new-trie (bytes "c") 3 1 .file) ≡ 0
+  miscounted : miscounts .put (file-of (two-puts miscounts)) new-trie (bytes "c") 3 0 1 .answer ≡ PutStopped 2
+  idled : idles .put (file-of (two-puts idles)) new-trie (bytes "c") 3 0 1 .answer ≡ PutStopped 1
+  idle-file : replaced (file-of (two-puts idles)) (idles .put (file-of (two-puts idles)) new-trie (bytes "c") 3 0 1 .file) ≡ 0
   cut-first-bad : cuts-first .recover (file-of (stopped-inside cuts-first)) 1 .answer ≡ RecoverRefused BadFile
   inner-freed : keeps-inner .recover (file-of (stopped-put keeps-inner)) 1 .answer ≡ Freed 0
   inner-refused : keeps-inner .rebuild (keeps-inner .recover (file-of (stopped-put keeps-inner)) 1 .file) .answer ≡ TrieRefused BadFile
-  stopped-0 : put-of full-file new-trie (bytes "c") 3 0 ≡ record { answer = PutStopped 0; file = full-file; trie = new-trie }
-  stopped-1 : put-of full-file new-trie (bytes "c") 3 1 ≡ record { answer = PutStopped 1; file = stopped-file; trie = new-trie }
-  made-2 : put-of full-file new-trie (bytes "c") 3 2 ≡ record { answer = Added; file = split-file; trie = of-cells (a-cell "b" 0 (slot 0) (slot 1) ∷ []) }
-  kept-cut : put-of stopped-file new-trie (bytes "d") 4 2 .answer ≡ PutRefused CutFile
-  kept-stale : put-of split-file new-trie (bytes "d") 4 2 .answer ≡ PutRefused stale-trie
-  kept-good : put-of full-file new-trie (bytes "c") 3 2 .answer ≡ Added
+  stopped-0 : put-of full-file new-trie (bytes "c") 3 0 0 ≡ record { answer = PutStopped 0; file = full-file; trie = new-trie }
+  stopped-1 : put-of full-file new-trie (bytes "c") 3 0 1 ≡ record { answer = PutStopped 1; file = stopped-file; trie = new-trie }
+  made-2 : put-of full-file new-trie (bytes "c") 3 0 2 ≡ record { answer = Added; file = split-file; trie = of-cells (a-cell "b" 0 (slot 0) (slot 1) ∷ []) }
+  kept-cut : put-of stopped-file new-trie (bytes "d") 4 0 2 .answer ≡ PutRefused CutFile
+  kept-stale : put-of split-file new-trie (bytes "d") 4 0 2 .answer ≡ PutRefused stale-trie
+  kept-good : put-of full-file new-trie (bytes "c") 3 0 2 .answer ≡ Added
   recovers : recover-of stopped-file 1 ≡ record { answer = Freed 1; file = full-file }
   inner-bad : check-file (store-bytes (version-1 2) 0 free stopped-file) ≡ is-bad
   last-name : split-of 4 (place-of (version-1 4)) five ≡ bytes "r"
@@ -152,7 +152,7 @@ unfolding
     is-above is-legal-low same-str same-low is-row is-well-formed all-well is-used-slot is-chain is-in is-listed is-sound-file are-same-entries has-one-more
     is-copied is-twin has-twin is-cut-by cut-among check
     join-trees read-tree same-side are-zero-cells times is-each-once are-numbers same-strs slots-between is-trie-of is-agreeing
-    is-offered entry-length slot-size file-size are-legal-sizes header-bytes padded little-endian value-of bytes-of-entry bytes-of-entries digits-of-low
+    is-offered entry-length kept-run content-from value-of-content run-of-content is-older put-takes slot-size file-size are-legal-sizes header-bytes padded little-endian value-of bytes-of-entry bytes-of-entries digits-of-low
     low-of bytes-of-slot slots-bytes file-bytes read-entries used-of read-used-slot read-slot bytes-at-slot joined read-slots is-right-header layout-of header-of
     laid-out read-by read-file check-read check-file store-bytes
     create-of recover-by recover-of rebuild-by rebuild-of walk-run walk-of slot-answer arrived-answer headed-answer look-up-of looked-at-by
@@ -234,8 +234,8 @@ not-all C (by-look-up f) D =
     clash cc
 not-all C (by-put f) D =
     let n = bytes "a" in
-    let r = f new-file new-trie n 1 2 in
-    let q : Added ≡ PutRefused (r .0) = sym (computed .put-added) ∙ demand-1 .put new-file new-trie n 1 2 (r .0) .1 (D .put new-file new-trie n 1 2 (r .0) .0 (r .1)) in
+    let r = f new-file new-trie n 1 0 2 in
+    let q : Added ≡ PutRefused (r .0) = sym (computed .put-added) ∙ demand-1 .put new-file new-trie n 1 0 2 (r .0) .1 (D .put new-file new-trie n 1 0 2 (r .0) .0 (r .1)) in
     clash cc
 not-all C (by-remove f) D =
     let n = bytes "a" in
@@ -264,12 +264,12 @@ new-leads : LeadsRight new-file new-trie
 new-leads = rw (computed .created-file, computed .created-trie) at (demand-2 .created buffer 1 2 2 (computed .create-given))
 
 abbrev a-put : PutDone
-a-put = put-of new-file new-trie (bytes "a") 1 2
+a-put = put-of new-file new-trie (bytes "a") 1 0 2
 
 put-leads : LeadsRight (a-put .file) (a-put .trie)
 put-leads =
     let made : Made (a-put .answer) = rw (computed .put-added) tt in
-    demand-2 .grown new-file new-trie (bytes "a") 1 2 (created-left (version-1 2) 2 (are-legal-sizes-sizes (version-1 2) 2 (computed .new-sizes)) .bytes) (omega arith) made
+    demand-2 .grown new-file new-trie (bytes "a") 1 0 2 (created-left (version-1 2) 2 (are-legal-sizes-sizes (version-1 2) 2 (computed .new-sizes)) .bytes) (omega arith) (omega arith) made
 
 module _ (C : Calls) (D : Demand2 C) where
   as-ours : {xs : List ℕ} {t : Trie} → LeadsRight xs t → (name : List ℕ) → LegalName name → C .look-up xs t name ≡ look-up-of xs t name
@@ -278,12 +278,12 @@ module _ (C : Calls) (D : Demand2 C) where
   absent-first : C .look-up new-file new-trie (bytes "a") ≡ NotFound
   absent-first = as-ours new-leads (bytes "a") (legal-name (bytes "a") (computed .a-legal)) ∙ computed .look-up-absent
 
-  found-then : C .look-up (a-put .file) (a-put .trie) (bytes "a") ≡ Found 1
+  found-then : C .look-up (a-put .file) (a-put .trie) (bytes "a") ≡ Found 1 0
   found-then = as-ours put-leads (bytes "a") (legal-name (bytes "a") (computed .a-legal)) ∙ computed .put-found
 
 not-one : (C : Calls) → OneResult C → ¬ Demand2 C
 not-one C f D =
-    let q : NotFound ≡ Found 1 = sym (absent-first C D) ∙ f new-file (a-put .file) new-trie (a-put .trie) (bytes "a") (bytes "a") ∙ found-then C D in
+    let q : NotFound ≡ Found 1 0 = sym (absent-first C D) ∙ f new-file (a-put .file) new-trie (a-put .trie) (bytes "a") (bytes "a") ∙ found-then C D in
     clash cc
 
 not-lookups : (C : Calls) → ((xs : List ℕ) (t : Trie) (name : List ℕ) → IsRefused LookUpRefused (C .look-up xs t name)) → ¬ Demand2 C
@@ -324,50 +324,50 @@ module _ (C : Calls) {xs ys : List ℕ} {m : Map} {limit : ℕ} {x : RecoverAnsw
       go (stopped-at-0 z) e = clash cc
 
 -- A wrong put with our stores is ours.
-ours-but-for : (xs : List ℕ) (t : Trie) (name : List ℕ) (v limit : ℕ) → make-put take (λ made. made) (λ ss. ss) xs t name v limit ≡ put-of xs t name v limit
+ours-but-for : (xs : List ℕ) (t : Trie) (name : List ℕ) (v run limit : ℕ) → make-put take (λ made. made) (λ ss. ss) xs t name v run limit ≡ put-of xs t name v run limit
 unfolding make make-looked make-put put-by-stores put-on-looked put-of
-ours-but-for xs t name v limit = rw (looked (looked-of xs t))
+ours-but-for xs t name v run limit = rw (looked (looked-of xs t))
   where
-    made : (y : Layout) (fs : List Slot) (r : Result)
-        → make take (λ made. made) (λ ss. ss) xs t y fs (filled name) v limit r ≡ put-by-stores xs t y fs (filled name) v limit r
-    made y fs (refuse r) = refl
-    made y fs (stores ss) = refl
+    made : (y : Layout) (fs : List Slot) (c : ℕ) (r : Result)
+        → make take (λ made. made) (λ ss. ss) xs t y fs (filled name) c limit r ≡ put-by-stores xs t y fs (filled name) c limit r
+    made y fs c (refuse r) = refl
+    made y fs c (stores ss) = refl
 
-    looked : (l : Looked) → make-looked take (λ made. made) (λ ss. ss) xs t (filled name) v limit l ≡ put-on-looked xs t (filled name) v limit l
+    looked : (l : Looked) → make-looked take (λ made. made) (λ ss. ss) xs t (filled name) v run limit l ≡ put-on-looked xs t (filled name) v run limit l
     looked (refusing c) = refl
-    looked (fine y fs) = made y fs (call (y .b) (place-of y) fs (put (filled name) v))
+    looked (fine y fs) = let c = content-from v (kept-run y run) in made y fs c (put-takes y fs (filled name) c (kept-run y run))
 
 not-nothing : ¬ Demand3 stores-nothing
 not-nothing D =
     let H = D .always buffer 1 2 2 (computed .create-given) (put-a ∷ []) in
     let K = nothing-kept stores-nothing (H .recovery 1 (omega arith)) (computed .nothing-recovered) in
-    let q : NotFound ≡ Found 1 = sym (computed .nothing-found) ∙ K .looks-up (bytes "a") (legal-name (bytes "a") (computed .a-legal)) ∙ computed .nothing-said in
+    let q : NotFound ≡ Found 1 0 = sym (computed .nothing-found) ∙ K .looks-up (bytes "a") (legal-name (bytes "a") (computed .a-legal)) ∙ computed .nothing-said in
     clash cc
 
 not-absent : ¬ Demand3 removes-nothing
 not-absent D =
     let H = D .always buffer 1 2 2 (computed .create-given) (put-a ∷ remove-a ∷ []) in
     let K = nothing-kept removes-nothing (H .recovery 1 (omega arith)) (computed .absent-recovered) in
-    let q : Found 1 ≡ NotFound = sym (computed .absent-found) ∙ K .looks-up (bytes "a") (legal-name (bytes "a") (computed .a-legal)) ∙ computed .absent-said in
+    let q : Found 1 0 ≡ NotFound = sym (computed .absent-found) ∙ K .looks-up (bytes "a") (legal-name (bytes "a") (computed .a-legal)) ∙ computed .absent-said in
     clash cc
 
 not-both : ¬ Demand3 both-at-once
 not-both D =
     let H = D .always buffer 1 2 2 (computed .create-given) (put-a ∷ put-b ∷ put-c-stopped ∷ []) in
     let K = nothing-kept both-at-once (H .recovery 1 (omega arith)) (computed .both-recovered) in
-    let q : Found 3 ≡ NotFound = sym (computed .both-found) ∙ K .looks-up (bytes "c") (legal-name (bytes "c") (computed .c-legal)) ∙ computed .both-said in
+    let q : Found 3 0 ≡ NotFound = sym (computed .both-found) ∙ K .looks-up (bytes "c") (legal-name (bytes "c") (computed .c-legal)) ∙ computed .both-said in
     clash cc
 
 not-miscounted : ¬ Demand3 miscounts
 not-miscounted D =
     let H = D .always buffer 1 2 2 (computed .create-given) (put-a ∷ put-b ∷ []) in
-    let S = H .put-stopped new-trie (bytes "c") 3 1 2 (computed .miscounted) in
+    let S = H .put-stopped new-trie (bytes "c") 3 0 1 2 (computed .miscounted) in
     absurd (omega (arith, S .as-limited))
 
 not-idle : ¬ Demand3 idles
 not-idle D =
     let H = D .always buffer 1 2 2 (computed .create-given) (put-a ∷ put-b ∷ []) in
-    let S = H .put-stopped new-trie (bytes "c") 3 1 1 (computed .idled) in
+    let S = H .put-stopped new-trie (bytes "c") 3 0 1 1 (computed .idled) in
     let q : _≡_ {A = ℕ} 0 1 = sym (computed .idle-file) ∙ S .as-made in
     clash q
 
@@ -383,37 +383,41 @@ not-inner D =
     clash cc
 
 -- A put that says stopped made the first of its stores, as many as it says.
-module _ (xs : List ℕ) (t : Trie) (name : List ℕ) (v limit made : ℕ) where
+module _ (xs : List ℕ) (t : Trie) (name : List ℕ) (v run limit made : ℕ) where
   abbrev n : Str
   n = filled name
 
-  abbrev After : PutDone → Type 0
-  After d = d .answer ≡ PutStopped made → StoppedAfter xs name v made (d .file)
+  -- What the put asks to be stored.
+  abbrev content : Layout → ℕ
+  content y = content-from v (kept-run y run)
 
-  after-made : (y : Layout) (fs : List Slot) → Passed xs t y fs → {r : Result} → call (y .b) (place-of y) fs (put n v) ≡ r → Answered (y .b) (place-of y) fs (put n v) r → After (put-by-stores xs t y fs n v limit r)
+  abbrev After : PutDone → Type 0
+  After d = d .answer ≡ PutStopped made → StoppedAfter xs name v run made (d .file)
+
+  after-made : (y : Layout) (fs : List Slot) → Passed xs t y fs → {r : Result} → call (y .b) (place-of y) fs (put n (content y)) ≡ r → Answered (y .b) (place-of y) fs (put n (content y)) r → After (put-by-stores xs t y fs n (content y) limit r)
   unfolding put-by-stores
   after-made y fs p k (is-denied d) e = clash cc
-  after-made y fs p k (is-made {ss = ss} c) e = go (ltb limit (length ss)) refl (find n (entries-of (slot-at fs (first (holds? n) fs)))) e
+  after-made y fs p k (is-made {ss = ss} c) e = go (ltb limit (length ss)) refl (held fs n) e
     where
       go : (s : Bool) → ltb limit (length ss) ≡ s → (o : Option ℕ)
-          → After (cond s (record { answer = PutStopped limit; file = stores-bytes y (take limit ss) xs; trie = t }) (record { answer = put-answer o; file = stores-bytes y ss xs; trie = trie-after-put (y .b) (place-of y) fs n v ss t }))
+          → After (cond s (record { answer = PutStopped limit; file = stores-bytes y (take limit ss) xs; trie = t }) (record { answer = put-answer o; file = stores-bytes y ss xs; trie = trie-after-put (y .b) (place-of y) fs n (content y) ss t }))
       go true h o e =
           let q : limit ≡ made = cc in
           record { layout = y; slots = fs; is = p .is; needed = ss; takes = k; short = rw q at (ltb-true limit (length ss) h); left = rw q }
       go false h nothing e = clash cc
       go false h (some old) e = clash cc
 
-  after-looked : (l : Looked) → looked-of xs t ≡ l → is-legal-name name ≡ true → After (put-on-looked xs t n v limit l)
-  unfolding put-on-looked
+  after-looked : (l : Looked) → looked-of xs t ≡ l → is-legal-name name ≡ true → After (put-on-looked xs t n v run limit l)
+  unfolding put-on-looked put-by-stores
   after-looked (refusing c) e g q = clash cc
-  after-looked (fine y fs) e g q = let p = looked-passed xs t y fs e in after-made y fs p refl (put-right (y .b) (place-of y) fs (p .sound) n v (is-legal-name-legal name g)) q
+  after-looked (fine y fs) e g q = let p = looked-passed xs t y fs e in put-taken (λ (r : Result). After (put-by-stores xs t y fs n (content y) limit r)) y fs n (content y) (kept-run y run) (λ e q. clash cc) (λ e. after-made y fs p refl (put-right (y .b) (place-of y) fs (p .sound) n (content y) (is-legal-name-legal name g))) q
 
-  first-stores : After (put-of xs t name v limit)
+  first-stores : After (put-of xs t name v run limit)
   unfolding put-of
   first-stores = go (ltb 2 limit) (is-legal-name name) refl
     where
       go : (l g : Bool) → is-legal-name name ≡ g
-          → After (cond l (record { answer = PutRefused WrongSize; file = xs; trie = t }) (cond g (put-on-looked xs t n v limit (looked-of xs t)) (record { answer = PutRefused IllegalName; file = xs; trie = t })))
+          → After (cond l (record { answer = PutRefused WrongSize; file = xs; trie = t }) (cond g (put-on-looked xs t n v run limit (looked-of xs t)) (record { answer = PutRefused IllegalName; file = xs; trie = t })))
       go true g e q = clash cc
       go false false e q = clash cc
       go false true e q = after-looked (looked-of xs t) refl e q

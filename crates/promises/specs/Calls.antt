@@ -15,7 +15,7 @@ pub record Calls : Type 0 where
   pub recover : List ℕ → ℕ → RecoverDone
   pub rebuild : List ℕ → RebuildDone
   pub look-up : List ℕ → Trie → List ℕ → LookUpAnswer
-  pub put : List ℕ → Trie → List ℕ → ℕ → ℕ → PutDone
+  pub put : List ℕ → Trie → List ℕ → ℕ → ℕ → ℕ → PutDone
   pub remove : List ℕ → Trie → List ℕ → ℕ → RemoveDone
   pub list : List ℕ → Trie → List ℕ → List ℕ → List ℕ → ListDone
 

@@ -8,7 +8,7 @@ use mathlib.Core.List.{List, List·Memᴰ, [], _∷_}
 use Prim.Native.Nat.{_*_, _<_, _≤_, suc, zero, ℕ}
 use lib.ListN.{getD, length, replicate, take}
 use Rattle.model.specs.declared.Cause.{Cause}
-use Rattle.model.specs.declared.Cause.the-variants.{BadFile as bad-file, CutFile as cut-file, IllegalName as illegal-name, ManyStrings as many-strings, NoFreeSlot as no-free-slot, ShortOutput as short-output, StaleTrie, WrongSize as wrong-size}
+use Rattle.model.specs.declared.Cause.the-variants.{BadFile as bad-file, CutFile as cut-file, IllegalName as illegal-name, ManyStrings as many-strings, NoFreeSlot as no-free-slot, OlderRun as older-run, ShortOutput as short-output, StaleTrie, WrongSize as wrong-size}
 use Rattle.model.specs.declared.Layout.{Layout}
 use Rattle.model.specs.declared.ListAnswer.the-variants.{Refused as ListRefused}
 use Rattle.model.specs.declared.LookUpAnswer.the-variants.{Refused as LookUpRefused}
@@ -21,12 +21,12 @@ use Rattle.model.specs.declared.Trie.{Trie}
 use Rattle.model.specs.declared.TrieAnswer.the-variants.{Refused as TrieRefused}
 use Rattle.model.specs.Order.{Low, Str, _≺_, _⊑_, at, none}
 use Rattle.model.specs.Names.{Digits, filled, first-digit, last-of, within}
-use Rattle.model.specs.Entries.{Entry, Row}
-use Rattle.model.specs.Files.{Slot, Well, entries-of, slot-at, string-count, used}
+use Rattle.model.specs.Entries.{Entry, Row, content-from, find, run-of-content}
+use Rattle.model.specs.Files.{In, Slot, Well, entries-of, head, slot-at, string-count, used}
 use Rattle.model.specs.Tries.{Agrees, at-cell, cell, root-side}
 use Rattle.model.specs.Changes.{Denied, put}
 use Rattle.model.specs.Places.{place-of}
-use Rattle.model.specs.Format.{BadFile, CutFile, Sizes, SoundFile, bytes-at-slot, entry-length, file-size, header-bytes, layout-of, read-slot, slot-size}
+use Rattle.model.specs.Format.{BadFile, CutFile, Sizes, SoundFile, bytes-at-slot, entry-length, file-size, header-bytes, kept-run, layout-of, read-slot, slot-size}
 use Rattle.model.specs.Answers.{number, stale-trie}
 use Rattle.model.specs.Calls.{new-trie}
 use Rattle.promises.specs.Calls.{Calls}
@@ -88,9 +88,18 @@ pub record Stale (xs : List ℕ) (t : Trie) : Type 0 where
   pub differs : ¬ Agrees (file .slots) t
 
 -- R10.5 and R10.6.
-pub record PutDenied (xs name : List ℕ) (v why : ℕ) : Type 0 where
+pub record PutDenied (xs name : List ℕ) (v run why : ℕ) : Type 0 where
   pub file : SoundFile xs
-  pub denied : Denied (file .layout .b) (place-of (file .layout)) (file .slots) (put (filled name) v) why
+  pub denied : Denied (file .layout .b) (place-of (file .layout)) (file .slots) (put (filled name) (content-from v (kept-run (file .layout) run))) why
+
+-- R10.14: the bucket whose range holds the name holds the name with a higher run.
+pub record HeldHigher (xs name : List ℕ) (run : ℕ) : Type 0 where
+  pub file : SoundFile xs
+  pub bucket : ℕ
+  pub in-range : In (head (slot-at (file .slots) bucket)) (filled name)
+  pub content : ℕ
+  pub found : find (filled name) (entries-of (slot-at (file .slots) bucket)) ≡ some content
+  pub higher : kept-run (file .layout) run < run-of-content content
 
 -- 6 of rebuild: the strings as they are exceed 256.
 pub record Many (xs : List ℕ) : Type 0 where
@@ -208,10 +217,11 @@ look-up-table xs t name =
     ∷ because stale-trie (Ends xs t (filled name) (IsZero (layout-of xs))) ∷ because bad-file (Ends xs t (filled name) (IsMalformed (layout-of xs)))
     ∷ off-at (λ k. Ends xs t (filled name) (Lacks (layout-of xs) (filled name) k)) ∷ []
 
-abbrev pub put-table : List ℕ → Trie → List ℕ → ℕ → ℕ → Table
-put-table xs t name v limit =
+abbrev pub put-table : List ℕ → Trie → List ℕ → ℕ → ℕ → ℕ → Table
+put-table xs t name v run limit =
     because wrong-size (2 < limit) ∷ because illegal-name (¬ LegalName name) ∷ because bad-file (BadFile xs) ∷ because cut-file (IsCut xs)
-    ∷ because stale-trie (Stale xs t) ∷ because no-free-slot (PutDenied xs name v 5) ∷ because many-strings (PutDenied xs name v 6) ∷ []
+    ∷ because stale-trie (Stale xs t) ∷ because older-run (HeldHigher xs name run) ∷ because no-free-slot (PutDenied xs name v run 5)
+    ∷ because many-strings (PutDenied xs name v run 6) ∷ []
 
 abbrev pub remove-table : List ℕ → Trie → List ℕ → ℕ → Table
 remove-table xs t name limit =
@@ -230,8 +240,8 @@ pub record Demand1 (C : Calls) : Type 0 where
   pub recover : (xs : List ℕ) (limit : ℕ) → Exactly RecoverRefused (C .recover xs limit .answer) (recover-table xs limit)
   pub rebuild : (xs : List ℕ) → Exactly TrieRefused (C .rebuild xs .answer) (rebuild-table xs)
   pub look-up : (xs : List ℕ) (t : Trie) (name : List ℕ) → Exactly LookUpRefused (C .look-up xs t name) (look-up-table xs t name)
-  pub put : (xs : List ℕ) (t : Trie) (name : List ℕ) (v limit : ℕ)
-      → Exactly PutRefused (C .put xs t name v limit .answer) (put-table xs t name v limit)
+  pub put : (xs : List ℕ) (t : Trie) (name : List ℕ) (v run limit : ℕ)
+      → Exactly PutRefused (C .put xs t name v run limit .answer) (put-table xs t name v run limit)
   pub remove : (xs : List ℕ) (t : Trie) (name : List ℕ) (limit : ℕ)
       → Exactly RemoveRefused (C .remove xs t name limit .answer) (remove-table xs t name limit)
   pub list : (xs : List ℕ) (t : Trie) (low high out : List ℕ)
@@ -241,8 +251,8 @@ pub record Demand1 (C : Calls) : Type 0 where
       → (C .create xs v b slots .file ≡ xs) × (C .create xs v b slots .trie ≡ new-trie)
   pub recover-leaves : (xs : List ℕ) (limit : ℕ) (c : Cause) → C .recover xs limit .answer ≡ RecoverRefused c → C .recover xs limit .file ≡ xs
   pub rebuild-leaves : (xs : List ℕ) (c : Cause) → C .rebuild xs .answer ≡ TrieRefused c → C .rebuild xs .trie ≡ new-trie
-  pub put-leaves : (xs : List ℕ) (t : Trie) (name : List ℕ) (v limit : ℕ) (c : Cause) → C .put xs t name v limit .answer ≡ PutRefused c
-      → (C .put xs t name v limit .file ≡ xs) × (C .put xs t name v limit .trie ≡ t)
+  pub put-leaves : (xs : List ℕ) (t : Trie) (name : List ℕ) (v run limit : ℕ) (c : Cause) → C .put xs t name v run limit .answer ≡ PutRefused c
+      → (C .put xs t name v run limit .file ≡ xs) × (C .put xs t name v run limit .trie ≡ t)
   pub remove-leaves : (xs : List ℕ) (t : Trie) (name : List ℕ) (limit : ℕ) (c : Cause) → C .remove xs t name limit .answer ≡ RemoveRefused c
       → C .remove xs t name limit .file ≡ xs
   pub list-leaves : (xs : List ℕ) (t : Trie) (low high out : List ℕ) (c : Cause) → C .list xs t low high out .answer ≡ ListRefused c
@@ -252,6 +262,6 @@ pub record Demand1 (C : Calls) : Type 0 where
   pub recover-order : (xs : List ℕ) (limit : ℕ) → numbers (recover-table xs limit) ≡ 8 ∷ 2 ∷ []
   pub rebuild-order : (xs : List ℕ) → numbers (rebuild-table xs) ≡ 2 ∷ 3 ∷ 6 ∷ []
   pub look-up-order : (xs : List ℕ) (t : Trie) (name : List ℕ) → numbers (look-up-table xs t name) ≡ 1 ∷ 2 ∷ 4 ∷ 4 ∷ 2 ∷ 4 ∷ []
-  pub put-order : (xs : List ℕ) (t : Trie) (name : List ℕ) (v limit : ℕ) → numbers (put-table xs t name v limit) ≡ 8 ∷ 1 ∷ 2 ∷ 3 ∷ 4 ∷ 5 ∷ 6 ∷ []
+  pub put-order : (xs : List ℕ) (t : Trie) (name : List ℕ) (v run limit : ℕ) → numbers (put-table xs t name v run limit) ≡ 8 ∷ 1 ∷ 2 ∷ 3 ∷ 4 ∷ 12 ∷ 5 ∷ 6 ∷ []
   pub remove-order : (xs : List ℕ) (t : Trie) (name : List ℕ) (limit : ℕ) → numbers (remove-table xs t name limit) ≡ 8 ∷ 1 ∷ 2 ∷ 3 ∷ 4 ∷ []
   pub list-order : (xs : List ℕ) (t : Trie) (low high out : List ℕ) → numbers (list-table xs t low high out) ≡ 1 ∷ 2 ∷ 3 ∷ 4 ∷ 7 ∷ []

@@ -16,22 +16,22 @@ use Rattle.model.specs.declared.TrieAnswer.{TrieAnswer}
 use Rattle.model.specs.declared.TrieAnswer.the-variants.{Given, Refused as TrieRefused}
 use Rattle.model.specs.Order.{Str}
 use Rattle.model.specs.Names.{filled}
-use Rattle.model.specs.Entries.{chosen}
+use Rattle.model.specs.Entries.{chosen, content-from}
 use Rattle.model.specs.Changes.{Map, Means, meant, put as to-put, remove as to-remove}
-use Rattle.model.specs.Format.{bytes-at-slot, layout-of}
+use Rattle.model.specs.Format.{bytes-at-slot, kept-run, layout-of}
 use Rattle.model.specs.Calls.{CreateDone, held-answer}
 use Rattle.model.specs.Deciding.{str?}
 use Rattle.promises.specs.Calls.{Calls}
 use Rattle.promises.specs.Demand1.{LegalName, slots-of}
 use Rattle.promises.specs.Demand2.{LeadsRight}
 
--- What can happen. A put of a name with a 64-bit value and a store limit, or a remove of a name with one, with the trie in
+-- What can happen. A put of a name with a 64-bit value, a 64-bit run and a store limit, or a remove of a name with one, with the trie in
 -- hand; the same with any other trie at all, such as the old one after a stop; the trie is lost; a recovery with a store
 -- limit, whether there is a trie in hand or not; a rebuilding. Names and limits are any, legal or not.
 pub data Event : Type 0 where
-  put : List ℕ → (v : ℕ) → v < 2 ^ 64 → ℕ → Event
+  put : List ℕ → (v : ℕ) → v < 2 ^ 64 → (run : ℕ) → run < 2 ^ 64 → ℕ → Event
   remove : List ℕ → ℕ → Event
-  put-with : Trie → List ℕ → (v : ℕ) → v < 2 ^ 64 → ℕ → Event
+  put-with : Trie → List ℕ → (v : ℕ) → v < 2 ^ 64 → (run : ℕ) → run < 2 ^ 64 → ℕ → Event
   remove-with : Trie → List ℕ → ℕ → Event
   kill : Event
   recover : ℕ → Event
@@ -61,7 +61,7 @@ now ys (down xs m) = down ys m
 -- hand after a call that counts as made is the one that it gave or was lent.
 unfoldable pub after-put : State → Str → ℕ → PutAnswer → List ℕ → Trie → State
 after-put s n v Added xs t = running xs t (meant (to-put n v) (said s))
-after-put s n v (Replaced old) xs t = running xs t (meant (to-put n v) (said s))
+after-put s n v (Replaced old old-run) xs t = running xs t (meant (to-put n v) (said s))
 after-put s n v (PutStopped made) xs t = down xs (said s)
 after-put s n v (PutRefused c) xs t = now xs s
 
@@ -82,10 +82,10 @@ after-rebuild s Given t = running (file-of s) t (said s)
 after-rebuild s (TrieRefused c) t = s
 
 module _ (C : Calls) where
-  unfoldable pub put-by : State → Trie → List ℕ → ℕ → ℕ → State
-  put-by s t name v limit =
-      let d = C .put (file-of s) t name v limit in
-      after-put s (filled name) v (d .answer) (d .file) (d .trie)
+  unfoldable pub put-by : State → Trie → List ℕ → ℕ → ℕ → ℕ → State
+  put-by s t name v run limit =
+      let d = C .put (file-of s) t name v run limit in
+      after-put s (filled name) (content-from v (kept-run (layout-of (file-of s)) run)) (d .answer) (d .file) (d .trie)
 
   unfoldable pub remove-by : State → Trie → List ℕ → ℕ → State
   remove-by s t name limit =
@@ -93,11 +93,11 @@ module _ (C : Calls) where
       after-remove s (filled name) (d .answer) (d .file) t
 
   unfoldable pub step : Event → State → State
-  step (put name v small limit) (running xs t m) = put-by (running xs t m) t name v limit
-  step (put name v small limit) (down xs m) = down xs m
+  step (put name v small run low limit) (running xs t m) = put-by (running xs t m) t name v run limit
+  step (put name v small run low limit) (down xs m) = down xs m
   step (remove name limit) (running xs t m) = remove-by (running xs t m) t name limit
   step (remove name limit) (down xs m) = down xs m
-  step (put-with t name v small limit) s = put-by s t name v limit
+  step (put-with t name v small run low limit) s = put-by s t name v run limit
   step (remove-with t name limit) s = remove-by s t name limit
   step kill s = down (file-of s) (said s)
   step (recover limit) s =
@@ -154,15 +154,15 @@ module _ (C : Calls) where
     pub in-hand : InHand s
     pub recovery : (limit : ℕ) → limit ≤ 2 → Recovers (file-of s) (said s) limit (C .recover (file-of s) limit .answer) (C .recover (file-of s) limit .file)
     -- R13.3: a refused call has changed nothing, whatever the trie.
-    pub put-refused : (t : Trie) (name : List ℕ) (v limit : ℕ) (c : Cause) → C .put (file-of s) t name v limit .answer ≡ PutRefused c
-        → (C .put (file-of s) t name v limit .file ≡ file-of s) × (C .put (file-of s) t name v limit .trie ≡ t)
+    pub put-refused : (t : Trie) (name : List ℕ) (v run limit : ℕ) (c : Cause) → C .put (file-of s) t name v run limit .answer ≡ PutRefused c
+        → (C .put (file-of s) t name v run limit .file ≡ file-of s) × (C .put (file-of s) t name v run limit .trie ≡ t)
     pub remove-refused : (t : Trie) (name : List ℕ) (limit : ℕ) (c : Cause) → C .remove (file-of s) t name limit .answer ≡ RemoveRefused c
         → C .remove (file-of s) t name limit .file ≡ file-of s
     pub recover-refused : (limit : ℕ) (c : Cause) → C .recover (file-of s) limit .answer ≡ RecoverRefused c
         → C .recover (file-of s) limit .file ≡ file-of s
     -- R13.3: any call may be stopped after any of its stores.
-    pub put-stopped : (t : Trie) (name : List ℕ) (v limit made : ℕ) → C .put (file-of s) t name v limit .answer ≡ PutStopped made
-        → StoppedAt limit made (file-of s) (C .put (file-of s) t name v limit .file)
+    pub put-stopped : (t : Trie) (name : List ℕ) (v run limit made : ℕ) → C .put (file-of s) t name v run limit .answer ≡ PutStopped made
+        → StoppedAt limit made (file-of s) (C .put (file-of s) t name v run limit .file)
     pub remove-stopped : (t : Trie) (name : List ℕ) (limit made : ℕ) → C .remove (file-of s) t name limit .answer ≡ RemoveStopped made
         → StoppedAt limit made (file-of s) (C .remove (file-of s) t name limit .file)
     pub recover-stopped : (limit made : ℕ) → C .recover (file-of s) limit .answer ≡ RecoverStopped made

@@ -19,6 +19,6 @@ pub record Determined : Type 0 where
   pub recover : (xs : List ℕ) (limit : ℕ) → Determines (λ (o : RecoverDone). o ≡ recover-of xs limit)
   pub rebuild : (xs : List ℕ) → Determines (λ (o : RebuildDone). o ≡ rebuild-of xs)
   pub look-up : (xs : List ℕ) (t : Trie) (name : List ℕ) → Determines (λ (o : LookUpAnswer). o ≡ look-up-of xs t name)
-  pub put : (xs : List ℕ) (t : Trie) (name : List ℕ) (v limit : ℕ) → Determines (λ (o : PutDone). o ≡ put-of xs t name v limit)
+  pub put : (xs : List ℕ) (t : Trie) (name : List ℕ) (v run limit : ℕ) → Determines (λ (o : PutDone). o ≡ put-of xs t name v run limit)
   pub remove : (xs : List ℕ) (t : Trie) (name : List ℕ) (limit : ℕ) → Determines (λ (o : RemoveDone). o ≡ remove-of xs t name limit)
   pub list : (xs : List ℕ) (t : Trie) (low high out : List ℕ) → Determines (λ (o : ListDone). o ≡ list-of xs t low high out)

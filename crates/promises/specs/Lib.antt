@@ -11,6 +11,7 @@ pub mod Limits
 pub mod Meanings
 pub mod Older
 pub mod Separators
+pub mod Runs
 pub mod Determined
 pub mod WrongCalls
 pub mod Strength

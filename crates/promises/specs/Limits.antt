@@ -26,6 +26,6 @@ pub record InOrder (xs : List ℕ) (left : ℕ → List ℕ) : Type 0 where
 
 -- A call that is refused makes no store, whatever its limit.
 pub record Limits (C : Calls) : Type 0 where
-  pub put : (xs : List ℕ) (t : Trie) (name : List ℕ) (v : ℕ) → InOrder xs (λ (limit : ℕ). C .put xs t name v limit .file)
+  pub put : (xs : List ℕ) (t : Trie) (name : List ℕ) (v run : ℕ) → InOrder xs (λ (limit : ℕ). C .put xs t name v run limit .file)
   pub remove : (xs : List ℕ) (t : Trie) (name : List ℕ) → InOrder xs (λ (limit : ℕ). C .remove xs t name limit .file)
   pub recover : (xs : List ℕ) → InOrder xs (λ (limit : ℕ). C .recover xs limit .file)

@@ -139,8 +139,8 @@ pub record Same (D C : Calls) : Type 0 where
   pub recover : (xs : List ℕ) (limit : ℕ) → PlainFile xs → D .recover xs limit ≡ C .recover xs limit
   pub rebuild : (xs : List ℕ) → PlainFile xs → D .rebuild xs ≡ C .rebuild xs
   pub look-up : (xs : List ℕ) (t : Trie) (name : List ℕ) → PlainFile xs → is-older-name name ≡ true → D .look-up xs t name ≡ C .look-up xs t name
-  pub put : (xs : List ℕ) (t : Trie) (name : List ℕ) (v limit : ℕ) → PlainFile xs → is-older-name name ≡ true
-      → D .put xs t name v limit ≡ C .put xs t name v limit
+  pub put : (xs : List ℕ) (t : Trie) (name : List ℕ) (v run limit : ℕ) → PlainFile xs → is-older-name name ≡ true
+      → D .put xs t name v run limit ≡ C .put xs t name v run limit
   pub remove : (xs : List ℕ) (t : Trie) (name : List ℕ) (limit : ℕ) → PlainFile xs → is-older-name name ≡ true
       → D .remove xs t name limit ≡ C .remove xs t name limit
   pub list : (xs : List ℕ) (t : Trie) (low high out : List ℕ) → PlainFile xs → is-older-name low ≡ true → is-older-name high ≡ true
@@ -150,8 +150,8 @@ pub record Same (D C : Calls) : Type 0 where
 pub record Stays (C : Calls) : Type 0 where
   pub create : (xs : List ℕ) (v b slots : ℕ) → PlainFile xs → PlainFile (C .create xs v b slots .file)
   pub recover : (xs : List ℕ) (limit : ℕ) → AreBytes xs → PlainFile xs → PlainFile (C .recover xs limit .file)
-  pub put : (xs : List ℕ) (t : Trie) (name : List ℕ) (v limit : ℕ) → AreBytes xs → v < 2 ^ 64 → PlainFile xs → is-older-name name ≡ true
-      → PlainFile (C .put xs t name v limit .file)
+  pub put : (xs : List ℕ) (t : Trie) (name : List ℕ) (v run limit : ℕ) → AreBytes xs → v < 2 ^ 64 → run < 2 ^ 64 → PlainFile xs → is-older-name name ≡ true
+      → PlainFile (C .put xs t name v run limit .file)
   pub remove : (xs : List ℕ) (t : Trie) (name : List ℕ) (limit : ℕ) → AreBytes xs → PlainFile xs → PlainFile (C .remove xs t name limit .file)
 
 -- Every other file is bad to the older calls, and refused with 2.
@@ -159,8 +159,8 @@ pub record Refuses (D : Calls) : Type 0 where
   pub check : (xs : List ℕ) → BlankFile xs → D .check xs ≡ is-bad
   pub recover : (xs : List ℕ) (limit : ℕ) → BlankFile xs → limit ≤ 2 → D .recover xs limit ≡ record { answer = RecoverRefused bad-file; file = xs }
   pub rebuild : (xs : List ℕ) → BlankFile xs → D .rebuild xs ≡ no-rebuilt bad-file
-  pub put : (xs : List ℕ) (t : Trie) (name : List ℕ) (v limit : ℕ) → BlankFile xs → is-older-name name ≡ true → limit ≤ 2
-      → D .put xs t name v limit ≡ record { answer = PutRefused bad-file; file = xs; trie = t }
+  pub put : (xs : List ℕ) (t : Trie) (name : List ℕ) (v run limit : ℕ) → BlankFile xs → is-older-name name ≡ true → limit ≤ 2
+      → D .put xs t name v run limit ≡ record { answer = PutRefused bad-file; file = xs; trie = t }
   pub remove : (xs : List ℕ) (t : Trie) (name : List ℕ) (limit : ℕ) → BlankFile xs → is-older-name name ≡ true → limit ≤ 2
       → D .remove xs t name limit ≡ record { answer = RemoveRefused bad-file; file = xs }
   pub list : (xs : List ℕ) (t : Trie) (low high out : List ℕ) → BlankFile xs → is-older-name low ≡ true → is-older-name high ≡ true

@@ -14,7 +14,7 @@ use Rattle.model.specs.Files.{Cut, Slot, Sound, free, string-count}
 use Rattle.model.specs.Tries.{Agrees}
 use Rattle.model.specs.Changes.{Map, Means, Store, call, meant, put, split-of, split-string, stored, stores}
 use Rattle.model.specs.Places.{Wins, digits-at, place-of, positions}
-use Rattle.model.specs.Format.{is-offered, version-1, version-2}
+use Rattle.model.specs.Format.{is-offered, version-1, version-2, version-3}
 use Rattle.model.specs.Calls.{trie-after-put}
 
 -- What the stores of a put leave, by a rule that takes any position from 1 to b.
@@ -30,8 +30,8 @@ pub record PutLeaves (b : ℕ) (place : List Entry → ℕ) (fs : List Slot) (m 
   pub agrees : (t : Trie) → Agrees fs t → Agrees (stored ss fs) (trie-after-put b place fs n v ss t)
 
 pub record Separators : Type 0 where
-  -- R2.3: versions 1 and 2 are offered, and no other.
-  pub versions : (v : ℕ) → (is-offered v ≡ true) ↔ ((v ≡ 1) ⊎ (v ≡ 2))
+  -- R2.3: versions 1, 2 and 3 are offered, and no other.
+  pub versions : (v : ℕ) → (is-offered v ≡ true) ↔ ((v ≡ 1) ⊎ (v ≡ 2) ⊎ (v ≡ 3))
   -- R7.3: version 1 has the split key at position b/2 + 1, as before.
   pub as-before : (b : ℕ) (ws : List Entry) → split-of b (place-of (version-1 b)) ws ≡ split-string (b / 2) b ws
   -- Version 2 chooses from m, m − 1 and m + 1, those from 1 to b only: for b = 2 these are two.
@@ -49,6 +49,8 @@ pub record Separators : Type 0 where
   -- Of names that ascend, m + 1 never wins.
   pub never-behind : (b : ℕ) → 2 ≤ b → {l : Low} {u : Str} (ws : List Entry) → Row l ws u → length ws ≡ b + 1
       → place-of (version-2 b) ws ≤ b / 2
+  -- Version 3 splits as version 2.
+  pub third : (b : ℕ) (ws : List Entry) → place-of (version-3 b) ws ≡ place-of (version-2 b) ws
   -- Both rules take a position from 1 to b, and what puts leave is proved of every such rule.
   pub inside : (y : Layout) → 2 ≤ y .b → (ws : List Entry) → place-of y ws < y .b
   pub any-position : (b : ℕ) (place : List Entry → ℕ) → ((ws : List Entry) → place ws < b)

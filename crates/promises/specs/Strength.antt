@@ -13,12 +13,12 @@ use Rattle.model.specs.declared.Side.the-variants.{Cell as further, Slot as slo
 use Rattle.model.specs.declared.Trie.{Trie}
 use Rattle.model.specs.Order.{at, none}
 use Rattle.model.specs.Names.{filled}
-use Rattle.model.specs.Entries.{Entry}
+use Rattle.model.specs.Entries.{Entry, content-from}
 use Rattle.model.specs.Files.{Slot, free, used}
 use Rattle.model.specs.Changes.{Store, call, put, split-of, split-string, stores}
 use Rattle.model.specs.Places.{place-of}
 use Rattle.model.specs.Checks.{is-bad}
-use Rattle.model.specs.Format.{check-file, file-bytes, read-file, store-bytes, version-1}
+use Rattle.model.specs.Format.{check-file, file-bytes, kept-run, read-file, store-bytes, version-1}
 use Rattle.model.specs.Answers.{stale-trie}
 use Rattle.model.specs.Calls.{new-trie, put-of, recover-of, stores-bytes}
 use Rattle.promises.specs.Texts.{bytes}
@@ -51,12 +51,12 @@ split-file = file-bytes (version-1 2) (cut-down ∷ c-slot ∷ [])
 
 -- R15.5, a wrong number of stores made: a stopped put has made as many stores as it says, the first ones of those that
 -- it takes, and each replaces one slot.
-pub record StoppedAfter (xs name : List ℕ) (v made : ℕ) (ys : List ℕ) : Type 0 where
+pub record StoppedAfter (xs name : List ℕ) (v run made : ℕ) (ys : List ℕ) : Type 0 where
   pub layout : Layout
   pub slots : List Slot
   pub is : read-file xs ≡ some (layout, slots)
   pub needed : List Store
-  pub takes : call (layout .b) (place-of layout) slots (put (filled name) v) ≡ stores needed
+  pub takes : call (layout .b) (place-of layout) slots (put (filled name) (content-from v (kept-run layout run))) ≡ stores needed
   pub short : made < length needed
   pub left : ys ≡ stores-bytes layout (take made needed) xs
 
@@ -86,8 +86,8 @@ pub record Strength : Type 0 where
   -- R15.2, against demand 2.
   pub one-result : (C : Calls) → OneResult C → ¬ Demand2 C
   -- The wrong puts are ours but for the stores that they make: with our stores, such a put is ours.
-  pub ours-but-for : (xs : List ℕ) (t : Trie) (name : List ℕ) (v limit : ℕ)
-      → make-put take (λ made. made) (λ ss. ss) xs t name v limit ≡ put-of xs t name v limit
+  pub ours-but-for : (xs : List ℕ) (t : Trie) (name : List ℕ) (v run limit : ℕ)
+      → make-put take (λ made. made) (λ ss. ss) xs t name v run limit ≡ put-of xs t name v run limit
   -- R15.3, against demand 3.
   pub not-nothing : ¬ Demand3 stores-nothing
   pub not-absent : ¬ Demand3 removes-nothing
@@ -101,17 +101,17 @@ pub record Strength : Type 0 where
   -- R15.9, against demand 3.
   pub not-inner : ¬ Demand3 keeps-inner
   -- A put that says stopped made the first of its stores, as many as it says.
-  pub stopped-after : (xs : List ℕ) (t : Trie) (name : List ℕ) (v limit made : ℕ)
-      → put-of xs t name v limit .answer ≡ PutStopped made → StoppedAfter xs name v made (put-of xs t name v limit .file)
+  pub stopped-after : (xs : List ℕ) (t : Trie) (name : List ℕ) (v run limit made : ℕ)
+      → put-of xs t name v run limit .answer ≡ PutStopped made → StoppedAfter xs name v run made (put-of xs t name v run limit .file)
   -- In numbers: of a put of c that needs two stores, none, one and two were made.
-  pub stopped-0 : put-of full-file new-trie (bytes "c") 3 0 ≡ record { answer = PutStopped 0; file = full-file; trie = new-trie }
-  pub stopped-1 : put-of full-file new-trie (bytes "c") 3 1 ≡ record { answer = PutStopped 1; file = stopped-file; trie = new-trie }
-  pub made-2 : put-of full-file new-trie (bytes "c") 3 2 ≡ record { answer = Added; file = split-file; trie = of-cells (a-cell "b" 0 (slot 0) (slot 1) ∷ []) }
+  pub stopped-0 : put-of full-file new-trie (bytes "c") 3 0 0 ≡ record { answer = PutStopped 0; file = full-file; trie = new-trie }
+  pub stopped-1 : put-of full-file new-trie (bytes "c") 3 0 1 ≡ record { answer = PutStopped 1; file = stopped-file; trie = new-trie }
+  pub made-2 : put-of full-file new-trie (bytes "c") 3 0 2 ≡ record { answer = Added; file = split-file; trie = of-cells (a-cell "b" 0 (slot 0) (slot 1) ∷ []) }
   -- A trie that is kept after a stop: refused 3 while the file is cut, refused 4 once another trie has split the bucket, and as
   -- good as new if no store was made.
-  pub kept-cut : put-of stopped-file new-trie (bytes "d") 4 2 .answer ≡ PutRefused CutFile
-  pub kept-stale : put-of split-file new-trie (bytes "d") 4 2 .answer ≡ PutRefused stale-trie
-  pub kept-good : put-of full-file new-trie (bytes "c") 3 2 .answer ≡ Added
+  pub kept-cut : put-of stopped-file new-trie (bytes "d") 4 0 2 .answer ≡ PutRefused CutFile
+  pub kept-stale : put-of split-file new-trie (bytes "d") 4 0 2 .answer ≡ PutRefused stale-trie
+  pub kept-good : put-of full-file new-trie (bytes "c") 3 0 2 .answer ≡ Added
   pub recovers : recover-of stopped-file 1 ≡ record { answer = Freed 1; file = full-file }
   pub inner-bad : check-file (store-bytes (version-1 2) 0 free stopped-file) ≡ is-bad
   pub last-name : split-of 4 (place-of (version-1 4)) five ≡ bytes "r"

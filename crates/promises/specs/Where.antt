@@ -33,7 +33,7 @@ pub record Where (C : Calls) : Type 0 where
   -- at most 24, and every other one carries 255.
   pub look-up-carries : (xs : List ℕ) (t : Trie) (name : List ℕ) (k : ℕ) → C .look-up xs t name ≡ LookUpRefused (StaleTrie k) → (k ≤ 24) ⊎ (k ≡ 255)
   -- So does every refusal 4 of the other calls; create, recover and rebuild have none.
-  pub put : (xs : List ℕ) (t : Trie) (name : List ℕ) (v limit k : ℕ) → C .put xs t name v limit .answer ≡ PutRefused (StaleTrie k) → k ≡ 255
+  pub put : (xs : List ℕ) (t : Trie) (name : List ℕ) (v run limit k : ℕ) → C .put xs t name v run limit .answer ≡ PutRefused (StaleTrie k) → k ≡ 255
   pub remove : (xs : List ℕ) (t : Trie) (name : List ℕ) (limit k : ℕ) → C .remove xs t name limit .answer ≡ RemoveRefused (StaleTrie k) → k ≡ 255
   pub list : (xs : List ℕ) (t : Trie) (low high out : List ℕ) (k : ℕ) → C .list xs t low high out .answer ≡ ListRefused (StaleTrie k) → k ≡ 255
   pub create : (xs : List ℕ) (v b slots k : ℕ) → ¬ (C .create xs v b slots .answer ≡ TrieRefused (StaleTrie k))

@@ -20,12 +20,12 @@ use Rattle.model.specs.declared.Trie.{Trie}
 use Rattle.model.specs.declared.TrieAnswer.the-variants.{Refused as TrieRefused}
 use Rattle.model.specs.Order.{Str}
 use Rattle.model.specs.Names.{filled, is-legal-name}
-use Rattle.model.specs.Entries.{find}
-use Rattle.model.specs.Files.{IsUsed, Slot, entries-of, first, free, head, slot-at, upper-of, used}
-use Rattle.model.specs.Changes.{Result, Store, call, holds?, put as to-put, refuse, stores}
+use Rattle.model.specs.Entries.{content-from}
+use Rattle.model.specs.Files.{IsUsed, Slot, first, free, head, slot-at, upper-of, used}
+use Rattle.model.specs.Changes.{Result, Store, refuse, stores}
 use Rattle.model.specs.Places.{place-of}
-use Rattle.model.specs.Format.{check-file, layout-of, read-file, store-bytes}
-use Rattle.model.specs.Calls.{Looked, PutDone, RecoverDone, RemoveDone, create-of, fine, list-of, look-up-of, looked-of, put-answer, put-of, rebuild-of, recover-of, refusal-of, refusing, remove-of, stores-bytes, trie-after-put}
+use Rattle.model.specs.Format.{check-file, kept-run, layout-of, read-file, store-bytes}
+use Rattle.model.specs.Calls.{Looked, PutDone, RecoverDone, RemoveDone, create-of, fine, held, list-of, look-up-of, looked-of, put-answer, put-of, put-takes, rebuild-of, recover-of, refusal-of, refusing, remove-of, stores-bytes, trie-after-put}
 use Rattle.model.specs.Deciding.{str?}
 use Rattle.promises.specs.Calls.{Calls}
 use Rattle.promises.specs.Demand3.{put, remove}
@@ -39,7 +39,7 @@ pub data RefusesAll (C : Calls) : Type 0 where
   by-recover : ((xs : List ℕ) (limit : ℕ) → IsRefused RecoverRefused (C .recover xs limit .answer)) → RefusesAll C
   by-rebuild : ((xs : List ℕ) → IsRefused TrieRefused (C .rebuild xs .answer)) → RefusesAll C
   by-look-up : ((xs : List ℕ) (t : Trie) (name : List ℕ) → IsRefused LookUpRefused (C .look-up xs t name)) → RefusesAll C
-  by-put : ((xs : List ℕ) (t : Trie) (name : List ℕ) (v limit : ℕ) → IsRefused PutRefused (C .put xs t name v limit .answer)) → RefusesAll C
+  by-put : ((xs : List ℕ) (t : Trie) (name : List ℕ) (v run limit : ℕ) → IsRefused PutRefused (C .put xs t name v run limit .answer)) → RefusesAll C
   by-remove : ((xs : List ℕ) (t : Trie) (name : List ℕ) (limit : ℕ) → IsRefused RemoveRefused (C .remove xs t name limit .answer)) → RefusesAll C
   by-list : ((xs : List ℕ) (t : Trie) (low high out : List ℕ) → IsRefused ListRefused (C .list xs t low high out .answer)) → RefusesAll C
 
@@ -56,23 +56,25 @@ module _ (stopped : ℕ → List Store → List Store) (says : ℕ → ℕ) (who
       cond (ltb limit (length ss))
       (record { answer = PutStopped (says limit); file = stores-bytes y (stopped limit ss) xs; trie = t })
       (record {
-        answer = put-answer (find n (entries-of (slot-at fs (first (holds? n) fs))));
+        answer = put-answer (held fs n);
         file = stores-bytes y (whole ss) xs;
         trie = trie-after-put (y .b) (place-of y) fs n v ss t;
       })
 
-  unfoldable pub make-looked : List ℕ → Trie → Str → ℕ → ℕ → Looked → PutDone
-  make-looked xs t n v limit (refusing c) = record { answer = PutRefused c; file = xs; trie = t }
-  make-looked xs t n v limit (fine y fs) = make xs t y fs n v limit (call (y .b) (place-of y) fs (to-put n v))
+  unfoldable pub make-looked : List ℕ → Trie → Str → ℕ → ℕ → ℕ → Looked → PutDone
+  make-looked xs t n v run limit (refusing c) = record { answer = PutRefused c; file = xs; trie = t }
+  make-looked xs t n v run limit (fine y fs) =
+      let c = content-from v (kept-run y run) in
+      make xs t y fs n c limit (put-takes y fs n c (kept-run y run))
 
-  unfoldable pub make-put : List ℕ → Trie → List ℕ → ℕ → ℕ → PutDone
-  make-put xs t name v limit =
-      let d = make-looked xs t (filled name) v limit (looked-of xs t) in
+  unfoldable pub make-put : List ℕ → Trie → List ℕ → ℕ → ℕ → ℕ → PutDone
+  make-put xs t name v run limit =
+      let d = make-looked xs t (filled name) v run limit (looked-of xs t) in
       cond (ltb 2 limit) (record { answer = PutRefused WrongSize; file = xs; trie = t })
       (cond (is-legal-name name) d (record { answer = PutRefused IllegalName; file = xs; trie = t }))
 
 -- Our calls, with another recover, put and remove.
-abbrev pub instead : (List ℕ → ℕ → RecoverDone) → (List ℕ → Trie → List ℕ → ℕ → ℕ → PutDone) → (List ℕ → Trie → List ℕ → ℕ → RemoveDone) → Calls
+abbrev pub instead : (List ℕ → ℕ → RecoverDone) → (List ℕ → Trie → List ℕ → ℕ → ℕ → ℕ → PutDone) → (List ℕ → Trie → List ℕ → ℕ → RemoveDone) → Calls
 instead f g h = record {
   create = create-of;
   check = check-file;
@@ -84,7 +86,7 @@ instead f g h = record {
   list = list-of;
 }
 
-abbrev pub with-put : (List ℕ → Trie → List ℕ → ℕ → ℕ → PutDone) → Calls
+abbrev pub with-put : (List ℕ → Trie → List ℕ → ℕ → ℕ → ℕ → PutDone) → Calls
 with-put g = instead recover-of g remove-of
 
 -- R15.3: a put that stores nothing and yet says that it is done.

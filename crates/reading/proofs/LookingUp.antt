@@ -1,5 +1,5 @@
 -- Look up, put together from its stages: each refusal, and what one slot answers to a name.
-use Rattle.model.proofs.Prelude.{Bool, List, Option, _&&_, _<_, _∙_, _≡_, _≤_, _⊎_, ap, arith, clash, cond, false, inl, inr, le-ltb, length, lt-ltb, ltb, not, nothing, refl, some, subst, sym, true, ℕ}
+use Rattle.model.proofs.Prelude.{Bool, List, Option, _&&_, _<_, _^_, _∙_, _≡_, _≤_, _⊎_, ap, arith, clash, cond, false, inl, inr, le-ltb, length, lt-ltb, nothing, refl, some, subst, sym, true, ℕ}
 use Rattle.model.specs.declared.Cause.the-variants.{BadFile, IllegalName, StaleTrie}
 use Rattle.model.specs.declared.Layout.{Layout}
 use Rattle.model.specs.declared.LookUpAnswer.{LookUpAnswer}
@@ -10,7 +10,7 @@ use Rattle.model.specs.Names.{Legal, broken, filled, is-at-most, is-legal-name}
 use Rattle.model.specs.Entries.{find}
 use Rattle.model.specs.Files.{Slot, free, used}
 use Rattle.model.specs.Tries.{Spot, walk-of}
-use Rattle.model.specs.Format.{AreBytes, bytes-at-slot, entry-length, header-of, read-slot, slot-size}
+use Rattle.model.specs.Format.{bytes-at-slot, header-of, read-slot, slot-size}
 use Rattle.model.specs.Checks.{is-above}
 use Rattle.model.specs.Answers.{stale-trie}
 use Rattle.model.specs.Calls.{arrived-answer, headed-answer, held-answer, landed, look-up-of, slot-answer}
@@ -24,14 +24,13 @@ use Rattle.entries.specs.declared.Content.{Content}
 use Rattle.bucket.specs.declared.Range.the-variants.{Holds as InRange, Lacks}
 use Rattle.bucket.specs.Forms.{Formed, WellRead, ranged}
 use Rattle.bucket.specs.Slots.{lower-bytes, upper-bytes}
-use Rattle.entries.specs.Rows.{content-number, held-number}
-use Rattle.entries.proofs.Contents.{contents-find}
+use Rattle.entries.specs.Rows.{Valued, held-number}
+use Rattle.entries.proofs.Contents.{run-is, value-is}
 use Rattle.bucket.proofs.Slots.{free-zero, ill-read, range-told, read-used, zero-free}
 use Rattle.slots.specs.Spots.{HeldTold}
 use Rattle.digits.specs.declared.Key.{Key}
 use Rattle.model.proofs.Checks.{is-well-formed-well}
 use Rattle.model.proofs.Names.{legal-length}
-use Rattle.model.proofs.Format.{contents-read-slot}
 use Rattle.trie.specs.declared.Place.{Place}
 use Rattle.trie.specs.declared.Place.the-variants.{Cell as before-cell, Slot as at-slot, Stale as stale}
 use Rattle.trie.specs.declared.Walk.{Walk}
@@ -100,13 +99,8 @@ module _ (y : Layout) (xs : List ℕ) (n : Str) where
       pub answer-absent : h ≡ Absent → NotFound ≡ slot-answer (y .b) n (read-slot y xs)
       answer-absent q = sym (answer-is ∙ rw q)
 
-      pub answer-found : {c : Content} → AreBytes xs → h ≡ Holds c → Found (c .value) ≡ slot-answer (y .b) n (read-slot y xs)
-      unfolding content-number entry-length
-      answer-found {c} bytes q =
-          let f : find n (W .entries) ≡ some (content-number c) = sym found-is ∙ rw q in
-          let w = contents-find (entry-length y) n (W .entries) (content-number c) (contents-read-slot y xs bytes (read-used y xs (W .is))) f in
-          let v : content-number c ≡ c .value = omega (arith, w) in
-          sym (answer-is ∙ rw q (ap Found v))
+      pub answer-found : {c : Content} → Valued h → h ≡ Holds c → Found (c .value) (c .run) ≡ slot-answer (y .b) n (read-slot y xs)
+      answer-found {c} valued q = let small : c .value < 2 ^ 64 = rw q at valued in sym (answer-is ∙ rw (q, value-is c small, run-is c small))
 
 -- R11.1 to R11.7: then what the slot answers.
 module _ (xs : List ℕ) (p : Place) (name : List ℕ) where

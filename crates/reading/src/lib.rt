@@ -55,7 +55,7 @@ fn answer_of(slot: &[u8], layout: Layout, name: &[u8; 24]) -> LookUpAnswer
             let Held::Holds(content) = slots::held_in(slot, layout, key) else {
                 return LookUpAnswer::Absent;
             };
-            LookUpAnswer::Found(content.value)
+            LookUpAnswer::Found(content.value, content.run)
         }
     }
 }

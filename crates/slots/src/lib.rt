@@ -1,10 +1,11 @@
 // One slot as its bounds and its entries: the place of a name and what is held there, the slot with a name put in or taken out, the two
 // halves of a split, and the part that a list gives out.
 ghost use mathlib.Core.Path.{_≡_};
-ghost use Prim.Native.Nat.{_*_, _/_, _<_, _≤_};
+ghost use Prim.Native.Nat.{_*_, _/_, _<_, _^_, _≤_};
 ghost use lib.ListN.{drop, length, take};
 ghost use Rattle.model.specs.Format.{AreBytes, entry-length};
 ghost use Rattle.digits.specs.Keys.{key-value};
+ghost use Rattle.entries.specs.Rows.{Valued};
 ghost use Rattle.bucket.specs.Slots.{OfSize, lower-bytes, upper-bytes};
 ghost use Rattle.slots.specs.Parts.{part-of};
 ghost use Rattle.slots.specs.Halves.{LowerTold, NameTold, StayTold, UpperTold};
@@ -45,7 +46,7 @@ pub fn spot_in(slot: &[u8], layout: Layout, name: Key) -> Spot
 // What a slot holds under a name.
 pub fn held_in(slot: &[u8], layout: Layout, name: Key) -> Held
     requires { ⌜ OfSize (now slot) layout ⌝ }
-    ensures { λ r. ⌜ HeldTold r layout (now (slot .entry)) name ⌝ }
+    ensures { λ r. ⌜ (HeldTold r layout (now (slot .entry)) name) × (Valued r) ⌝ }
 {
     entries::held_under(
         bucket::entries_of(slot, layout),
@@ -58,7 +59,7 @@ pub fn held_in(slot: &[u8], layout: Layout, name: Key) -> Held
 // The content at the spot of a name that is held.
 pub fn content_of(slot: &[u8], layout: Layout, spot: Spot) -> Content
     requires { ⌜ (OfSize (now slot) layout) × (Spotted spot layout) × (spot .place < spot .count) ⌝ }
-    ensures { λ r. ⌜ ContentTold r layout (now (slot .entry)) spot ⌝ }
+    ensures { λ r. ⌜ (ContentTold r layout (now (slot .entry)) spot) × (r .value < 2 ^ 64) ⌝ }
 {
     entries::content_at(
         bucket::entries_of(slot, layout),

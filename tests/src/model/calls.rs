@@ -22,12 +22,12 @@ pub enum Answer {
     Freed(u64),
     NothingToDo,
     Rebuilt,
-    /// The value.
-    Found(u64),
+    /// The value and the run.
+    Found(u64, u64),
     Absent,
     Added,
-    /// The old value.
-    Replaced(u64),
+    /// The old value and the old run.
+    Replaced(u64, u64),
     Removed,
     /// The number of stores made.
     Stopped(u64),
@@ -46,6 +46,7 @@ pub const NO_FREE_SLOT: u64 = 5;
 pub const TOO_MANY_STRINGS: u64 = 6;
 pub const OUTPUT_TOO_SHORT: u64 = 7;
 pub const WRONG_NUMBER: u64 = 8;
+pub const OLDER_RUN: u64 = 12;
 
 /// What a refusal 4 carries that is not for a range which lacks the name.
 pub const NO_DIGIT: u64 = 255;
@@ -122,8 +123,8 @@ pub fn look_up(file: &[u8], trie: &Trie, name: &[u8]) -> Answer {
     if let Some(broken) = broken_bound(&name, &bucket.lower, &bucket.upper) {
         return Stale(broken.differs_at as u64);
     }
-    // R11.11: found with the value, or absent.
-    bucket.value_of(&name).map_or(Absent, Found)
+    // R11.11: found with value and run, or absent.
+    bucket.entry(&name).map_or(Absent, |entry| Found(entry.value, entry.run))
 }
 
 /// The refusals 8, 1, 2, 3 and 4 of put, remove and list, in this order, for each that can have them: R9.10 and R10.9.
@@ -202,8 +203,21 @@ pub fn split(version: u64, entries: &[Entry]) -> Split {
     Split { key, string, stay, moved }
 }
 
-/// R7.2 and R7.8: added; R7.9: replaced, with the old value.
-pub fn put(file: &mut [u8], trie: &mut Trie, name: &[u8], value: u64, limit: u64) -> Answer {
+/// What a put brings: the value, and the run that writes it.
+#[derive(Clone, Copy, PartialEq, Eq, Debug)]
+pub struct Content {
+    pub value: u64,
+    pub run: u64,
+}
+
+impl Content {
+    pub fn new(value: u64, run: u64) -> Content {
+        Content { value, run }
+    }
+}
+
+/// R7.2 and R7.8: added; R7.9: replaced, with the old value and run.
+pub fn put(file: &mut [u8], trie: &mut Trie, name: &[u8], content: Content, limit: u64) -> Answer {
     let sound = match whole_check(limit, &[name], file, trie) {
         Ok(sound) => sound,
         Err(refused) => return refused,
@@ -213,12 +227,20 @@ pub fn put(file: &mut [u8], trie: &mut Trie, name: &[u8], value: u64, limit: u64
     // R7.2: the bucket A that the name goes into.
     let (a, bucket) = sound.bucket_of(&name);
     let mut with_it = bucket.clone();
+    // Versions without runs ignore the run given.
+    let entry = Entry { name, value: content.value, run: if header.has_runs() { content.run } else { 0 } };
     if let Some(place) = bucket.entries.iter().position(|entry| entry.name == name) {
-        with_it.entries[place].value = value;
-        let old = bucket.entries[place].value;
-        return make_stores(file, header, limit, &[(a, bucket_bytes(&with_it, header))]).unwrap_or(Replaced(old));
+        let old = &bucket.entries[place];
+        // A higher run stays, an equal one is replaced. The refusal comes after 4 and, like each, before a stop. Where it is
+        // given nothing is split, so it never meets 5 or 6.
+        if old.run > entry.run {
+            return Refused(OLDER_RUN);
+        }
+        let replaced = Replaced(old.value, old.run);
+        with_it.entries[place] = entry;
+        return make_stores(file, header, limit, &[(a, bucket_bytes(&with_it, header))]).unwrap_or(replaced);
     }
-    with_it.entries.push(Entry { name, value });
+    with_it.entries.push(entry);
     with_it.entries.sort_by_key(|entry| entry.name);
     // R7.2: with at most b entries, one store.
     if with_it.entries.len() <= header.b {
@@ -271,12 +293,11 @@ pub fn list(file: &[u8], trie: &Trie, first: &[u8], second: &[u8], output: &mut 
     };
     let listed = entries_between(&sound, &filled(first), &filled(second));
     // R10.7
-    if output.len() < 32 * listed.len() {
+    if output.len() < sound.header.entry_length() * listed.len() {
         return Refused(OUTPUT_TOO_SHORT);
     }
-    for (place, entry) in listed.iter().enumerate() {
-        output[32 * place..][..32].copy_from_slice(&entry_bytes(entry));
-    }
+    let bytes: Vec<u8> = listed.iter().flat_map(|entry| entry_bytes(entry, &sound.header)).collect();
+    output[..bytes.len()].copy_from_slice(&bytes);
     Listed(listed.len() as u64)
 }
 
@@ -314,7 +335,7 @@ mod tests {
     fn the_shortest_string_wins_and_a_tie_goes_to_the_middle() {
         let string = |version: u64, names: &[&str]| {
             let entries: Vec<Entry> =
-                names.iter().map(|name| Entry { name: filled(name.as_bytes()), value: 0 }).collect();
+                names.iter().map(|name| Entry { name: filled(name.as_bytes()), value: 0, run: 0 }).collect();
             let split = split(version, &entries);
             (String::from_utf8(split.string.0).unwrap(), split.key, split.stay.len())
         };
@@ -340,7 +361,7 @@ mod tests {
                 continue;
             }
             names.sort();
-            let entries: Vec<Entry> = names.iter().map(|name| Entry { name: *name, value: 0 }).collect();
+            let entries: Vec<Entry> = names.iter().map(|name| Entry { name: *name, value: 0, run: 0 }).collect();
             let b = names.len() - 1;
             let lengths: Vec<usize> = (0..b).map(|place| split_string(&names[place], &names[b]).len()).collect();
             assert!(lengths.windows(2).all(|pair| pair[0] <= pair[1]));

@@ -6,7 +6,7 @@ use super::names::{filled, is_in_range, is_legal_name, unfilled, Bound, Filled, 
 pub const HEADER: usize = 16;
 
 /// R2.3: the versions that there are.
-pub const VERSIONS: [u64; 2] = [1, 2];
+pub const VERSIONS: [u64; 3] = [1, 2, 3];
 
 /// What the header says.
 #[derive(Clone, Copy, PartialEq, Eq, Debug)]
@@ -26,9 +26,23 @@ impl Header {
         VERSIONS.contains(&self.version) && (2..=16).contains(&self.b) && (1..=64).contains(&self.slots)
     }
 
+    /// Whether entries have a run number.
+    pub fn has_runs(&self) -> bool {
+        self.version == 3
+    }
+
+    /// R3.13: what one entry takes: name and value, and in version 3 the run.
+    pub fn entry_length(&self) -> usize {
+        if self.has_runs() {
+            40
+        } else {
+            32
+        }
+    }
+
     /// What one slot takes.
     pub fn slot_length(&self) -> usize {
-        64 + 32 * self.b
+        64 + self.entry_length() * self.b
     }
 
     /// R2.7: the length of a file.
@@ -52,6 +66,8 @@ impl Header {
 pub struct Entry {
     pub name: Filled,
     pub value: u64,
+    /// The run that wrote it; 0 in a version without runs.
+    pub run: u64,
 }
 
 /// What a well-formed used slot says.
@@ -67,8 +83,9 @@ impl Bucket {
         is_in_range(name, &self.lower, &self.upper)
     }
 
-    pub fn value_of(&self, name: &Filled) -> Option<u64> {
-        self.entries.iter().find(|entry| entry.name == *name).map(|entry| entry.value)
+    /// The entry with a name.
+    pub fn entry(&self, name: &Filled) -> Option<&Entry> {
+        self.entries.iter().find(|entry| entry.name == *name)
     }
 }
 
@@ -110,7 +127,7 @@ fn read_bucket(bytes: &[u8], header: &Header) -> Option<Bucket> {
     }
     let (lower, lower_rest) = bytes[8..32].split_at(lower_length);
     let (upper, upper_rest) = bytes[32..56].split_at(upper_length);
-    let (entries, entries_rest) = bytes[64..].split_at(32 * count);
+    let (entries, entries_rest) = bytes[64..].split_at(header.entry_length() * count);
     // R3.8, R3.10 and R3.17: zero behind the bounds and the entries.
     if !all_zero(lower_rest) || !all_zero(upper_rest) || !all_zero(entries_rest) {
         return None;
@@ -125,13 +142,15 @@ fn read_bucket(bytes: &[u8], header: &Header) -> Option<Bucket> {
         return None;
     }
     let mut bucket = Bucket { lower, upper, entries: Vec::new() };
-    for bytes in entries.chunks(32) {
+    for bytes in entries.chunks(header.entry_length()) {
         let name = unfilled(&bytes[..24]);
         // R3.13 to R3.16: legal names, ascending, each in the range.
         if !is_legal_name(name) {
             return None;
         }
-        let entry = Entry { name: filled(name), value: u64::from_le_bytes(bytes[24..].try_into().unwrap()) };
+        let number = |bytes: &[u8]| u64::from_le_bytes(bytes.try_into().unwrap());
+        let run = if header.has_runs() { number(&bytes[32..]) } else { 0 };
+        let entry = Entry { name: filled(name), value: number(&bytes[24..32]), run };
         let ascends = bucket.entries.last().is_none_or(|before| before.name < entry.name);
         if !ascends || !bucket.holds(&entry.name) {
             return None;
@@ -141,11 +160,12 @@ fn read_bucket(bytes: &[u8], header: &Header) -> Option<Bucket> {
     Some(bucket)
 }
 
-/// The bytes of an entry.
-pub fn entry_bytes(entry: &Entry) -> [u8; 32] {
-    let mut bytes = [0; 32];
-    bytes[..24].copy_from_slice(&entry.name);
-    bytes[24..].copy_from_slice(&entry.value.to_le_bytes());
+/// The bytes of an entry. A version without runs has no place for one.
+pub fn entry_bytes(entry: &Entry, header: &Header) -> Vec<u8> {
+    let mut bytes = [&entry.name[..], &entry.value.to_le_bytes()].concat();
+    if header.has_runs() {
+        bytes.extend(entry.run.to_le_bytes());
+    }
     bytes
 }
 
@@ -158,9 +178,8 @@ pub fn bucket_bytes(bucket: &Bucket, header: &Header) -> Vec<u8> {
     bytes[3] = bucket.upper.len() as u8;
     bytes[8..8 + bucket.lower.len()].copy_from_slice(&bucket.lower.0);
     bytes[32..32 + bucket.upper.len()].copy_from_slice(&bucket.upper.0);
-    for (place, entry) in bucket.entries.iter().enumerate() {
-        bytes[64 + 32 * place..][..32].copy_from_slice(&entry_bytes(entry));
-    }
+    let entries: Vec<u8> = bucket.entries.iter().flat_map(|entry| entry_bytes(entry, header)).collect();
+    bytes[64..64 + entries.len()].copy_from_slice(&entries);
     bytes
 }
 

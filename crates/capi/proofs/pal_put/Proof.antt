@@ -6,29 +6,29 @@ use Rattle.capi.proofs.pal_put.Tie as tie
 returns : tie.Need-returns
 returns c =
     let a = c .before .before .before .before .args in
-    put-malformed (a .trie .now) (c .if1 .taken) (a .file .now) (a .name .now) (a .value) (a .limit) (a .out .now)
+    put-malformed (a .trie .now) (c .if1 .taken) (a .file .now) (a .name .now) (a .value) (a .run) (a .limit) (a .out .now)
 
 returns-2 : tie.Need-returns-2
 returns-2 c =
     let at-put = c .before .before .before .before .before .before .before .before in
     let a = at-put .before .before .before .before .before .before .before .before .args in
-    put-said (a .trie .now) (at-put .before .before .before .before .if1 .left) (a .file .now) (a .name .now) (a .value) (a .limit) (a .out .now) _ (at-put .before .decoded .ensures) (c .before .before .before .before .enum-told .given .1) (at-put .put .ensures) refl (c .before .before .encode .ensures) refl
+    put-said (a .trie .now) (at-put .before .before .before .before .if1 .left) (a .file .now) (a .name .now) (a .value) (a .run) (a .limit) (a .out .now) _ (at-put .before .decoded .ensures) (c .before .before .before .before .enum-told .given .1) (at-put .put .ensures) refl (c .before .before .encode .ensures) refl
 
 returns-3 : tie.Need-returns-3
 returns-3 c =
     let at-put = c .before .before .before .before .before in let a = at-put .before .before .before .before .before .before .before .before .args in
-    put-said (a .trie .now) (at-put .before .before .before .before .if1 .left) (a .file .now) (a .name .now) (a .value) (a .limit) (a .out .now) _ (at-put .before .decoded .ensures) (c .before .answer .given .1) (at-put .put .ensures) refl refl refl
+    put-said (a .trie .now) (at-put .before .before .before .before .if1 .left) (a .file .now) (a .name .now) (a .value) (a .run) (a .limit) (a .out .now) _ (at-put .before .decoded .ensures) (c .before .answer .given .1) (at-put .put .ensures) refl refl refl
 
 returns-4 : tie.Need-returns-4
 returns-4 c =
     let at-put = c .before .before .before .before .before in let a = at-put .before .before .before .before .before .before .before .before .args in
-    put-said (a .trie .now) (at-put .before .before .before .before .if1 .left) (a .file .now) (a .name .now) (a .value) (a .limit) (a .out .now) _ (at-put .before .decoded .ensures) (c .before .answer2 .given .1) (at-put .put .ensures) refl refl refl
+    put-said (a .trie .now) (at-put .before .before .before .before .if1 .left) (a .file .now) (a .name .now) (a .value) (a .run) (a .limit) (a .out .now) _ (at-put .before .decoded .ensures) (c .before .answer2 .given .1) (at-put .put .ensures) refl refl refl
 
 returns-5 : tie.Need-returns-5
 returns-5 c =
     let at-put = c .before .before .before .before .before .before .before in
     let a = at-put .before .before .before .before .before .before .before .before .args in
-    put-said (a .trie .now) (at-put .before .before .before .before .if1 .left) (a .file .now) (a .name .now) (a .value) (a .limit) (a .out .now) _ (at-put .before .decoded .ensures) (c .before .before .before .answer3 .given .1) (at-put .put .ensures) (c .refused .ensures .0) refl (c .refused .ensures .1)
+    put-said (a .trie .now) (at-put .before .before .before .before .if1 .left) (a .file .now) (a .name .now) (a .value) (a .run) (a .limit) (a .out .now) _ (at-put .before .decoded .ensures) (c .before .before .before .answer3 .given .1) (at-put .put .ensures) (c .refused .ensures .0) refl (c .refused .ensures .1)
 
 pub pal-put-spec : {M : Type 1} → Rattle.capi.proofs.pal_put.Statement.statement M
 pal-put-spec =

@@ -10,12 +10,12 @@ use Rattle.changing.proofs.put.Tie as tie
 returns : tie.Need-returns
 returns c =
     let a = c .before .before .before .before .args in
-    limit-refused (a .file .now) (a .trie) (a .name .now) (a .value) (a .limit) (c .refused .result) (omega (arith, c .before .if1 .taken)) (c .refused .ensures)
+    limit-refused (a .file .now) (a .trie) (a .name .now) (a .value) (a .run) (a .limit) (c .refused .result) (omega (arith, c .before .if1 .taken)) (c .refused .ensures)
 
 returns-2 : tie.Need-returns-2
 returns-2 c =
     let a = c .before .before .before .before .before .before .before .args in
-    name-refused (a .file .now) (a .trie) (a .name .now) (a .value) (a .limit) (c .refused2 .result) (omega (arith, c .before .before .before .before .if1 .left)) (naming-illegal _ (sym (c .before .enum-told2 .given .1) ∙ c .before .before .before .named .ensures)) (c .refused2 .ensures)
+    name-refused (a .file .now) (a .trie) (a .name .now) (a .value) (a .run) (a .limit) (c .refused2 .result) (omega (arith, c .before .before .before .before .if1 .left)) (naming-illegal _ (sym (c .before .enum-told2 .given .1) ∙ c .before .before .before .named .ensures)) (c .refused2 .ensures)
 
 put-plan-requires : tie.Need-put-plan-requires
 put-plan-requires c κs = fine-agreed (c .before .before .before .before .before .checks-of .result) (c .before .before .before .enum-told3 .given .1) (c .before .before .before .before .before .checks-of .ensures)
@@ -32,15 +32,15 @@ returns-3 c =
     let A = fine-agreed (at-checks-of .checks-of .result) (at-filled .before .enum-told3 .given .1) (at-checks-of .checks-of .ensures) in
     let l = naming-legal _ (sym (at-checks-of .before .before .enum-told .given .1) ∙ at-checks-of .before .before .before .before .named .ensures) in
     let p = at-commit .before .before .before .put-plan .result in
-    let h = subst (λ (n : Str). PutTold p (a .file .now) (a .trie) (at-checks-of .checks-of .result .size) n (a .value)) (at-filled .filled .ensures) (at-commit .before .before .before .put-plan .ensures .1) in
+    let h = subst (λ (n : Str). PutTold p (a .file .now) (a .trie) (at-checks-of .checks-of .result .size) n (a .value) (a .run)) (at-filled .filled .ensures) (at-commit .before .before .before .put-plan .ensures .1) in
     let q = h (A .ready .slots) (A .ready .is) (is-legal-name-legal (a .name .now) l) in
-    put-fine (a .file .now) (a .trie) (a .name .now) (a .value) (a .limit) (c .given .result) _ (at-checks-of .checks-of .result .size .layout) (A .ready .slots) (omega (arith, at-checks-of .before .before .before .before .before .if1 .left)) l (A .looked)
-    (put-stopped (a .file .now) _ (a .trie) _ (A .ready .slots) _ (a .value) (a .limit) p (at-commit .commit .result) (at-commit .commit .ensures) (c .given .result) _ q (c .before .if2 .taken) (c .given .ensures))
+    put-fine (a .file .now) (a .trie) (a .name .now) (a .value) (a .run) (a .limit) (c .given .result) _ (at-checks-of .checks-of .result .size .layout) (A .ready .slots) (omega (arith, at-checks-of .before .before .before .before .before .if1 .left)) l (A .looked)
+    (put-stopped (a .file .now) _ (a .trie) _ (A .ready .slots) _ _ (a .limit) p (at-commit .commit .result) (at-commit .commit .ensures) (c .given .result) _ q (c .before .if2 .taken) (c .given .ensures))
 
 returns-4 : tie.Need-returns-4
 returns-4 c =
     let at-checks-of = c .before .before .before .before in let a = at-checks-of .before .before .before .before .before .before .before .before .args in
-    file-refused (a .file .now) (a .trie) (a .name .now) (a .value) (a .limit) (c .refused3 .result) _ (omega (arith, at-checks-of .before .before .before .before .before .if1 .left)) (naming-legal _ (sym (at-checks-of .before .before .enum-told .given .1) ∙ at-checks-of .before .before .before .before .named .ensures))
+    file-refused (a .file .now) (a .trie) (a .name .now) (a .value) (a .run) (a .limit) (c .refused3 .result) _ (omega (arith, at-checks-of .before .before .before .before .before .if1 .left)) (naming-legal _ (sym (at-checks-of .before .before .enum-told .given .1) ∙ at-checks-of .before .before .before .before .named .ensures))
     (refused-looked (at-checks-of .checks-of .result) (a .file .now) (a .trie) (c .before .before .verdict .given .1) (at-checks-of .checks-of .ensures)) (c .refused3 .ensures)
 
 returns-5 : tie.Need-returns-5
@@ -50,10 +50,10 @@ returns-5 c =
     let A = fine-agreed (at-checks-of .checks-of .result) (at-filled .before .enum-told3 .given .1) (at-checks-of .checks-of .ensures) in
     let l = naming-legal _ (sym (at-checks-of .before .before .enum-told .given .1) ∙ at-checks-of .before .before .before .before .named .ensures) in
     let p = at-commit .before .before .before .put-plan .result in
-    let h = subst (λ (n : Str). PutTold p (a .file .now) (a .trie) (at-checks-of .checks-of .result .size) n (a .value)) (at-filled .filled .ensures) (at-commit .before .before .before .put-plan .ensures .1) in
+    let h = subst (λ (n : Str). PutTold p (a .file .now) (a .trie) (at-checks-of .checks-of .result .size) n (a .value) (a .run)) (at-filled .filled .ensures) (at-commit .before .before .before .put-plan .ensures .1) in
     let q = h (A .ready .slots) (A .ready .is) (is-legal-name-legal (a .name .now) l) in
-    put-fine (a .file .now) (a .trie) (a .name .now) (a .value) (a .limit) (c .given2 .result) _ (at-checks-of .checks-of .result .size .layout) (A .ready .slots) (omega (arith, at-checks-of .before .before .before .before .before .if1 .left)) l (A .looked)
-    (put-made (a .file .now) _ (a .trie) _ (A .ready .slots) _ (a .value) (a .limit) p (at-commit .commit .result) (at-commit .commit .ensures) (c .given2 .result) _ q (c .before .if2 .left) (c .given2 .ensures))
+    put-fine (a .file .now) (a .trie) (a .name .now) (a .value) (a .run) (a .limit) (c .given2 .result) _ (at-checks-of .checks-of .result .size .layout) (A .ready .slots) (omega (arith, at-checks-of .before .before .before .before .before .if1 .left)) l (A .looked)
+    (put-made (a .file .now) _ (a .trie) _ (A .ready .slots) _ _ (a .limit) p (at-commit .commit .result) (at-commit .commit .ensures) (c .given2 .result) _ q (c .before .if2 .left) (c .given2 .ensures))
 
 pub put-spec : {M : Type 1} → Rattle.changing.proofs.put.Statement.statement M
 put-spec =

@@ -1,11 +1,8 @@
 -- `replace` meets its contract: one store, of the slot with the content replaced.
-use Rattle.model.proofs.Prelude.{List, _∙_, ap, arith, needs, subst, sym, ℕ}
-use Rattle.model.specs.Format.{AreBytes}
-use Rattle.model.specs.declared.PutAnswer.the-variants.{Replaced}
-use Rattle.model.proofs.Format.{bytes-bytes-at-slot, bytes-each}
+use Rattle.model.proofs.Prelude.{List, _∙_, needs, subst, sym, ℕ}
 use Rattle.bucket.specs.Forms.{ReadAs}
 use Rattle.entries.specs.Rows.{content-number}
-use Rattle.changing.proofs.Homes.{fits-one, held-fits, old-value, slot-read}
+use Rattle.changing.proofs.Homes.{fits-one, held-fits, old-said, slot-read}
 use Rattle.changing.proofs.Putting.{put-one}
 use Rattle.changing.proofs.replace.Tie as tie
 
@@ -16,10 +13,9 @@ returns c =
       fits-one (c .planned .result .plan) (o .result) (a .k) (new .result) (a .size) (g .0) (o .ensures) (s .pre .1) (s .pre .0 .legal),
       (λ fs e S h l u es H P F w f.
           let R = subst (λ (z : List ℕ). ReadAs y z l u es) (sym (slot .ensures .0)) (slot-read (a .file .now) e S (a .k) (H .is)) in
-          let b = subst (λ (z : List ℕ). AreBytes z) (sym (slot .ensures .0)) (bytes-bytes-at-slot y (a .k) (a .file .now) (bytes-each (a .file .now) (λ i. omega (arith, c .before .before .before .before .before .before .shared-slice-known .given i)))) in
-          let q = old-value y (slot .result .now) b R (a .name .now) (old .result) w f (old .ensures l u es R (a .name .now) h P w f) in
+          let q = old-said (old .result) w (old .ensures .1) (old .ensures .0 l u es R (a .name .now) h P w f) in
           put-one (a .trie) y v H (held-fits y (slot .result .now) R (a .name .now) v w f) (c .planned .result) (o .result) (new .result) f (new .ensures l u es R h P w f F) (o .ensures)
-          (g .0, g .1 ∙ ap Replaced q, g .2)),
+          (g .0, g .1 ∙ q, g .2)),
     )
 
 pub replace-spec : {M : Type 1} → Rattle.changing.proofs.replace.Statement.statement M

@@ -9,7 +9,7 @@ returns : tie.Need-returns
 returns c =
     let k = c .before in let a = k .before .before .args in
     let v = key-value (a .name) in
-    held-behind (a .e) (k .rank .result) (below v (values (a .e) (a .count) (a .entries .now))) (a .entries .now) (a .count) v (k .rank .ensures .1) (omega arith)
+    (held-behind (a .e) (k .rank .result) (below v (values (a .e) (a .count) (a .entries .now))) (a .entries .now) (a .count) v (k .rank .ensures .1) (omega arith), tt)
 
 returns-2 : tie.Need-returns-2
 returns-2 c =
@@ -17,7 +17,7 @@ returns-2 c =
     let v = key-value (a .name) in
     let y : key-value (c .before .before .key-at .result) ≡ value (take 24 (drop (a .e * i) xs)) = rw (c .before .before .before .whole-at .ensures .is) at (c .before .before .key-at .ensures) in
     let t : eqb (value (take 24 (drop (a .e * i) xs))) v ≡ false = ap (λ (w : ℕ). eqb w v) (sym y) ∙ sym (c .before .is-same .ensures) ∙ not-true (c .before .is-same .result) (c .if2 .taken) in
-    held-other (a .e) i (below v (values (a .e) (a .count) xs)) xs (a .count) v (k .rank .ensures .1) (omega arith) t
+    (held-other (a .e) i (below v (values (a .e) (a .count) xs)) xs (a .count) v (k .rank .ensures .1) (omega arith) t, tt)
 
 returns-3 : tie.Need-returns-3
 returns-3 c =
@@ -25,7 +25,7 @@ returns-3 c =
     let v = key-value (a .name) in
     let y : key-value (c .before .before .before .key-at .result) ≡ value (take 24 (drop (a .e * i) xs)) = rw (c .before .before .before .before .whole-at .ensures .is) at (c .before .before .before .key-at .ensures) in
     let t : eqb (value (take 24 (drop (a .e * i) xs))) v ≡ true = ap (λ (w : ℕ). eqb w v) (sym y) ∙ sym (c .before .before .is-same .ensures) ∙ not-false (c .before .before .is-same .result) (c .before .if2 .left) in
-    ap some (c .content-at .ensures) ∙ held-here (a .e) i (below v (values (a .e) (a .count) xs)) xs (a .count) v (k .rank .ensures .1) (omega arith) t
+    (ap some (c .content-at .ensures .0) ∙ held-here (a .e) i (below v (values (a .e) (a .count) xs)) xs (a .count) v (k .rank .ensures .1) (omega arith) t, c .content-at .ensures .1)
 
 pub held-under-spec : {M : Type 1} → Rattle.entries.proofs.held_under.Statement.statement M
 held-under-spec =

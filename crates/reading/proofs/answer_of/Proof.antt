@@ -1,7 +1,6 @@
 -- `answer_of` meets its contract: each stage's answer is the model's.
-use Rattle.model.proofs.Prelude.{_∙_, arith, needs, sym}
+use Rattle.model.proofs.Prelude.{_∙_, needs, sym}
 use Rattle.model.specs.Format.{slot-size}
-use Rattle.model.proofs.Format.{bytes-each}
 use Rattle.bucket.proofs.Slots.{vacant-free, vacant-taken}
 use Rattle.checking.proofs.Laws.{key-whole}
 use Rattle.reading.proofs.LookingUp.{answer-absent, answer-found, answer-free, answer-ill, answer-lacks, ill-formed, well-formed}
@@ -27,7 +26,7 @@ returns-3 c g =
     let y = s .args .layout in let xs = s .args .slot .now in let n = s .args .name .now in
     answer-absent y xs n (well-formed y xs (at-range .before .before .enum-told3 .given .1) (at-form .form-of .ensures)) g
     (sym (at-held .before .before .before .enum-told5 .given .1) ∙ at-range .range-of .ensures) (at-held .before .key-at .result)
-    (key-whole n _ g (at-held .before .key-at .ensures)) (at-held .held-in .result) (at-held .held-in .ensures) (c .enum-told6 .given .1)
+    (key-whole n _ g (at-held .before .key-at .ensures)) (at-held .held-in .result) (at-held .held-in .ensures .0) (c .enum-told6 .given .1)
 
 returns-4 : tie.Need-returns-4
 returns-4 c g =
@@ -43,8 +42,8 @@ returns-5 c g =
     let y = s .args .layout in let xs = s .args .slot .now in let n = s .args .name .now in
     answer-found y xs n (well-formed y xs (at-range .before .before .enum-told3 .given .1) (at-form .form-of .ensures)) g
     (sym (at-held .before .before .before .enum-told5 .given .1) ∙ at-range .range-of .ensures) (at-held .before .key-at .result)
-    (key-whole n _ g (at-held .before .key-at .ensures)) (at-held .held-in .result) (at-held .held-in .ensures)
-    (bytes-each xs (λ i. omega (arith, at-form .before .before .before .before .shared-slice-known .given i))) (c .before .content .given .1)
+    (key-whole n _ g (at-held .before .key-at .ensures)) (at-held .held-in .result) (at-held .held-in .ensures .0)
+    (at-held .held-in .ensures .1) (c .before .content .given .1)
 
 pub answer-of-spec : {M : Type 1} → Rattle.reading.proofs.answer_of.Statement.statement M
 answer-of-spec =

@@ -11,10 +11,12 @@ held-under-requires c κs =
     (part-fits _ _ _ _ _ (e .ensures .0) (z .ensures .1) (n .ensures .1), omega (arith, n .ensures .1, c .before .before .before .before .pre .1), e .ensures .1)
 
 returns : tie.Need-returns
-returns c l u es r m g q =
-    let h = c .held-under in let n = c .before .count-of in let e = c .before .before .entry-size in let z = c .before .before .before .entries-of in let a = c .before .before .before .before .before .args in
-    h .ensures ∙ rw (e .ensures .0, n .ensures .0, z .ensures .0)
-    (held-found (a .layout) (a .slot .now) (c .before .before .before .before .before .pre) (bytes-each (a .slot .now) (λ j. omega (arith, c .before .before .before .before .shared-slice-known .given j))) r m g _ q)
+returns c =
+    let h = c .held-under in let n = c .before .count-of in let e = c .before .before .entry-size in let z = c .before .before .before .entries-of in let a = c .before .before .before .before .before .args in (
+      (λ l u es r m g q. h .ensures .0 ∙ rw (e .ensures .0, n .ensures .0, z .ensures .0)
+          (held-found (a .layout) (a .slot .now) (c .before .before .before .before .before .pre) (bytes-each (a .slot .now) (λ j. omega (arith, c .before .before .before .before .shared-slice-known .given j))) r m g _ q)),
+      h .ensures .1,
+    )
 
 pub held-in-spec : {M : Type 1} → Rattle.slots.proofs.held_in.Statement.statement M
 held-in-spec = tie.close (tie.spec (λ c κs. search needs) (λ c κs. search needs) (λ c κs. search needs) held-under-requires returns)
