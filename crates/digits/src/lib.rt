@@ -13,7 +13,7 @@ ghost use Rattle.model.specs.Format.{AreBytes, value-of};
 ghost use Rattle.model.specs.Names as names;
 ghost use Rattle.model.specs.Order.{Str, diff};
 ghost use Rattle.digits.specs.Words.{Word};
-ghost use Rattle.digits.specs.Keys.{continued, is-all-zero, key-value, naming, value};
+ghost use Rattle.digits.specs.Keys.{NamingTold, continued, is-all-zero, key-value, value};
 
 mod numbers;
 
@@ -39,9 +39,9 @@ pub struct Comparison {
     pub first: usize,
 }
 
-// What stands before a name is looked for: whether it is one.
+// What stands before a name is looked for: whether it is one, and the key that it is looked for with.
 pub enum Naming {
-    Legal,
+    Legal(Key),
     Illegal,
 }
 
@@ -257,9 +257,10 @@ fn are_digits(s: &[u8]) -> bool
     most == 0
 }
 
-// R1.2 and R1.3: a legal name.
-pub fn named(name: &[u8]) -> Naming
-    ensures { λ r. ⌜ r ≡ naming (names.is-legal-name (now (name .entry))) ⌝ }
+// R1.2 and R1.3: whether a name is legal. It comes with the digits that it is filled to, of which the key is made: so a call
+// fills a name once and makes its key once.
+pub fn naming_of(name: &[u8], filled: &[u8; 24]) -> Naming
+    ensures { λ r. ⌜ NamingTold r (now (name .entry)) (now (filled .entry)) ⌝ }
 {
     if name.len() == 0 {
         return Naming::Illegal;
@@ -276,7 +277,7 @@ pub fn named(name: &[u8]) -> Naming
     if !are_digits(name) {
         return Naming::Illegal;
     }
-    Naming::Legal
+    Naming::Legal(key_at(filled, 0))
 }
 
 // R1.4: the name, filled with blanks to 24 digits.
