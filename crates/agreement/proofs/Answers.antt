@@ -4,7 +4,7 @@ use Rattle.model.specs.declared.Side.{Side}
 use Rattle.model.specs.declared.Side.the-variants.{Cell as further, Slot as slot}
 use Rattle.model.specs.declared.Trie.{Trie}
 use Rattle.model.specs.Tries.{root-side}
-use Rattle.model.specs.Agreeing.{areZeroCells}
+use Rattle.model.specs.Agreeing.{are-zero-cells}
 use Rattle.model.proofs.Agreeing.{past-zeros}
 use Rattle.model.proofs.GrownTries.{root-further}
 use Rattle.trie.specs.declared.Strings.{Strings}
@@ -26,9 +26,9 @@ module _ (t : Trie) (s : Strings) where
     pub not-count : (t .count ≡ s .count → ⊥) → Decides t s r
     not-count n b fs S H = refused b S t no (λ A. n (agreed-same b S t H A))
 
-    pub not-clear : areZeroCells (drop (s .count) (t .cells)) ≡ false → Decides t s r
+    pub not-clear : are-zero-cells (drop (s .count) (t .cells)) ≡ false → Decides t s r
     not-clear e b fs S H = refused b S t no λ A.
-        let q : areZeroCells (drop (s .count) (t .cells)) ≡ true = rw (agreed-same b S t H A) at (past-zeros (t .count) (t .cells) (A .past)) in
+        let q : are-zero-cells (drop (s .count) (t .cells)) ≡ true = rw (agreed-same b S t H A) at (past-zeros (t .count) (t .cells) (A .past)) in
         clash cc
 
     pub not-first : 0 < s .count → (t .first ≡ 0 → ⊥) → Decides t s r
@@ -36,7 +36,7 @@ module _ (t : Trie) (s : Strings) where
 
   -- The answer is the pass's.
   module _ (full : length (t .cells) ≡ 256) (few : s .few ≡ true) (small : s .count ≤ 256) (e : t .count ≡ s .count)
-      (clear : areZeroCells (drop (s .count) (t .cells)) ≡ true) where
+      (clear : are-zero-cells (drop (s .count) (t .cells)) ≡ true) where
     passed : {r : Agreement} → (0 < t .count → t .first ≡ 0) → Passed (t .cells) s (root-side (t .count) (t .first)) r → Decides t s r
     passed first P b fs S H =
         decided b S t (λ p. (met-agrees b S t H full few small e clear first (P .met p), met-placed b S t H full few small e clear first (P .met p)))

@@ -1,7 +1,7 @@
 -- A tree that fits the arrays: its shapes and leaves are the arrays', and a tree with the strings that they hold fits them.
 use Rattle.model.proofs.Prelude.{List, List·getD-append, [], _++_, _+_, _-_, _<_, _∙_, _∷_, _≡_, _≤_, add-zero, ap, ap₂, arith, getD, getD-append-add, getD-at, getD-take, length, length-append, length-take-le, refl, suc, sym, take, zero, zero-add, ℕ}
 use Rattle.model.specs.Order.{Str}
-use Rattle.model.specs.Tries.{Numbers, Tree, cell, leaf, leaves, node, size, strings}
+use Rattle.model.specs.Tries.{NumbersFit, Tree, cell, leaf, leaves, node, size, strings}
 use Rattle.model.specs.Rebuilding.{last-digit}
 use Rattle.model.proofs.Shapes.{shapes}
 use Rattle.model.proofs.Tries.{cell-length}
@@ -10,12 +10,12 @@ use Rattle.trie.specs.Strung.{Holds}
 use Rattle.trie.proofs.Strung.{last-digits-at, lengths-at}
 use Rattle.agreement.proofs.Parts.{Fits, Numbered}
 
-pub numbered-numbers : (p : Str) (t : Tree) → Numbered (length p) t → Numbers p t
+pub numbered-numbers : (p : Str) (t : Tree) → Numbered (length p) t → NumbersFit p t
 numbered-numbers p (leaf x) n = tt
 numbered-numbers p (node d i L R) n =
     (n .0, numbered-numbers (cell d i p) L (rw (cell-length d i p (n .0)) (n .1)), numbered-numbers p R (n .2))
 
-pub numbers-numbered : (p : Str) (t : Tree) → Numbers p t → Numbered (length p) t
+pub numbers-numbered : (p : Str) (t : Tree) → NumbersFit p t → Numbered (length p) t
 numbers-numbered p (leaf x) n = tt
 numbers-numbered p (node d i L R) n =
     (n .0, rw (cell-length d i p (n .0)) at (numbers-numbered (cell d i p) L (n .1)), numbers-numbered p R (n .2))
@@ -86,7 +86,7 @@ module _ (s : Strings) where
   abbrev HoldsAt : ℕ → Str → Type 0
   HoldsAt k x = (getD (s .lens) k 0 ≡ length x) × (getD (s .digits) k 0 ≡ last-digit x)
 
-  fits-of : (p : Str) (at : ℕ) (t : Tree) → Numbers p t → ((j : ℕ) → j < size t → HoldsAt (at + j) (getD (strings p t) j []))
+  fits-of : (p : Str) (at : ℕ) (t : Tree) → NumbersFit p t → ((j : ℕ) → j < size t → HoldsAt (at + j) (getD (strings p t) j []))
       → ((j : ℕ) → j ≤ size t → getD (s .slots) (at + j) 0 ≡ getD (leaves t) j 0) → Fits s at t
   fits-of p at (leaf x) n f g = sym (rw (add-zero at) at (g 0 (omega arith)))
   fits-of p at (node d i L R) n f g =
@@ -127,7 +127,7 @@ module _ (s : Strings) where
           rw m (g (suc (size L) + j) (omega arith) ∙ e)
 
 -- A tree with the strings and leaves that the arrays hold fits them.
-pub holds-fits : (s : Strings) (t : Tree) (ss : List Str) (Bs : List ℕ) → Holds s ss Bs → Numbers [] t → strings [] t ≡ ss → leaves t ≡ Bs → Fits s 0 t
+pub holds-fits : (s : Strings) (t : Tree) (ss : List Str) (Bs : List ℕ) → Holds s ss Bs → NumbersFit [] t → strings [] t ≡ ss → leaves t ≡ Bs → Fits s 0 t
 holds-fits s t ss Bs H n es el = fits-of s [] 0 t n string slot
   where
     count : size t ≡ length ss

@@ -5,10 +5,10 @@ use Rattle.model.specs.declared.Side.{Side}
 use Rattle.model.specs.declared.Trie.{Trie}
 use Rattle.model.specs.Order.{Str, _≺_, none, top}
 use Rattle.model.specs.Files.{Slot, Sound, all, bounds, ranges, strings-of}
-use Rattle.model.specs.Tries.{Agrees, Leads, Numbers, Tree, at-cell, leaves, occ, root-side, size, strings, zero-cell}
+use Rattle.model.specs.Tries.{Agrees, Leads, NumbersFit, Tree, at-cell, leaves, occ, root-side, size, strings, zero-cell}
 use Rattle.model.specs.Rebuilding.{rebuilt}
-use Rattle.model.specs.Agreeing.{areZeroCells, isAgreeing, slotsBetween}
-use Rattle.model.proofs.Agreeing.{agrees-isAgreeing, isAgreeing-agrees, trie-slots, zeros-past}
+use Rattle.model.specs.Agreeing.{are-zero-cells, is-agreeing, slots-between}
+use Rattle.model.proofs.Agreeing.{agrees-is-agreeing, is-agreeing-agrees, trie-slots, zeros-past}
 use Rattle.model.proofs.Agreement.{CellsAgree, agrees-cells, cells-agree}
 use Rattle.model.proofs.Cells.{each-once, reads-size, reads-total, total-once, visits-count}
 use Rattle.model.proofs.Files.{strings-right}
@@ -50,18 +50,18 @@ module _ (b : ℕ) {fs : List Slot} (S : Sound b fs) where
     spanned-size : size x ≡ length (strings-of fs)
     spanned-size = cells-count T ∙ ap length (sym (strings-right b S))
 
-    spanned-numbers : Numbers [] x
+    spanned-numbers : NumbersFit [] x
     spanned-numbers = trie-flat (Leads (ranges fs)) T .0
 
     spanned-floors : Floors 0 x
     spanned-floors = spans-floors T 0 (λ y m. some-digits y (inside T y m .1))
 
-    spanned-fits : {s : Strings} → Holds s (strings-of fs) (slotsBetween fs none (strings-of fs)) → Fits s 0 x
-    spanned-fits {s} H = holds-fits s x (strings-of fs) (slotsBetween fs none (strings-of fs)) H spanned-numbers spanned-strings (trie-slots b S x T)
+    spanned-fits : {s : Strings} → Holds s (strings-of fs) (slots-between fs none (strings-of fs)) → Fits s 0 x
+    spanned-fits {s} H = holds-fits s x (strings-of fs) (slots-between fs none (strings-of fs)) H spanned-numbers spanned-strings (trie-slots b S x T)
 
   -- And a tree that fits is one.
-  fits-spanned : {s : Strings} (x : Tree) → Holds s (strings-of fs) (slotsBetween fs none (strings-of fs)) → size x ≡ length (strings-of fs)
-      → Numbers [] x → Floors 0 x → Fits s 0 x → Spanned x
+  fits-spanned : {s : Strings} (x : Tree) → Holds s (strings-of fs) (slots-between fs none (strings-of fs)) → size x ≡ length (strings-of fs)
+      → NumbersFit [] x → Floors 0 x → Fits s 0 x → Spanned x
   fits-spanned {s} x H e n f g =
       let r : Tree = rebuilt (ranges fs) (S .order) in
       let T : Spanned r = rebuilt-agrees (ranges fs) (S .order) (S .chain) in
@@ -89,11 +89,11 @@ module _ (b : ℕ) {fs : List Slot} (S : Sound b fs) where
         sym (length-take-le (t .count) (t .cells) (omega (arith, A .few, A .whole)))
         ∙ sym (visits-count (C .reads) (C .each)) ∙ reads-size (C .reads) ∙ spanned-size (C .tree) (C .trie)
 
-    module _ {s : Strings} (H : Strung s (strings-of fs) (slotsBetween fs none (strings-of fs))) where
+    module _ {s : Strings} (H : Strung s (strings-of fs) (slots-between fs none (strings-of fs))) where
       pub agreed-few : Agrees fs t → s .few ≡ true
       agreed-few A = H .few-is ∙ le-leb (length (strings-of fs)) 256 (omega (arith, agreed-count A, A .few))
 
-      held : s .few ≡ true → Holds s (strings-of fs) (slotsBetween fs none (strings-of fs))
+      held : s .few ≡ true → Holds s (strings-of fs) (slots-between fs none (strings-of fs))
       held e = H .holds (leb-true (length (strings-of fs)) 256 (sym (H .few-is) ∙ e))
 
       pub agreed-same : Agrees fs t → t .count ≡ s .count
@@ -114,7 +114,7 @@ module _ (b : ℕ) {fs : List Slot} (S : Sound b fs) where
           }
 
       module _ (full : length (t .cells) ≡ 256) (few : s .few ≡ true) (small : s .count ≤ 256) (e : t .count ≡ s .count)
-          (clear : areZeroCells (drop (s .count) (t .cells)) ≡ true) (first : 0 < t .count → t .first ≡ 0) where
+          (clear : are-zero-cells (drop (s .count) (t .cells)) ≡ true) (first : 0 < t .count → t .first ≡ 0) where
         live-is : length live ≡ s .count
         live-is = length-take-le (t .count) (t .cells) (omega arith) ∙ e
 
@@ -149,12 +149,12 @@ module _ (b : ℕ) {fs : List Slot} (S : Sound b fs) where
 
     -- An answer that is yes where the trie agrees, and then has the places, and only there.
     pub decided : {r : Agreement} → (r .agrees ≡ true → Agrees fs t × Placed t (r .places)) → (Agrees fs t → r .agrees ≡ true) → Decided fs t r
-    decided {r} f g = record { agrees-is = go (r .agrees) (isAgreeing fs t) refl refl; placed = λ e. f e .1 }
+    decided {r} f g = record { agrees-is = go (r .agrees) (is-agreeing fs t) refl refl; placed = λ e. f e .1 }
       where
-        go : (x y : Bool) → r .agrees ≡ x → isAgreeing fs t ≡ y → r .agrees ≡ isAgreeing fs t
-        go true y p q = p ∙ sym (agrees-isAgreeing b S (f p .0))
+        go : (x y : Bool) → r .agrees ≡ x → is-agreeing fs t ≡ y → r .agrees ≡ is-agreeing fs t
+        go true y p q = p ∙ sym (agrees-is-agreeing b S (f p .0))
         go false false p q = p ∙ sym q
-        go false true p q = g (isAgreeing-agrees b S t q) ∙ sym q
+        go false true p q = g (is-agreeing-agrees b S t q) ∙ sym q
 
     -- An answer that is no where it does not agree.
     pub refused : {r : Agreement} → r .agrees ≡ false → (Agrees fs t → ⊥) → Decided fs t r

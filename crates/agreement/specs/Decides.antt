@@ -6,7 +6,7 @@ use Prim.Native.Nat.{ℕ}
 use Rattle.model.specs.declared.Trie.{Trie}
 use Rattle.model.specs.Order.{none}
 use Rattle.model.specs.Files.{Slot, Sound, strings-of}
-use Rattle.model.specs.Agreeing.{isAgreeing, slotsBetween}
+use Rattle.model.specs.Agreeing.{is-agreeing, slots-between}
 use Rattle.trie.specs.declared.Strings.{Strings}
 use Rattle.trie.specs.Places.{Placed}
 use Rattle.trie.specs.Strung.{Strung}
@@ -14,9 +14,9 @@ use Rattle.agreement.specs.declared.Agreement.{Agreement}
 
 -- Whether the trie agrees with the file, and then the place of each cell's string.
 pub record Decided (fs : List Slot) (t : Trie) (r : Agreement) : Type 0 where
-  pub agrees-is : r .agrees ≡ isAgreeing fs t
+  pub agrees-is : r .agrees ≡ is-agreeing fs t
   pub placed : r .agrees ≡ true → Placed t (r .places)
 
 abbrev pub Decides : Trie → Strings → Agreement → Type 0
 Decides t s r =
-    (b : ℕ) (fs : List Slot) → Sound b fs → Strung s (strings-of fs) (slotsBetween fs none (strings-of fs)) → Decided fs t r
+    (b : ℕ) (fs : List Slot) → Sound b fs → Strung s (strings-of fs) (slots-between fs none (strings-of fs)) → Decided fs t r

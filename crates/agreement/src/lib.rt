@@ -8,7 +8,7 @@ ghost use mathlib.Core.Bool.{false};
 ghost use Prim.Native.Nat.{_≤_, _<_};
 ghost use mathlib.Core.List.{[], _∷_};
 ghost use lib.ListN.{drop};
-ghost use Rattle.model.specs.Agreeing.{areZeroCells, sameSide};
+ghost use Rattle.model.specs.Agreeing.{are-zero-cells, same-side};
 ghost use Rattle.agreement.specs.Decides.{Decides};
 ghost use Rattle.agreement.specs.Passes.{Passed};
 use digits::u8_of_usize;
@@ -45,7 +45,7 @@ fn disagreement() -> Agreement
 }
 
 fn is_slot_0(side: Side) -> bool
-    ensures { λ r. ⌜ r ≡ sameSide side (Side.Slot 0) ⌝ }
+    ensures { λ r. ⌜ r ≡ same-side side (Side.Slot 0) ⌝ }
 {
     match side {
         Side::Slot(s) => s == 0,
@@ -55,7 +55,7 @@ fn is_slot_0(side: Side) -> bool
 
 // R5.3: all cells past the count are zero.
 fn is_no_cell(cell: Cell) -> bool
-    ensures { λ r. ⌜ r ≡ areZeroCells (cell ∷ []) ⌝ }
+    ensures { λ r. ⌜ r ≡ are-zero-cells (cell ∷ []) ⌝ }
 {
     if cell.digit != 0 {
         return false;
@@ -73,7 +73,7 @@ fn is_no_cell(cell: Cell) -> bool
 
 fn is_clear_past(trie: Trie, count: usize) -> bool
     requires { ⌜ count ≤ 256 ⌝ }
-    ensures { λ r. ⌜ r ≡ areZeroCells (drop count (trie .cells)) ⌝ }
+    ensures { λ r. ⌜ r ≡ are-zero-cells (drop count (trie .cells)) ⌝ }
 {
     let mut i = count;
     while i < 256 {

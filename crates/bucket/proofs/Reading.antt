@@ -1,72 +1,72 @@
 -- Bounds in their 24 bytes, and zeros.
 use Rattle.model.proofs.Prelude.{Bool, List, [], _&&_, _++_, _+_, _-_, _∙_, _∷_, _≡_, _≤_, ap, ap₂, arith, drop, drop-at, drop-drop, eqb, eqb-true, getD, le-leb, leb, leb-true, length, length-drop, length-take-le, refl, replicate, suc, sym, take, take-append-drop, take-at, take-take, true, zero, ℕ}
-use Rattle.model.specs.Format.{lowDigits, lowOf, padded}
-use Rattle.model.specs.Names.{legalBound}
+use Rattle.model.specs.Format.{digits-of-low, low-of, padded}
+use Rattle.model.specs.Names.{is-legal-bound}
 use Rattle.model.specs.Order.{Low, Str}
 use Rattle.model.proofs.Format.{padded-short}
 use Rattle.model.proofs.Lists.{drop-take}
-use Rattle.model.proofs.Names.{both-true, legalBound-bound}
-use Rattle.digits.specs.Keys.{isZero}
+use Rattle.model.proofs.Names.{both-true, is-legal-bound-bound}
+use Rattle.digits.specs.Keys.{is-all-zero}
 
-unfoldable pub isBound : ℕ → List ℕ → Bool
-isBound len s = leb len 24 && legalBound (take len s) && isZero (drop len s)
+unfoldable pub is-a-bound : ℕ → List ℕ → Bool
+is-a-bound len s = leb len 24 && is-legal-bound (take len s) && is-all-zero (drop len s)
 
-abbrev pub lowIn : List ℕ → Low
-lowIn xs = lowOf (take (getD xs 2 0) (drop 8 xs))
+abbrev pub low-in : List ℕ → Low
+low-in xs = low-of (take (getD xs 2 0) (drop 8 xs))
 
-abbrev pub highIn : List ℕ → Str
-highIn xs = take (getD xs 3 0) (drop 32 xs)
+abbrev pub high-in : List ℕ → Str
+high-in xs = take (getD xs 3 0) (drop 32 xs)
 
 -- A bound in its 24 bytes.
 pub record Bounded (len : ℕ) (s : List ℕ) : Type 0 where
   pub short : len ≤ 24
-  pub legal : legalBound (take len s) ≡ true
-  pub zeros : isZero (drop len s) ≡ true
+  pub legal : is-legal-bound (take len s) ≡ true
+  pub zeros : is-all-zero (drop len s) ≡ true
 
-pub bounded : (len : ℕ) (s : List ℕ) → isBound len s ≡ true → Bounded len s
-unfolding isBound
+pub bounded : (len : ℕ) (s : List ℕ) → is-a-bound len s ≡ true → Bounded len s
+unfolding is-a-bound
 bounded len s e =
-    let p = both-true (leb len 24 && legalBound (take len s)) (isZero (drop len s)) e in
-    let q = both-true (leb len 24) (legalBound (take len s)) (p .0) in
+    let p = both-true (leb len 24 && is-legal-bound (take len s)) (is-all-zero (drop len s)) e in
+    let q = both-true (leb len 24) (is-legal-bound (take len s)) (p .0) in
     record { short = leb-true len 24 (q .0); legal = q .1; zeros = p .1 }
 
-module _ (from len : ℕ) (xs : List ℕ) (e : isBound len (take 24 (drop from xs)) ≡ true) where
+module _ (from len : ℕ) (xs : List ℕ) (e : is-a-bound len (take 24 (drop from xs)) ≡ true) where
   pub bound-short : len ≤ 24
   bound-short = bounded len (take 24 (drop from xs)) e .short
 
-  pub bound-zeros : isZero (take (24 - len) (drop (from + len) xs)) ≡ true
+  pub bound-zeros : is-all-zero (take (24 - len) (drop (from + len) xs)) ≡ true
   bound-zeros =
       let q : drop len (take 24 (drop from xs)) ≡ take (24 - len) (drop (from + len) xs) = drop-take len 24 (drop from xs) ∙ ap (take (24 - len)) (drop-drop len from xs) in
-      sym (ap isZero q) ∙ bounded len (take 24 (drop from xs)) e .zeros
+      sym (ap is-all-zero q) ∙ bounded len (take 24 (drop from xs)) e .zeros
 
   pub take-bound : take len (take 24 (drop from xs)) ≡ take len (drop from xs)
   take-bound = take-take len 24 (drop from xs) bound-short
 
-  pub bound-legal : legalBound (take len (drop from xs)) ≡ true
-  bound-legal = sym (ap legalBound take-bound) ∙ bounded len (take 24 (drop from xs)) e .legal
+  pub bound-legal : is-legal-bound (take len (drop from xs)) ≡ true
+  bound-legal = sym (ap is-legal-bound take-bound) ∙ bounded len (take 24 (drop from xs)) e .legal
 
 -- Zeros behind a string.
-pub zeros-are : (z : List ℕ) → isZero z ≡ true → z ≡ replicate (length z) 0
-unfolding isZero
+pub zeros-are : (z : List ℕ) → is-all-zero z ≡ true → z ≡ replicate (length z) 0
+unfolding is-all-zero
 zeros-are [] e = refl
 zeros-are (d ∷ z) e =
-    let p = both-true (eqb d 0) (isZero z) e in
+    let p = both-true (eqb d 0) (is-all-zero z) e in
     ap₂ (λ (a : ℕ) (x : List ℕ). a ∷ x) (eqb-true d 0 (p .0)) (zeros-are z (p .1))
 
-pub are-zeros : (k : ℕ) → isZero (replicate k 0) ≡ true
-unfolding isZero
+pub are-zeros : (k : ℕ) → is-all-zero (replicate k 0) ≡ true
+unfolding is-all-zero
 are-zeros zero = refl
 are-zeros (suc k) = are-zeros k
 
-pub padded-part : (len k : ℕ) (s : List ℕ) → length s ≡ k → len ≤ k → isZero (drop len s) ≡ true → s ≡ padded k (take len s)
+pub padded-part : (len k : ℕ) (s : List ℕ) → length s ≡ k → len ≤ k → is-all-zero (drop len s) ≡ true → s ≡ padded k (take len s)
 padded-part len k s e h z =
     let t : length (take len s) ≡ len = length-take-le len s (omega arith) in
     let d : length (drop len s) ≡ k - length (take len s) = omega (arith, length-drop len s) in
     sym (take-append-drop len s) ∙ ap (λ (r : List ℕ). take len s ++ r) (zeros-are (drop len s) z ∙ ap (λ (n : ℕ). replicate n 0) d)
     ∙ sym (padded-short k (take len s) (omega arith))
 
-pub low-digits : (x : Str) → lowDigits (lowOf x) ≡ x
-unfolding lowDigits lowOf
+pub low-digits : (x : Str) → digits-of-low (low-of x) ≡ x
+unfolding digits-of-low low-of
 low-digits [] = refl
 low-digits (d ∷ x) = refl
 
@@ -77,14 +77,14 @@ first-four (a ∷ b ∷ []) h = absurd (omega arith)
 first-four (a ∷ b ∷ c ∷ []) h = absurd (omega arith)
 first-four (a ∷ b ∷ c ∷ d ∷ xs) h = refl
 
-pub padded-bound : (x : Str) → legalBound x ≡ true → isBound (length x) (padded 24 x) ≡ true
-unfolding isBound
+pub padded-bound : (x : Str) → is-legal-bound x ≡ true → is-a-bound (length x) (padded 24 x) ≡ true
+unfolding is-a-bound
 padded-bound x e =
-    let f : length x ≤ 24 = legalBound-bound x e .fits in
+    let f : length x ≤ 24 = is-legal-bound-bound x e .fits in
     let z : List ℕ = replicate (24 - length x) 0 in
     rw (le-leb (length x) 24 f, padded-short 24 x f, take-at x z (length x) refl, drop-at x z (length x) refl, e) (are-zeros (24 - length x))
 
 -- What holds where the bytes behind a bound are zero.
-pub by-bound : {A : Type 0} (from len : ℕ) (xs : List ℕ) → isBound len (take 24 (drop from xs)) ≡ true
-    → (len ≤ 24 → isZero (take (24 - len) (drop (from + len) xs)) ≡ true → A) → A
+pub by-bound : {A : Type 0} (from len : ℕ) (xs : List ℕ) → is-a-bound len (take 24 (drop from xs)) ≡ true
+    → (len ≤ 24 → is-all-zero (take (24 - len) (drop (from + len) xs)) ≡ true → A) → A
 by-bound from len xs e f = f (bound-short from len xs e) (bound-zeros from len xs e)

@@ -6,33 +6,33 @@ use Prim.Native.Nat.{_*_, _+_, _-_, _≤_, ℕ}
 use lib.Dec.{ltb}
 use lib.ListN.{drop, getD, length, take}
 use Rattle.model.specs.declared.Layout.{Layout}
-use Rattle.model.specs.Format.{entrySize, lowOf}
-use Rattle.digits.specs.Keys.{continued, isZero, lowValue, value}
+use Rattle.model.specs.Format.{entry-length, low-of}
+use Rattle.digits.specs.Keys.{continued, is-all-zero, low-value, value}
 
 -- Bytes as many as a slot of this layout has.
 abbrev pub OfSize : List ℕ → Layout → Type 0
-OfSize xs y = (length xs ≡ 64 + entrySize y * y .b) × (y .b ≤ 16)
+OfSize xs y = (length xs ≡ 64 + entry-length y * y .b) × (y .b ≤ 16)
 
 -- A bound from `at` on, its length in byte k. A length above 24 is none that a bound has, and reads as empty.
-unfoldable pub boundAt : ℕ → ℕ → List ℕ → List ℕ
-boundAt k at xs = cond (ltb 24 (getD xs k 0)) [] (take (getD xs k 0) (drop at xs))
+unfoldable pub bound-bytes-at : ℕ → ℕ → List ℕ → List ℕ
+bound-bytes-at k at xs = cond (ltb 24 (getD xs k 0)) [] (take (getD xs k 0) (drop at xs))
 
 -- The ends of a slot's range, as they are told where its bounds stand there: zeros behind them, and not above 24 digits.
 abbrev pub LowTold : List ℕ → ℕ → Type 0
 LowTold xs v =
-    getD xs 2 0 ≤ 24 → isZero (take (24 - getD xs 2 0) (drop (8 + getD xs 2 0) xs)) ≡ true → v ≡ lowValue (lowOf (take (getD xs 2 0) (drop 8 xs)))
+    getD xs 2 0 ≤ 24 → is-all-zero (take (24 - getD xs 2 0) (drop (8 + getD xs 2 0) xs)) ≡ true → v ≡ low-value (low-of (take (getD xs 2 0) (drop 8 xs)))
 
 abbrev pub HighTold : List ℕ → ℕ → Type 0
 HighTold xs v =
-    getD xs 3 0 ≤ 24 → isZero (take (24 - getD xs 3 0) (drop (32 + getD xs 3 0) xs)) ≡ true → v ≡ value (continued (take (getD xs 3 0) (drop 32 xs)))
+    getD xs 3 0 ≤ 24 → is-all-zero (take (24 - getD xs 3 0) (drop (32 + getD xs 3 0) xs)) ≡ true → v ≡ value (continued (take (getD xs 3 0) (drop 32 xs)))
 
 -- R3.4 and R3.7: the lower bound; R3.5 and R3.9: the upper.
-abbrev pub lowerAt : List ℕ → List ℕ
-lowerAt xs = boundAt 2 8 xs
+abbrev pub lower-bytes : List ℕ → List ℕ
+lower-bytes xs = bound-bytes-at 2 8 xs
 
-abbrev pub upperAt : List ℕ → List ℕ
-upperAt xs = boundAt 3 32 xs
+abbrev pub upper-bytes : List ℕ → List ℕ
+upper-bytes xs = bound-bytes-at 3 32 xs
 
 -- R3.3: the number of entries.
-unfoldable pub countAt : ℕ → List ℕ → ℕ
-countAt b xs = cond (ltb b (getD xs 1 0)) b (getD xs 1 0)
+unfoldable pub count-at : ℕ → List ℕ → ℕ
+count-at b xs = cond (ltb b (getD xs 1 0)) b (getD xs 1 0)

@@ -5,13 +5,13 @@
 ghost use mathlib.Core.Path.{_≡_};
 ghost use Prim.Native.Nat.{_≤_, _<_, _+_, _-_, _*_};
 ghost use lib.ListN.{drop, length};
-ghost use Rattle.model.specs.Format.{entrySize, slotSize};
+ghost use Rattle.model.specs.Format.{entry-length, slot-size};
 ghost use Rattle.model.proofs.Format.{EntrySize};
 ghost use Rattle.model.specs.declared.Layout.{Layout};
-ghost use Rattle.digits.specs.Keys.{isZero, keyValue};
-ghost use Rattle.bucket.specs.Copies.{CopyTold, isUpperPart};
-ghost use Rattle.bucket.specs.Forms.{Formed, isClear, ranged, vacant};
-ghost use Rattle.bucket.specs.Slots.{HighTold, LowTold, OfSize, countAt, lowerAt, upperAt};
+ghost use Rattle.digits.specs.Keys.{is-all-zero, key-value};
+ghost use Rattle.bucket.specs.Copies.{CopyTold, is-upper-part};
+ghost use Rattle.bucket.specs.Forms.{Formed, is-all-clear, ranged, vacant};
+ghost use Rattle.bucket.specs.Slots.{HighTold, LowTold, OfSize, count-at, lower-bytes, upper-bytes};
 use digits::Key;
 use digits::u64_of_usize;
 use digits::usize_of_u8;
@@ -45,7 +45,7 @@ pub enum Range {
 
 // R3.1: all zero.
 pub fn vacancy_of(slot: &[u8]) -> Vacancy
-    ensures { λ r. ⌜ r ≡ vacant (isZero (now (slot .entry))) ⌝ }
+    ensures { λ r. ⌜ r ≡ vacant (is-all-zero (now (slot .entry))) ⌝ }
 {
     if 0 < slot.len() {
         if slot[0] == 1 {
@@ -61,7 +61,7 @@ pub fn vacancy_of(slot: &[u8]) -> Vacancy
 // The lower end of a slot's range; an empty lower bound is no limit (R1.8).
 pub fn low_key(slot: &[u8]) -> Key
     requires { ⌜ 64 ≤ length (now slot) ⌝ }
-    ensures { λ r. ⌜ LowTold (now (slot .entry)) (keyValue r) ⌝ }
+    ensures { λ r. ⌜ LowTold (now (slot .entry)) (key-value r) ⌝ }
 {
     let lower = usize_of_u8(slot[2]);
     if lower == 0 {
@@ -73,7 +73,7 @@ pub fn low_key(slot: &[u8]) -> Key
 // The upper end of a slot's range; an empty upper bound is above all (R1.7).
 pub fn high_key(slot: &[u8]) -> Key
     requires { ⌜ 64 ≤ length (now slot) ⌝ }
-    ensures { λ r. ⌜ HighTold (now (slot .entry)) (keyValue r) ⌝ }
+    ensures { λ r. ⌜ HighTold (now (slot .entry)) (key-value r) ⌝ }
 {
     digits::bound_key_at(slot, 32, usize_of_u8(slot[3]))
 }
@@ -81,7 +81,7 @@ pub fn high_key(slot: &[u8]) -> Key
 // The lower bound of a slot.
 pub fn lower_bound(slot: &[u8]) -> &[u8]
     requires { ⌜ 64 ≤ length (now slot) ⌝ }
-    ensures { λ r. ⌜ (now r ≡ lowerAt (now (slot .entry))) × (length (now r) ≤ 24) ⌝ }
+    ensures { λ r. ⌜ (now r ≡ lower-bytes (now (slot .entry))) × (length (now r) ≤ 24) ⌝ }
 {
     let len = usize_of_u8(slot[2]);
     if 24 < len {
@@ -94,7 +94,7 @@ pub fn lower_bound(slot: &[u8]) -> &[u8]
 // The upper bound of a slot.
 pub fn upper_bound(slot: &[u8]) -> &[u8]
     requires { ⌜ 64 ≤ length (now slot) ⌝ }
-    ensures { λ r. ⌜ (now r ≡ upperAt (now (slot .entry))) × (length (now r) ≤ 24) ⌝ }
+    ensures { λ r. ⌜ (now r ≡ upper-bytes (now (slot .entry))) × (length (now r) ≤ 24) ⌝ }
 {
     let len = usize_of_u8(slot[3]);
     if 24 < len {
@@ -107,7 +107,7 @@ pub fn upper_bound(slot: &[u8]) -> &[u8]
 // How many entries a slot has; never more than fit into it.
 pub fn count_of(slot: &[u8], b: usize) -> usize
     requires { ⌜ 64 ≤ length (now slot) ⌝ }
-    ensures { λ r. ⌜ (r ≡ countAt b (now (slot .entry))) × (r ≤ b) ⌝ }
+    ensures { λ r. ⌜ (r ≡ count-at b (now (slot .entry))) × (r ≤ b) ⌝ }
 {
     let count = usize_of_u8(slot[1]);
     if b < count {
@@ -118,7 +118,7 @@ pub fn count_of(slot: &[u8], b: usize) -> usize
 
 // The bytes of an entry follow from the version: version 3 has room for the run.
 pub fn entry_size(layout: Layout) -> usize
-    ensures { λ r. ⌜ (r ≡ entrySize layout) × EntrySize r ⌝ }
+    ensures { λ r. ⌜ (r ≡ entry-length layout) × EntrySize r ⌝ }
 {
     if layout.version == 3 {
         return 40;
@@ -129,7 +129,7 @@ pub fn entry_size(layout: Layout) -> usize
 // R2.7: the bytes of a slot.
 pub fn slot_size(layout: Layout) -> usize
     requires { ⌜ layout .b ≤ 16 ⌝ }
-    ensures { λ r. ⌜ (r ≡ slotSize layout) × (64 ≤ r) × (r ≤ 704) ⌝ }
+    ensures { λ r. ⌜ (r ≡ slot-size layout) × (64 ≤ r) × (r ≤ 704) ⌝ }
 {
     64 + entries::entry_at(entry_size(layout), layout.b, layout.b)
 }
@@ -137,7 +137,7 @@ pub fn slot_size(layout: Layout) -> usize
 // The bytes of a slot behind its bounds: room for b entries.
 pub fn entries_of(slot: &[u8], layout: Layout) -> &[u8]
     requires { ⌜ OfSize (now slot) layout ⌝ }
-    ensures { λ r. ⌜ (now r ≡ drop 64 (now (slot .entry))) × (length (now r) ≡ entrySize layout * layout .b) ⌝ }
+    ensures { λ r. ⌜ (now r ≡ drop 64 (now (slot .entry))) × (length (now r) ≡ entry-length layout * layout .b) ⌝ }
 {
     &slot[64..]
 }
@@ -145,7 +145,7 @@ pub fn entries_of(slot: &[u8], layout: Layout) -> &[u8]
 // Whether the bytes that a used slot leaves zero are zero; its entries reach to `end`.
 fn is_clear(slot: &[u8], end: usize) -> bool
     requires { ⌜ (64 ≤ end) × (end ≤ length (now slot)) ⌝ }
-    ensures { λ r. ⌜ r ≡ isClear (now (slot .entry)) end ⌝ }
+    ensures { λ r. ⌜ r ≡ is-all-clear (now (slot .entry)) end ⌝ }
 {
     if !digits::is_zero(&slot[4..8]) {
         return false;
@@ -159,7 +159,7 @@ fn is_clear(slot: &[u8], end: usize) -> bool
 // A used slot as it is read, or that it is not well formed, with entries of e bytes and room for b of them.
 fn form_by(slot: &[u8], e: usize, b: usize) -> Form
     requires { ⌜ (length (now slot) ≡ 64 + e * b) × (b ≤ 16) × (24 ≤ e) × (e ≤ 40) ⌝ }
-    ensures { λ r. ⌜ ((y : Layout) → entrySize y ≡ e → y .b ≡ b → Formed y (now (slot .entry)) r) ⌝ }
+    ensures { λ r. ⌜ ((y : Layout) → entry-length y ≡ e → y .b ≡ b → Formed y (now (slot .entry)) r) ⌝ }
 {
     if slot[0] != 1 {
         return Form::Ill;
@@ -199,16 +199,13 @@ pub fn form_of(slot: &[u8], layout: Layout) -> Form
     form_by(slot, entry_size(layout), layout.b)
 }
 
-// R4.10, R4.11 and R4.13: whether N is a copy, not yet cut out, of the upper part of A.
+// R4.10 and R4.13: whether N is a copy, not yet cut out, of the upper part of A.
 pub fn is_copy_of(n: &[u8], a: &[u8], layout: Layout) -> bool
     requires { ⌜ (OfSize (now n) layout) × (OfSize (now a) layout) ⌝ }
     ensures { λ r. ⌜ CopyTold layout (now (n .entry)) (now (a .entry)) r ⌝ }
 {
     let b = layout.b;
     let count = count_of(a, b);
-    if count != b {
-        return false;
-    }
     let low = low_key(n);
     if !digits::is_below(low_key(a), low) {
         return false;
@@ -226,7 +223,7 @@ pub fn is_copy_of(n: &[u8], a: &[u8], layout: Layout) -> bool
 // Whether the new entries are those of the old above the string, or these and one more.
 fn is_upper_part(new: &[u8], n: usize, old: &[u8], m: usize, string: Key, e: usize) -> bool
     requires { ⌜ (e * n ≤ length (now new)) × (e * m ≤ length (now old)) × (n ≤ 16) × (m ≤ 16) × EntrySize e ⌝ }
-    ensures { λ r. ⌜ r ≡ isUpperPart e (now (new .entry)) n (now (old .entry)) m (keyValue string) ⌝ }
+    ensures { λ r. ⌜ r ≡ is-upper-part e (now (new .entry)) n (now (old .entry)) m (key-value string) ⌝ }
 {
     let stay = entries::not_above(old, e, m, string);
     entries::is_copied(entries::part(old, e, m, stay, m), m - stay, new, n, e)
@@ -235,7 +232,7 @@ fn is_upper_part(new: &[u8], n: usize, old: &[u8], m: usize, string: Key, e: usi
 // R1.8: whether the name is in the range of a slot; an empty lower bound is no limit.
 pub fn range_of(slot: &[u8], name: &[u8]) -> Range
     requires { ⌜ 64 ≤ length (now slot) ⌝ }
-    ensures { λ r. ⌜ r ≡ ranged (lowerAt (now (slot .entry))) (upperAt (now (slot .entry))) (now (name .entry)) ⌝ }
+    ensures { λ r. ⌜ r ≡ ranged (lower-bytes (now (slot .entry))) (upper-bytes (now (slot .entry))) (now (name .entry)) ⌝ }
 {
     let lower = lower_bound(slot);
     if 0 < lower.len() {

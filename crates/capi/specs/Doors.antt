@@ -8,76 +8,76 @@ use lib.Seq.{sets}
 use Rattle.model.specs.declared.PutAnswer.{PutAnswer}
 use Rattle.model.specs.declared.PutAnswer.the-variants.{Added, Refused as PutRefused, Replaced, Stopped as PutStopped}
 use Rattle.model.specs.declared.Trie.{Trie}
-use Rattle.model.specs.Answers.{Said, checkSays, createSays, listSays, lookUpSays, putSays, rebuildSays, recoverSays, removeSays}
-use Rattle.model.specs.Calls.{createOf, listOf, lookUpOf, putOf, rebuildOf, recoverOf, removeOf}
-use Rattle.model.specs.Format.{checkFile}
-use Rattle.image.specs.Images.{imageOf, imageSize, trieOf}
+use Rattle.model.specs.Answers.{Saying, said-by-check, said-by-create, said-by-list, said-by-look-up, said-by-put, said-by-rebuild, said-by-recover, said-by-remove}
+use Rattle.model.specs.Calls.{create-of, list-of, look-up-of, put-of, rebuild-of, recover-of, remove-of}
+use Rattle.model.specs.Format.{check-file}
+use Rattle.image.specs.Images.{image-length, image-of, trie-from}
 
 -- An image that is not exactly 1,540 bytes long is a malformed call, which comes before every refusal and changes
 -- nothing: then the second, else the first.
 abbrev pub whole : {A : Type 0} → List ℕ → A → A → A
-whole image a b = cond (eqb (length image) imageSize) a b
+whole image a b = cond (eqb (length image) image-length) a b
 
 abbrev pub malformed : ℕ
 malformed = 255
 
 -- The words of `out` that an answer does not name stay as they were.
-abbrev pub outAfter : Said → List ℕ → List ℕ
-outAfter s out = sets out 0 (s .1)
+abbrev pub out-after : Saying → List ℕ → List ℕ
+out-after s out = sets out 0 (s .1)
 
 -- The number, the file, the image.
-unfoldable pub palCreateOf : List ℕ → ℕ → ℕ → ℕ → List ℕ → ℕ × List ℕ × List ℕ
-palCreateOf file version b slots image =
-    let o = createOf file version b slots in
-    whole image (createSays (o .answer) .0, o .file, imageOf (o .trie)) (malformed, file, image)
+unfoldable pub pal-create-of : List ℕ → ℕ → ℕ → ℕ → List ℕ → ℕ × List ℕ × List ℕ
+pal-create-of file version b slots image =
+    let o = create-of file version b slots in
+    whole image (said-by-create (o .answer) .0, o .file, image-of (o .trie)) (malformed, file, image)
 
 -- The number.
-unfoldable pub palCheckOf : List ℕ → ℕ
-palCheckOf file = checkSays (checkFile file) .0
+unfoldable pub pal-check-of : List ℕ → ℕ
+pal-check-of file = said-by-check (check-file file) .0
 
 -- The number, the file, `out`.
-unfoldable pub palRecoverOf : List ℕ → ℕ → List ℕ → ℕ × List ℕ × List ℕ
-palRecoverOf file limit out =
-    let o = recoverOf file limit in
-    let s = recoverSays (o .answer) in
-    (s .0, o .file, outAfter s out)
+unfoldable pub pal-recover-of : List ℕ → ℕ → List ℕ → ℕ × List ℕ × List ℕ
+pal-recover-of file limit out =
+    let o = recover-of file limit in
+    let s = said-by-recover (o .answer) in
+    (s .0, o .file, out-after s out)
 
 -- The number, the image.
-unfoldable pub palRebuildOf : List ℕ → List ℕ → ℕ × List ℕ
-palRebuildOf file image =
-    let o = rebuildOf file in
-    whole image (rebuildSays (o .answer) .0, imageOf (o .trie)) (malformed, image)
+unfoldable pub pal-rebuild-of : List ℕ → List ℕ → ℕ × List ℕ
+pal-rebuild-of file image =
+    let o = rebuild-of file in
+    whole image (said-by-rebuild (o .answer) .0, image-of (o .trie)) (malformed, image)
 
 -- The number, `out`.
-unfoldable pub palLookUpOf : List ℕ → List ℕ → List ℕ → List ℕ → ℕ × List ℕ
-palLookUpOf file image name out =
-    let s = lookUpSays (lookUpOf file (trieOf image) name) in
-    whole image (s .0, outAfter s out) (malformed, out)
+unfoldable pub pal-look-up-of : List ℕ → List ℕ → List ℕ → List ℕ → ℕ × List ℕ
+pal-look-up-of file image name out =
+    let s = said-by-look-up (look-up-of file (trie-from image) name) in
+    whole image (s .0, out-after s out) (malformed, out)
 
 -- A refused or stopped call leaves every byte of the image; a replaced value leaves the trie.
-abbrev pub imageAfter : PutAnswer → Trie → List ℕ → List ℕ
-imageAfter Added t image = imageOf t
-imageAfter (Replaced v r) t image = image
-imageAfter (PutStopped n) t image = image
-imageAfter (PutRefused c) t image = image
+abbrev pub image-after : PutAnswer → Trie → List ℕ → List ℕ
+image-after Added t image = image-of t
+image-after (Replaced v r) t image = image
+image-after (PutStopped n) t image = image
+image-after (PutRefused c) t image = image
 
 -- The number, the file, the image, `out`.
-unfoldable pub palPutOf : List ℕ → List ℕ → List ℕ → ℕ → ℕ → ℕ → List ℕ → ℕ × List ℕ × List ℕ × List ℕ
-palPutOf file image name value run limit out =
-    let o = putOf file (trieOf image) name value run limit in
-    let s = putSays (o .answer) in
-    whole image (s .0, o .file, imageAfter (o .answer) (o .trie) image, outAfter s out) (malformed, file, image, out)
+unfoldable pub pal-put-of : List ℕ → List ℕ → List ℕ → ℕ → ℕ → ℕ → List ℕ → ℕ × List ℕ × List ℕ × List ℕ
+pal-put-of file image name value run limit out =
+    let o = put-of file (trie-from image) name value run limit in
+    let s = said-by-put (o .answer) in
+    whole image (s .0, o .file, image-after (o .answer) (o .trie) image, out-after s out) (malformed, file, image, out)
 
 -- The number, the file, the image, `out`. Remove leaves the trie.
-unfoldable pub palRemoveOf : List ℕ → List ℕ → List ℕ → ℕ → List ℕ → ℕ × List ℕ × List ℕ × List ℕ
-palRemoveOf file image name limit out =
-    let o = removeOf file (trieOf image) name limit in
-    let s = removeSays (o .answer) in
-    whole image (s .0, o .file, image, outAfter s out) (malformed, file, image, out)
+unfoldable pub pal-remove-of : List ℕ → List ℕ → List ℕ → ℕ → List ℕ → ℕ × List ℕ × List ℕ × List ℕ
+pal-remove-of file image name limit out =
+    let o = remove-of file (trie-from image) name limit in
+    let s = said-by-remove (o .answer) in
+    whole image (s .0, o .file, image, out-after s out) (malformed, file, image, out)
 
 -- The number, the output, `out`.
-unfoldable pub palListOf : List ℕ → List ℕ → List ℕ → List ℕ → List ℕ → List ℕ → ℕ × List ℕ × List ℕ
-palListOf file image first second output out =
-    let o = listOf file (trieOf image) first second output in
-    let s = listSays (o .answer) in
-    whole image (s .0, o .output, outAfter s out) (malformed, output, out)
+unfoldable pub pal-list-of : List ℕ → List ℕ → List ℕ → List ℕ → List ℕ → List ℕ → ℕ × List ℕ × List ℕ
+pal-list-of file image first second output out =
+    let o = list-of file (trie-from image) first second output in
+    let s = said-by-list (o .answer) in
+    whole image (s .0, o .output, out-after s out) (malformed, output, out)

@@ -5,7 +5,7 @@
 ghost use mathlib.Core.Path.{_≡_};
 ghost use lib.Seq.{sets};
 ghost use Rattle.model.specs.Answers.{carried, number};
-ghost use Rattle.capi.specs.Doors.{palCheckOf, palCreateOf, palListOf, palLookUpOf, palPutOf, palRebuildOf, palRecoverOf, palRemoveOf};
+ghost use Rattle.capi.specs.Doors.{pal-check-of, pal-create-of, pal-list-of, pal-look-up-of, pal-put-of, pal-rebuild-of, pal-recover-of, pal-remove-of};
 use digits::u64_of_usize;
 use file::Kind;
 use model::Cause;
@@ -40,7 +40,7 @@ pub extern "C" fn pal_create(
     slots: u64,
     trie: &mut [u8],
 ) -> u64
-    ensures { λ r. ⌜ palCreateOf (now (file .entry)) version b slots (now (trie .entry)) ≡ (r, now (file .exit), now (trie .exit)) ⌝ }
+    ensures { λ r. ⌜ pal-create-of (now (file .entry)) version b slots (now (trie .entry)) ≡ (r, now (file .exit), now (trie .exit)) ⌝ }
 {
     if trie.len() != image::BYTES {
         return MALFORMED;
@@ -56,7 +56,7 @@ pub extern "C" fn pal_create(
 
 #[no_mangle]
 pub extern "C" fn pal_check(file: &[u8]) -> u64
-    ensures { λ r. ⌜ r ≡ palCheckOf (now (file .entry)) ⌝ }
+    ensures { λ r. ⌜ r ≡ pal-check-of (now (file .entry)) ⌝ }
 {
     let kind = whole::check(file);
     match kind {
@@ -68,7 +68,7 @@ pub extern "C" fn pal_check(file: &[u8]) -> u64
 
 #[no_mangle]
 pub extern "C" fn pal_recover(file: &mut [u8], limit: u64, out: &mut [u64; 4]) -> u64
-    ensures { λ r. ⌜ palRecoverOf (now (file .entry)) limit (now (out .entry)) ≡ (r, now (file .exit), now (out .exit)) ⌝ }
+    ensures { λ r. ⌜ pal-recover-of (now (file .entry)) limit (now (out .entry)) ≡ (r, now (file .exit), now (out .exit)) ⌝ }
 {
     let answer = whole::recover(file, limit);
     match answer {
@@ -87,7 +87,7 @@ pub extern "C" fn pal_recover(file: &mut [u8], limit: u64, out: &mut [u64; 4]) -
 
 #[no_mangle]
 pub extern "C" fn pal_rebuild(file: &[u8], trie: &mut [u8]) -> u64
-    ensures { λ r. ⌜ palRebuildOf (now (file .entry)) (now (trie .entry)) ≡ (r, now (trie .exit)) ⌝ }
+    ensures { λ r. ⌜ pal-rebuild-of (now (file .entry)) (now (trie .entry)) ≡ (r, now (trie .exit)) ⌝ }
 {
     if trie.len() != image::BYTES {
         return MALFORMED;
@@ -104,7 +104,7 @@ pub extern "C" fn pal_rebuild(file: &[u8], trie: &mut [u8]) -> u64
 #[no_mangle]
 pub extern "C" fn pal_lookup(file: &[u8], trie: &[u8], name: &[u8], out: &mut [u64; 4]) -> u64
     ensures { λ r.
-        ⌜ palLookUpOf (now (file .entry)) (now (trie .entry)) (now (name .entry)) (now (out .entry)) ≡ (r, now (out .exit)) ⌝ }
+        ⌜ pal-look-up-of (now (file .entry)) (now (trie .entry)) (now (name .entry)) (now (out .entry)) ≡ (r, now (out .exit)) ⌝ }
 {
     if trie.len() != image::BYTES {
         return MALFORMED;
@@ -134,7 +134,7 @@ pub extern "C" fn pal_put(
     out: &mut [u64; 4],
 ) -> u64
     ensures { λ r.
-        ⌜ palPutOf (now (file .entry)) (now (trie .entry)) (now (name .entry)) value run limit (now (out .entry))
+        ⌜ pal-put-of (now (file .entry)) (now (trie .entry)) (now (name .entry)) value run limit (now (out .entry))
         ≡ (r, now (file .exit), now (trie .exit), now (out .exit)) ⌝ }
 {
     if trie.len() != image::BYTES {
@@ -169,7 +169,7 @@ pub extern "C" fn pal_remove(
     out: &mut [u64; 4],
 ) -> u64
     ensures { λ r.
-        ⌜ palRemoveOf (now (file .entry)) (now (trie .entry)) (now (name .entry)) limit (now (out .entry))
+        ⌜ pal-remove-of (now (file .entry)) (now (trie .entry)) (now (name .entry)) limit (now (out .entry))
         ≡ (r, now (file .exit), now (trie .exit), now (out .exit)) ⌝ }
 {
     if trie.len() != image::BYTES {
@@ -197,7 +197,7 @@ pub extern "C" fn pal_list(
     out: &mut [u64; 4],
 ) -> u64
     ensures { λ r.
-        ⌜ palListOf (now (file .entry)) (now (trie .entry)) (now (first .entry)) (now (second .entry)) (now (output .entry)) (now (out .entry))
+        ⌜ pal-list-of (now (file .entry)) (now (trie .entry)) (now (first .entry)) (now (second .entry)) (now (output .entry)) (now (out .entry))
         ≡ (r, now (output .exit), now (out .exit)) ⌝ }
 {
     if trie.len() != image::BYTES {

@@ -11,12 +11,12 @@ use Rattle.model.specs.Files.{In, Slot, Sound, entries-of, first, head, slot-at
 use Rattle.model.specs.Tries.{Agrees, root, walk-trie}
 use Rattle.model.specs.Growth.{grown-trie}
 use Rattle.model.specs.Changes.{Lowest, Store, call, free?, halves, holds?, put as asked, put-in, refuse, split-of, stored, stores}
-use Rattle.model.specs.Format.{headerOf, readFile, slotAt}
-use Rattle.model.specs.Calls.{putAnswer, refusalOf, trieAfter}
+use Rattle.model.specs.Format.{bytes-at-slot, header-of, read-file}
+use Rattle.model.specs.Calls.{put-answer, refusal-of, trie-after-put}
 use Rattle.model.specs.Places.{place-of}
 use Rattle.model.proofs.Entries.{chosen-no, chosen-yes, row-at, row-insert}
 use Rattle.model.proofs.Files.{well-parts}
-use Rattle.model.proofs.Format.{headed-headerOf, readFile-read}
+use Rattle.model.proofs.Format.{headed-header-of, read-file-read}
 use Rattle.model.proofs.Calls.{free-lowest}
 use Rattle.model.proofs.Places.{place-lt}
 use Rattle.model.proofs.Walks.{live-cells, path-cells, spot-cells, top-side}
@@ -67,7 +67,7 @@ record Known (c : Checked) (xs : List ℕ) (t : Trie) (fs : List Slot) : Type 0 
   lens-are : take (length (strings-of fs)) (c .strings .lens) ≡ lengths (strings-of fs)
   map-is : c .survey .used ≡ map-of fs
 
-known : {c : Checked} {xs : List ℕ} {t : Trie} {fs : List Slot} → Agreed c xs t → readFile xs ≡ some (c .size .layout, fs) → Known c xs t fs
+known : {c : Checked} {xs : List ℕ} {t : Trie} {fs : List Slot} → Agreed c xs t → read-file xs ≡ some (c .size .layout, fs) → Known c xs t fs
 known {c} {xs} {t} {fs} G e =
     let f : _≡_ {A = Option (Layout × List Slot)} (some (c .size .layout, G .ready .slots)) (some (c .size .layout, fs)) = sym (G .ready .is) ∙ e in
     let g : _≡_ {A = Layout × List Slot} (c .size .layout, G .ready .slots) (c .size .layout, fs) = cc in
@@ -75,14 +75,14 @@ known {c} {xs} {t} {fs} G e =
     (record { sound = G .ready .sound; agrees = G .agrees; lens-are = G .ready .strings-held .lens-are; map-is = G .ready .used-is })
 
 -- As many slots as the header says.
-slots-are : (xs : List ℕ) {y : Layout} {slots : ℕ} {fs : List Slot} → readFile xs ≡ some (y, fs) → headerOf xs ≡ some (y, slots) → length fs ≡ slots
+slots-are : (xs : List ℕ) {y : Layout} {slots : ℕ} {fs : List Slot} → read-file xs ≡ some (y, fs) → header-of xs ≡ some (y, slots) → length fs ≡ slots
 slots-are xs {y} {slots} {fs} e h =
-    let q : _≡_ {A = Option (Layout × ℕ)} (some (y, length fs)) (some (y, slots)) = sym (headed-headerOf (readFile-read xs e .headed)) ∙ h in
+    let q : _≡_ {A = Option (Layout × ℕ)} (some (y, length fs)) (some (y, slots)) = sym (headed-header-of (read-file-read xs e .headed)) ∙ h in
     let p : _≡_ {A = Layout × ℕ} (y, length fs) (y, slots) = cc in
     ap (λ (x : Layout × ℕ). x .1) p
 
 -- A new name of a full bucket, in a file whose slots are fs.
-module _ (y : Layout) (two : 2 ≤ y .b) (few : y .b ≤ 16) (xs : List ℕ) {fs : List Slot} (e : readFile xs ≡ some (y, fs)) (S : Sound (y .b) fs) (t : Trie)
+module _ (y : Layout) (two : 2 ≤ y .b) (few : y .b ≤ 16) (xs : List ℕ) {fs : List Slot} (e : read-file xs ≡ some (y, fs)) (S : Sound (y .b) fs) (t : Trie)
     {A : ℕ} {n : Str} {v : ℕ} {l : Low} {u : Str} {es : List Entry} {row : List ℕ} (F : Full y fs A n v l u es row) where
   abbrev ws : List Entry
   ws = insert n v es
@@ -91,7 +91,7 @@ module _ (y : Layout) (two : 2 ≤ y .b) (few : y .b ≤ 16) (xs : List ℕ) {fs
   abbrev string : Str
   string = split-of (y .b) (place-of y) ws
 
-  at-a : ReadAs y (slotAt y A xs) l u es
+  at-a : ReadAs y (bytes-at-slot y A xs) l u es
   at-a = slot-read xs e S A (F .home .is)
 
   pub row-all : Row l ws u
@@ -101,16 +101,16 @@ module _ (y : Layout) (two : 2 ≤ y .b) (few : y .b ≤ 16) (xs : List ℕ) {fs
   length-all = omega (arith, length-new n v es (F .new), F .counted)
 
   -- The stores of a split, planned.
-  both-planned : {s : Split} → Divides s y t ws → (N : ℕ) (r : PutPlan) (p : Plan) (slot new old : List ℕ) → slot ≡ slotAt y A xs
+  both-planned : {s : Split} → Divides s y t ws → (N : ℕ) (r : PutPlan) (p : Plan) (slot new old : List ℕ) → slot ≡ bytes-at-slot y A xs
       → UpperTold new y slot row (take (s .len) (s .string)) (s .stay) → LowerTold old y slot row (take (s .len) (s .string)) (s .stay) → TwoStores p N new A old
       → (r .plan ≡ p) × (r .answer ≡ Added) × (r .trie ≡ grown-trie t (name-at ws (place-of y ws)) string A N)
       → PutPlanned r t y fs n v (stores (halves (y .b) (place-of y) N A l u ws))
-  unfolding trieAfter
+  unfolding trie-after-put
   both-planned {s} D N r p slot new old here new-is old-is q g =
       let at-slot : ReadAs y slot l u es = subst (λ (z : List ℕ). ReadAs y z l u es) (sym here) at-a in
       let x = new-slot-is row-all y two length-all D slot row at-slot (F .row-is) new new-is in
       let z = old-slot-is row-all y two length-all D slot row at-slot (F .row-is) old old-is in
-      let a : r .answer ≡ putAnswer (find n (entries-of (slot-at fs (first (holds? n) fs)))) = rw (← F .home .slot-is, F .home .is, F .new) (g .1) in
+      let a : r .answer ≡ put-answer (find n (entries-of (slot-at fs (first (holds? n) fs)))) = rw (← F .home .slot-is, F .home .is, F .new) (g .1) in
       (rw (g .0) (q .0, (q .1, rw (q .2) x), (q .3, rw (q .4) z)), a, rw (F .home .is) (g .2))
 
   -- The split key is a name of A's range, and its walk over a trie that agrees ends.
@@ -153,14 +153,14 @@ module _ (y : Layout) (two : 2 ≤ y .b) (few : y .b ≤ 16) (xs : List ℕ) {fs
   call-split = rw (← F .home .slot-is, F .home .is) (chosen-no (decLe (length ws) (y .b)) (λ h. omega (arith, h, length-all)) _ _)
 
   pub no-room : (r : PutPlan) (p : Plan) → length fs ≤ N → NoStore p → (r .plan ≡ p) × (r .answer ≡ Refused NoFreeSlot) × (r .trie ≡ t) → PutAsked r t y fs n v
-  unfolding refusalOf
+  unfolding refusal-of
   no-room r p h q g =
       let i : call (y .b) (place-of y) fs (asked n v) ≡ refuse 5 = call-split ∙ chosen-no (decLt N (length fs)) (λ k. omega (arith, h, k)) _ _ in
       subst (PutPlanned r t y fs n v) (sym i) (rw (g .0) (q .0), g .1, g .2)
 
   pub too-many : (r : PutPlan) (p : Plan) → N < length fs → 256 < string-count (stored both fs) → NoStore p
       → (r .plan ≡ p) × (r .answer ≡ Refused ManyStrings) × (r .trie ≡ t) → PutAsked r t y fs n v
-  unfolding refusalOf
+  unfolding refusal-of
   too-many r p h k q g =
       let i : call (y .b) (place-of y) fs (asked n v) ≡ refuse 6 =
       call-split ∙ chosen-yes (decLt N (length fs)) h _ _ ∙ chosen-no (decLe (string-count (stored both fs)) 256) (λ i. omega (arith, i, k)) _ _ in
@@ -195,12 +195,12 @@ module _ {c : Checked} {xs : List ℕ} {t : Trie} (G : Agreed c xs t) where
   few : c .size .layout .b ≤ 16
   few = G .ready .said .sized .legal .b-most
 
-  lowest : {room : Room} → RoomTold (c .survey .used) (c .size .slots) room → {fs : List Slot} → readFile xs ≡ some (c .size .layout, fs) → room ≡ room-of fs
+  lowest : {room : Room} → RoomTold (c .survey .used) (c .size .slots) room → {fs : List Slot} → read-file xs ≡ some (c .size .layout, fs) → room ≡ room-of fs
   lowest R {fs} e = R .lowest fs (slots-are xs e (G .ready .said .header)) (G .ready .said .sized .legal .slots-most) (known G e .map-is)
 
 module _ {c : Checked} {xs : List ℕ} {t : Trie} (G : Agreed c xs t) (A : ℕ) (row : List ℕ) (r : PutPlan) where
   -- The two stores.
-  pub divide-told : {p : Plan} {N : ℕ} {s : Split} {slot new old : List ℕ} {w : Trie} → slot ≡ slotAt (c .size .layout) A xs
+  pub divide-told : {p : Plan} {N : ℕ} {s : Split} {slot new old : List ℕ} {w : Trie} → slot ≡ bytes-at-slot (c .size .layout) A xs
       → UpperTold new (c .size .layout) slot row (take (s .len) (s .string)) (s .stay)
       → LowerTold old (c .size .layout) slot row (take (s .len) (s .string)) (s .stay)
       → Grows t (c .places) (c .strings .lens) (s .walk) (take (s .len) (s .string)) (s .shared) A N w → TwoStores p N new A old
@@ -218,7 +218,7 @@ module _ {c : Checked} {xs : List ℕ} {t : Trie} (G : Agreed c xs t) (A : ℕ) 
 
     module _ {N : ℕ} (q : room ≡ At N) {s : Split} (m : Parted s (c .size .layout .b)) (f : Found s (c .size .layout) t row) where
       -- What the split is of, and how many strings there are then.
-      module _ {fs : List Slot} (e : readFile xs ≡ some (c .size .layout, fs)) {n : Str} {v : ℕ} {l : Low} {u : Str} {es : List Entry}
+      module _ {fs : List Slot} (e : read-file xs ≡ some (c .size .layout, fs)) {n : Str} {v : ℕ} {l : Low} {u : Str} {es : List Entry}
           (F : Full (c .size .layout) fs A n v l u es row) where
         divides : Divides s (c .size .layout) t (insert n v es)
         divides =

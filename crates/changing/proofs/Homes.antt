@@ -3,22 +3,22 @@ use Rattle.model.proofs.Prelude.{_+_, _*_, Bool, List, Option, _<_, _^_, _∙_,
 use Rattle.model.specs.declared.Layout.{Layout}
 use Rattle.model.specs.Order.{Low, Str}
 use Rattle.model.specs.declared.PutAnswer.the-variants.{Replaced}
-use Rattle.model.specs.Entries.{Entry, contentOf, find, insert, isOlder, runPart}
+use Rattle.model.specs.Entries.{Entry, content-from, find, insert, is-older, run-of-content}
 use Rattle.model.specs.Files.{In, Slot, Sound, free, head, order-of, slot-at, used}
 use Rattle.model.specs.Changes.{call, holds?, put as asked, refuse}
-use Rattle.model.specs.Calls.{held, putAnswer, putTakes}
+use Rattle.model.specs.Calls.{held, put-answer, put-takes}
 use Rattle.model.specs.Places.{place-of}
-use Rattle.model.specs.Format.{Bytes, Sizes, keptRun, readFile, slotAt}
+use Rattle.model.specs.Format.{AreBytes, Sizes, bytes-at-slot, kept-run, read-file}
 use Rattle.model.proofs.Files.{first-right, one-range, used-inside, well-parts}
-use Rattle.model.proofs.Format.{put-fits, readSlot-readFile}
+use Rattle.model.proofs.Format.{put-fits, read-slot-read-file}
 use Rattle.entries.specs.declared.Content.{Content}
-use Rattle.entries.specs.Rows.{contentNumber}
+use Rattle.entries.specs.Rows.{content-number}
 use Rattle.entries.proofs.Contents.{run-is, value-is}
 use Rattle.entries.proofs.Parts.{length-held, length-new}
 use Rattle.bucket.specs.Forms.{ReadAs}
 use Rattle.bucket.proofs.Slots.{read-used}
 use Rattle.slots.specs.declared.Spot.{Spot}
-use Rattle.slots.specs.Spots.{Fits, SpotIn, isSome}
+use Rattle.slots.specs.Spots.{Fits, SpotIn, is-some-value}
 use Rattle.file.specs.declared.Plan.{Plan}
 use Rattle.file.specs.declared.Size.{Size}
 use Rattle.file.specs.Plans.{Fits as PlanFits}
@@ -29,7 +29,7 @@ use Rattle.checking.specs.Ready.{Ready}
 use Rattle.changing.specs.Homes.{Home}
 
 -- What the checks found is what is read.
-module _ {c : Checked} {xs : List ℕ} {fs : List Slot} (R : Ready c xs) (e : readFile xs ≡ some (c .size .layout, fs)) where
+module _ {c : Checked} {xs : List ℕ} {fs : List Slot} (R : Ready c xs) (e : read-file xs ≡ some (c .size .layout, fs)) where
   same-slots : R .slots ≡ fs
   same-slots =
       let f : _≡_ {A = Option (Layout × List Slot)} (some (c .size .layout, R .slots)) (some (c .size .layout, fs)) = sym (R .is) ∙ e in
@@ -56,10 +56,10 @@ module _ {c : Checked} {xs : List ℕ} {fs : List Slot} (R : Ready c xs) (e : re
       subst (λ (j : ℕ). In (head (slot-at fs j)) n) q (H .range)
 
 -- The slot of a file that is read, as its bytes are read.
-pub slot-read : (xs : List ℕ) {y : Layout} {fs : List Slot} → readFile xs ≡ some (y, fs) → Sound (y .b) fs → (k : ℕ) {l : Low} {u : Str} {es : List Entry}
-    → slot-at fs k ≡ used l u es → ReadAs y (slotAt y k xs) l u es
+pub slot-read : (xs : List ℕ) {y : Layout} {fs : List Slot} → read-file xs ≡ some (y, fs) → Sound (y .b) fs → (k : ℕ) {l : Low} {u : Str} {es : List Entry}
+    → slot-at fs k ≡ used l u es → ReadAs y (bytes-at-slot y k xs) l u es
 slot-read xs {y} {fs} e S k {l} {u} {es} i =
-    (used-read y (slotAt y k xs) (used l u es) tt (readSlot-readFile xs e k (used-inside fs k (rw i tt)) ∙ ap some i), rw i at (S .well k))
+    (used-read y (bytes-at-slot y k xs) (used l u es) tt (read-slot-read-file xs e k (used-inside fs k (rw i tt)) ∙ ap some i), rw i at (S .well k))
 
 -- The one slot whose range holds a name.
 pub home-right : {b : ℕ} {fs : List Slot} → Sound b fs → (k : ℕ) (n : Str) → In (head (slot-at fs k)) n → (l : Low) × (u : Str) × (es : List Entry) × Home k fs n l u es
@@ -72,19 +72,19 @@ home-right {b} {fs} S k n h = go (slot-at fs k) refl h
 -- Whether a name is held, by its spot.
 module _ {s : Spot} {n : Str} {es : List Entry} (P : SpotIn s n es) where
   pub spot-lost : s .held ≡ false → find n es ≡ nothing
-  unfolding isSome
+  unfolding is-some-value
   spot-lost t = go (find n es) refl
     where
       go : (o : Option ℕ) → find n es ≡ o → o ≡ nothing
       go nothing f = refl
-      go (some w) f = let z : _≡_ {A = Bool} true false = sym (P .held-is ∙ ap isSome f) ∙ t in clash cc
+      go (some w) f = let z : _≡_ {A = Bool} true false = sym (P .held-is ∙ ap is-some-value f) ∙ t in clash cc
 
   pub spot-held : s .held ≡ true → (w : ℕ) × (find n es ≡ some w)
-  unfolding isSome
+  unfolding is-some-value
   spot-held t = go (find n es) refl
     where
       go : (o : Option ℕ) → find n es ≡ o → (w : ℕ) × (find n es ≡ some w)
-      go nothing f = let z : _≡_ {A = Bool} false true = sym (P .held-is ∙ ap isSome f) ∙ t in clash cc
+      go nothing f = let z : _≡_ {A = Bool} false true = sym (P .held-is ∙ ap is-some-value f) ∙ t in clash cc
       go (some w) f = (w, f)
 
 -- How many entries there are then.
@@ -95,13 +95,13 @@ pub new-fits : {s : Spot} {n : Str} {es : List Entry} → SpotIn s n es → (c b
 new-fits {n = n} {es = es} P c b h k = omega (arith, length-new n c es h, P .counted)
 
 -- What is said of the content that is replaced.
-pub old-said : (c : Content) (w : ℕ) → c .value < 2 ^ 64 → contentNumber c ≡ w → Replaced (c .value) (c .run) ≡ putAnswer (some w)
+pub old-said : (c : Content) (w : ℕ) → c .value < 2 ^ 64 → content-number c ≡ w → Replaced (c .value) (c .run) ≡ put-answer (some w)
 old-said c w small q = rw (← q, value-is c small, run-is c small)
 
 -- The content of a put has room.
-pub put-content : (y : Layout) (c : Content) (v r : ℕ) → c .value ≡ v → c .run ≡ keptRun y r → v < 2 ^ 64 → r < 2 ^ 64
-    → Fits y c × (contentNumber c ≡ contentOf v (keptRun y r))
-unfolding contentNumber
+pub put-content : (y : Layout) (c : Content) (v r : ℕ) → c .value ≡ v → c .run ≡ kept-run y r → v < 2 ^ 64 → r < 2 ^ 64
+    → Fits y c × (content-number c ≡ content-from v (kept-run y r))
+unfolding content-number
 put-content y c v r p q h k = (rw (p, q) (put-fits y v r h k), rw (p, q))
 
 -- Where what is held has no higher run, a put takes what its request takes; else it is refused.
@@ -109,18 +109,18 @@ module _ (y : Layout) {fs : List Slot} {A : ℕ} {n : Str} {l : Low} {u : Str} {
   held-is : held fs n ≡ find n es
   held-is = rw (← H .slot-is, H .is)
 
-  pub takes-new : find n es ≡ nothing → putTakes y fs n c run ≡ call (y .b) (place-of y) fs (asked n c)
-  unfolding putTakes isOlder
+  pub takes-new : find n es ≡ nothing → put-takes y fs n c run ≡ call (y .b) (place-of y) fs (asked n c)
+  unfolding put-takes is-older
   takes-new f = rw (held-is, f)
 
   module _ (w : ℕ) (f : find n es ≡ some w) where
-    pub takes-newer : runPart w ≤ run → putTakes y fs n c run ≡ call (y .b) (place-of y) fs (asked n c)
-    unfolding putTakes isOlder
-    takes-newer k = rw (held-is, f, le-ltb run (runPart w) k)
+    pub takes-newer : run-of-content w ≤ run → put-takes y fs n c run ≡ call (y .b) (place-of y) fs (asked n c)
+    unfolding put-takes is-older
+    takes-newer k = rw (held-is, f, le-ltb run (run-of-content w) k)
 
-    pub takes-older : run < runPart w → putTakes y fs n c run ≡ refuse 12
-    unfolding putTakes isOlder
-    takes-older k = rw (held-is, f, lt-ltb run (runPart w) k)
+    pub takes-older : run < run-of-content w → put-takes y fs n c run ≡ refuse 12
+    unfolding put-takes is-older
+    takes-older k = rw (held-is, f, lt-ltb run (run-of-content w) k)
 
 -- What the plans of no store and of one ensure; their slots are the file's.
 abbrev pub NoStore : Plan → Type 0

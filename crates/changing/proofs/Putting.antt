@@ -8,12 +8,12 @@ use Rattle.model.specs.declared.PutAnswer.the-variants.{Refused, Stopped}
 use Rattle.model.specs.declared.PutGiven.{PutGiven}
 use Rattle.model.specs.declared.Trie.{Trie}
 use Rattle.model.specs.Order.{Low, Str}
-use Rattle.model.specs.Names.{filled, legalName}
-use Rattle.model.specs.Entries.{Entry, contentOf, find, insert}
+use Rattle.model.specs.Names.{filled, is-legal-name}
+use Rattle.model.specs.Entries.{Entry, content-from, find, insert}
 use Rattle.model.specs.Files.{Slot, used}
 use Rattle.model.specs.Changes.{Result, call, put as asked, put-in, refuse, stores}
-use Rattle.model.specs.Calls.{fine, held, lookedOf, putAnswer, putLooked, putMade, putOf, putTakes, refusing, storesBytes, trieAfter}
-use Rattle.model.specs.Format.{keptRun}
+use Rattle.model.specs.Calls.{fine, held, looked-of, put-answer, put-by-stores, put-of, put-on-looked, put-takes, refusing, stores-bytes, trie-after-put}
+use Rattle.model.specs.Format.{kept-run}
 use Rattle.model.proofs.Entries.{chosen-yes}
 use Rattle.file.specs.declared.Plan.{Plan}
 use Rattle.file.specs.Plans.{Committed}
@@ -33,25 +33,25 @@ module _ (t : Trie) (y : Layout) {fs : List Slot} {A : ℕ} {n : Str} (c : ℕ) 
   call-put = rw (← H .slot-is, H .is) (chosen-yes (decLe (length (insert n c es)) (y .b)) k _ _)
 
   pub put-one : (r : PutPlan) (p : Plan) (bytes : List ℕ) {o : Option ℕ} → find n es ≡ o → Begins bytes y (used l u (insert n c es)) → OneStore p A bytes
-      → (r .plan ≡ p) × (r .answer ≡ putAnswer o) × (r .trie ≡ t) → PutAsked r t y fs n c
-  unfolding trieAfter
+      → (r .plan ≡ p) × (r .answer ≡ put-answer o) × (r .trie ≡ t) → PutAsked r t y fs n c
+  unfolding trie-after-put
   put-one r p bytes f z q g =
-      let a : r .answer ≡ putAnswer (held fs n) = rw (← H .slot-is, H .is, f) (g .1) in
+      let a : r .answer ≡ put-answer (held fs n) = rw (← H .slot-is, H .is, f) (g .1) in
       subst (PutPlanned r t y fs n c) (sym call-put) (rw (g .0) (q .0, (q .1, rw (q .2) z)), a, g .2)
 
 -- What is left of a plan that is committed.
 module _ (xs ys : List ℕ) (t : Trie) (y : Layout) (fs : List Slot) (n : Str) (v limit : ℕ) (p : PutPlan) (d : Bool) (C : Committed d xs ys y (p .plan) limit)
     (r : PutGiven) where
-  pub put-stopped : (a : Result) → PutPlanned p t y fs n v a → d ≡ true → (r .answer ≡ Stopped limit) × (r .trie ≡ t) → put r ys ≡ putMade xs t y fs n v limit a
-  unfolding putMade
+  pub put-stopped : (a : Result) → PutPlanned p t y fs n v a → d ≡ true → (r .answer ≡ Stopped limit) × (r .trie ≡ t) → put r ys ≡ put-by-stores xs t y fs n v limit a
+  unfolding put-by-stores
   put-stopped (refuse c) q e g =
       let z : true ≡ ltb limit 0 = sym e ∙ C [] (q .0) .1 in let w : ltb limit 0 ≡ false = le-ltb limit 0 (omega arith) in
       let x : _≡_ {A = Bool} true false = z ∙ w in clash cc
   put-stopped (stores ss) q e g =
       let k = C ss (q .0) in let h : ltb limit (length ss) ≡ true = sym (k .1) ∙ e in rw (h, k .0, g .0, g .1)
 
-  pub put-made : (a : Result) → PutPlanned p t y fs n v a → d ≡ false → (r .answer ≡ p .answer) × (r .trie ≡ p .trie) → put r ys ≡ putMade xs t y fs n v limit a
-  unfolding putMade storesBytes
+  pub put-made : (a : Result) → PutPlanned p t y fs n v a → d ≡ false → (r .answer ≡ p .answer) × (r .trie ≡ p .trie) → put r ys ≡ put-by-stores xs t y fs n v limit a
+  unfolding put-by-stores stores-bytes
   put-made (refuse c) q e g = rw (C [] (q .0) .0, take-nil limit, g .0, g .1, q .1, q .2)
   put-made (stores ss) q e g =
       let k = C ss (q .0) in let h : ltb limit (length ss) ≡ false = sym (k .1) ∙ e in
@@ -59,20 +59,20 @@ module _ (xs ys : List ℕ) (t : Trie) (y : Layout) (fs : List Slot) (n : Str) (
 
 -- Of any file: what is refused before, and the rest.
 module _ (xs : List ℕ) (t : Trie) (name : List ℕ) (v run limit : ℕ) (r : PutGiven) where
-  pub limit-refused : 2 < limit → (r .answer ≡ Refused WrongSize) × (r .trie ≡ t) → put r xs ≡ putOf xs t name v run limit
-  unfolding putOf
+  pub limit-refused : 2 < limit → (r .answer ≡ Refused WrongSize) × (r .trie ≡ t) → put r xs ≡ put-of xs t name v run limit
+  unfolding put-of
   limit-refused h g = rw (lt-ltb 2 limit h, g .0, g .1)
 
-  pub name-refused : limit ≤ 2 → legalName name ≡ false → (r .answer ≡ Refused IllegalName) × (r .trie ≡ t) → put r xs ≡ putOf xs t name v run limit
-  unfolding putOf
+  pub name-refused : limit ≤ 2 → is-legal-name name ≡ false → (r .answer ≡ Refused IllegalName) × (r .trie ≡ t) → put r xs ≡ put-of xs t name v run limit
+  unfolding put-of
   name-refused h e g = rw (le-ltb 2 limit h, e, g .0, g .1)
 
-  pub file-refused : (cause : Cause) → limit ≤ 2 → legalName name ≡ true → lookedOf xs t ≡ refusing cause → (r .answer ≡ Refused cause) × (r .trie ≡ t)
-      → put r xs ≡ putOf xs t name v run limit
-  unfolding putOf putLooked
+  pub file-refused : (cause : Cause) → limit ≤ 2 → is-legal-name name ≡ true → looked-of xs t ≡ refusing cause → (r .answer ≡ Refused cause) × (r .trie ≡ t)
+      → put r xs ≡ put-of xs t name v run limit
+  unfolding put-of put-on-looked
   file-refused cause h e f g = rw (le-ltb 2 limit h, e, f, g .0, g .1)
 
-  pub put-fine : (ys : List ℕ) (y : Layout) (fs : List Slot) → limit ≤ 2 → legalName name ≡ true → lookedOf xs t ≡ fine y fs
-      → put r ys ≡ putMade xs t y fs (filled name) (contentOf v (keptRun y run)) limit (putTakes y fs (filled name) (contentOf v (keptRun y run)) (keptRun y run)) → put r ys ≡ putOf xs t name v run limit
-  unfolding putOf putLooked
+  pub put-fine : (ys : List ℕ) (y : Layout) (fs : List Slot) → limit ≤ 2 → is-legal-name name ≡ true → looked-of xs t ≡ fine y fs
+      → put r ys ≡ put-by-stores xs t y fs (filled name) (content-from v (kept-run y run)) limit (put-takes y fs (filled name) (content-from v (kept-run y run)) (kept-run y run)) → put r ys ≡ put-of xs t name v run limit
+  unfolding put-of put-on-looked
   put-fine ys y fs h e f m = rw (le-ltb 2 limit h, e, f) m

@@ -8,11 +8,11 @@ use Rattle.model.specs.declared.RemoveAnswer.{RemoveAnswer}
 use Rattle.model.specs.declared.RemoveAnswer.the-variants.{Absent, Refused, Removed, Stopped}
 use Rattle.model.specs.declared.Trie.{Trie}
 use Rattle.model.specs.Order.{Low, Str}
-use Rattle.model.specs.Names.{filled, legalName}
+use Rattle.model.specs.Names.{filled, is-legal-name}
 use Rattle.model.specs.Entries.{Entry, find, without}
 use Rattle.model.specs.Files.{Slot, used}
 use Rattle.model.specs.Changes.{Result, call, refuse, remove, remove-in, stores, stores-if}
-use Rattle.model.specs.Calls.{fine, lookedOf, refusing, removeLooked, removeMade, removeOf, storesBytes}
+use Rattle.model.specs.Calls.{fine, looked-of, refusing, remove-by-stores, remove-of, remove-on-looked, stores-bytes}
 use Rattle.file.specs.declared.Plan.{Plan}
 use Rattle.file.specs.Plans.{Committed}
 use Rattle.slots.specs.Spots.{Begins}
@@ -38,22 +38,22 @@ module _ (y : Layout) {fs : List Slot} {A : ℕ} {n : Str} {l : Low} {u : Str} {
 
 -- What is left of a plan that is committed.
 module _ (xs ys : List ℕ) (y : Layout) (limit : ℕ) (p : Plan) (d : Bool) (C : Committed d xs ys y p limit) where
-  pub remove-stopped : (a : Result) → RemovePlanned p y a → d ≡ true → removed (Stopped limit) ys ≡ removeMade xs y limit a
-  unfolding removeMade
+  pub remove-stopped : (a : Result) → RemovePlanned p y a → d ≡ true → removed (Stopped limit) ys ≡ remove-by-stores xs y limit a
+  unfolding remove-by-stores
   remove-stopped (refuse c) q e = absurd q
   remove-stopped (stores ss) q e =
       let k = C ss q in let h : ltb limit (length ss) ≡ true = sym (k .1) ∙ e in rw (h, k .0)
 
-  pub remove-none : (a : Result) → RemovePlanned p y a → d ≡ false → p .stores < 1 → removed Absent ys ≡ removeMade xs y limit a
-  unfolding removeMade storesBytes
+  pub remove-none : (a : Result) → RemovePlanned p y a → d ≡ false → p .stores < 1 → removed Absent ys ≡ remove-by-stores xs y limit a
+  unfolding remove-by-stores stores-bytes
   remove-none (refuse c) q e h = absurd q
   remove-none (stores []) q e h = rw (le-ltb limit 0 (omega arith), C [] q .0, take-nil limit)
   remove-none (stores (s ∷ [])) q e h = absurd (omega (arith, h, q .0))
   remove-none (stores (s ∷ t ∷ [])) q e h = absurd (omega (arith, h, q .0))
   remove-none (stores (s ∷ t ∷ u ∷ ss)) q e h = absurd q
 
-  pub remove-some : (a : Result) → RemovePlanned p y a → d ≡ false → 1 ≤ p .stores → removed Removed ys ≡ removeMade xs y limit a
-  unfolding removeMade
+  pub remove-some : (a : Result) → RemovePlanned p y a → d ≡ false → 1 ≤ p .stores → removed Removed ys ≡ remove-by-stores xs y limit a
+  unfolding remove-by-stores
   remove-some (refuse c) q e h = absurd q
   remove-some (stores []) q e h = absurd (omega (arith, h, q))
   remove-some (stores (s ∷ ss)) q e h =
@@ -62,19 +62,19 @@ module _ (xs ys : List ℕ) (y : Layout) (limit : ℕ) (p : Plan) (d : Bool) (C 
 
 -- Of any file: what is refused before, and the rest.
 module _ (xs : List ℕ) (t : Trie) (name : List ℕ) (limit : ℕ) where
-  pub limit-refused : 2 < limit → removed (Refused WrongSize) xs ≡ removeOf xs t name limit
-  unfolding removeOf
+  pub limit-refused : 2 < limit → removed (Refused WrongSize) xs ≡ remove-of xs t name limit
+  unfolding remove-of
   limit-refused h = rw (lt-ltb 2 limit h)
 
-  pub name-refused : limit ≤ 2 → legalName name ≡ false → removed (Refused IllegalName) xs ≡ removeOf xs t name limit
-  unfolding removeOf
+  pub name-refused : limit ≤ 2 → is-legal-name name ≡ false → removed (Refused IllegalName) xs ≡ remove-of xs t name limit
+  unfolding remove-of
   name-refused h e = rw (le-ltb 2 limit h, e)
 
-  pub file-refused : (cause : Cause) → limit ≤ 2 → legalName name ≡ true → lookedOf xs t ≡ refusing cause → removed (Refused cause) xs ≡ removeOf xs t name limit
-  unfolding removeOf removeLooked
+  pub file-refused : (cause : Cause) → limit ≤ 2 → is-legal-name name ≡ true → looked-of xs t ≡ refusing cause → removed (Refused cause) xs ≡ remove-of xs t name limit
+  unfolding remove-of remove-on-looked
   file-refused cause h e f = rw (le-ltb 2 limit h, e, f)
 
-  pub remove-fine : (r : RemoveAnswer) (ys : List ℕ) (y : Layout) (fs : List Slot) → limit ≤ 2 → legalName name ≡ true → lookedOf xs t ≡ fine y fs
-      → removed r ys ≡ removeMade xs y limit (call (y .b) (place-of y) fs (remove (filled name))) → removed r ys ≡ removeOf xs t name limit
-  unfolding removeOf removeLooked
+  pub remove-fine : (r : RemoveAnswer) (ys : List ℕ) (y : Layout) (fs : List Slot) → limit ≤ 2 → is-legal-name name ≡ true → looked-of xs t ≡ fine y fs
+      → removed r ys ≡ remove-by-stores xs y limit (call (y .b) (place-of y) fs (remove (filled name))) → removed r ys ≡ remove-of xs t name limit
+  unfolding remove-of remove-on-looked
   remove-fine r ys y fs h e f m = rw (le-ltb 2 limit h, e, f) m

@@ -11,7 +11,7 @@ use Rattle.model.specs.Names.{Legal}
 use Rattle.model.specs.Entries.{Entry, find, insert}
 use Rattle.model.specs.Files.{Slot}
 use Rattle.model.specs.Changes.{halves, stores}
-use Rattle.model.specs.Format.{readFile}
+use Rattle.model.specs.Format.{read-file}
 use Rattle.model.specs.Places.{place-of}
 use Rattle.checking.specs.declared.Checked.{Checked}
 use Rattle.slots.specs.Spots.{RowOf}
@@ -32,7 +32,7 @@ pub record Full (y : Layout) (fs : List Slot) (A : ℕ) (n : Str) (c : ℕ) (l :
 -- R7.8: two stores, first the new slot, N, then A.
 abbrev pub DivideTold : PutPlan → Checked → List ℕ → Trie → ℕ → ℕ → List ℕ → Split → Type 0
 DivideTold r checked xs t A N row s =
-    (fs : List Slot) → readFile xs ≡ some (checked .size .layout, fs) → (n : Str) (c : ℕ) (l : Low) (u : Str) (es : List Entry)
+    (fs : List Slot) → read-file xs ≡ some (checked .size .layout, fs) → (n : Str) (c : ℕ) (l : Low) (u : Str) (es : List Entry)
     → Full (checked .size .layout) fs A n c l u es row → Divides s (checked .size .layout) t (insert n c es)
     → PutPlanned r t (checked .size .layout) fs n c
     (stores (halves (checked .size .layout .b) (place-of (checked .size .layout)) N A l u (insert n c es)))

@@ -8,7 +8,7 @@ use Rattle.model.specs.Names.{Legal}
 use Rattle.model.specs.Entries.{Entry}
 use Rattle.model.specs.Files.{Slot, first, slot-at, used}
 use Rattle.model.specs.Changes.{holds?}
-use Rattle.model.specs.Format.{readFile}
+use Rattle.model.specs.Format.{read-file}
 use Rattle.file.specs.declared.Size.{Size}
 
 -- Slot A holds the name n in its range, with these bounds and entries.
@@ -21,5 +21,5 @@ pub record Home (A : ℕ) (fs : List Slot) (n : Str) (l : Low) (u : Str) (es : L
 -- Of a file that is read: the slot, its bounds and entries.
 pub record HomeTold (r : ℕ) (size : Size) (xs : List ℕ) (n : Str) : Type 0 where
   pub inside : r < size .slots
-  pub right : (fs : List Slot) → readFile xs ≡ some (size .layout, fs) → Legal n
+  pub right : (fs : List Slot) → read-file xs ≡ some (size .layout, fs) → Legal n
       → (l : Low) × (u : Str) × (es : List Entry) × Home r fs n l u es

@@ -9,17 +9,17 @@ use Rattle.model.specs.Order.{Str}
 use Rattle.model.specs.Files.{Slot}
 use Rattle.model.specs.Changes.{Result, refuse, stores}
 use Rattle.model.specs.Places.{place-of}
-use Rattle.model.specs.Calls.{held, putAnswer, refusalOf, trieAfter}
+use Rattle.model.specs.Calls.{held, put-answer, refusal-of, trie-after-put}
 use Rattle.file.specs.declared.Plan.{Plan}
 use Rattle.file.specs.Plans.{Planned}
 use Rattle.changing.specs.declared.PutPlan.{PutPlan}
 
 -- Its stores; and the answer and the trie once they are all made.
 abbrev pub PutPlanned : PutPlan → Trie → Layout → List Slot → Str → ℕ → Result → Type 0
-PutPlanned p t y fs n v (refuse c) = Planned (p .plan) y [] × (p .answer ≡ Refused (refusalOf c)) × (p .trie ≡ t)
+PutPlanned p t y fs n v (refuse c) = Planned (p .plan) y [] × (p .answer ≡ Refused (refusal-of c)) × (p .trie ≡ t)
 PutPlanned p t y fs n v (stores ss) =
-    Planned (p .plan) y ss × (p .answer ≡ putAnswer (held fs n))
-    × (p .trie ≡ trieAfter (y .b) (place-of y) fs n v ss t)
+    Planned (p .plan) y ss × (p .answer ≡ put-answer (held fs n))
+    × (p .trie ≡ trie-after-put (y .b) (place-of y) fs n v ss t)
 
 -- A remove's answer follows from its stores.
 abbrev pub RemovePlanned : Plan → Layout → Result → Type 0

@@ -7,14 +7,14 @@ use Rattle.model.specs.declared.Layout.{Layout}
 use Rattle.model.specs.declared.Trie.{Trie}
 use Rattle.model.specs.Order.{Low, Str}
 use Rattle.model.specs.Names.{Legal}
-use Rattle.model.specs.Entries.{Entry, contentOf, find}
+use Rattle.model.specs.Entries.{Entry, content-from, find}
 use Rattle.model.specs.Files.{Slot, Sound}
 use Rattle.model.specs.Changes.{call, put as asked, remove}
-use Rattle.model.specs.Calls.{putTakes}
-use Rattle.model.specs.Format.{keptRun, readFile}
+use Rattle.model.specs.Calls.{put-takes}
+use Rattle.model.specs.Format.{kept-run, read-file}
 use Rattle.model.specs.Places.{place-of}
 use Rattle.entries.specs.declared.Content.{Content}
-use Rattle.entries.specs.Rows.{contentNumber}
+use Rattle.entries.specs.Rows.{content-number}
 use Rattle.file.specs.declared.Plan.{Plan}
 use Rattle.file.specs.declared.Size.{Size}
 use Rattle.slots.specs.declared.Spot.{Spot}
@@ -27,7 +27,7 @@ use Rattle.changing.specs.Plans.{PutPlanned, RemovePlanned}
 -- Remove.
 abbrev pub RemoveTold : Plan → List ℕ → Size → Str → Type 0
 RemoveTold r xs size n =
-    (fs : List Slot) → readFile xs ≡ some (size .layout, fs) → Legal n
+    (fs : List Slot) → read-file xs ≡ some (size .layout, fs) → Legal n
     → RemovePlanned r (size .layout) (call (size .layout .b) (place-of (size .layout)) fs (remove n))
 
 -- Put, of the name n with the content c.
@@ -36,35 +36,35 @@ PutAsked r t y fs n c = PutPlanned r t y fs n c (call (y .b) (place-of y) fs (as
 
 -- The same where what is held may have a higher run.
 abbrev pub PutTaken : PutPlan → Trie → Layout → List Slot → Str → ℕ → ℕ → Type 0
-PutTaken r t y fs n c run = PutPlanned r t y fs n c (putTakes y fs n c run)
+PutTaken r t y fs n c run = PutPlanned r t y fs n c (put-takes y fs n c run)
 
 abbrev pub PutTold : PutPlan → List ℕ → Trie → Size → Str → ℕ → ℕ → Type 0
 PutTold p xs t size n v r =
-    (fs : List Slot) → readFile xs ≡ some (size .layout, fs) → Legal n
-    → PutTaken p t (size .layout) fs n (contentOf v (keptRun (size .layout) r)) (keptRun (size .layout) r)
+    (fs : List Slot) → read-file xs ≡ some (size .layout, fs) → Legal n
+    → PutTaken p t (size .layout) fs n (content-from v (kept-run (size .layout) r)) (kept-run (size .layout) r)
 
 -- On a name that slot A holds: first by the runs, then as the definitions have it.
 abbrev pub RenewTold : PutPlan → List ℕ → Trie → Size → ℕ → Spot → Str → Content → Type 0
 RenewTold r xs t size A s n c =
-    (fs : List Slot) → readFile xs ≡ some (size .layout, fs) → Sound (size .layout .b) fs → Legal n → (l : Low) (u : Str) (es : List Entry)
+    (fs : List Slot) → read-file xs ≡ some (size .layout, fs) → Sound (size .layout .b) fs → Legal n → (l : Low) (u : Str) (es : List Entry)
     → Home A fs n l u es → SpotIn s n es → Fits (size .layout) c → (w : ℕ) → find n es ≡ some w
-    → PutTaken r t (size .layout) fs n (contentNumber c) (c .run)
+    → PutTaken r t (size .layout) fs n (content-number c) (c .run)
 
 abbrev pub ReplaceTold : PutPlan → List ℕ → Trie → Size → ℕ → Spot → Str → Content → Type 0
 ReplaceTold r xs t size A s n c =
-    (fs : List Slot) → readFile xs ≡ some (size .layout, fs) → Sound (size .layout .b) fs → Legal n → (l : Low) (u : Str) (es : List Entry)
+    (fs : List Slot) → read-file xs ≡ some (size .layout, fs) → Sound (size .layout .b) fs → Legal n → (l : Low) (u : Str) (es : List Entry)
     → Home A fs n l u es → SpotIn s n es → Fits (size .layout) c → (w : ℕ) → find n es ≡ some w
-    → PutAsked r t (size .layout) fs n (contentNumber c)
+    → PutAsked r t (size .layout) fs n (content-number c)
 
 -- Of a new name that fits into slot A.
 abbrev pub AddTold : PutPlan → List ℕ → Trie → Size → ℕ → Spot → Str → Content → Type 0
 AddTold r xs t size A s n c =
-    (fs : List Slot) → readFile xs ≡ some (size .layout, fs) → Sound (size .layout .b) fs → Legal n → (l : Low) (u : Str) (es : List Entry)
+    (fs : List Slot) → read-file xs ≡ some (size .layout, fs) → Sound (size .layout .b) fs → Legal n → (l : Low) (u : Str) (es : List Entry)
     → Home A fs n l u es → SpotIn s n es → Fits (size .layout) c → find n es ≡ nothing
-    → PutAsked r t (size .layout) fs n (contentNumber c)
+    → PutAsked r t (size .layout) fs n (content-number c)
 
 -- Of a new name whose bucket, slot A, is full.
 abbrev pub SplitTold : PutPlan → List ℕ → Trie → Size → ℕ → List ℕ → Type 0
 SplitTold r xs t size A row =
-    (fs : List Slot) → readFile xs ≡ some (size .layout, fs) → (n : Str) (c : ℕ) (l : Low) (u : Str) (es : List Entry)
+    (fs : List Slot) → read-file xs ≡ some (size .layout, fs) → (n : Str) (c : ℕ) (l : Low) (u : Str) (es : List Entry)
     → Full (size .layout) fs A n c l u es row → PutAsked r t (size .layout) fs n c

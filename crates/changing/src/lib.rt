@@ -3,8 +3,8 @@
 ghost use mathlib.Core.Path.{_≡_};
 ghost use Prim.Native.Nat.{_≤_, _<_, _+_};
 ghost use lib.ListN.{length, take};
-ghost use Rattle.model.specs.Calls.{putOf, removeOf};
-ghost use Rattle.model.specs.Format.{keptRun};
+ghost use Rattle.model.specs.Calls.{put-of, remove-of};
+ghost use Rattle.model.specs.Format.{kept-run};
 ghost use Rattle.slots.specs.Spots.{Spotted};
 ghost use Rattle.file.specs.Plans.{Fits};
 ghost use Rattle.file.specs.Sizes.{Sized};
@@ -191,7 +191,7 @@ fn split(file: &[u8], checked: Checked, a: usize, row: &[u8; ROOM], trie: Trie) 
 
 // The run that is kept of the one given: versions 1 and 2 keep none.
 fn kept_run(layout: Layout, run: u64) -> u64
-    ensures { λ r. ⌜ r ≡ keptRun layout run ⌝ }
+    ensures { λ r. ⌜ r ≡ kept-run layout run ⌝ }
 {
     if layout.version == 3 {
         return run;
@@ -254,7 +254,7 @@ fn put_plan(
 
 // Puts a name with its value and the run that writes it.
 pub fn put(file: &mut [u8], trie: Trie, name: &[u8], value: u64, run: u64, limit: u64) -> PutGiven
-    ensures { λ r. ⌜ putDone r (now (file .exit)) ≡ putOf (now (file .entry)) trie (now (name .entry)) value run limit ⌝ }
+    ensures { λ r. ⌜ putDone r (now (file .exit)) ≡ put-of (now (file .entry)) trie (now (name .entry)) value run limit ⌝ }
 {
     if 2 < limit {
         return refused(Cause::WrongSize, trie);
@@ -298,7 +298,7 @@ fn remove_plan(file: &[u8], checked: Checked, name: &[u8; 24]) -> Plan
 
 // Removes a name, one store; a name that is absent needs none.
 pub fn remove(file: &mut [u8], trie: Trie, name: &[u8], limit: u64) -> RemoveAnswer
-    ensures { λ r. ⌜ removeDone r (now (file .exit)) ≡ removeOf (now (file .entry)) trie (now (name .entry)) limit ⌝ }
+    ensures { λ r. ⌜ removeDone r (now (file .exit)) ≡ remove-of (now (file .entry)) trie (now (name .entry)) limit ⌝ }
 {
     if 2 < limit {
         return RemoveAnswer::Refused(Cause::WrongSize);

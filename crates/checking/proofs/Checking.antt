@@ -5,14 +5,14 @@ use Rattle.model.specs.declared.Layout.{Layout}
 use Rattle.model.specs.declared.Trie.{Trie}
 use Rattle.model.specs.Files.{Slot, strings-of}
 use Rattle.model.specs.Checks.{is-bad, is-cut, is-sound}
-use Rattle.model.specs.Agreeing.{isAgreeing}
-use Rattle.model.specs.Format.{checkFile, readFile}
+use Rattle.model.specs.Agreeing.{is-agreeing}
+use Rattle.model.specs.Format.{check-file, read-file}
 use Rattle.model.specs.Answers.{stale-trie}
-use Rattle.model.specs.Calls.{fine, lookedBy, lookedOf, refusing}
-use Rattle.model.proofs.Agreeing.{isAgreeing-agrees}
+use Rattle.model.specs.Calls.{fine, looked-at-by, looked-of, refusing}
+use Rattle.model.proofs.Agreeing.{is-agreeing-agrees}
 use Rattle.file.specs.declared.Size.{Size}
 use Rattle.file.specs.declared.survey.Survey.{Survey}
-use Rattle.file.specs.Sizes.{Said}
+use Rattle.file.specs.Sizes.{Saying}
 use Rattle.file.specs.Surveys.{Surveyed}
 use Rattle.trie.specs.declared.Strings.{Strings}
 use Rattle.strings.specs.Arrays.{Listed}
@@ -25,35 +25,35 @@ use Rattle.checking.specs.declared.Checked.{Checked}
 use Rattle.checking.specs.Ready.{Agreed}
 
 -- What is refused, in the order 2, 3, 4.
-pub looked-bad : (xs : List ℕ) (t : Trie) → checkFile xs ≡ is-bad → lookedOf xs t ≡ refusing BadFile
-unfolding lookedOf lookedBy
+pub looked-bad : (xs : List ℕ) (t : Trie) → check-file xs ≡ is-bad → looked-of xs t ≡ refusing BadFile
+unfolding looked-of looked-at-by
 looked-bad xs t e = rw e
 
-pub looked-cut : (xs : List ℕ) (t : Trie) {N : ℕ} → checkFile xs ≡ is-cut N → lookedOf xs t ≡ refusing CutFile
-unfolding lookedOf lookedBy
+pub looked-cut : (xs : List ℕ) (t : Trie) {N : ℕ} → check-file xs ≡ is-cut N → looked-of xs t ≡ refusing CutFile
+unfolding looked-of looked-at-by
 looked-cut xs t e = rw e
 
-looked-by : (xs : List ℕ) (t : Trie) {y : Layout} {fs : List Slot} → checkFile xs ≡ is-sound → readFile xs ≡ some (y, fs)
-    → lookedOf xs t ≡ cond (isAgreeing fs t) (fine y fs) (refusing stale-trie)
-unfolding lookedOf lookedBy
+looked-by : (xs : List ℕ) (t : Trie) {y : Layout} {fs : List Slot} → check-file xs ≡ is-sound → read-file xs ≡ some (y, fs)
+    → looked-of xs t ≡ cond (is-agreeing fs t) (fine y fs) (refusing stale-trie)
+unfolding looked-of looked-at-by
 looked-by xs t e f = rw (e, f)
 
 -- The agreement with a sound file.
 module _ (xs : List ℕ) (t : Trie) (s : Size) (v : Survey) (g : Strings) (a : Agreement)
-    (h : Said s xs) (e : checkFile xs ≡ is-sound) (z : Surveyed v xs s) (l : Listed g xs s (v .order) (v .count)) (d : Decides t g a) where
+    (h : Saying s xs) (e : check-file xs ≡ is-sound) (z : Surveyed v xs s) (l : Listed g xs s (v .order) (v .count)) (d : Decides t g a) where
   R : Read s xs
   R = sound-read xs s h e
 
   decided : Decided (R .slots) t a
   decided = d (s .layout .b) (R .slots) (R .sound) (strung R z l)
 
-  pub agreed-not : a .agrees ≡ false → lookedOf xs t ≡ refusing stale-trie
+  pub agreed-not : a .agrees ≡ false → looked-of xs t ≡ refusing stale-trie
   agreed-not f = looked-by xs t e (R .is) ∙ ap (λ (x : Bool). cond x (fine (s .layout) (R .slots)) (refusing stale-trie)) (sym (decided .agrees-is) ∙ f)
 
   pub agreed-all : (c : Checked) → a .agrees ≡ true → c .size ≡ s → c .survey ≡ v → c .strings ≡ g → c .places ≡ a .places → Agreed c xs t
   agreed-all c f p q r u =
-      let y : isAgreeing (R .slots) t ≡ true = sym (decided .agrees-is) ∙ f in
-      let A = isAgreeing-agrees (s .layout .b) (R .sound) t y in
+      let y : is-agreeing (R .slots) t ≡ true = sym (decided .agrees-is) ∙ f in
+      let A = is-agreeing-agrees (s .layout .b) (R .sound) t y in
       let few : length (strings-of (R .slots)) ≤ 256 = omega (arith, agreed-count (s .layout .b) (R .sound) t A, A .few) in
       record {
         ready = record {

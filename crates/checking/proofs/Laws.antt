@@ -11,16 +11,16 @@ use Rattle.checking.specs.declared.Verdict.the-variants.{Fine, Refused}
 use Rattle.model.specs.declared.Cause.{Cause}
 use Rattle.checking.specs.Ready.{Agreed, AgreedWhere, Passed}
 use Rattle.model.specs.declared.Trie.{Trie}
-use Rattle.model.specs.Calls.{lookedOf, refusing}
+use Rattle.model.specs.Calls.{looked-of, refusing}
 
 -- checks whose verdict is fine found a file and a trie that agree, and others the cause
 pub fine-agreed : (c : Checked) {xs : List ℕ} {t : Trie} → c .verdict ≡ Fine → Passed c xs t → Agreed c xs t
 fine-agreed c {xs} {t} e h = subst (λ (x : Verdict). AgreedWhere x c xs t) e h
 
-pub looked-refused : (c : Checked) {cause : Cause} (xs : List ℕ) (t : Trie) → c .verdict ≡ Refused cause → lookedOf xs t ≡ refusing cause → Passed c xs t
+pub looked-refused : (c : Checked) {cause : Cause} (xs : List ℕ) (t : Trie) → c .verdict ≡ Refused cause → looked-of xs t ≡ refusing cause → Passed c xs t
 looked-refused c {cause} xs t e h = rw e h
 
-pub refused-looked : (c : Checked) {cause : Cause} (xs : List ℕ) (t : Trie) → c .verdict ≡ Refused cause → Passed c xs t → lookedOf xs t ≡ refusing cause
+pub refused-looked : (c : Checked) {cause : Cause} (xs : List ℕ) (t : Trie) → c .verdict ≡ Refused cause → Passed c xs t → looked-of xs t ≡ refusing cause
 refused-looked c {cause} xs t e h = subst (λ (x : Verdict). AgreedWhere x c xs t) e h
 
 -- which way the test of a name went

@@ -8,10 +8,10 @@ use Rattle.model.specs.declared.Trie.{Trie}
 use Rattle.model.specs.Order.{none}
 use Rattle.model.specs.Files.{Slot, Sound, order-of, strings-of}
 use Rattle.model.specs.Tries.{Agrees}
-use Rattle.model.specs.Agreeing.{slotsBetween}
-use Rattle.model.specs.Format.{readFile}
-use Rattle.model.specs.Calls.{fine, lookedOf, refusing}
-use Rattle.file.specs.Sizes.{Below, Said}
+use Rattle.model.specs.Agreeing.{slots-between}
+use Rattle.model.specs.Format.{read-file}
+use Rattle.model.specs.Calls.{fine, looked-of, refusing}
+use Rattle.file.specs.Sizes.{Below, Saying}
 use Rattle.file.specs.Maps.{map-of}
 use Rattle.trie.specs.Places.{Placed}
 use Rattle.trie.specs.Strung.{Holds}
@@ -21,9 +21,9 @@ use Rattle.checking.specs.declared.Verdict.the-variants.{Fine, Refused}
 
 -- The file is sound; its slots are read, in range order and as a map; its strings are known.
 pub record Ready (c : Checked) (xs : List ℕ) : Type 0 where
-  pub said : Said (c .size) xs
+  pub said : Saying (c .size) xs
   pub slots : List Slot
-  pub is : readFile xs ≡ some (c .size .layout, slots)
+  pub is : read-file xs ≡ some (c .size .layout, slots)
   pub sound : Sound (c .size .layout .b) slots
   pub slots-inside : Below (c .survey .order) (c .size .slots)
   pub count-most : c .survey .count ≤ 64
@@ -32,18 +32,18 @@ pub record Ready (c : Checked) (xs : List ℕ) : Type 0 where
   pub used-is : c .survey .used ≡ map-of slots
   pub strings-most : c .strings .count ≤ 256
   pub few : length (strings-of slots) ≤ 256
-  pub strings-held : Holds (c .strings) (strings-of slots) (slotsBetween slots none (strings-of slots))
+  pub strings-held : Holds (c .strings) (strings-of slots) (slots-between slots none (strings-of slots))
 
 -- And the trie agrees with it, with its cells where they are said to stand among the strings.
 pub record Agreed (c : Checked) (xs : List ℕ) (t : Trie) : Type 0 where
   pub ready : Ready c xs
   pub agrees : Agrees (ready .slots) t
   pub placed : Placed t (c .places)
-  pub looked : lookedOf xs t ≡ fine (c .size .layout) (ready .slots)
+  pub looked : looked-of xs t ≡ fine (c .size .layout) (ready .slots)
 
 abbrev pub AgreedWhere : Verdict → Checked → List ℕ → Trie → Type 0
 AgreedWhere Fine c xs t = Agreed c xs t
-AgreedWhere (Refused cause) c xs t = lookedOf xs t ≡ refusing cause
+AgreedWhere (Refused cause) c xs t = looked-of xs t ≡ refusing cause
 
 abbrev pub Passed : Checked → List ℕ → Trie → Type 0
 Passed c xs t = AgreedWhere (c .verdict) c xs t

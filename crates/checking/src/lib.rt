@@ -1,8 +1,8 @@
 // R9.10: what put, remove and list look at alike, the whole file and full agreement.
 ghost use mathlib.Core.Path.{_≡_};
 ghost use Rattle.model.specs.Checks.{is-sound};
-ghost use Rattle.model.specs.Format.{checkFile};
-ghost use Rattle.file.specs.Sizes.{Said};
+ghost use Rattle.model.specs.Format.{check-file};
+ghost use Rattle.file.specs.Sizes.{Saying};
 ghost use Rattle.file.specs.Surveys.{Surveyed};
 ghost use Rattle.checking.specs.Ready.{Passed};
 use file::Header;
@@ -59,7 +59,7 @@ fn refused(cause: Cause) -> Checked
 
 // The agreement of a sound file and a trie.
 fn agreed(file: &[u8], trie: Trie, size: Size, survey: Survey) -> Checked
-    requires { ⌜ (Said size (now file)) × (Surveyed survey (now file) size) × (checkFile (now file) ≡ is-sound) ⌝ }
+    requires { ⌜ (Saying size (now file)) × (Surveyed survey (now file) size) × (check-file (now file) ≡ is-sound) ⌝ }
     ensures { λ r. ⌜ Passed r (now (file .entry)) trie ⌝ }
 {
     let order = survey.order;

@@ -1,7 +1,7 @@
 -- Bytes put together by shifts and `|`, and in the other order.
 use Rattle.model.proofs.Prelude.{List, [], _%_, _*_, _++_, _+_, _-_, _/_, _<_, _^_, _∙_, _∷_, _≡_, _≤_, ap, arith, drop, drop-cons, drop-drop, getD, length, length-drop, length-take, mod-eq-of-lt, mul-assoc, pow-suc, pow-succ', refl, suc, sym, take, take-add, take-append-drop, zero, ℕ}
 use lib.Bits.{bitOr, or-shifted, or-shifted-r}
-use Rattle.model.specs.Format.{Bytes, valueOf}
+use Rattle.model.specs.Format.{AreBytes, value-of}
 use Rattle.model.proofs.Format.{bytes-drop, bytes-take}
 use Rattle.digits.specs.Keys.{value}
 use Rattle.digits.proofs.Keys.{length-part, value-append}
@@ -14,56 +14,56 @@ pub or-below : (k a b : ℕ) → a < 2 ^ k → b * 2 ^ k < 2 ^ 64 → bitOr (b *
 or-below k a b h l = rw (mod-eq-of-lt l) (or-shifted b k a h)
 
 -- Numbers whose first byte is lowest.
-valueOf-step : (n k m : ℕ) (xs : List ℕ) → k < length xs → m ≡ suc k → valueOf (take (suc n) (drop k xs)) ≡ getD xs k 0 + 256 * valueOf (take n (drop m xs))
-unfolding valueOf
-valueOf-step n k m xs h e = rw (drop-cons xs k 0 h, e)
+value-of-step : (n k m : ℕ) (xs : List ℕ) → k < length xs → m ≡ suc k → value-of (take (suc n) (drop k xs)) ≡ getD xs k 0 + 256 * value-of (take n (drop m xs))
+unfolding value-of
+value-of-step n k m xs h e = rw (drop-cons xs k 0 h, e)
 
-pub valueOf-two : (k : ℕ) (xs : List ℕ) → k + 2 ≤ length xs → valueOf (take 2 (drop k xs)) ≡ getD xs k 0 + 256 * getD xs (k + 1) 0
-unfolding valueOf
-valueOf-two k xs h = omega (arith, valueOf-step 1 k (k + 1) xs (omega arith) (omega arith), valueOf-step 0 (k + 1) (k + 2) xs (omega arith) (omega arith))
+pub value-of-two : (k : ℕ) (xs : List ℕ) → k + 2 ≤ length xs → value-of (take 2 (drop k xs)) ≡ getD xs k 0 + 256 * getD xs (k + 1) 0
+unfolding value-of
+value-of-two k xs h = omega (arith, value-of-step 1 k (k + 1) xs (omega arith) (omega arith), value-of-step 0 (k + 1) (k + 2) xs (omega arith) (omega arith))
 
-valueOf-append : (x y : List ℕ) → valueOf (x ++ y) ≡ valueOf x + 256 ^ length x * valueOf y
-unfolding valueOf
-valueOf-append [] y = omega arith
-valueOf-append (d ∷ x) y = rw (valueOf-append x y, pow-succ' 256 (length x)) (omega (arith, mul-assoc 256 (256 ^ length x) (valueOf y)))
+value-of-append : (x y : List ℕ) → value-of (x ++ y) ≡ value-of x + 256 ^ length x * value-of y
+unfolding value-of
+value-of-append [] y = omega arith
+value-of-append (d ∷ x) y = rw (value-of-append x y, pow-succ' 256 (length x)) (omega (arith, mul-assoc 256 (256 ^ length x) (value-of y)))
 
-pub valueOf-split : (at k n : ℕ) (xs : List ℕ) → at + k + n ≤ length xs
-    → valueOf (take (k + n) (drop at xs)) ≡ valueOf (take k (drop at xs)) + 256 ^ k * valueOf (take n (drop (at + k) xs))
-valueOf-split at k n xs h =
-    rw (take-add k n (drop at xs), drop-drop k at xs, valueOf-append, length-part xs at k (omega arith))
+pub value-of-split : (at k n : ℕ) (xs : List ℕ) → at + k + n ≤ length xs
+    → value-of (take (k + n) (drop at xs)) ≡ value-of (take k (drop at xs)) + 256 ^ k * value-of (take n (drop (at + k) xs))
+value-of-split at k n xs h =
+    rw (take-add k n (drop at xs), drop-drop k at xs, value-of-append, length-part xs at k (omega arith))
 
-valueOf-lt : (x : List ℕ) → Bytes x → valueOf x < 256 ^ length x
-unfolding valueOf
-valueOf-lt [] h = omega arith
-valueOf-lt (d ∷ x) h = omega (arith, h .0, valueOf-lt x (h .1), pow-suc 256 (length x))
+value-of-lt : (x : List ℕ) → AreBytes x → value-of x < 256 ^ length x
+unfolding value-of
+value-of-lt [] h = omega arith
+value-of-lt (d ∷ x) h = omega (arith, h .0, value-of-lt x (h .1), pow-suc 256 (length x))
 
 -- The other order.
-pub swap-two : (x : List ℕ) → Bytes x → length x ≡ 2 → (w : ℕ) → w ≡ valueOf x → w % 256 * 256 + w / 256 ≡ value x
-unfolding value valueOf
+pub swap-two : (x : List ℕ) → AreBytes x → length x ≡ 2 → (w : ℕ) → w ≡ value-of x → w % 256 * 256 + w / 256 ≡ value x
+unfolding value value-of
 swap-two [] f e w h = absurd (omega arith)
 swap-two (a ∷ []) f e w h = absurd (omega arith)
 swap-two (a ∷ b ∷ []) f e w h = omega (arith, f .0, f .1 .0)
 swap-two (a ∷ b ∷ c ∷ x) f e w h = absurd (omega arith)
 
 -- A number's halves are those of the string.
-module _ (n : ℕ) (x : List ℕ) (f : Bytes x) (e : length x ≡ n + n) where
+module _ (n : ℕ) (x : List ℕ) (f : AreBytes x) (e : length x ≡ n + n) where
   pub length-lower : length (take n x) ≡ n
   length-lower = omega (arith, length-take n x)
 
   pub length-upper : length (drop n x) ≡ n
   length-upper = omega (arith, length-drop n x)
 
-  pub bytes-lower : Bytes (take n x)
+  pub bytes-lower : AreBytes (take n x)
   bytes-lower = bytes-take n x f
 
-  pub bytes-upper : Bytes (drop n x)
+  pub bytes-upper : AreBytes (drop n x)
   bytes-upper = bytes-drop n x f
 
-  pub halves : valueOf x ≡ valueOf (take n x) + 256 ^ n * valueOf (drop n x)
-  halves = ap valueOf (sym (take-append-drop n x)) ∙ valueOf-append (take n x) (drop n x) ∙ ap (λ (m : ℕ). valueOf (take n x) + 256 ^ m * valueOf (drop n x)) length-lower
+  pub halves : value-of x ≡ value-of (take n x) + 256 ^ n * value-of (drop n x)
+  halves = ap value-of (sym (take-append-drop n x)) ∙ value-of-append (take n x) (drop n x) ∙ ap (λ (m : ℕ). value-of (take n x) + 256 ^ m * value-of (drop n x)) length-lower
 
-  pub lower-lt : valueOf (take n x) < 256 ^ n
-  lower-lt = rw length-lower at (valueOf-lt (take n x) bytes-lower)
+  pub lower-lt : value-of (take n x) < 256 ^ n
+  lower-lt = rw length-lower at (value-of-lt (take n x) bytes-lower)
 
   pub value-halves : value x ≡ value (take n x) * 256 ^ n + value (drop n x)
   value-halves = ap value (sym (take-append-drop n x)) ∙ value-append (take n x) (drop n x) ∙ ap (λ (m : ℕ). value (take n x) * 256 ^ m + value (drop n x)) length-upper

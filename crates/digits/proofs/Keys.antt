@@ -1,16 +1,16 @@
 -- Strings as numbers: a number's parts, and the one order.
 use Rattle.model.proofs.Prelude.{List, [], _%_, _&&_, _*_, _++_, _+_, _-_, _<_, _^_, _∙_, _∷_, _≡_, _≤_, add-mul, and-assoc, ap, arith, cond, decLe, decLt, drop, drop-drop, eq-eqb, eqb, eqb-true, false, getD, le-leb, le-ltb, leb, length, length-append, length-drop, length-take, lt-leb, lt-ltb, ltb, mul-assoc, mul-le-mul-right, ne-eqb, not, one-le-pow, pow-suc, refl, replicate, sub-zero, suc, suc-mul, sym, take, take-add, take-at, take-take, true, unary-clauses, zero, ℕ, ℕ-discrete}
 use lib.Pow.{pow-add}
-use Rattle.model.specs.Names.{Digits, atMost}
-use Rattle.model.specs.Format.{Bytes}
+use Rattle.model.specs.Names.{Digits, is-at-most}
+use Rattle.model.specs.Format.{AreBytes}
 use Rattle.model.proofs.Lists.{drop-take, length-made}
 use Rattle.model.proofs.Order.{le-antisym, le-refl}
-use Rattle.model.proofs.Names.{atMost-le, both-true, le-atMost}
+use Rattle.model.proofs.Names.{both-true, is-at-most-le, le-is-at-most}
 use Rattle.model.proofs.Format.{bytes-drop, bytes-each, bytes-made, bytes-take}
 use Rattle.digits.proofs.Laws.{pair-lt}
-use Rattle.digits.specs.Keys.{continued, isZero, value}
+use Rattle.digits.specs.Keys.{continued, is-all-zero, value}
 
-pub value-lt : (x : List ℕ) → Bytes x → value x < 256 ^ length x
+pub value-lt : (x : List ℕ) → AreBytes x → value x < 256 ^ length x
 unfolding value
 value-lt [] h = omega arith
 value-lt (d ∷ x) h =
@@ -62,7 +62,7 @@ cover-append zero (d ∷ x) y = let e : 0 - suc (length x) ≡ 0 - length x = om
 cover-append (suc k) [] y = simp unary-clauses
 cover-append (suc k) (d ∷ x) y = simp unary-clauses (ap (λ (r : List ℕ). d ∷ r) (cover-append k x y))
 
-bytes-cover : (k : ℕ) (x : List ℕ) → Bytes x → Bytes (cover k x)
+bytes-cover : (k : ℕ) (x : List ℕ) → AreBytes x → AreBytes (cover k x)
 unfolding cover
 bytes-cover zero [] h = tt
 bytes-cover zero (d ∷ x) h = (omega arith, bytes-cover zero x (h .1))
@@ -70,11 +70,11 @@ bytes-cover (suc k) [] h = tt
 bytes-cover (suc k) (d ∷ x) h = (h .0, bytes-cover k x (h .1))
 
 -- Where the bytes from k on are zero, one sum makes them 0xFF.
-pub value-cover : (k : ℕ) (x : List ℕ) → isZero (drop k x) ≡ true → value (cover k x) + 1 ≡ value x + 256 ^ (length x - k)
-unfolding value cover isZero
+pub value-cover : (k : ℕ) (x : List ℕ) → is-all-zero (drop k x) ≡ true → value (cover k x) + 1 ≡ value x + 256 ^ (length x - k)
+unfolding value cover is-all-zero
 value-cover zero [] h = refl
 value-cover zero (d ∷ x) h =
-    let p = both-true (eqb d 0) (isZero x) h in
+    let p = both-true (eqb d 0) (is-all-zero x) h in
     let e : d ≡ 0 = eqb-true d 0 (p .0) in
     let r = value-cover zero x (p .1) in
     rw (e, length-cover zero x, sub-zero) (omega (arith, simp sub-zero at r, pow-suc 256 (length x)))
@@ -97,10 +97,10 @@ pub cover-continued : (k : ℕ) (x : List ℕ) → length x ≡ 24 → cover k x
 unfolding continued
 cover-continued k x h = cover-is k x 24 (omega arith) ∙ ap (λ (n : ℕ). take n (take k x ++ replicate 24 0xFF)) h
 
-zero-append : (x y : List ℕ) → isZero (x ++ y) ≡ (isZero x && isZero y)
-unfolding isZero
+zero-append : (x y : List ℕ) → is-all-zero (x ++ y) ≡ (is-all-zero x && is-all-zero y)
+unfolding is-all-zero
 zero-append [] y = refl
-zero-append (d ∷ x) y = rw (zero-append x y) (sym (and-assoc (eqb d 0) (isZero x) (isZero y)))
+zero-append (d ∷ x) y = rw (zero-append x y) (sym (and-assoc (eqb d 0) (is-all-zero x) (is-all-zero y)))
 
 drop-append : (k : ℕ) (x y : List ℕ) → drop k (x ++ y) ≡ drop k x ++ drop (k - length x) y
 drop-append zero [] y = refl
@@ -108,28 +108,28 @@ drop-append zero (d ∷ x) y = let e : 0 - suc (length x) ≡ 0 = omega arith in
 drop-append (suc k) [] y = simp unary-clauses
 drop-append (suc k) (d ∷ x) y = simp unary-clauses (drop-append k x y)
 
-zero-split : (k n : ℕ) (x y : List ℕ) → length x ≡ n → isZero (drop k (x ++ y)) ≡ true → (isZero (drop k x) ≡ true) × (isZero (drop (k - n) y) ≡ true)
-zero-split k n x y e h = both-true (isZero (drop k x)) (isZero (drop (k - n) y)) (rw (drop-append k x y, zero-append, e) at h)
+zero-split : (k n : ℕ) (x y : List ℕ) → length x ≡ n → is-all-zero (drop k (x ++ y)) ≡ true → (is-all-zero (drop k x) ≡ true) × (is-all-zero (drop (k - n) y) ≡ true)
+zero-split k n x y e h = both-true (is-all-zero (drop k x)) (is-all-zero (drop (k - n) y)) (rw (drop-append k x y, zero-append, e) at h)
 
 cover-split : (k n : ℕ) (x y : List ℕ) → length x ≡ n → length y ≡ 8 → value (cover k (x ++ y)) ≡ value (cover k x) * 2 ^ 64 + value (cover (k - n) y)
 cover-split k n x y e f = rw (cover-append k x y, value-append, e, length-cover (k - n) y, f)
 
-pub bytes-part : (s : List ℕ) (n at : ℕ) → ((i : ℕ) → getD s i 0 < 256) → Bytes (take n (drop at s))
+pub bytes-part : (s : List ℕ) (n at : ℕ) → ((i : ℕ) → getD s i 0 < 256) → AreBytes (take n (drop at s))
 bytes-part s n at h = bytes-take n (drop at s) (bytes-drop at s (bytes-each s h))
 
 -- A word and the fill of what lies behind the string's end: nothing wraps.
-pub word-filled : (x : List ℕ) (k w g r : ℕ) → Bytes x → length x ≡ 8 → isZero (drop k x) ≡ true → w ≡ value x → g + 1 ≡ 256 ^ (8 - k) → r ≡ (w + g) % 2 ^ 64
+pub word-filled : (x : List ℕ) (k w g r : ℕ) → AreBytes x → length x ≡ 8 → is-all-zero (drop k x) ≡ true → w ≡ value x → g + 1 ≡ 256 ^ (8 - k) → r ≡ (w + g) % 2 ^ 64
     → r + 1 ≡ value x + 256 ^ (8 - k)
 word-filled x k w g r b e z f h q =
     let c : value (cover k x) + 1 ≡ value x + 256 ^ (8 - k) = rw e at (value-cover k x z) in
     let l : value (cover k x) < 256 ^ 8 = rw (length-cover k x, e) at (value-lt (cover k x) (bytes-cover k x b)) in
     omega arith
 
-word-covered : (x : List ℕ) (k r : ℕ) → length x ≡ 8 → isZero (drop k x) ≡ true → r + 1 ≡ value x + 256 ^ (8 - k) → r ≡ value (cover k x)
+word-covered : (x : List ℕ) (k r : ℕ) → length x ≡ 8 → is-all-zero (drop k x) ≡ true → r + 1 ≡ value x + 256 ^ (8 - k) → r ≡ value (cover k x)
 word-covered x k r e z h = let c : value (cover k x) + 1 ≡ value x + 256 ^ (8 - k) = rw e at (value-cover k x z) in omega arith
 
 -- Three such words are the bound's key.
-module _ (s : List ℕ) (at len a b c : ℕ) (room : at + 24 ≤ length s) (fits : len ≤ 24) (behind : isZero (take (24 - len) (drop (at + len) s)) ≡ true) where
+module _ (s : List ℕ) (at len a b c : ℕ) (room : at + 24 ≤ length s) (fits : len ≤ 24) (behind : is-all-zero (take (24 - len) (drop (at + len) s)) ≡ true) where
   abbrev x : List ℕ
   x = take 8 (drop at s)
 
@@ -145,17 +145,17 @@ module _ (s : List ℕ) (at len a b c : ℕ) (room : at + 24 ≤ length s) (fits
   length-both : length (x ++ y) ≡ 16
   length-both = omega (arith, length-append x y, length-part s at 8 (omega arith), length-part s (at + 8) 8 (omega arith))
 
-  zeros : isZero (drop len ((x ++ y) ++ z)) ≡ true
+  zeros : is-all-zero (drop len ((x ++ y) ++ z)) ≡ true
   zeros = rw (← whole, drop-take len 24 (drop at s), drop-drop len at s) behind
 
-  pub bound-key : (isZero (drop (len - 0) x) ≡ true → a + 1 ≡ value x + 256 ^ (8 - (len - 0)))
-      → (isZero (drop (len - 8) y) ≡ true → b + 1 ≡ value y + 256 ^ (8 - (len - 8)))
-      → (isZero (drop (len - 16) z) ≡ true → c + 1 ≡ value z + 256 ^ (8 - (len - 16)))
+  pub bound-key : (is-all-zero (drop (len - 0) x) ≡ true → a + 1 ≡ value x + 256 ^ (8 - (len - 0)))
+      → (is-all-zero (drop (len - 8) y) ≡ true → b + 1 ≡ value y + 256 ^ (8 - (len - 8)))
+      → (is-all-zero (drop (len - 16) z) ≡ true → c + 1 ≡ value z + 256 ^ (8 - (len - 16)))
       → (a * 2 ^ 64 + b) * 2 ^ 64 + c ≡ value (continued (take len (drop at s)))
   bound-key f g h =
       let p = zero-split len 16 (x ++ y) z length-both zeros in
       let q = zero-split len 8 x y (length-part s at 8 (omega arith)) (p .0) in
-      let f′ : isZero (drop len x) ≡ true → a + 1 ≡ value x + 256 ^ (8 - len) = simp sub-zero at f in
+      let f′ : is-all-zero (drop len x) ≡ true → a + 1 ≡ value x + 256 ^ (8 - len) = simp sub-zero at f in
       let ea : a ≡ value (cover len x) = word-covered x len a (length-part s at 8 (omega arith)) (q .0) (f′ (q .0)) in
       let eb : b ≡ value (cover (len - 8) y) = word-covered y (len - 8) b (length-part s (at + 8) 8 (omega arith)) (q .1) (g (q .1)) in
       let ec : c ≡ value (cover (len - 16) z) = word-covered z (len - 16) c (length-part s (at + 16) 8 (omega arith)) (p .1) (h (p .1)) in
@@ -182,17 +182,17 @@ ltb-leb a b = elim (decLe b a) [
 ]
 
 -- Two strings with as many bytes.
-pub value-atMost : (x y : List ℕ) → Bytes x → Bytes y → length x ≡ length y → leb (value x) (value y) ≡ atMost x y
-unfolding atMost value
-value-atMost [] [] f g e = refl
-value-atMost [] (b ∷ y) f g e = absurd (omega arith)
-value-atMost (a ∷ x) [] f g e = absurd (omega arith)
-value-atMost (a ∷ x) (b ∷ y) f g e =
+pub value-is-at-most : (x y : List ℕ) → AreBytes x → AreBytes y → length x ≡ length y → leb (value x) (value y) ≡ is-at-most x y
+unfolding is-at-most value
+value-is-at-most [] [] f g e = refl
+value-is-at-most [] (b ∷ y) f g e = absurd (omega arith)
+value-is-at-most (a ∷ x) [] f g e = absurd (omega arith)
+value-is-at-most (a ∷ x) (b ∷ y) f g e =
     let l : length x ≡ length y = omega arith in
-    rw l (go (decLt a b) (ℕ-discrete a b) l (value-atMost x y (f .1) (g .1) l))
+    rw l (go (decLt a b) (ℕ-discrete a b) l (value-is-at-most x y (f .1) (g .1) l))
   where
-    go : Dec (a < b) → Dec (a ≡ b) → length x ≡ length y → leb (value x) (value y) ≡ atMost x y
-        → leb (a * 256 ^ length y + value x) (b * 256 ^ length y + value y) ≡ cond (ltb a b) true (cond (eqb a b) (atMost x y) false)
+    go : Dec (a < b) → Dec (a ≡ b) → length x ≡ length y → leb (value x) (value y) ≡ is-at-most x y
+        → leb (a * 256 ^ length y + value x) (b * 256 ^ length y + value y) ≡ cond (ltb a b) true (cond (eqb a b) (is-at-most x y) false)
     go (yes h) d l r =
         let v : value x < 256 ^ length y = rw l at (value-lt x (f .1)) in
         let p = pair-lt (256 ^ length y) a (value x) b (value y) h v in
@@ -203,11 +203,11 @@ value-atMost (a ∷ x) (b ∷ y) f g e =
         let p = pair-lt (256 ^ length y) b (value y) a (value x) k (value-lt y (g .1)) in
         rw (lt-leb (a * 256 ^ length y + value x) (b * 256 ^ length y + value y) p, le-ltb a b (omega arith), ne-eqb a b q)
 
-pub value-same : (x y : List ℕ) → Bytes x → Bytes y → length x ≡ length y → value x ≡ value y → x ≡ y
+pub value-same : (x y : List ℕ) → AreBytes x → AreBytes y → length x ≡ length y → value x ≡ value y → x ≡ y
 value-same x y f g e v =
     le-antisym
-    (atMost-le x y (sym (value-atMost x y f g e) ∙ le-leb (value x) (value y) (omega arith)))
-    (atMost-le y x (sym (value-atMost y x g f (sym e)) ∙ le-leb (value y) (value x) (omega arith)))
+    (is-at-most-le x y (sym (value-is-at-most x y f g e) ∙ le-leb (value x) (value y) (omega arith)))
+    (is-at-most-le y x (sym (value-is-at-most y x g f (sym e)) ∙ le-leb (value y) (value x) (omega arith)))
 
 -- Each digit is below the one that continues a bound.
 abbrev pub Under : List ℕ → Type 0
@@ -218,7 +218,7 @@ pub digits-under : (lo : ℕ) (x : List ℕ) → Digits lo x → Under x
 digits-under lo [] h = tt
 digits-under lo (d ∷ x) h = (omega (arith, h .1), digits-under lo x (h .2))
 
-pub under-bytes : (x : List ℕ) → Under x → Bytes x
+pub under-bytes : (x : List ℕ) → Under x → AreBytes x
 under-bytes [] h = tt
 under-bytes (d ∷ x) h = (omega (arith, h .0), under-bytes x (h .1))
 
@@ -226,7 +226,7 @@ pub length-continued : (p : List ℕ) → length (continued p) ≡ 24
 unfolding continued
 length-continued p = length-made 24 0xFF p
 
-pub bytes-continued : (p : List ℕ) → Bytes p → Bytes (continued p)
+pub bytes-continued : (p : List ℕ) → AreBytes p → AreBytes (continued p)
 unfolding continued
 bytes-continued p h = bytes-made 24 0xFF p (omega arith) h
 
@@ -234,13 +234,13 @@ pub continued-whole : (n : List ℕ) → length n ≡ 24 → continued n ≡ n
 unfolding continued
 continued-whole n e = take-at n (replicate 24 0xFF) 24 e
 
-continued-atMost : (p q : List ℕ) → Under p → Under q → length p ≤ 24 → length q ≤ 24 → atMost (continued p) (continued q) ≡ atMost p q
-unfolding atMost continued
-continued-atMost p q f g = go 24 24 p q f g (omega arith)
+continued-is-at-most : (p q : List ℕ) → Under p → Under q → length p ≤ 24 → length q ≤ 24 → is-at-most (continued p) (continued q) ≡ is-at-most p q
+unfolding is-at-most continued
+continued-is-at-most p q f g = go 24 24 p q f g (omega arith)
   where
     go : (k m : ℕ) (p q : List ℕ) → Under p → Under q → k ≤ m → length p ≤ k → length q ≤ k
-        → atMost (take k (p ++ replicate m 0xFF)) (take k (q ++ replicate m 0xFF)) ≡ atMost p q
-    go k m [] [] f g h u v = le-atMost (take k (replicate m 0xFF)) (take k (replicate m 0xFF)) (le-refl (take k (replicate m 0xFF)))
+        → is-at-most (take k (p ++ replicate m 0xFF)) (take k (q ++ replicate m 0xFF)) ≡ is-at-most p q
+    go k m [] [] f g h u v = le-is-at-most (take k (replicate m 0xFF)) (take k (replicate m 0xFF)) (le-refl (take k (replicate m 0xFF)))
     go zero m [] (b ∷ q) f g h u v = absurd (omega arith)
     go (suc k) zero [] (b ∷ q) f g h u v = absurd (omega arith)
     go (suc k) (suc m) [] (b ∷ q) f g h u v = rw (le-ltb 0xFF b (omega (arith, g .0)), ne-eqb 0xFF b (λ e. omega (arith, g .0)))
@@ -251,24 +251,24 @@ continued-atMost p q f g = go 24 24 p q f g (omega arith)
 
 -- Two bounds, continued.
 module _ (p q : List ℕ) (f : Under p) (g : Under q) (u : length p ≤ 24) (v : length q ≤ 24) where
-  pub bound-atMost : leb (value (continued p)) (value (continued q)) ≡ atMost p q
-  bound-atMost =
-      value-atMost (continued p) (continued q) (bytes-continued p (under-bytes p f)) (bytes-continued q (under-bytes q g)) (length-continued p ∙ sym (length-continued q))
-      ∙ continued-atMost p q f g u v
+  pub bound-is-at-most : leb (value (continued p)) (value (continued q)) ≡ is-at-most p q
+  bound-is-at-most =
+      value-is-at-most (continued p) (continued q) (bytes-continued p (under-bytes p f)) (bytes-continued q (under-bytes q g)) (length-continued p ∙ sym (length-continued q))
+      ∙ continued-is-at-most p q f g u v
 
-pub bound-below : (p q : List ℕ) → Under p → Under q → length p ≤ 24 → length q ≤ 24 → ltb (value (continued p)) (value (continued q)) ≡ not (atMost q p)
-bound-below p q f g u v = ltb-leb (value (continued p)) (value (continued q)) ∙ ap not (bound-atMost q p g f v u)
+pub bound-below : (p q : List ℕ) → Under p → Under q → length p ≤ 24 → length q ≤ 24 → ltb (value (continued p)) (value (continued q)) ≡ not (is-at-most q p)
+bound-below p q f g u v = ltb-leb (value (continued p)) (value (continued q)) ∙ ap not (bound-is-at-most q p g f v u)
 
 pub bound-same : (p q : List ℕ) → Under p → Under q → length p ≤ 24 → length q ≤ 24 → value (continued p) ≡ value (continued q) → p ≡ q
 bound-same p q f g u v e =
     le-antisym
-    (atMost-le p q (sym (bound-atMost p q f g u v) ∙ le-leb (value (continued p)) (value (continued q)) (omega arith)))
-    (atMost-le q p (sym (bound-atMost q p g f v u) ∙ le-leb (value (continued q)) (value (continued p)) (omega arith)))
+    (is-at-most-le p q (sym (bound-is-at-most p q f g u v) ∙ le-leb (value (continued p)) (value (continued q)) (omega arith)))
+    (is-at-most-le q p (sym (bound-is-at-most q p g f v u) ∙ le-leb (value (continued q)) (value (continued p)) (omega arith)))
 
 -- A filled name and a bound.
 module _ (n p : List ℕ) (f : Under n) (g : Under p) (e : length n ≡ 24) (v : length p ≤ 24) where
-  pub name-atMost : leb (value n) (value (continued p)) ≡ atMost n p
-  name-atMost = ap (λ (x : List ℕ). leb (value x) (value (continued p))) (sym (continued-whole n e)) ∙ bound-atMost n p f g (omega arith) v
+  pub name-is-at-most : leb (value n) (value (continued p)) ≡ is-at-most n p
+  name-is-at-most = ap (λ (x : List ℕ). leb (value x) (value (continued p))) (sym (continued-whole n e)) ∙ bound-is-at-most n p f g (omega arith) v
 
 -- No limit is below every string that begins with more than a zero.
 pub value-some : (x : List ℕ) → 0 < getD x 0 0 → 0 < value x

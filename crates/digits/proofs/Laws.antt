@@ -1,12 +1,12 @@
 -- What one turn of each loop does to the definition that its function meets.
 use Rattle.model.proofs.Prelude.{Bool, List, [], _&&_, _*_, _++_, _+_, _<_, _^_, _∙_, _∷_, _≡_, _≤_, _⊎_, add-one, and-false, and-true, append-nil, arith, decLt, drop, drop-cons, drop-of-length-le, eq-eqb, eqb, false, getD, le-leb, le-ltb, leb, length, length-take, lt-leb, lt-ltb, ltb, mul-le-mul-right, ne-eqb, not, paste-suc, refl, replicate, set, suc, suc-mul, sym, take, take-all, take-append-le, take-nil, true, zero-add, ℕ, ℕ-discrete, ⊎-elim}
-use Rattle.model.specs.Names.{areDigits, filled, firstOf, isBlank, lastOf, legalBound, legalFilled, legalName, notGreater, within}
+use Rattle.model.specs.Names.{are-digits, filled, first-digit, is-blank-digit, is-legal-bound, is-legal-filled, is-legal-name, last-of, not-greater, within}
 use Rattle.model.specs.Order.{diff, diff-at}
 use Rattle.model.proofs.Lists.{drop-replicate}
 use Rattle.model.proofs.Order.{diff-apart}
 use Rattle.model.proofs.Names.{filled-short, no-blank}
 use Rattle.digits.specs.declared.Key.{Key}
-use Rattle.digits.specs.Keys.{isZero, keyValue}
+use Rattle.digits.specs.Keys.{is-all-zero, key-value}
 
 -- A check that gathers: w of the whole is a so far and b of what is left.
 pub gathers : (w a b c d r : Bool) → w ≡ (a && b) → b ≡ (c && d) → r ≡ (a && c) → w ≡ (r && d)
@@ -24,43 +24,43 @@ larger-zero x y r hx hy h = elim (ℕ-discrete r 0) [
 ]
 
 module _ (s : List ℕ) (i : ℕ) where
-  pub zero-next : i < length s → isZero (drop i s) ≡ (eqb (getD s i 0) 0 && isZero (drop (i + 1) s))
-  unfolding isZero
+  pub zero-next : i < length s → is-all-zero (drop i s) ≡ (eqb (getD s i 0) 0 && is-all-zero (drop (i + 1) s))
+  unfolding is-all-zero
   zero-next h = rw (add-one, drop-cons s i 0)
 
-  pub zero-end : length s ≤ i → isZero (drop i s) ≡ true
-  unfolding isZero
+  pub zero-end : length s ≤ i → is-all-zero (drop i s) ≡ true
+  unfolding is-all-zero
   zero-end h = rw (drop-of-length-le s h)
 
-  pub digits-next : (lo : ℕ) → i < length s → areDigits lo (drop i s) ≡ (leb lo (getD s i 0) && leb (getD s i 0) 0x7D && areDigits lo (drop (i + 1) s))
-  unfolding areDigits
+  pub digits-next : (lo : ℕ) → i < length s → are-digits lo (drop i s) ≡ (leb lo (getD s i 0) && leb (getD s i 0) 0x7D && are-digits lo (drop (i + 1) s))
+  unfolding are-digits
   digits-next lo h = rw (add-one, drop-cons s i 0)
 
-  pub digits-end : (lo : ℕ) → length s ≤ i → areDigits lo (drop i s) ≡ true
-  unfolding areDigits
+  pub digits-end : (lo : ℕ) → length s ≤ i → are-digits lo (drop i s) ≡ true
+  unfolding are-digits
   digits-end lo h = rw (drop-of-length-le s h)
 
 -- A name within a bound, decided by the digits at i.
 module _ (n p : List ℕ) (i : ℕ) where
   within-less : i < length n → i < length p → getD n i 0 < getD p i 0 → within (drop i n) (drop i p) ≡ true
-  unfolding within notGreater
+  unfolding within not-greater
   within-less hn hp h = rw (drop-cons n i 0 hn, drop-cons p i 0 hp, lt-ltb (getD n i 0) (getD p i 0) h)
 
   within-more : i < length n → i < length p → getD p i 0 < getD n i 0 → within (drop i n) (drop i p) ≡ false
-  unfolding within notGreater
+  unfolding within not-greater
   within-more hn hp h = rw (drop-cons n i 0 hn, drop-cons p i 0 hp, le-ltb (getD n i 0) (getD p i 0) (omega arith), ne-eqb (getD n i 0) (getD p i 0) (λ e. omega arith))
 
   within-short : length n ≤ i → within (drop i n) (drop i p) ≡ true
-  unfolding within notGreater
+  unfolding within not-greater
   within-short h = rw (drop-of-length-le n h, take-nil)
 
   within-end : length p ≤ i → within (drop i n) (drop i p) ≡ true
-  unfolding within notGreater
+  unfolding within not-greater
   within-end h = rw (drop-of-length-le p h)
 
 -- The digits that a name and a bound share decide nothing.
 within-shared : (n p : List ℕ) → within n p ≡ within (drop (diff n p) n) (drop (diff n p) p)
-unfolding within notGreater
+unfolding within not-greater
 within-shared [] p = refl
 within-shared (a ∷ n) [] = refl
 within-shared (a ∷ n) (b ∷ p) = go (ℕ-discrete a b) (within-shared n p)
@@ -117,19 +117,19 @@ module _ (x y : List ℕ) (i : ℕ) where
   diff-end h = rw (drop-of-length-le x h)
 
 -- The first i digits of a name, filled.
-unfoldable pub filledTo : List ℕ → ℕ → List ℕ
-filledTo n i = take i n ++ drop i (replicate 24 0x20)
+unfoldable pub filled-to : List ℕ → ℕ → List ℕ
+filled-to n i = take i n ++ drop i (replicate 24 0x20)
 
-pub filled-next : (n : List ℕ) (i : ℕ) → i < 24 → i < length n → set (filledTo n i) i (getD n i 0) ≡ filledTo n (i + 1)
-unfolding filledTo
+pub filled-next : (n : List ℕ) (i : ℕ) → i < 24 → i < length n → set (filled-to n i) i (getD n i 0) ≡ filled-to n (i + 1)
+unfolding filled-to
 filled-next n i h k = rw add-one (simp zero-add at (paste-suc (replicate 24 0x20) 0 n i 0 (omega arith) k))
 
-pub filled-full : (n : List ℕ) (i : ℕ) → i ≡ 24 → 24 ≤ length n → filledTo n i ≡ filled n
-unfolding filledTo filled
+pub filled-full : (n : List ℕ) (i : ℕ) → i ≡ 24 → 24 ≤ length n → filled-to n i ≡ filled n
+unfolding filled-to filled
 filled-full n i e h = rw (e, append-nil, take-append-le 24 n (replicate 24 0x20) h)
 
-pub filled-all : (n : List ℕ) (i : ℕ) → i ≡ length n → i ≤ 24 → filledTo n i ≡ filled n
-unfolding filledTo
+pub filled-all : (n : List ℕ) (i : ℕ) → i ≡ length n → i ≤ 24 → filled-to n i ≡ filled n
+unfolding filled-to
 filled-all n i e h = rw (e, take-all (length n) n (omega arith), drop-replicate) (sym (filled-short n (omega arith)))
 
 -- Two numbers as one, in a base m.
@@ -141,44 +141,44 @@ pair-last m a b a′ b′ e h = rw e (omega arith)
 
 -- Keys stand by their first word that differs.
 module _ (x y : Key) where
-  pub lt-first : x .a < y .a → x .b < 2 ^ 64 → x .c < 2 ^ 64 → keyValue x < keyValue y
-  unfolding keyValue
+  pub lt-first : x .a < y .a → x .b < 2 ^ 64 → x .c < 2 ^ 64 → key-value x < key-value y
+  unfolding key-value
   lt-first h b c = pair-lt (2 ^ 64) (x .a * 2 ^ 64 + x .b) (x .c) (y .a * 2 ^ 64 + y .b) (y .c) (pair-lt (2 ^ 64) (x .a) (x .b) (y .a) (y .b) h b) c
 
-  pub lt-second : x .a ≡ y .a → x .b < y .b → x .c < 2 ^ 64 → keyValue x < keyValue y
-  unfolding keyValue
+  pub lt-second : x .a ≡ y .a → x .b < y .b → x .c < 2 ^ 64 → key-value x < key-value y
+  unfolding key-value
   lt-second e h c = pair-lt (2 ^ 64) (x .a * 2 ^ 64 + x .b) (x .c) (y .a * 2 ^ 64 + y .b) (y .c) (pair-last (2 ^ 64) (x .a) (x .b) (y .a) (y .b) e h) c
 
-  pub lt-third : x .a ≡ y .a → x .b ≡ y .b → x .c < y .c → keyValue x < keyValue y
-  unfolding keyValue
+  pub lt-third : x .a ≡ y .a → x .b ≡ y .b → x .c < y .c → key-value x < key-value y
+  unfolding key-value
   lt-third e f h = pair-last (2 ^ 64) (x .a * 2 ^ 64 + x .b) (x .c) (y .a * 2 ^ 64 + y .b) (y .c) (rw (e, f)) h
 
-  pub same-key : x .a ≡ y .a → x .b ≡ y .b → x .c ≡ y .c → keyValue x ≡ keyValue y
-  unfolding keyValue
+  pub same-key : x .a ≡ y .a → x .b ≡ y .b → x .c ≡ y .c → key-value x ≡ key-value y
+  unfolding key-value
   same-key e f g = rw (e, f, g)
 
 module _ (x y : Key) (a : x .a ≡ y .a) (b : x .b ≡ y .b) where
-  pub below-last : ltb (x .c) (y .c) ≡ ltb (keyValue x) (keyValue y)
+  pub below-last : ltb (x .c) (y .c) ≡ ltb (key-value x) (key-value y)
   below-last = elim (decLt (x .c) (y .c)) [
-    | yes h ↦ lt-ltb (x .c) (y .c) h ∙ sym (lt-ltb (keyValue x) (keyValue y) (lt-third x y a b h))
-    | no h ↦ le-ltb (x .c) (y .c) (omega arith) ∙ sym (le-ltb (keyValue x) (keyValue y) (le (ℕ-discrete (x .c) (y .c)) h))
+    | yes h ↦ lt-ltb (x .c) (y .c) h ∙ sym (lt-ltb (key-value x) (key-value y) (lt-third x y a b h))
+    | no h ↦ le-ltb (x .c) (y .c) (omega arith) ∙ sym (le-ltb (key-value x) (key-value y) (le (ℕ-discrete (x .c) (y .c)) h))
   ]
     where
-      le : Dec (x .c ≡ y .c) → (x .c < y .c → ⊥) → keyValue y ≤ keyValue x
+      le : Dec (x .c ≡ y .c) → (x .c < y .c → ⊥) → key-value y ≤ key-value x
       le (yes e) h = omega (arith, same-key x y a b e)
       le (no n) h = omega (arith, lt-third y x (sym a) (sym b) (omega arith))
 
-  pub same-last : eqb (x .c) (y .c) ≡ eqb (keyValue x) (keyValue y)
+  pub same-last : eqb (x .c) (y .c) ≡ eqb (key-value x) (key-value y)
   same-last = elim (ℕ-discrete (x .c) (y .c)) [
-    | yes e ↦ eq-eqb (x .c) (y .c) e ∙ sym (eq-eqb (keyValue x) (keyValue y) (same-key x y a b e))
-    | no n ↦ ne-eqb (x .c) (y .c) n ∙ sym (ne-eqb (keyValue x) (keyValue y) (λ e. differ (decLt (x .c) (y .c)) n e))
+    | yes e ↦ eq-eqb (x .c) (y .c) e ∙ sym (eq-eqb (key-value x) (key-value y) (same-key x y a b e))
+    | no n ↦ ne-eqb (x .c) (y .c) n ∙ sym (ne-eqb (key-value x) (key-value y) (λ e. differ (decLt (x .c) (y .c)) n e))
   ]
     where
-      differ : Dec (x .c < y .c) → (x .c ≡ y .c → ⊥) → keyValue x ≡ keyValue y → ⊥
+      differ : Dec (x .c < y .c) → (x .c ≡ y .c → ⊥) → key-value x ≡ key-value y → ⊥
       differ (yes h) n e = omega (arith, lt-third x y a b h)
       differ (no h) n e = omega (arith, lt-third y x (sym a) (sym b) (omega arith))
 
-module _ (x y : Key) (xc : x .c < 2 ^ 64) (yc : y .c < 2 ^ 64) (e : keyValue x ≡ keyValue y) where
+module _ (x y : Key) (xc : x .c < 2 ^ 64) (yc : y .c < 2 ^ 64) (e : key-value x ≡ key-value y) where
   pub same-first : x .b < 2 ^ 64 → y .b < 2 ^ 64 → x .a ≡ y .a
   same-first xb yb = elim (decLt (x .a) (y .a)) [
     | yes h ↦ absurd (omega (arith, lt-first x y h xb xc))
@@ -192,37 +192,37 @@ module _ (x y : Key) (xc : x .c < 2 ^ 64) (yc : y .c < 2 ^ 64) (e : keyValue x �
   ]
 
 -- A name is legal where neither its first nor its last digit is a blank and all are digits.
-pub no-name : (n : List ℕ) → length n < 1 → legalName n ≡ false
-unfolding legalName
+pub no-name : (n : List ℕ) → length n < 1 → is-legal-name n ≡ false
+unfolding is-legal-name
 no-name n h = rw (lt-leb 1 (length n) h)
 
-pub long-name : (n : List ℕ) → 24 < length n → legalName n ≡ false
-unfolding legalName
+pub long-name : (n : List ℕ) → 24 < length n → is-legal-name n ≡ false
+unfolding is-legal-name
 long-name n h = rw (lt-leb (length n) 24 h, and-false (leb 1 (length n)))
 
-pub blank-first : (n : List ℕ) → firstOf n ≡ 0x20 → legalName n ≡ false
-unfolding legalName
-blank-first n e = rw (eq-eqb (firstOf n) 0x20 e, and-false (leb 1 (length n) && leb (length n) 24 && areDigits 0x20 n))
+pub blank-first : (n : List ℕ) → first-digit n ≡ 0x20 → is-legal-name n ≡ false
+unfolding is-legal-name
+blank-first n e = rw (eq-eqb (first-digit n) 0x20 e, and-false (leb 1 (length n) && leb (length n) 24 && are-digits 0x20 n))
 
-pub blank-last : (n : List ℕ) → lastOf n ≡ 0x20 → legalName n ≡ false
-unfolding legalName
-blank-last n e = rw (eq-eqb (lastOf n) 0x20 e) (and-false (leb 1 (length n) && leb (length n) 24 && areDigits 0x20 n && not (isBlank (firstOf n))))
+pub blank-last : (n : List ℕ) → last-of n ≡ 0x20 → is-legal-name n ≡ false
+unfolding is-legal-name
+blank-last n e = rw (eq-eqb (last-of n) 0x20 e) (and-false (leb 1 (length n) && leb (length n) 24 && are-digits 0x20 n && not (is-blank-digit (first-digit n))))
 
-pub legal-name : (n : List ℕ) → 1 ≤ length n → length n ≤ 24 → (firstOf n ≡ 0x20 → ⊥) → (lastOf n ≡ 0x20 → ⊥) → legalName n ≡ areDigits 0x20 n
-unfolding legalName
+pub legal-name : (n : List ℕ) → 1 ≤ length n → length n ≤ 24 → (first-digit n ≡ 0x20 → ⊥) → (last-of n ≡ 0x20 → ⊥) → is-legal-name n ≡ are-digits 0x20 n
+unfolding is-legal-name
 legal-name n h k f l =
-    rw (le-leb 1 (length n) h, le-leb (length n) 24 k, no-blank (firstOf n) f, no-blank (lastOf n) l, and-true (areDigits 0x20 n)) (and-true (areDigits 0x20 n))
+    rw (le-leb 1 (length n) h, le-leb (length n) 24 k, no-blank (first-digit n) f, no-blank (last-of n) l, and-true (are-digits 0x20 n)) (and-true (are-digits 0x20 n))
 
 -- 24 bytes are a filled name where the first is no blank and all are digits.
-pub not-blank : (s : List ℕ) → firstOf s ≡ 0x20 → legalFilled s ≡ false
-unfolding legalFilled
-not-blank s e = rw (eq-eqb (firstOf s) 0x20 e) (and-false (eqb (length s) 24 && areDigits 0x20 s))
+pub not-blank : (s : List ℕ) → first-digit s ≡ 0x20 → is-legal-filled s ≡ false
+unfolding is-legal-filled
+not-blank s e = rw (eq-eqb (first-digit s) 0x20 e) (and-false (eqb (length s) 24 && are-digits 0x20 s))
 
-pub filled-name : (s : List ℕ) → (firstOf s ≡ 0x20 → ⊥) → length s ≡ 24 → legalFilled s ≡ areDigits 0x20 s
-unfolding legalFilled
-filled-name s e h = rw (eq-eqb (length s) 24 h, no-blank (firstOf s) e) (and-true (areDigits 0x20 s))
+pub filled-name : (s : List ℕ) → (first-digit s ≡ 0x20 → ⊥) → length s ≡ 24 → is-legal-filled s ≡ are-digits 0x20 s
+unfolding is-legal-filled
+filled-name s e h = rw (eq-eqb (length s) 24 h, no-blank (first-digit s) e) (and-true (are-digits 0x20 s))
 
 -- A bound's beginning fits.
-pub legal-part : (len : ℕ) (s : List ℕ) → len ≤ 24 → legalBound (take len s) ≡ areDigits 0x20 (take len s)
-unfolding legalBound
+pub legal-part : (len : ℕ) (s : List ℕ) → len ≤ 24 → is-legal-bound (take len s) ≡ are-digits 0x20 (take len s)
+unfolding is-legal-bound
 legal-part len s h = rw (le-leb (length (take len s)) 24 (omega (arith, length-take len s)))

@@ -2,8 +2,8 @@
 use Rattle.model.proofs.Prelude.{Bool, List, [], _%_, _&&_, _*_, _++_, _+_, _<_, _^_, _∙_, _∷_, _≡_, _≤_, add-mul, and-assoc, and-false, and-true, ap, ap₂, arith, clash, decLe, decLt, drop, drop-drop, eq-eqb, eqb, false, getD, le-leb, le-ltb, leb, leb-true, length, length-drop, lt-leb, lt-ltb, ltb, ltb-true, ne-eqb, pow-suc, refl, replicate, suc, sym, take, take-all, take-append-drop, true, zero, ℕ, ℕ-discrete}
 use lib.Bits.{and-block, and-high, and-le-l, bitAnd}
 use lib.Pow.{pow-add}
-use Rattle.model.specs.Names.{areDigits, legalFilled}
-use Rattle.model.specs.Format.{Bytes}
+use Rattle.model.specs.Names.{are-digits, is-legal-filled}
+use Rattle.model.specs.Format.{AreBytes}
 use Rattle.model.proofs.Names.{both-true}
 use Rattle.digits.specs.Keys.{value}
 use Rattle.digits.specs.Words.{Word}
@@ -27,7 +27,7 @@ length-ands [] y h = refl
 length-ands (d ∷ x) [] h = absurd (omega arith)
 length-ands (d ∷ x) (e ∷ y) h = ap suc (length-ands x y (omega arith))
 
-value-ands : (x y : List ℕ) → Bytes x → Bytes y → length x ≡ length y → bitAnd (value x) (value y) ≡ value (ands x y)
+value-ands : (x y : List ℕ) → AreBytes x → AreBytes y → length x ≡ length y → bitAnd (value x) (value y) ≡ value (ands x y)
 unfolding value
 value-ands [] [] f g h = refl
 value-ands [] (e ∷ y) f g h = absurd (omega arith)
@@ -53,7 +53,7 @@ eqb-add k a b = elim (ℕ-discrete a b) [
   | no n ↦ ne-eqb (k + a) (k + b) (λ e. n (omega arith)) ∙ sym (ne-eqb a b n)
 ]
 
-value-sames : (x y : List ℕ) → Bytes x → Bytes y → length x ≡ length y → eqb (value x) (value y) ≡ sames x y
+value-sames : (x y : List ℕ) → AreBytes x → AreBytes y → length x ≡ length y → eqb (value x) (value y) ≡ sames x y
 unfolding value
 value-sames [] [] f g h = refl
 value-sames [] (e ∷ y) f g h = absurd (omega arith)
@@ -90,7 +90,7 @@ length-times : (c : ℕ) (x : List ℕ) → length (times c x) ≡ length x
 length-times c [] = refl
 length-times c (d ∷ x) = ap suc (length-times c x)
 
-bytes-times : (c : ℕ) (x : List ℕ) → c < 256 → Bytes (times c x)
+bytes-times : (c : ℕ) (x : List ℕ) → c < 256 → AreBytes (times c x)
 bytes-times c [] h = tt
 bytes-times c (d ∷ x) h = (h, bytes-times c x h)
 
@@ -147,7 +147,7 @@ abbrev leasts : List ℕ → Bool
 leasts [] = true
 leasts (d ∷ x) = leb 0x20 d && leasts x
 
-low-test : (x : List ℕ) → Bytes x → sames (ands x (times 0x80 x)) (times 0 x) ≡ lows x
+low-test : (x : List ℕ) → AreBytes x → sames (ands x (times 0x80 x)) (times 0 x) ≡ lows x
 low-test [] f = refl
 low-test (d ∷ x) f = ap₂ _&&_ (go (decLt d 0x80)) (low-test x (f .1))
   where
@@ -175,8 +175,8 @@ least-test (d ∷ x) f =
     go (yes h) l = rw (top-high (d + 0x60) (omega arith) (omega arith), le-leb 0x20 d h)
     go (no h) l = rw (top-low (d + 0x60) (omega arith), lt-leb 0x20 d (omega arith))
 
-digits-are : (x : List ℕ) → areDigits 0x20 x ≡ (leasts x && mosts x)
-unfolding areDigits
+digits-are : (x : List ℕ) → are-digits 0x20 x ≡ (leasts x && mosts x)
+unfolding are-digits
 digits-are [] = refl
 digits-are (d ∷ x) = rw (digits-are x) (go (leb 0x20 d) (leb d 0x7D) (leasts x) (mosts x))
   where
@@ -189,21 +189,21 @@ most-low : (x : List ℕ) → mosts x ≡ true → lows x ≡ true
 most-low [] h = refl
 most-low (d ∷ x) h = let p = both-true (leb d 0x7D) (mosts x) h in rw (lt-ltb d 0x80 (omega (arith, leb-true d 0x7D (p .0))), most-low x (p .1))
 
-not-low : (x : List ℕ) → lows x ≡ false → areDigits 0x20 x ≡ false
+not-low : (x : List ℕ) → lows x ≡ false → are-digits 0x20 x ≡ false
 not-low x h = digits-are x ∙ go (mosts x) refl
   where
     go : (m : Bool) → mosts x ≡ m → (leasts x && m) ≡ false
     go true e = let q : true ≡ false = sym (most-low x e) ∙ h in clash cc
     go false e = and-false (leasts x)
 
-not-most : (x : List ℕ) → mosts x ≡ false → areDigits 0x20 x ≡ false
+not-most : (x : List ℕ) → mosts x ≡ false → are-digits 0x20 x ≡ false
 not-most x h = digits-are x ∙ rw h (and-false (leasts x))
 
-bytes-raised : (c : ℕ) (x : List ℕ) → c ≤ 0x80 → lows x ≡ true → Bytes (raised c x)
+bytes-raised : (c : ℕ) (x : List ℕ) → c ≤ 0x80 → lows x ≡ true → AreBytes (raised c x)
 bytes-raised c [] h l = tt
 bytes-raised c (d ∷ x) h l = let p = both-true (ltb d 0x80) (lows x) l in (omega (arith, ltb-true d 0x80 (p .0)), bytes-raised c x h (p .1))
 
-bytes-ands : (x y : List ℕ) → Bytes x → Bytes (ands x y)
+bytes-ands : (x y : List ℕ) → AreBytes x → AreBytes (ands x y)
 bytes-ands [] y f = tt
 bytes-ands (d ∷ x) [] f = tt
 bytes-ands (d ∷ x) (e ∷ y) f = (omega (arith, f .0, and-le-l d e), bytes-ands x y (f .1))
@@ -216,7 +216,7 @@ module _ (x : List ℕ) (W : Word x) where
   no-bits : 0 ≡ value (times 0 x)
   no-bits = sym (times-word 0 x (W .eight) ∙ zeros)
 
-  masked : (y : List ℕ) (c t : ℕ) → Bytes y → length y ≡ length x → c < 256 → t ≡ value (times c x)
+  masked : (y : List ℕ) (c t : ℕ) → AreBytes y → length y ≡ length x → c < 256 → t ≡ value (times c x)
       → eqb (bitAnd (value y) 0x8080808080808080) t ≡ sames (ands y (times 0x80 x)) (times c x)
   masked y c t f l h q =
       let m : length y ≡ length (times 0x80 x) = l ∙ sym (length-times 0x80 x) in
@@ -245,27 +245,27 @@ module _ (x : List ℕ) (W : Word x) where
           let q = raised-word 0x60 0x6060606060606060 w r (omega arith) l (sym (times-word 0x60 x (W .eight) ∙ sixties)) e m in
           rw q (masked (raised 0x60 x) 0x80 0x8080808080808080 (bytes-raised 0x60 x (omega arith) l) (length-raised 0x60 x) (omega arith) top-bits ∙ least-test x l)
 
-    pub not-low-word : (bitAnd w 0x8080808080808080 ≡ 0 → ⊥) → false ≡ areDigits 0x20 x
+    pub not-low-word : (bitAnd w 0x8080808080808080 ≡ 0 → ⊥) → false ≡ are-digits 0x20 x
     not-low-word n = sym (not-low x (sym are-low ∙ ne-eqb (bitAnd w 0x8080808080808080) 0 n))
 
     module _ (low : bitAnd w 0x8080808080808080 ≡ 0) {r : ℕ} (m : r ≡ (w + 0x0202020202020202) % 2 ^ 64) where
       is-low : lows x ≡ true
       is-low = sym are-low ∙ eq-eqb (bitAnd w 0x8080808080808080) 0 low
 
-      pub not-most-word : (bitAnd r 0x8080808080808080 ≡ 0 → ⊥) → false ≡ areDigits 0x20 x
+      pub not-most-word : (bitAnd r 0x8080808080808080 ≡ 0 → ⊥) → false ≡ are-digits 0x20 x
       not-most-word n = sym (not-most x (sym (are-most is-low m) ∙ ne-eqb (bitAnd r 0x8080808080808080) 0 n))
 
       pub digits-word : bitAnd r 0x8080808080808080 ≡ 0 → {k : ℕ} → k ≡ (w + 0x6060606060606060) % 2 ^ 64
-          → eqb (bitAnd k 0x8080808080808080) 0x8080808080808080 ≡ areDigits 0x20 x
+          → eqb (bitAnd k 0x8080808080808080) 0x8080808080808080 ≡ are-digits 0x20 x
       digits-word z {k} n =
           let o : mosts x ≡ true = sym (are-most is-low m) ∙ eq-eqb (bitAnd r 0x8080808080808080) 0 z in
           are-least is-low n ∙ sym (digits-are x ∙ rw o (and-true (leasts x)))
 
 -- A string of three words.
-pub digits-append : (x y : List ℕ) → areDigits 0x20 (x ++ y) ≡ (areDigits 0x20 x && areDigits 0x20 y)
-unfolding areDigits
+pub digits-append : (x y : List ℕ) → are-digits 0x20 (x ++ y) ≡ (are-digits 0x20 x && are-digits 0x20 y)
+unfolding are-digits
 digits-append [] y = refl
-digits-append (d ∷ x) y = rw (digits-append x y) (sym (and-assoc (leb 0x20 d && leb d 0x7D) (areDigits 0x20 x) (areDigits 0x20 y)))
+digits-append (d ∷ x) y = rw (digits-append x y) (sym (and-assoc (leb 0x20 d && leb d 0x7D) (are-digits 0x20 x) (are-digits 0x20 y)))
 
 -- 24 bytes as three words.
 pub word-part : (s : List ℕ) (at : ℕ) → at + 8 ≤ length s → ((i : ℕ) → getD s i 0 < 256) → Word (take 8 (drop at s))
@@ -286,15 +286,15 @@ module _ (s : List ℕ) (full : length s ≡ 24) (first : getD s 0 0 ≡ 0x20 �
       sym (take-append-drop 8 s)
       ∙ ap (λ (r : List ℕ). take 8 s ++ r) (sym (take-append-drop 8 (drop 8 s)) ∙ rw (drop-drop 8 8 s) (ap (λ (r : List ℕ). y ++ r) (sym (take-all 8 (drop 16 s) (omega (arith, length-drop 16 s))))))
 
-  name-words : legalFilled s ≡ (areDigits 0x20 x && (areDigits 0x20 y && areDigits 0x20 z))
+  name-words : is-legal-filled s ≡ (are-digits 0x20 x && (are-digits 0x20 y && are-digits 0x20 z))
   name-words =
-      filled-name s first full ∙ ap (areDigits 0x20) three ∙ digits-append x (y ++ z) ∙ rw (digits-append y z)
+      filled-name s first full ∙ ap (are-digits 0x20) three ∙ digits-append x (y ++ z) ∙ rw (digits-append y z)
 
-  pub first-ill : areDigits 0x20 x ≡ false → false ≡ legalFilled s
+  pub first-ill : are-digits 0x20 x ≡ false → false ≡ is-legal-filled s
   first-ill h = sym (name-words ∙ rw h)
 
-  pub second-ill : areDigits 0x20 y ≡ false → false ≡ legalFilled s
-  second-ill h = sym (name-words ∙ rw (h, and-false (areDigits 0x20 x)))
+  pub second-ill : are-digits 0x20 y ≡ false → false ≡ is-legal-filled s
+  second-ill h = sym (name-words ∙ rw (h, and-false (are-digits 0x20 x)))
 
-  pub third-says : areDigits 0x20 x ≡ true → areDigits 0x20 y ≡ true → {r : Bool} → r ≡ areDigits 0x20 z → r ≡ legalFilled s
+  pub third-says : are-digits 0x20 x ≡ true → are-digits 0x20 y ≡ true → {r : Bool} → r ≡ are-digits 0x20 z → r ≡ is-legal-filled s
   third-says f g e = e ∙ sym (name-words ∙ rw (f, g))

@@ -15,22 +15,22 @@ value [] = 0
 value (d ∷ x) = d * 256 ^ length x + value x
 
 -- The three words of a key as one number.
-unfoldable pub keyValue : Key → ℕ
-keyValue k = (k .a * 2 ^ 64 + k .b) * 2 ^ 64 + k .c
+unfoldable pub key-value : Key → ℕ
+key-value k = (k .a * 2 ^ 64 + k .b) * 2 ^ 64 + k .c
 
 -- A bound, continued by a digit above all others.
 unfoldable pub continued : List ℕ → List ℕ
 continued p = take 24 (p ++ replicate 24 0xFF)
 
-unfoldable pub isZero : List ℕ → Bool
-isZero [] = true
-isZero (d ∷ x) = eqb d 0 && isZero x
+unfoldable pub is-all-zero : List ℕ → Bool
+is-all-zero [] = true
+is-all-zero (d ∷ x) = eqb d 0 && is-all-zero x
 
 abbrev pub naming : Bool → Naming
 naming true = Legal
 naming false = Illegal
 
 -- A lower limit as it is compared. What is above none is above zero.
-unfoldable pub lowValue : Low → ℕ
-lowValue none = 0
-lowValue (at x) = value (continued x)
+unfoldable pub low-value : Low → ℕ
+low-value none = 0
+low-value (at x) = value (continued x)

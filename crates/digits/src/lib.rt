@@ -9,11 +9,11 @@ ghost use mathlib.Core.List.{[], _++_};
 ghost use Prim.Native.Nat.{_≤_, _<_, _+_, _-_, _^_, ℕ};
 ghost use lib.Dec.{eqb, leb, ltb};
 ghost use lib.ListN.{drop, length, take};
-ghost use Rattle.model.specs.Format.{Bytes, valueOf};
+ghost use Rattle.model.specs.Format.{AreBytes, value-of};
 ghost use Rattle.model.specs.Names as names;
 ghost use Rattle.model.specs.Order.{Str, diff};
 ghost use Rattle.digits.specs.Words.{Word};
-ghost use Rattle.digits.specs.Keys.{continued, isZero, keyValue, naming, value};
+ghost use Rattle.digits.specs.Keys.{continued, is-all-zero, key-value, naming, value};
 
 mod numbers;
 
@@ -48,7 +48,7 @@ pub enum Naming {
 // The two bytes from `at` on as one number, the first byte lowest.
 fn two(s: &[u8], at: usize) -> u64
     requires { ⌜ at + 2 ≤ length (now s) ⌝ }
-    ensures { λ r. ⌜ (r ≡ valueOf (take 2 (drop at (now (s .entry))))) × (r < 65536) ⌝ }
+    ensures { λ r. ⌜ (r ≡ value-of (take 2 (drop at (now (s .entry))))) × (r < 65536) ⌝ }
 {
     u64_of_u8(s[at]) | (u64_of_u8(s[at + 1]) << 8)
 }
@@ -56,7 +56,7 @@ fn two(s: &[u8], at: usize) -> u64
 // Four bytes.
 fn four(s: &[u8], at: usize) -> u64
     requires { ⌜ at + 4 ≤ length (now s) ⌝ }
-    ensures { λ r. ⌜ (r ≡ valueOf (take 4 (drop at (now (s .entry))))) × (r < 4294967296) ⌝ }
+    ensures { λ r. ⌜ (r ≡ value-of (take 4 (drop at (now (s .entry))))) × (r < 4294967296) ⌝ }
 {
     two(s, at) | (two(s, at + 2) << 16)
 }
@@ -64,7 +64,7 @@ fn four(s: &[u8], at: usize) -> u64
 // Eight bytes, in one load.
 pub fn little_endian(s: &[u8], at: usize) -> u64
     requires { ⌜ at + 8 ≤ length (now s) ⌝ }
-    ensures { λ r. ⌜ r ≡ valueOf (take 8 (drop at (now (s .entry)))) ⌝ }
+    ensures { λ r. ⌜ r ≡ value-of (take 8 (drop at (now (s .entry)))) ⌝ }
 {
     four(s, at) | (four(s, at + 4) << 32)
 }
@@ -72,7 +72,7 @@ pub fn little_endian(s: &[u8], at: usize) -> u64
 // Two bytes in the other order.
 fn swapped_two(w: u64) -> u64
     requires { ⌜ w < 65536 ⌝ }
-    ensures { λ r. ⌜ (r < 65536) × ((x : Str) → Bytes x → length x ≡ 2 → w ≡ valueOf x → r ≡ value x) ⌝ }
+    ensures { λ r. ⌜ (r < 65536) × ((x : Str) → AreBytes x → length x ≡ 2 → w ≡ value-of x → r ≡ value x) ⌝ }
 {
     ((w & 0xFF) << 8) | (w >> 8)
 }
@@ -80,14 +80,14 @@ fn swapped_two(w: u64) -> u64
 // Four bytes in the other order.
 fn swapped_four(w: u64) -> u64
     requires { ⌜ w < 4294967296 ⌝ }
-    ensures { λ r. ⌜ (r < 4294967296) × ((x : Str) → Bytes x → length x ≡ 4 → w ≡ valueOf x → r ≡ value x) ⌝ }
+    ensures { λ r. ⌜ (r < 4294967296) × ((x : Str) → AreBytes x → length x ≡ 4 → w ≡ value-of x → r ≡ value x) ⌝ }
 {
     (swapped_two(w & 0xFFFF) << 16) | swapped_two(w >> 16)
 }
 
 // The bytes of a word in the other order, by one instruction.
 fn swapped(w: u64) -> u64
-    ensures { λ r. ⌜ ((x : Str) → Word x → w ≡ valueOf x → r ≡ value x) ⌝ }
+    ensures { λ r. ⌜ ((x : Str) → Word x → w ≡ value-of x → r ≡ value x) ⌝ }
 {
     (swapped_four(w & 0xFFFF_FFFF) << 32) | swapped_four(w >> 32)
 }
@@ -103,7 +103,7 @@ pub fn word(s: &[u8], at: usize) -> u64
 // The 24 digits from `at` on, as they are compared.
 pub fn key_at(s: &[u8], at: usize) -> Key
     requires { ⌜ at + 24 ≤ length (now s) ⌝ }
-    ensures { λ r. ⌜ keyValue r ≡ value (take 24 (drop at (now (s .entry)))) ⌝ }
+    ensures { λ r. ⌜ key-value r ≡ value (take 24 (drop at (now (s .entry)))) ⌝ }
 {
     Key {
         a: word(s, at),
@@ -139,7 +139,7 @@ fn inside(end: usize, len: usize) -> usize
 fn continued(s: &[u8], at: usize, end: usize, len: usize) -> u64
     requires { ⌜ (at + 8 ≤ length (now s)) × (8 ≤ end) × (end ≤ 24) ⌝ }
     ensures { λ r.
-        ⌜ (isZero (drop (len - (end - 8)) (take 8 (drop at (now (s .entry))))) ≡ true
+        ⌜ (is-all-zero (drop (len - (end - 8)) (take 8 (drop at (now (s .entry))))) ≡ true
         → r + 1 ≡ value (take 8 (drop at (now (s .entry)))) + 256 ^ (8 - (len - (end - 8)))) ⌝ }
 {
     let f = fill(inside(end, len));
@@ -150,8 +150,8 @@ fn continued(s: &[u8], at: usize, end: usize, len: usize) -> u64
 pub fn bound_key_at(s: &[u8], at: usize, len: usize) -> Key
     requires { ⌜ at + 24 ≤ length (now s) ⌝ }
     ensures { λ r.
-        ⌜ (len ≤ 24 → isZero (take (24 - len) (drop (at + len) (now (s .entry)))) ≡ true
-        → keyValue r ≡ value (continued (take len (drop at (now (s .entry)))))) ⌝ }
+        ⌜ (len ≤ 24 → is-all-zero (take (24 - len) (drop (at + len) (now (s .entry)))) ≡ true
+        → key-value r ≡ value (continued (take len (drop at (now (s .entry)))))) ⌝ }
 {
     Key {
         a: continued(s, at, 8, len),
@@ -162,14 +162,14 @@ pub fn bound_key_at(s: &[u8], at: usize, len: usize) -> Key
 
 // The key of no lower limit, below every name.
 pub fn lowest_key() -> Key
-    ensures { λ r. ⌜ keyValue r ≡ 0 ⌝ }
+    ensures { λ r. ⌜ key-value r ≡ 0 ⌝ }
 {
     Key { a: 0, b: 0, c: 0 }
 }
 
 // The key of the empty upper bound, above every name and every other bound.
 pub fn highest_key() -> Key
-    ensures { λ r. ⌜ keyValue r ≡ value (continued []) ⌝ }
+    ensures { λ r. ⌜ key-value r ≡ value (continued []) ⌝ }
 {
     Key {
         a: 0xFFFF_FFFF_FFFF_FFFF,
@@ -179,7 +179,7 @@ pub fn highest_key() -> Key
 }
 
 pub fn is_below(x: Key, y: Key) -> bool
-    ensures { λ r. ⌜ r ≡ ltb (keyValue x) (keyValue y) ⌝ }
+    ensures { λ r. ⌜ r ≡ ltb (key-value x) (key-value y) ⌝ }
 {
     if x.a < y.a {
         return true;
@@ -197,7 +197,7 @@ pub fn is_below(x: Key, y: Key) -> bool
 }
 
 pub fn is_same(x: Key, y: Key) -> bool
-    ensures { λ r. ⌜ r ≡ eqb (keyValue x) (keyValue y) ⌝ }
+    ensures { λ r. ⌜ r ≡ eqb (key-value x) (key-value y) ⌝ }
 {
     if x.a != y.a {
         return false;
@@ -220,7 +220,7 @@ pub fn larger(x: u8, y: u8) -> u8
 
 // Whether all bytes are zero.
 pub fn is_zero(s: &[u8]) -> bool
-    ensures { λ r. ⌜ r ≡ isZero (now (s .entry)) ⌝ }
+    ensures { λ r. ⌜ r ≡ is-all-zero (now (s .entry)) ⌝ }
 {
     let mut most = 0u8;
     let mut i = 0;
@@ -246,7 +246,7 @@ fn fault(x: u8) -> u8
 
 // Whether each byte is a digit.
 fn are_digits(s: &[u8]) -> bool
-    ensures { λ r. ⌜ r ≡ names.areDigits 0x20 (now (s .entry)) ⌝ }
+    ensures { λ r. ⌜ r ≡ names.are-digits 0x20 (now (s .entry)) ⌝ }
 {
     let mut most = 0u8;
     let mut i = 0;
@@ -259,7 +259,7 @@ fn are_digits(s: &[u8]) -> bool
 
 // R1.2 and R1.3: a legal name.
 pub fn named(name: &[u8]) -> Naming
-    ensures { λ r. ⌜ r ≡ naming (names.legalName (now (name .entry))) ⌝ }
+    ensures { λ r. ⌜ r ≡ naming (names.is-legal-name (now (name .entry))) ⌝ }
 {
     if name.len() == 0 {
         return Naming::Illegal;
@@ -298,7 +298,7 @@ pub fn filled(name: &[u8]) -> [u8; 24]
 // Whether the eight bytes of a word are digits, 0x20 to 0x7D. Of a byte below 0x80 the highest bit says, when 2 is added,
 // whether it is above 0x7D, and when 0x60 is added, whether it is 0x20 or above; and no sum reaches the next byte.
 fn is_of_digits(word: u64) -> bool
-    ensures { λ r. ⌜ ((x : Str) → Word x → word ≡ value x → r ≡ names.areDigits 0x20 x) ⌝ }
+    ensures { λ r. ⌜ ((x : Str) → Word x → word ≡ value x → r ≡ names.are-digits 0x20 x) ⌝ }
 {
     if word & 0x8080_8080_8080_8080 != 0 {
         return false;
@@ -314,7 +314,7 @@ fn is_of_digits(word: u64) -> bool
 // Whether these 24 bytes are a legal name, filled: digits, of which the first is no blank. Eight bytes at a time: no other function has as large a part in a put.
 pub fn is_filled_name(s: &[u8]) -> bool
     requires { ⌜ length (now s) ≡ 24 ⌝ }
-    ensures { λ r. ⌜ r ≡ names.legalFilled (now (s .entry)) ⌝ }
+    ensures { λ r. ⌜ r ≡ names.is-legal-filled (now (s .entry)) ⌝ }
 {
     if s[0] == 0x20 {
         return false;
@@ -332,7 +332,7 @@ pub fn is_filled_name(s: &[u8]) -> bool
 pub fn is_bound(s: &[u8], len: usize) -> bool
     requires { ⌜ length (now s) ≡ 24 ⌝ }
     ensures { λ r.
-        ⌜ r ≡ (leb len 24 && names.legalBound (take len (now (s .entry))) && isZero (drop len (now (s .entry)))) ⌝ }
+        ⌜ r ≡ (leb len 24 && names.is-legal-bound (take len (now (s .entry))) && is-all-zero (drop len (now (s .entry)))) ⌝ }
 {
     if 24 < len {
         return false;

@@ -6,7 +6,7 @@ use Rattle.model.specs.Names.{Legal}
 use Rattle.model.specs.Order.{Low, Str}
 use Rattle.model.specs.Deciding.{le?, not?, over, str?}
 use Rattle.model.proofs.Entries.{chosen-no, chosen-yes, keep-all}
-use Rattle.model.proofs.Names.{le-atMost, lt-atMost}
+use Rattle.model.proofs.Names.{le-is-at-most, lt-is-at-most}
 use Rattle.model.proofs.Order.{le-refl}
 use Rattle.digits.proofs.Bounds.{names-over}
 use Rattle.digits.specs.Keys.{value}
@@ -18,9 +18,9 @@ pub below-row : {l : Low} {u : Str} {es : List Entry} (n : Str) → Row l es u �
 unfolding below place
 below-row n no-entries g = refl
 below-row n (entry {e = e} {es = es} f a c r) g = elim (le? n (e .0)) [
-  | yes p ↦ let t : ltb (value (e .0)) (value n) ≡ false = names-over (e .0) n f g ∙ ap not (le-atMost n (e .0) p) in
+  | yes p ↦ let t : ltb (value (e .0)) (value n) ≡ false = names-over (e .0) n f g ∙ ap not (le-is-at-most n (e .0) p) in
       rw (below-row n r g, place-first n r p, t, chosen-yes (le? n (e .0)) p)
-  | no p ↦ let t : ltb (value (e .0)) (value n) ≡ true = names-over (e .0) n f g ∙ ap not (lt-atMost n (e .0) p) in
+  | no p ↦ let t : ltb (value (e .0)) (value n) ≡ true = names-over (e .0) n f g ∙ ap not (lt-is-at-most n (e .0) p) in
       rw (below-row n r g, t, chosen-no (le? n (e .0)) p, or-true (ltb 0 (place n es)))
 ]
 

@@ -3,15 +3,15 @@ use Rattle.model.proofs.Prelude.{Bool, List, Option, [], _-_, _<_, _||_, _∙_,
 use mathlib.Core.Bool.{or-true}
 use Rattle.model.specs.Calls.{between}
 use Rattle.model.specs.Entries.{Entry, Row, entry, find, name-at, no-entries}
-use Rattle.model.specs.Names.{Legal, atMost}
+use Rattle.model.specs.Names.{Legal, is-at-most}
 use Rattle.model.specs.Order.{Low, Str, _⊑_, _◁_, at, at as after}
 use Rattle.model.specs.Deciding.{le?, over, str?}
 use Rattle.model.proofs.Entries.{at-find, chosen-no, chosen-yes}
-use Rattle.model.proofs.Names.{le-atMost, lt-atMost}
+use Rattle.model.proofs.Names.{le-is-at-most, lt-is-at-most}
 use Rattle.model.proofs.Order.{le-refl, le-trans, low-at, low-lower, lt-le}
 use Rattle.digits.proofs.Bounds.{names-over}
 use Rattle.digits.specs.Keys.{value}
-use Rattle.entries.specs.Rows.{notAbove, place}
+use Rattle.entries.specs.Rows.{is-not-above, place}
 
 -- The numbers of the names.
 abbrev pub numbers : List Entry → List ℕ
@@ -73,50 +73,50 @@ unfolding between
 between-none n m no-entries h = refl
 between-none n m (entry {e = e} g a c r) h =
     let k : ¬ (e .0 ⊑ m) = λ p. h (le-trans (lt-le (over a)) p) in
-    rw (lt-atMost (e .0) m k, and-false (atMost n (e .0))) (between-none n m r k)
+    rw (lt-is-at-most (e .0) m k, and-false (is-at-most n (e .0))) (between-none n m r k)
 
 pub place-first : {u x : Str} {es : List Entry} (n : Str) → Row (at x) es u → n ⊑ x → place n es ≡ 0
 unfolding place
 place-first n no-entries h = refl
 place-first n (entry {e = e} g a c r) h = chosen-yes (le? n (e .0)) (le-trans h (lt-le (over a))) _ _
 
-pub notAbove-most : (w : ℕ) (es : List Entry) → notAbove w (numbers es) ≤ length es
-unfolding notAbove
-notAbove-most w [] = omega arith
-notAbove-most w (e ∷ es) = go (ltb 0 (notAbove w (numbers es)) || not (ltb w (value (e .0)))) (notAbove-most w es)
+pub is-not-above-most : (w : ℕ) (es : List Entry) → is-not-above w (numbers es) ≤ length es
+unfolding is-not-above
+is-not-above-most w [] = omega arith
+is-not-above-most w (e ∷ es) = go (ltb 0 (is-not-above w (numbers es)) || not (ltb w (value (e .0)))) (is-not-above-most w es)
   where
-    go : (t : Bool) → notAbove w (numbers es) ≤ length es → cond t (suc (notAbove w (numbers es))) 0 ≤ suc (length es)
+    go : (t : Bool) → is-not-above w (numbers es) ≤ length es → cond t (suc (is-not-above w (numbers es))) 0 ≤ suc (length es)
     go true h = omega arith
     go false h = omega arith
 
 -- Behind a name that is above m all are.
-all-above : {u x : Str} {es : List Entry} (m : Str) → Legal m → Row (at x) es u → ¬ (x ⊑ m) → notAbove (value m) (numbers es) ≡ 0
-unfolding notAbove
+all-above : {u x : Str} {es : List Entry} (m : Str) → Legal m → Row (at x) es u → ¬ (x ⊑ m) → is-not-above (value m) (numbers es) ≡ 0
+unfolding is-not-above
 all-above m g no-entries h = refl
 all-above m g (entry {e = e} k a c r) h =
     let i : ¬ (e .0 ⊑ m) = λ p. h (le-trans (lt-le (over a)) p) in
-    let t : ltb (value m) (value (e .0)) ≡ true = names-over m (e .0) g k ∙ ap not (lt-atMost (e .0) m i) in
+    let t : ltb (value m) (value (e .0)) ≡ true = names-over m (e .0) g k ∙ ap not (lt-is-at-most (e .0) m i) in
     rw (all-above m g r i, t)
 
 take-none : (k : ℕ) (es : List Entry) → take (0 - k) es ≡ []
 take-none k es = let z : 0 - k ≡ 0 = omega arith in rw z
 
 pub between-part : {l : Low} {u : Str} {es : List Entry} (n m : Str) → Row l es u → Legal n → Legal m
-    → take (notAbove (value m) (numbers es) - place n es) (drop (place n es) es) ≡ between n m es
-unfolding notAbove place between
+    → take (is-not-above (value m) (numbers es) - place n es) (drop (place n es) es) ≡ between n m es
+unfolding is-not-above place between
 between-part n m no-entries f g = refl
 between-part n m (entry {e = e} {es = es} k a c r) f g = elim (le? (e .0) m) [
-  | no p ↦ let t : ltb (value m) (value (e .0)) ≡ true = names-over m (e .0) g k ∙ ap not (lt-atMost (e .0) m p) in
-      rw (all-above m g r p, t, lt-atMost (e .0) m p, and-false (atMost n (e .0))) (take-none (place n (e ∷ es)) (drop (place n (e ∷ es)) (e ∷ es)) ∙ sym (between-none n m r p))
-  | yes p ↦ let t : ltb (value m) (value (e .0)) ≡ false = names-over m (e .0) g k ∙ ap not (le-atMost (e .0) m p) in
-      let j = notAbove (value m) (numbers es) in
+  | no p ↦ let t : ltb (value m) (value (e .0)) ≡ true = names-over m (e .0) g k ∙ ap not (lt-is-at-most (e .0) m p) in
+      rw (all-above m g r p, t, lt-is-at-most (e .0) m p, and-false (is-at-most n (e .0))) (take-none (place n (e ∷ es)) (drop (place n (e ∷ es)) (e ∷ es)) ∙ sym (between-none n m r p))
+  | yes p ↦ let t : ltb (value m) (value (e .0)) ≡ false = names-over m (e .0) g k ∙ ap not (le-is-at-most (e .0) m p) in
+      let j = is-not-above (value m) (numbers es) in
       let i : take (j - place n es) (drop (place n es) es) ≡ between n m es = between-part n m r f g in
       elim (le? n (e .0)) [
         | yes q ↦ let z : j - place n es ≡ j = omega (arith, place-first n r q) in
             let w : suc j - 0 ≡ suc j = omega arith in
             let y : take j es ≡ between n m es = ap₂ (λ (x y : ℕ). take x (drop y es)) (sym z) (sym (place-first n r q)) ∙ i in
-            rw (t, or-true (ltb 0 j), chosen-yes (le? n (e .0)) q, le-atMost n (e .0) q, le-atMost (e .0) m p, w) (ap (λ (x : List Entry). e ∷ x) y)
+            rw (t, or-true (ltb 0 j), chosen-yes (le? n (e .0)) q, le-is-at-most n (e .0) q, le-is-at-most (e .0) m p, w) (ap (λ (x : List Entry). e ∷ x) y)
         | no q ↦ let z : suc j - suc (place n es) ≡ j - place n es = omega arith in
-            rw (t, or-true (ltb 0 j), chosen-no (le? n (e .0)) q, lt-atMost n (e .0) q, z) i
+            rw (t, or-true (ltb 0 j), chosen-no (le? n (e .0)) q, lt-is-at-most n (e .0) q, z) i
       ]
 ]

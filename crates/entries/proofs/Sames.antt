@@ -1,28 +1,28 @@
 -- Two parts of bytes are the same where the parts of these are; words that are the same number are the same bytes.
 use Rattle.model.proofs.Prelude.{Bool, List, [], _&&_, _++_, _+_, _-_, _<_, _∙_, _∷_, _≡_, _≤_, and-assoc, ap, ap₂, arith, drop, drop-drop, eq-eqb, eqb, false, getD, length, ne-eqb, refl, sym, take, take-add, true, ℕ, ℕ-discrete}
-use Rattle.model.specs.Checks.{sameStr}
-use Rattle.model.specs.Format.{Bytes}
-use Rattle.model.proofs.Checks.{sameStr-other, sameStr-self}
+use Rattle.model.specs.Checks.{same-str}
+use Rattle.model.specs.Format.{AreBytes}
+use Rattle.model.proofs.Checks.{same-str-other, same-str-self}
 use Rattle.model.proofs.Format.{EntrySize}
 use Rattle.digits.proofs.Keys.{bytes-part, length-part, value-same}
 use Rattle.digits.specs.Keys.{value}
 
-same-append : (a b c d : List ℕ) → length a ≡ length c → sameStr (a ++ b) (c ++ d) ≡ (sameStr a c && sameStr b d)
-unfolding sameStr
+same-append : (a b c d : List ℕ) → length a ≡ length c → same-str (a ++ b) (c ++ d) ≡ (same-str a c && same-str b d)
+unfolding same-str
 same-append [] b [] d e = refl
 same-append [] b (y ∷ c) d e = absurd (omega arith)
 same-append (x ∷ a) b [] d e = absurd (omega arith)
-same-append (x ∷ a) b (y ∷ c) d e = rw (same-append a b c d (omega arith)) (sym (and-assoc (eqb x y) (sameStr a c) (sameStr b d)))
+same-append (x ∷ a) b (y ∷ c) d e = rw (same-append a b c d (omega arith)) (sym (and-assoc (eqb x y) (same-str a c) (same-str b d)))
 
-same-value : (x y : List ℕ) → Bytes x → Bytes y → length x ≡ length y → sameStr x y ≡ eqb (value x) (value y)
+same-value : (x y : List ℕ) → AreBytes x → AreBytes y → length x ≡ length y → same-str x y ≡ eqb (value x) (value y)
 same-value x y f g e = elim (ℕ-discrete (value x) (value y)) [
-  | yes q ↦ rw (eq-eqb (value x) (value y) q, value-same x y f g e q) (sameStr-self y)
-  | no q ↦ rw (ne-eqb (value x) (value y) q) (sameStr-other x y (λ s. q (ap value s)))
+  | yes q ↦ rw (eq-eqb (value x) (value y) q, value-same x y f g e q) (same-str-self y)
+  | no q ↦ rw (ne-eqb (value x) (value y) q) (same-str-other x y (λ s. q (ap value s)))
 ]
 
 module _ (x y : List ℕ) (f : (i : ℕ) → getD x i 0 < 256) (g : (i : ℕ) → getD y i 0 < 256) where
   abbrev part : ℕ → ℕ → ℕ → Bool
-  part n at to = sameStr (take n (drop at x)) (take n (drop to y))
+  part n at to = same-str (take n (drop at x)) (take n (drop to y))
 
   abbrev number : ℕ → ℕ → ℕ → Bool
   number n at to = eqb (value (take n (drop at x))) (value (take n (drop to y)))
@@ -36,7 +36,7 @@ module _ (x y : List ℕ) (f : (i : ℕ) → getD x i 0 < 256) (g : (i : ℕ) �
   same-split n m at to h k =
       let p : take (n + m) (drop at x) ≡ take n (drop at x) ++ take m (drop (at + n) x) = take-add n m (drop at x) ∙ ap (λ (l : List ℕ). take n (drop at x) ++ take m l) (drop-drop n at x) in
       let q : take (n + m) (drop to y) ≡ take n (drop to y) ++ take m (drop (to + n) y) = take-add n m (drop to y) ∙ ap (λ (l : List ℕ). take n (drop to y) ++ take m l) (drop-drop n to y) in
-      ap₂ sameStr p q
+      ap₂ same-str p q
       ∙ same-append (take n (drop at x)) (take m (drop (at + n) x)) (take n (drop to y)) (take m (drop (to + n) y)) (length-part x at n h ∙ sym (length-part y to n k))
       ∙ ap (λ (t : Bool). t && part m (at + n) (to + n)) (same-part n at to h k)
 

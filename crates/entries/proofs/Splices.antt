@@ -1,7 +1,7 @@
 -- The copies of which the code makes a splice.
 use Rattle.model.proofs.Prelude.{List, [], _*_, _++_, _+_, _-_, _∙_, _≡_, _≤_, ap₂, append-assoc, arith, drop, length, length-append, length-drop, length-take-le, paste, refl, replicate, sym, take, ℕ}
 use Rattle.model.specs.Format.{padded}
-use Rattle.entries.specs.Rows.{room, splicedBytes}
+use Rattle.entries.specs.Rows.{room, spliced-bytes}
 use Rattle.entries.proofs.Padding.{copied, zeros-padded}
 use Rattle.entries.proofs.Products.{part-least, parts-are, rest-is}
 
@@ -20,8 +20,8 @@ module _ (e count i taken : ℕ) (xs middle : List ℕ) (fits : e * count ≤ le
       length-take-le (e * (count - (i + taken))) (drop (e * (i + taken)) xs)
       (omega (arith, length-drop (e * (i + taken)) xs, parts-are e (i + taken) count inside))
 
-  pub length-spliced : length (splicedBytes e xs count i taken middle) + e * taken ≡ e * count + length middle
-  unfolding splicedBytes
+  pub length-spliced : length (spliced-bytes e xs count i taken middle) + e * taken ≡ e * count + length middle
+  unfolding spliced-bytes
   length-spliced =
       omega (arith, length-append front (middle ++ back), length-append middle back, length-front, length-back, parts-are e (i + taken) count inside)
 
@@ -29,8 +29,8 @@ module _ (e count i taken : ℕ) (xs middle : List ℕ) (fits : e * count ≤ le
       → m₁ ≡ paste (replicate room 0) 0 (take (at - 0) (drop 0 xs)) (length (take (at - 0) (drop 0 xs)))
       → m₂ ≡ paste m₁ at middle (length middle)
       → m₃ ≡ paste m₂ (at + length middle) (take (end - next) (drop next xs)) (length (take (end - next) (drop next xs)))
-      → m₃ ≡ padded room (splicedBytes e xs count i taken middle)
-  unfolding splicedBytes
+      → m₃ ≡ padded room (spliced-bytes e xs count i taken middle)
+  unfolding spliced-bytes
   splice-copies at next end m₁ m₂ m₃ a b c most short q₁ q₂ q₃ =
       let z : at - 0 ≡ e * i = omega arith in
       let d : end - next ≡ e * (count - (i + taken)) = ap₂ (λ (x y : ℕ). x - y) c b ∙ rest-is e (i + taken) count in

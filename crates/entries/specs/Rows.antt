@@ -7,10 +7,10 @@ use mathlib.Core.Path.{_≡_}
 use Prim.Native.Nat.{_*_, _+_, _-_, _<_, _^_, _≤_, suc, zero, ℕ}
 use lib.Dec.{eqb, ltb}
 use lib.ListN.{drop, take}
-use Rattle.model.specs.Checks.{sameStr}
-use Rattle.model.specs.Entries.{Entry, chosen, contentOf}
-use Rattle.model.specs.Format.{valueOf}
-use Rattle.model.specs.Names.{legalFilled}
+use Rattle.model.specs.Checks.{same-str}
+use Rattle.model.specs.Entries.{Entry, chosen, content-from}
+use Rattle.model.specs.Format.{value-of}
+use Rattle.model.specs.Names.{is-legal-filled}
 use Rattle.model.specs.Order.{Str}
 use Rattle.model.specs.Deciding.{le?}
 use Rattle.digits.specs.Keys.{value}
@@ -37,13 +37,13 @@ pub record Whole (e i count r : ℕ) : Type 0 where
   pub most : e * count ≤ room
 
 -- Value and run as one number.
-unfoldable pub contentNumber : Content → ℕ
-contentNumber c = contentOf (c .value) (c .run)
+unfoldable pub content-number : Content → ℕ
+content-number c = content-from (c .value) (c .run)
 
 -- What is held, as a number.
-abbrev pub heldNumber : Held → Option ℕ
-heldNumber (Holds c) = some (contentNumber c)
-heldNumber Absent = nothing
+abbrev pub held-number : Held → Option ℕ
+held-number (Holds c) = some (content-number c)
+held-number Absent = nothing
 
 -- Its value has 64 bits, so that it is a part of that number.
 abbrev pub Valued : Held → Type 0
@@ -66,34 +66,34 @@ below v [] = 0
 below v (w ∷ ws) = let r = below v ws in cond (ltb 0 r || ltb w v) (suc r) 0
 
 -- How many there are up to the last that is not above v.
-unfoldable pub notAbove : ℕ → List ℕ → ℕ
-notAbove v [] = 0
-notAbove v (w ∷ ws) = let r = notAbove v ws in cond (ltb 0 r || not (ltb v w)) (suc r) 0
+unfoldable pub is-not-above : ℕ → List ℕ → ℕ
+is-not-above v [] = 0
+is-not-above v (w ∷ ws) = let r = is-not-above v ws in cond (ltb 0 r || not (ltb v w)) (suc r) 0
 
 -- Of so many entries, the one at a place is there and has the name looked for.
-unfoldable pub isAt : ℕ → List ℕ → ℕ → ℕ → ℕ → Bool
-isAt e xs count i v = ltb i count && eqb (value (take 24 (drop (e * i) xs))) v
+unfoldable pub is-at : ℕ → List ℕ → ℕ → ℕ → ℕ → Bool
+is-at e xs count i v = ltb i count && eqb (value (take 24 (drop (e * i) xs))) v
 
 -- The content of the entry at a place, where its name is the one looked for.
-unfoldable pub heldAt : ℕ → ℕ → List ℕ → ℕ → ℕ → Option ℕ
-heldAt e i xs count v =
-    cond (ltb i count && eqb (value (take 24 (drop (e * i) xs))) v) (some (valueOf (take (e - 24) (drop (e * i + 24) xs)))) nothing
+unfoldable pub held-at : ℕ → ℕ → List ℕ → ℕ → ℕ → Option ℕ
+held-at e i xs count v =
+    cond (ltb i count && eqb (value (take 24 (drop (e * i) xs))) v) (some (value-of (take (e - 24) (drop (e * i + 24) xs)))) nothing
 
-abbrev pub heldUnder : ℕ → List ℕ → ℕ → ℕ → Option ℕ
-heldUnder e xs count v = heldAt e (below v (values e count xs)) xs count v
+abbrev pub held-under : ℕ → List ℕ → ℕ → ℕ → Option ℕ
+held-under e xs count v = held-at e (below v (values e count xs)) xs count v
 
 -- Names are legal, strictly ascending and in the range: above `last`, and the last not above `high`.
-unfoldable pub areEntries : ℕ → ℕ → List ℕ → ℕ → ℕ → Bool
-areEntries e zero xs last high = not (ltb high last)
-areEntries e (suc n) xs last high =
-    legalFilled (take 24 xs) && ltb last (value (take 24 xs)) && areEntries e n (drop e xs) (value (take 24 xs)) high
+unfoldable pub are-entries : ℕ → ℕ → List ℕ → ℕ → ℕ → Bool
+are-entries e zero xs last high = not (ltb high last)
+are-entries e (suc n) xs last high =
+    is-legal-filled (take 24 xs) && ltb last (value (take 24 xs)) && are-entries e n (drop e xs) (value (take 24 xs)) high
 
 -- The bytes of the entries from one place on to another, and from one name to another.
-unfoldable pub entriesFrom : ℕ → ℕ → ℕ → List ℕ → List ℕ
-entriesFrom e i j xs = take (e * (j - i)) (drop (e * i) xs)
+unfoldable pub entries-from : ℕ → ℕ → ℕ → List ℕ → List ℕ
+entries-from e i j xs = take (e * (j - i)) (drop (e * i) xs)
 
-abbrev pub partBetween : ℕ → List ℕ → ℕ → ℕ → ℕ → List ℕ
-partBetween e xs count v w = entriesFrom e (below v (values e count xs)) (notAbove w (values e count xs)) xs
+abbrev pub part-in-between : ℕ → List ℕ → ℕ → ℕ → ℕ → List ℕ
+part-in-between e xs count v w = entries-from e (below v (values e count xs)) (is-not-above w (values e count xs)) xs
 
 -- Entries, each by its bytes.
 unfoldable pub pieces : ℕ → ℕ → List ℕ → List (List ℕ)
@@ -101,16 +101,16 @@ pieces e zero xs = []
 pieces e (suc n) xs = take e xs ∷ pieces e n (drop e xs)
 
 -- Whether the second entries are all met among the first, in order.
-unfoldable pub areAmong : List (List ℕ) → List (List ℕ) → Bool
-areAmong [] [] = true
-areAmong [] (e ∷ es) = false
-areAmong (n ∷ ns) [] = true
-areAmong (n ∷ ns) (e ∷ es) =
-    let r = areAmong ns es in
-    let s = areAmong ns (e ∷ es) in
-    cond (sameStr e n) r s
+unfoldable pub are-among : List (List ℕ) → List (List ℕ) → Bool
+are-among [] [] = true
+are-among [] (e ∷ es) = false
+are-among (n ∷ ns) [] = true
+are-among (n ∷ ns) (e ∷ es) =
+    let r = are-among ns es in
+    let s = are-among ns (e ∷ es) in
+    cond (same-str e n) r s
 
 -- Of so many entries, those before place i, the middle, and those behind the ones that are taken out.
-unfoldable pub splicedBytes : ℕ → List ℕ → ℕ → ℕ → ℕ → List ℕ → List ℕ
-splicedBytes e xs count i taken middle =
+unfoldable pub spliced-bytes : ℕ → List ℕ → ℕ → ℕ → ℕ → List ℕ → List ℕ
+spliced-bytes e xs count i taken middle =
     take (e * i) xs ++ (middle ++ take (e * (count - (i + taken))) (drop (e * (i + taken)) xs))

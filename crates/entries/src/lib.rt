@@ -9,11 +9,11 @@ ghost use Prim.Native.Nat.{_≤_, _<_, _+_, _-_, _*_, _^_};
 ghost use lib.Dec.{leb, ltb};
 ghost use lib.ListN.{drop, length, take};
 ghost use lib.Seq.{paste};
-ghost use Rattle.model.specs.Checks.{sameStr};
-ghost use Rattle.model.specs.Format.{entryBytes, littleEndian, padded, valueOf};
+ghost use Rattle.model.specs.Checks.{same-str};
+ghost use Rattle.model.specs.Format.{bytes-of-entry, little-endian, padded, value-of};
 ghost use Rattle.model.proofs.Format.{EntrySize};
-ghost use Rattle.digits.specs.Keys.{keyValue};
-ghost use Rattle.entries.specs.Rows.{Stands, Valued, Whole, areAmong, areEntries, below, contentNumber, entriesFrom, heldNumber, heldUnder, isAt, notAbove, partBetween, pieces, room, splicedBytes, values};
+ghost use Rattle.digits.specs.Keys.{key-value};
+ghost use Rattle.entries.specs.Rows.{Stands, Valued, Whole, are-among, are-entries, below, content-number, entries-from, held-number, held-under, is-at, is-not-above, part-in-between, pieces, room, spliced-bytes, values};
 use digits::Key;
 
 // The most bytes that the entries of one bucket and one more have: 17 of 40.
@@ -50,7 +50,7 @@ pub fn whole_at(e: usize, i: usize, count: usize) -> usize
 // How many entries there are up to the last that is below the name. It begins at the last entry.
 pub fn rank(entries: &[u8], e: usize, count: usize, name: Key) -> usize
     requires { ⌜ (e * count ≤ length (now entries)) × (count ≤ 17) × (24 ≤ e) × (e ≤ 40) ⌝ }
-    ensures { λ r. ⌜ (r ≤ count) × (r ≡ below (keyValue name) (values e count (now (entries .entry)))) ⌝ }
+    ensures { λ r. ⌜ (r ≤ count) × (r ≡ below (key-value name) (values e count (now (entries .entry)))) ⌝ }
 {
     let mut i = count;
     while 0 < i {
@@ -66,7 +66,7 @@ pub fn rank(entries: &[u8], e: usize, count: usize, name: Key) -> usize
 // How many entries there are up to the last that is not above the string. It begins at the last entry.
 pub fn not_above(entries: &[u8], e: usize, count: usize, string: Key) -> usize
     requires { ⌜ (e * count ≤ length (now entries)) × (count ≤ 17) × (24 ≤ e) × (e ≤ 40) ⌝ }
-    ensures { λ r. ⌜ (r ≤ count) × (r ≡ notAbove (keyValue string) (values e count (now (entries .entry)))) ⌝ }
+    ensures { λ r. ⌜ (r ≤ count) × (r ≡ is-not-above (key-value string) (values e count (now (entries .entry)))) ⌝ }
 {
     let mut n = count;
     while 0 < n {
@@ -82,7 +82,7 @@ pub fn not_above(entries: &[u8], e: usize, count: usize, string: Key) -> usize
 // Names are legal, strictly ascending and in the range: each is above the one before it, the first above the lower limit.
 pub fn are_entries(entries: &[u8], e: usize, count: usize, low: Key, high: Key) -> bool
     requires { ⌜ (e * count ≤ length (now entries)) × (count ≤ 17) × (24 ≤ e) × (e ≤ 40) ⌝ }
-    ensures { λ r. ⌜ r ≡ areEntries e count (now (entries .entry)) (keyValue low) (keyValue high) ⌝ }
+    ensures { λ r. ⌜ r ≡ are-entries e count (now (entries .entry)) (key-value low) (key-value high) ⌝ }
 {
     let mut last = low;
     let mut i = 0;
@@ -105,7 +105,7 @@ pub fn are_entries(entries: &[u8], e: usize, count: usize, low: Key, high: Key) 
 // The content of entry i of so many.
 pub fn content_at(entries: &[u8], e: usize, i: usize, count: usize) -> Content
     requires { ⌜ (e * count ≤ length (now entries)) × (i < count) × (count ≤ 17) × EntrySize e ⌝ }
-    ensures { λ r. ⌜ (contentNumber r ≡ valueOf (take (e - 24) (drop (e * i + 24) (now (entries .entry))))) × (r .value < 2 ^ 64) ⌝ }
+    ensures { λ r. ⌜ (content-number r ≡ value-of (take (e - 24) (drop (e * i + 24) (now (entries .entry))))) × (r .value < 2 ^ 64) ⌝ }
 {
     let at = whole_at(e, i, count);
     let value = digits::little_endian(entries, at + 24);
@@ -119,7 +119,7 @@ pub fn content_at(entries: &[u8], e: usize, i: usize, count: usize) -> Content
 // Whether the entry at place i of so many is there and has the name.
 pub fn is_at(entries: &[u8], e: usize, count: usize, i: usize, name: Key) -> bool
     requires { ⌜ (e * count ≤ length (now entries)) × (count ≤ 16) × (24 ≤ e) × (e ≤ 40) ⌝ }
-    ensures { λ r. ⌜ r ≡ isAt e (now (entries .entry)) count i (keyValue name) ⌝ }
+    ensures { λ r. ⌜ r ≡ is-at e (now (entries .entry)) count i (key-value name) ⌝ }
 {
     if count <= i {
         return false;
@@ -131,7 +131,7 @@ pub fn is_at(entries: &[u8], e: usize, count: usize, i: usize, name: Key) -> boo
 // The content under a name.
 pub fn held_under(entries: &[u8], e: usize, count: usize, name: Key) -> Held
     requires { ⌜ (e * count ≤ length (now entries)) × (count ≤ 16) × EntrySize e ⌝ }
-    ensures { λ r. ⌜ (heldNumber r ≡ heldUnder e (now (entries .entry)) count (keyValue name)) × Valued r ⌝ }
+    ensures { λ r. ⌜ (held-number r ≡ held-under e (now (entries .entry)) count (key-value name)) × Valued r ⌝ }
 {
     let i = rank(entries, e, count, name);
     if count <= i {
@@ -148,7 +148,7 @@ pub fn held_under(entries: &[u8], e: usize, count: usize, name: Key) -> Held
 // not behind its end.
 pub fn part(entries: &[u8], e: usize, count: usize, from: usize, to: usize) -> &[u8]
     requires { ⌜ (e * count ≤ length (now entries)) × (count ≤ 17) × (24 ≤ e) × (e ≤ 40) × (from ≤ to) × (to ≤ count) ⌝ }
-    ensures { λ r. ⌜ (now r ≡ entriesFrom e from to (now (entries .entry))) × (length (now r) ≡ e * (to - from)) × (length (now r) ≤ e * count) ⌝ }
+    ensures { λ r. ⌜ (now r ≡ entries-from e from to (now (entries .entry))) × (length (now r) ≡ e * (to - from)) × (length (now r) ≤ e * count) ⌝ }
 {
     let at = entry_at(e, from, to);
     let end = entry_at(e, to, count);
@@ -159,7 +159,7 @@ pub fn part(entries: &[u8], e: usize, count: usize, from: usize, to: usize) -> &
 pub fn part_between(entries: &[u8], e: usize, count: usize, first: Key, second: Key) -> &[u8]
     requires { ⌜ (e * count ≤ length (now entries)) × (count ≤ 17) × (24 ≤ e) × (e ≤ 40) ⌝ }
     ensures { λ r. ⌜ (length (now r) ≤ e * count)
-        × (now r ≡ partBetween e (now (entries .entry)) count (keyValue first) (keyValue second)) ⌝ }
+        × (now r ≡ part-in-between e (now (entries .entry)) count (key-value first) (key-value second)) ⌝ }
 {
     let from = rank(entries, e, count, first);
     let to = not_above(entries, e, count, second);
@@ -180,7 +180,7 @@ fn spliced(
 ) -> [u8; ROOM]
     requires { ⌜ (e * count ≤ length (now entries)) × (count ≤ 16) × (24 ≤ e) × (e ≤ 40)
         × (i + taken ≤ count) × (length (now middle) ≤ 40) ⌝ }
-    ensures { λ r. ⌜ r ≡ padded room (splicedBytes e (now (entries .entry)) count i taken (now (middle .entry))) ⌝ }
+    ensures { λ r. ⌜ r ≡ padded room (spliced-bytes e (now (entries .entry)) count i taken (now (middle .entry))) ⌝ }
 {
     let mut all = [0u8; ROOM];
     let at = entry_at(e, i, count);
@@ -194,7 +194,7 @@ fn spliced(
 
 // The eight bytes of a number, the lowest first.
 fn bytes_of(v: u64) -> [u8; 8]
-    ensures { λ r. ⌜ r ≡ littleEndian 8 v ⌝ }
+    ensures { λ r. ⌜ r ≡ little-endian 8 v ⌝ }
 {
     [
         (v % 256) as u8,
@@ -211,7 +211,7 @@ fn bytes_of(v: u64) -> [u8; 8]
 // The bytes of an entry, and zero behind them. Entries of 32 bytes have no run, and the one given is not written.
 fn entry_of(e: usize, name: &[u8; 24], content: Content) -> [u8; 40]
     requires { ⌜ EntrySize e ⌝ }
-    ensures { λ r. ⌜ (r ≡ padded 40 (entryBytes e (now (name .entry), contentNumber content))) × (length (now (name .entry)) ≡ 24) ⌝ }
+    ensures { λ r. ⌜ (r ≡ padded 40 (bytes-of-entry e (now (name .entry), content-number content))) × (length (now (name .entry)) ≡ 24) ⌝ }
 {
     let mut entry = [0u8; 40];
     copy(&mut entry, 0, name);
@@ -234,7 +234,7 @@ pub fn with_entry(
     content: Content,
 ) -> [u8; ROOM]
     requires { ⌜ (e * count ≤ length (now entries)) × (count ≤ 16) × EntrySize e × (i + taken ≤ count) ⌝ }
-    ensures { λ r. ⌜ r ≡ padded room (splicedBytes e (now (entries .entry)) count i taken (entryBytes e (now (name .entry), contentNumber content))) ⌝ }
+    ensures { λ r. ⌜ r ≡ padded room (spliced-bytes e (now (entries .entry)) count i taken (bytes-of-entry e (now (name .entry), content-number content))) ⌝ }
 {
     let entry = entry_of(e, name, content);
     spliced(entries, e, count, i, taken, &entry[0..e])
@@ -243,7 +243,7 @@ pub fn with_entry(
 // The entries without that at place i.
 pub fn without_entry(entries: &[u8], e: usize, count: usize, i: usize) -> [u8; ROOM]
     requires { ⌜ (e * count ≤ length (now entries)) × (count ≤ 16) × (24 ≤ e) × (e ≤ 40) × (i < count) ⌝ }
-    ensures { λ r. ⌜ r ≡ padded room (splicedBytes e (now (entries .entry)) count i 1 []) ⌝ }
+    ensures { λ r. ⌜ r ≡ padded room (spliced-bytes e (now (entries .entry)) count i 1 []) ⌝ }
 {
     spliced(entries, e, count, i, 1, &entries[0..0])
 }
@@ -251,7 +251,7 @@ pub fn without_entry(entries: &[u8], e: usize, count: usize, i: usize) -> [u8; R
 // Whether the entry from `at` on in x is that from `to` on in y.
 fn is_same_entry(x: &[u8], at: usize, y: &[u8], to: usize, e: usize) -> bool
     requires { ⌜ (at + e ≤ length (now x)) × (to + e ≤ length (now y)) × EntrySize e ⌝ }
-    ensures { λ r. ⌜ r ≡ sameStr (take e (drop at (now (x .entry)))) (take e (drop to (now (y .entry)))) ⌝ }
+    ensures { λ r. ⌜ r ≡ same-str (take e (drop at (now (x .entry)))) (take e (drop to (now (y .entry)))) ⌝ }
 {
     if !digits::is_same(digits::key_at(x, at), digits::key_at(y, to)) {
         return false;
@@ -269,7 +269,7 @@ fn is_same_entry(x: &[u8], at: usize, y: &[u8], to: usize, e: usize) -> bool
 fn step(first: &[u8], i: usize, m: usize, second: &[u8], j: usize, n: usize, e: usize) -> usize
     requires { ⌜ (e * m ≤ length (now first)) × (e * n ≤ length (now second)) × (m ≤ 16) × (n ≤ 16) × (j < n) × EntrySize e ⌝ }
     ensures { λ r. ⌜ (r ≤ 1) × (i + r ≤ i + m)
-        × (r ≡ cond (ltb i m && sameStr (take e (drop (e * i) (now (first .entry)))) (take e (drop (e * j) (now (second .entry))))) 1 0) ⌝ }
+        × (r ≡ cond (ltb i m && same-str (take e (drop (e * i) (now (first .entry)))) (take e (drop (e * j) (now (second .entry))))) 1 0) ⌝ }
 {
     if m <= i {
         return 0;
@@ -286,7 +286,7 @@ fn step(first: &[u8], i: usize, m: usize, second: &[u8], j: usize, n: usize, e: 
 pub fn is_copied(first: &[u8], m: usize, second: &[u8], n: usize, e: usize) -> bool
     requires { ⌜ (e * m ≤ length (now first)) × (e * n ≤ length (now second)) × (m ≤ 16) × (n ≤ 16) × EntrySize e ⌝ }
     ensures { λ r.
-        ⌜ r ≡ (areAmong (pieces e n (now (second .entry))) (pieces e m (now (first .entry))) && leb n (m + 1)) ⌝ }
+        ⌜ r ≡ (are-among (pieces e n (now (second .entry))) (pieces e m (now (first .entry))) && leb n (m + 1)) ⌝ }
 {
     let mut i = 0usize;
     let mut j = 0usize;

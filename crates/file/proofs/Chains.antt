@@ -8,7 +8,7 @@ use Rattle.model.proofs.Lists.{mem-place}
 use Rattle.model.proofs.Strings.{mem-at}
 use Rattle.model.proofs.Files.{well-parts}
 use Rattle.model.proofs.Surveys.{Follows, From, Neighbours, chain-follows, follows-chain}
-use Rattle.digits.specs.Keys.{continued, lowValue, value}
+use Rattle.digits.specs.Keys.{continued, low-value, value}
 use Rattle.file.specs.Orders.{Chained, Known, Listed, placed}
 use Rattle.file.proofs.Comparing.{high-same, low-same}
 
@@ -47,12 +47,12 @@ lower-bound b {s = used l u es} w k = well-parts b w .0
 pub record Ended (fs : List Slot) (Bs : List ℕ) (j v : ℕ) : Type 0 where
   pub low : Low
   pub bound : BoundLow low
-  pub is : v ≡ lowValue low
+  pub is : v ≡ low-value low
   pub onward : Follows (ranges fs) none Bs → Follows (ranges fs) low (drop j Bs)
   pub back : Follows (ranges fs) low (drop j Bs) → Follows (ranges fs) none Bs
 
 pub ended-start : (fs : List Slot) (Bs : List ℕ) (v : ℕ) → v ≡ 0 → Ended fs Bs 0 v
-unfolding lowValue
+unfolding low-value
 ended-start fs Bs v e = record { low = none; bound = unlimited; is = e; onward = λ h. h; back = λ h. h }
 
 module _ {y : Layout} {xs : List ℕ} {fs : List Slot} (K : Known y xs fs) (order : List ℕ) (count : ℕ) (short : count ≤ length order) (L : Listed fs order count) where
@@ -62,9 +62,9 @@ module _ {y : Layout} {xs : List ℕ} {fs : List Slot} (K : Known y xs fs) (orde
       ∙ rw (add-one, getD-take count order j 0 h)
 
   module _ (j v : ℕ) (E : Ended fs (take count order) j v) where
-    module _ (h : j < count) (lv : ℕ) (f : lv ≡ lowValue (lower-of (head (placed fs order j)))) (r : Bool) (e : r ≡ eqb lv v) where
+    module _ (h : j < count) (lv : ℕ) (f : lv ≡ low-value (lower-of (head (placed fs order j)))) (r : Bool) (e : r ≡ eqb lv v) where
       pub ended-next : r ≡ true → (hv : ℕ) → hv ≡ value (continued (upper-of (head (placed fs order j)))) → Ended fs (take count order) (j + 1) hv
-      unfolding lowValue
+      unfolding low-value
       ended-next t hv g =
           let q : lower-of (head (placed fs order j)) ≡ E .low =
           low-same (lower-bound (y .b) (K .well (getD order j 0)) (L j h)) (E .bound) (sym f ∙ eqb-true lv v (sym e ∙ t) ∙ E .is) in
@@ -79,11 +79,11 @@ module _ {y : Layout} {xs : List ℕ} {fs : List Slot} (K : Known y xs fs) (orde
       pub ended-stop : r ≡ false → Chained false (ranges fs) (take count order)
       ended-stop t = record {
         chained = λ z. clash cc;
-        refused = λ z c. eqb-false lv v (sym e ∙ t) (f ∙ ap lowValue (subst (λ Cs. Follows (ranges fs) (E .low) Cs) (next-is j h) (E .onward (chain-follows (ranges fs) (take count order) c)) .0) ∙ sym (E .is));
+        refused = λ z c. eqb-false lv v (sym e ∙ t) (f ∙ ap low-value (subst (λ Cs. Follows (ranges fs) (E .low) Cs) (next-is j h) (E .onward (chain-follows (ranges fs) (take count order) c)) .0) ∙ sym (E .is));
       }
 
     pub ended-end : count ≤ j → (r : Bool) (w : ℕ) → r ≡ eqb v w → w ≡ value (continued []) → Chained r (ranges fs) (take count order)
-    unfolding lowValue
+    unfolding low-value
     ended-end h r w e f =
         let n : drop j (take count order) ≡ [] = drop-of-length-le (take count order) {i = j} (omega (arith, length-take-le count order short)) in
         record {
@@ -91,7 +91,7 @@ module _ {y : Layout} {xs : List ℕ} {fs : List Slot} (K : Known y xs fs) (orde
               (E .back (subst (λ Cs. Follows (ranges fs) (E .low) Cs) (sym n) (low-same (E .bound) (limit (record { fits = omega arith; digits = tt })) (sym (E .is) ∙ eqb-true v w (sym e ∙ t) ∙ f))));
           refused = λ t c.
               (let g : E .low ≡ at [] = subst (λ Cs. Follows (ranges fs) (E .low) Cs) n (E .onward (chain-follows (ranges fs) (take count order) c)) in
-              eqb-false v w (sym e ∙ t) (E .is ∙ ap lowValue g ∙ sym f));
+              eqb-false v w (sym e ∙ t) (E .is ∙ ap low-value g ∙ sym f));
         }
 
   -- Two places whose high ends are compared.

@@ -1,25 +1,25 @@
 -- The search for the bucket that holds a name: what each probe says, and how the halves close in.
 use Rattle.model.proofs.Prelude.{Bool, List, [], _+_, _-_, _<_, _∙_, _∷_, _≡_, _≤_, ap, arith, decLt, false, getD, length, some, suc, sym, true, zero, ℕ}
 use Rattle.model.specs.Order.{Low, Str, _≺_, _⊑_, _⊴_, _◁_, above, at, least as unlimited, none, top}
-use Rattle.model.specs.Names.{Legal, atMost, within}
-use Rattle.model.specs.Files.{Chain, IsUsed, Ranges, Slot, entries-of, head, last, lower-of, next, order-of, ranges, slot-at}
-use Rattle.model.specs.Format.{readSlot, slotAt}
+use Rattle.model.specs.Names.{Legal, is-at-most, within}
+use Rattle.model.specs.Files.{Chain, IsUsed, RangeTable, Slot, entries-of, head, last, lower-of, next, order-of, ranges, slot-at}
+use Rattle.model.specs.Format.{bytes-at-slot, read-slot}
 use Rattle.model.specs.Deciding.{over}
 use Rattle.model.proofs.Lists.{at-taken}
 use Rattle.model.proofs.Order.{le-refl, le-trans, low-lower, lt-le}
-use Rattle.model.proofs.Names.{atMost-le, atMost-lt, legal-length, legalBound-bound, within-atMost}
+use Rattle.model.proofs.Names.{is-at-most-le, is-at-most-lt, is-legal-bound-bound, legal-length, within-is-at-most}
 use Rattle.model.proofs.Strings.{mem-at}
 use Rattle.model.proofs.Ranges.{chain-above, chain-length, chain-some, chain-used}
 use Rattle.model.proofs.Files.{chain-right, used-inside, well-head}
-use Rattle.model.proofs.Format.{readSlot-readFile}
-use Rattle.bucket.specs.Slots.{upperAt}
+use Rattle.model.proofs.Format.{read-slot-read-file}
+use Rattle.bucket.specs.Slots.{upper-bytes}
 use Rattle.bucket.proofs.Slots.{Reads, read-upper, used-reads}
 use Rattle.file.specs.declared.Size.{Size}
 use Rattle.file.specs.Holders.{Holder, Ordered, placed, upper-at}
 use Rattle.file.proofs.Readings.{used-read}
 
 -- Slots in range order, by their places.
-module _ (F : Ranges) where
+module _ (F : RangeTable) where
   chain-first : {l : Low} {Bs : List ℕ} → Chain F l Bs → F .lower (getD Bs 0 0) ≡ l
   chain-first (last u e f) = e
   chain-first (next u e a b c) = e
@@ -56,13 +56,13 @@ module _ {xs : List ℕ} {s : Size} {order : List ℕ} {count : ℕ} {fs : List 
   place-number i h = at-taken count order i (O .order-is) h
 
   -- The bytes of the slot at a place read as that slot.
-  pub place-reads : (i k : ℕ) (ys : List ℕ) → i < count → k ≡ getD order i 0 → ys ≡ slotAt (s .layout) k xs
+  pub place-reads : (i k : ℕ) (ys : List ℕ) → i < count → k ≡ getD order i 0 → ys ≡ bytes-at-slot (s .layout) k xs
       → Reads (s .layout) ys (lower-of (head (placed fs i))) (upper-at fs i) (entries-of (placed fs i))
   place-reads i k ys h e f =
       let B = getD (order-of fs) i 0 in
       let p : k ≡ B = e ∙ place-number i h in
       let u = place-used i h in
-      let r : readSlot (s .layout) ys ≡ some (slot-at fs B) = rw (f, p) (readSlot-readFile xs (O .is) B (used-inside fs B u)) in
+      let r : read-slot (s .layout) ys ≡ some (slot-at fs B) = rw (f, p) (read-slot-read-file xs (O .is) B (used-inside fs B u)) in
       used-reads (s .layout) ys (slot-at fs B) u (used-read (s .layout) ys (slot-at fs B) u r) (O .sound .well B)
 
   -- Places ascend with their bounds.
@@ -76,17 +76,17 @@ module _ {xs : List ℕ} {s : Size} {order : List ℕ} {count : ℕ} {fs : List 
   ]
 
   -- A probe: whether the name is within the upper bound at a place.
-  module _ (n : Str) (g : Legal n) (i k : ℕ) (ys : List ℕ) (h : i < count) (e : k ≡ getD order i 0) (f : ys ≡ slotAt (s .layout) k xs) where
-    probe : {t : Bool} → t ≡ within n (upperAt ys) → t ≡ atMost n (upper-at fs i)
+  module _ (n : Str) (g : Legal n) (i k : ℕ) (ys : List ℕ) (h : i < count) (e : k ≡ getD order i 0) (f : ys ≡ bytes-at-slot (s .layout) k xs) where
+    probe : {t : Bool} → t ≡ within n (upper-bytes ys) → t ≡ is-at-most n (upper-at fs i)
     probe r =
         let R = place-reads i k ys h e f in
-        r ∙ ap (within n) (read-upper R) ∙ within-atMost n (upper-at fs i) (omega (arith, legal-length g, legalBound-bound (upper-at fs i) (R .high) .fits))
+        r ∙ ap (within n) (read-upper R) ∙ within-is-at-most n (upper-at fs i) (omega (arith, legal-length g, is-legal-bound-bound (upper-at fs i) (R .high) .fits))
 
-    pub probe-upto : {t : Bool} → t ≡ within n (upperAt ys) → t ≡ true → n ⊑ upper-at fs i
-    probe-upto r d = atMost-le n (upper-at fs i) (sym (probe r) ∙ d)
+    pub probe-upto : {t : Bool} → t ≡ within n (upper-bytes ys) → t ≡ true → n ⊑ upper-at fs i
+    probe-upto r d = is-at-most-le n (upper-at fs i) (sym (probe r) ∙ d)
 
-    pub probe-below : {t : Bool} → t ≡ within n (upperAt ys) → t ≡ false → upper-at fs i ≺ n
-    probe-below r d = atMost-lt n (upper-at fs i) (sym (probe r) ∙ d)
+    pub probe-below : {t : Bool} → t ≡ within n (upper-bytes ys) → t ≡ false → upper-at fs i ≺ n
+    probe-below r d = is-at-most-lt n (upper-at fs i) (sym (probe r) ∙ d)
 
 -- The place lies from the least to the most.
 pub record Closing (fs : List Slot) (n : Str) (least most : ℕ) : Type 0 where

@@ -1,6 +1,6 @@
 -- Laws of a file's sizes, and of lists of slot numbers.
 use Rattle.model.proofs.Prelude.{List, [], _*_, _+_, _-_, _<_, _∙_, _∷_, _≡_, _≤_, add-sub-cancel-left, ap, arith, drop, le-of-eq, length, length-drop, length-take, length-take-le, mul-le-mul, paste, refl, replicate, set, suc, suc-mul, sym, take, zero, ℕ}
-use Rattle.model.specs.Format.{slotSize}
+use Rattle.model.specs.Format.{slot-size}
 use Rattle.file.specs.declared.Size.{Size}
 use Rattle.file.specs.Sizes.{Below, Sized}
 
@@ -13,7 +13,7 @@ pub record Within (len k n : ℕ) : Type 0 where
   pub slot-end : 16 + k * n + n ≤ len
   pub small : len ≤ 45072
 
-pub room : (len k n : ℕ) (s : Size) → Sized len s → k < s .slots → (n ≡ slotSize (s .layout)) × (64 ≤ n) × (n ≤ 704) → Within len k n
+pub room : (len k n : ℕ) (s : Size) → Sized len s → k < s .slots → (n ≡ slot-size (s .layout)) × (64 ≤ n) × (n ≤ 704) → Within len k n
 room len k n s z h e =
     let w : len ≡ 16 + s .slots * n = z .whole ∙ ap (λ (m : ℕ). 16 + s .slots * m) (sym (e .0)) in
     let l = z .legal in
@@ -57,8 +57,8 @@ below-zeros (suc m) n h (suc j) = below-zeros m n h j
 
 -- a file has a slot 0, and so room for its header and one slot
 pub some-slot : (len : ℕ) (s : Size) → Sized len s → (0 < s .slots) × (64 < len)
-unfolding slotSize
+unfolding slot-size
 some-slot len s z =
     let y = s .layout in
-    let h : 1 * slotSize y ≤ s .slots * slotSize y = mul-le-mul (z .legal .slots-least) (le-of-eq refl) in
+    let h : 1 * slot-size y ≤ s .slots * slot-size y = mul-le-mul (z .legal .slots-least) (le-of-eq refl) in
     (z .legal .slots-least, omega (arith, h, z .whole))

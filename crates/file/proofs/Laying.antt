@@ -4,21 +4,21 @@ use Rattle.model.specs.Order.{Low, Str}
 use Rattle.model.specs.Entries.{Entry}
 use Rattle.model.specs.Files.{IsUsed, Slot, Well, free, head, slot-at, used, well-free}
 use Rattle.model.specs.Tries.{occ, one-if}
-use Rattle.model.specs.Checks.{is-bad, isWell}
-use Rattle.model.specs.Format.{readSlot, readSlots, readUsed, slotAt, slotSize}
+use Rattle.model.specs.Checks.{is-bad, is-well-formed}
+use Rattle.model.specs.Format.{bytes-at-slot, read-slot, read-slots, read-used-slot, slot-size}
 use Rattle.model.proofs.Lists.{at-replicate}
 use Rattle.model.proofs.Names.{never-both}
 use Rattle.model.proofs.Cells.{occ-append, occ-mem, one-if-equal, one-if-not}
-use Rattle.model.proofs.Checks.{check-bad, isWell-well, well-isWell}
+use Rattle.model.proofs.Checks.{check-bad, is-well-formed-well, well-is-well-formed}
 use Rattle.model.proofs.Files.{cut-well}
-use Rattle.model.proofs.Format.{readSlots-each}
-use Rattle.digits.specs.Keys.{continued, isZero, lowValue, value}
+use Rattle.model.proofs.Format.{read-slots-each}
+use Rattle.digits.specs.Keys.{continued, is-all-zero, low-value, value}
 use Rattle.bucket.specs.Slots.{OfSize}
 use Rattle.bucket.proofs.Slots.{read-by-zero}
 use Rattle.file.specs.declared.Size.{Size}
 use Rattle.file.specs.Maps.{bit-of, map-of}
 use Rattle.file.specs.Orders.{Known, Laid, Listed, Placed, Sorts, placed, stands}
-use Rattle.file.specs.Surveys.{checkSlots}
+use Rattle.file.specs.Surveys.{check-of-slots}
 use Rattle.file.proofs.Moves.{put-back, put-front, put-here}
 use Rattle.file.proofs.Comparing.{not-stands-sorts, stands-sorts}
 use Rattle.file.proofs.Maps.{map-lt}
@@ -50,18 +50,18 @@ laid-start xs size = record {
 
 -- One slot more, of which the bytes are ys.
 module _ {xs : List ℕ} {size : Size} {k : ℕ} {order : List ℕ} {count map : ℕ} (L : Laid xs size (suc k) order count map) (inside : k < size .slots) (most : size .slots ≤ 64)
-    (ys : List ℕ) (is : ys ≡ slotAt (size .layout) k xs) (whole : OfSize ys (size .layout)) where
+    (ys : List ℕ) (is : ys ≡ bytes-at-slot (size .layout) k xs) (whole : OfSize ys (size .layout)) where
   k-free : slot-at (L .slots) k ≡ free
   k-free = L .before k (omega arith)
 
   k-inside : k < length (L .slots)
   k-inside = omega (arith, L .long)
 
-  k-read : readSlot (size .layout) (slotAt (size .layout) k xs) ≡ cond (isZero ys) (some free) (readUsed (size .layout) ys)
-  unfolding slotSize
-  k-read = ap (readSlot (size .layout)) (sym is) ∙ read-by-zero (size .layout) ys (whole .0)
+  k-read : read-slot (size .layout) (bytes-at-slot (size .layout) k xs) ≡ cond (is-all-zero ys) (some free) (read-used-slot (size .layout) ys)
+  unfolding slot-size
+  k-read = ap (read-slot (size .layout)) (sym is) ∙ read-by-zero (size .layout) ys (whole .0)
 
-  pub laid-free : isZero ys ≡ true → (v : ℕ) → (2 * map + 0 < 2 ^ 64 → v ≡ 2 * map + 0) → Laid xs size k order count v
+  pub laid-free : is-all-zero ys ≡ true → (v : ℕ) → (2 * map + 0 < 2 ^ 64 → v ≡ 2 * map + 0) → Laid xs size k order count v
   laid-free z v f =
       let m : map-of (drop k (L .slots)) ≡ 2 * map-of (drop (suc k) (L .slots)) + bit-of (slot-at (L .slots) k) = map-next (L .slots) k k-inside in
       let n : bit-of (slot-at (L .slots) k) ≡ 0 = ap bit-of k-free in
@@ -83,17 +83,17 @@ module _ {xs : List ℕ} {size : Size} {k : ℕ} {order : List ℕ} {count map :
       }
 
   -- A used slot that is not well formed.
-  module _ (z : isZero ys ≡ false) (ill : (s : Slot) → readUsed (size .layout) ys ≡ some s → isWell (size .layout .b) s ≡ false) where
-    pub ill-slot : (fs : List Slot) → readSlots (size .layout) (size .slots) 0 xs ≡ some fs → Well (size .layout .b) (slot-at fs k) → ⊥
+  module _ (z : is-all-zero ys ≡ false) (ill : (s : Slot) → read-used-slot (size .layout) ys ≡ some s → is-well-formed (size .layout .b) s ≡ false) where
+    pub ill-slot : (fs : List Slot) → read-slots (size .layout) (size .slots) 0 xs ≡ some fs → Well (size .layout .b) (slot-at fs k) → ⊥
     ill-slot fs e w =
-        let r : readSlot (size .layout) (slotAt (size .layout) k xs) ≡ some (slot-at fs k) = rw zero-add at (readSlots-each (size .layout) (size .slots) 0 k xs inside e) in
-        let u : readUsed (size .layout) ys ≡ some (slot-at fs k) = sym (k-read ∙ rw z) ∙ r in
-        never-both (isWell (size .layout .b) (slot-at fs k)) (well-isWell (size .layout .b) w) (ill (slot-at fs k) u)
+        let r : read-slot (size .layout) (bytes-at-slot (size .layout) k xs) ≡ some (slot-at fs k) = rw zero-add at (read-slots-each (size .layout) (size .slots) 0 k xs inside e) in
+        let u : read-used-slot (size .layout) ys ≡ some (slot-at fs k) = sym (k-read ∙ rw z) ∙ r in
+        never-both (is-well-formed (size .layout .b) (slot-at fs k)) (well-is-well-formed (size .layout .b) w) (ill (slot-at fs k) u)
 
-    pub ill-said : is-bad ≡ checkSlots (size .layout) (size .slots) xs
-    ill-said = sym (go (readSlots (size .layout) (size .slots) 0 xs) refl)
+    pub ill-said : is-bad ≡ check-of-slots (size .layout) (size .slots) xs
+    ill-said = sym (go (read-slots (size .layout) (size .slots) 0 xs) refl)
       where
-        go : (r : Option (List Slot)) → readSlots (size .layout) (size .slots) 0 xs ≡ r → checkSlots (size .layout) (size .slots) xs ≡ is-bad
+        go : (r : Option (List Slot)) → read-slots (size .layout) (size .slots) 0 xs ≡ r → check-of-slots (size .layout) (size .slots) xs ≡ is-bad
         go nothing e = check-none (size .layout) (size .slots) xs e
         go (some fs) e = check-slots (size .layout) (size .slots) xs fs e
             ∙ check-bad (size .layout .b) fs (λ S. ill-slot fs e (S .well k), λ N C. ill-slot fs e (cut-well (size .layout .b) C k))
@@ -105,12 +105,12 @@ module _ {xs : List ℕ} {size : Size} {k : ℕ} {order : List ℕ} {count map :
     ill-map v fs e S = absurd (ill-slot fs e (S .well k))
 
   -- A used slot that is well formed.
-  module _ (few : count < 64) {l : Low} {u : Str} {es : List Entry} (z : isZero ys ≡ false) (r : readUsed (size .layout) ys ≡ some (used l u es)) (w : isWell (size .layout .b) (used l u es) ≡ true)
-      (hv lv : ℕ) (high : hv ≡ value (continued u)) (low : lv ≡ lowValue l) (place : ℕ) (fits : place ≤ count)
+  module _ (few : count < 64) {l : Low} {u : Str} {es : List Entry} (z : is-all-zero ys ≡ false) (r : read-used-slot (size .layout) ys ≡ some (used l u es)) (w : is-well-formed (size .layout .b) (used l u es) ≡ true)
+      (hv lv : ℕ) (high : hv ≡ value (continued u)) (low : lv ≡ low-value l) (place : ℕ) (fits : place ≤ count)
       (P : (fs : List Slot) → Known (size .layout) xs fs → Listed fs order count → Placed fs order count hv lv place)
       (n : ℕ) (n-is : n ≡ k) (new : List ℕ) (long : length new ≡ 64) (q : take (count + 1) new ≡ take place order ++ (n ∷ drop place (take count order))) where
     k-well : Well (size .layout .b) (used l u es)
-    k-well = isWell-well (size .layout .b) (used l u es) w
+    k-well = is-well-formed-well (size .layout .b) (used l u es) w
 
     here : slot-at (set (L .slots) k (used l u es)) k ≡ used l u es
     here = getD-set-same (L .slots) k (used l u es) free k-inside

@@ -4,7 +4,7 @@ use Rattle.model.specs.declared.Layout.{Layout}
 use Rattle.model.specs.Order.{at, none}
 use Rattle.model.specs.Files.{Chain, IsUsed, Slot, Sound, free, head, order-of, ranges, slot-at, upper-of, used}
 use Rattle.model.specs.Checks.{Kind, check, is-bad, is-cut, is-sound}
-use Rattle.model.specs.Format.{checkRead, laidOut, readSlots, readUsed, slotAt}
+use Rattle.model.specs.Format.{bytes-at-slot, check-read, laid-out, read-slots, read-used-slot}
 use Rattle.model.proofs.Lists.{mem-insert}
 use Rattle.model.proofs.Files.{order-right, used-inside}
 use Rattle.model.proofs.Checks.{check-bad, check-cut, check-sound}
@@ -16,30 +16,30 @@ use Rattle.bucket.specs.Copies.{CopyTold}
 use Rattle.file.specs.Maps.{map-of}
 use Rattle.file.specs.Orders.{Chained, Known, Laid, Listed, Twinned}
 use Rattle.file.specs.Sizes.{Below}
-use Rattle.file.specs.Surveys.{Surveyed, checkSlots, verdict}
+use Rattle.file.specs.Surveys.{Surveyed, check-of-slots, verdict}
 use Rattle.file.proofs.Chains.{listed-mem, neighbours-places}
-use Rattle.file.proofs.Readings.{each-readSlots, used-read}
+use Rattle.file.proofs.Readings.{each-read-slots, used-read}
 
-pub check-slots : (y : Layout) (slots : ℕ) (xs : List ℕ) (fs : List Slot) → readSlots y slots 0 xs ≡ some fs → checkSlots y slots xs ≡ check (y .b) fs
-unfolding checkSlots checkRead laidOut
+pub check-slots : (y : Layout) (slots : ℕ) (xs : List ℕ) (fs : List Slot) → read-slots y slots 0 xs ≡ some fs → check-of-slots y slots xs ≡ check (y .b) fs
+unfolding check-of-slots check-read laid-out
 check-slots y slots xs fs e = rw e
 
-pub check-none : (y : Layout) (slots : ℕ) (xs : List ℕ) → readSlots y slots 0 xs ≡ nothing → checkSlots y slots xs ≡ is-bad
-unfolding checkSlots checkRead laidOut
+pub check-none : (y : Layout) (slots : ℕ) (xs : List ℕ) → read-slots y slots 0 xs ≡ nothing → check-of-slots y slots xs ≡ is-bad
+unfolding check-of-slots check-read laid-out
 check-none y slots xs e = rw e
 
 -- What is said of the order and of the map of a sound file.
 abbrev pub Ordered : List ℕ → Size → List ℕ → ℕ → Type 0
 Ordered xs size order count =
-    (fs : List Slot) → readSlots (size .layout) (size .slots) 0 xs ≡ some fs → Sound (size .layout .b) fs → (count ≡ length (order-of fs)) × (take count order ≡ order-of fs)
+    (fs : List Slot) → read-slots (size .layout) (size .slots) 0 xs ≡ some fs → Sound (size .layout .b) fs → (count ≡ length (order-of fs)) × (take count order ≡ order-of fs)
 
 abbrev pub Mapped : List ℕ → Size → ℕ → Type 0
-Mapped xs size map = (fs : List Slot) → readSlots (size .layout) (size .slots) 0 xs ≡ some fs → Sound (size .layout .b) fs → map ≡ map-of fs
+Mapped xs size map = (fs : List Slot) → read-slots (size .layout) (size .slots) 0 xs ≡ some fs → Sound (size .layout .b) fs → map ≡ map-of fs
 
 -- A survey made of its parts.
 pub surveyed : (s : Survey) (xs : List ℕ) (size : Size) (count : ℕ) (order : List ℕ) (inner : ℕ) (kind : Found) (map : ℕ)
     → (s .count ≡ count) × (s .order ≡ order) × (s .inner ≡ inner) × (s .kind ≡ kind) × (s .used ≡ map)
-    → Below order (size .slots) → count ≤ 64 → inner < size .slots → verdict kind inner ≡ checkSlots (size .layout) (size .slots) xs
+    → Below order (size .slots) → count ≤ 64 → inner < size .slots → verdict kind inner ≡ check-of-slots (size .layout) (size .slots) xs
     → Ordered xs size order count → Mapped xs size map → Surveyed s xs size
 surveyed s xs size count order inner kind map e h p q k o m =
     record {
@@ -74,10 +74,10 @@ module _ {xs : List ℕ} {size : Size} {order : List ℕ} {count map : ℕ} (few
         from B u = elim (decLe k B) [ yes h ↦ h | no h ↦ absurd (rw (L .before B (omega arith)) at u) ]
 
   module _ (L : Laid xs size 0 order count map) where
-    read-is : readSlots (size .layout) (size .slots) 0 xs ≡ some (L .slots)
-    read-is = each-readSlots (size .layout) (size .slots) 0 xs (L .slots) (L .long) (λ j h. rw zero-add (L .read j (omega arith) h))
+    read-is : read-slots (size .layout) (size .slots) 0 xs ≡ some (L .slots)
+    read-is = each-read-slots (size .layout) (size .slots) 0 xs (L .slots) (L .long) (λ j h. rw zero-add (L .read j (omega arith) h))
 
-    one : (fs : List Slot) → readSlots (size .layout) (size .slots) 0 xs ≡ some fs → fs ≡ L .slots
+    one : (fs : List Slot) → read-slots (size .layout) (size .slots) 0 xs ≡ some fs → fs ≡ L .slots
     one fs e = let i = read-is in cc
 
     lists : Lists (L .slots) (take count order)
@@ -105,7 +105,7 @@ module _ {xs : List ℕ} {size : Size} {order : List ℕ} {count map : ℕ} (few
     pub laid-map : Mapped xs size map
     laid-map fs e S = L .map ∙ ap map-of (sym (one fs e))
 
-    said : (k : Kind) → check (size .layout .b) (L .slots) ≡ k → k ≡ checkSlots (size .layout) (size .slots) xs
+    said : (k : Kind) → check (size .layout .b) (L .slots) ≡ k → k ≡ check-of-slots (size .layout) (size .slots) xs
     said k e = sym (check-slots (size .layout) (size .slots) xs (L .slots) read-is ∙ e)
 
     -- No two neighbours with one upper bound: sound, or bad.
@@ -116,10 +116,10 @@ module _ {xs : List ℕ} {size : Size} {order : List ℕ} {count map : ℕ} (few
           (let g : suc j < count = omega (arith, length-order) in
           rw (at-place j (omega arith), at-place (suc j) g) (T .apart j (omega arith) g)))
 
-      pub said-sound : r ≡ true → is-sound ≡ checkSlots (size .layout) (size .slots) xs
+      pub said-sound : r ≡ true → is-sound ≡ check-of-slots (size .layout) (size .slots) xs
       said-sound t = said is-sound (check-sound (size .layout .b) (L .slots) (chain-sound (size .layout .b) (L .slots) (L .well) lists (C .chained t)))
 
-      pub said-bad : r ≡ false → is-bad ≡ checkSlots (size .layout) (size .slots) xs
+      pub said-bad : r ≡ false → is-bad ≡ check-of-slots (size .layout) (size .slots) xs
       said-bad t = said is-bad (check-bad (size .layout .b) (L .slots) (apart-bad (size .layout .b) lists sorted apart
           (λ f. C .refused t (follows-chain (size .layout .b) (L .slots) (L .well) (take count order) (L .only) f))))
 
@@ -162,11 +162,11 @@ module _ {xs : List ℕ} {size : Size} {order : List ℕ} {count map : ℕ} (few
       rest-listed cs l f = listed-mem (L .slots) cs (count - 1) (omega arith)
           (λ B m. rest-used B (subst (λ Cs. List·Memᴰ B Cs) (rest-is (take (count - 1) cs) f) m))
 
-      module _ (n a : List ℕ) (i : n ≡ slotAt (size .layout) (getD order place 0) xs) (j : a ≡ slotAt (size .layout) (getD order p 0) xs) (c : Bool) (D : CopyTold (size .layout) n a c) where
-        n-read : {s : Slot} → slot-at (L .slots) (getD order place 0) ≡ s → IsUsed (head s) → readUsed (size .layout) n ≡ some s
+      module _ (n a : List ℕ) (i : n ≡ bytes-at-slot (size .layout) (getD order place 0) xs) (j : a ≡ bytes-at-slot (size .layout) (getD order p 0) xs) (c : Bool) (D : CopyTold (size .layout) n a c) where
+        n-read : {s : Slot} → slot-at (L .slots) (getD order place 0) ≡ s → IsUsed (head s) → read-used-slot (size .layout) n ≡ some s
         n-read {s} g u = used-read (size .layout) n s u (rw (i, ← g) (laid-known L .read (getD order place 0) (rw g u)))
 
-        a-read : {s : Slot} → slot-at (L .slots) (getD order p 0) ≡ s → IsUsed (head s) → readUsed (size .layout) a ≡ some s
+        a-read : {s : Slot} → slot-at (L .slots) (getD order p 0) ≡ s → IsUsed (head s) → read-used-slot (size .layout) a ≡ some s
         a-read {s} g u = used-read (size .layout) a s u (rw (j, ← g) (laid-known L .read (getD order p 0) (rw g u)))
 
         copy : c ≡ true → Copy (size .layout .b) (L .slots) (getD order p 0) (getD order place 0)
@@ -189,27 +189,26 @@ module _ {xs : List ℕ} {size : Size} {order : List ℕ} {count map : ℕ} (few
                   old = ea;
                   a-is = y ∙ ap (λ w. used la w ea) z;
                   below = q .2;
-                  full = q .3;
-                  copied = q .4;
+                  copied = q .3;
                 }
 
         no-copy : c ≡ false → Copy (size .layout .b) (L .slots) (getD order p 0) (getD order place 0) → ⊥
         no-copy t C = D .refused t (n-read (C .n-is) tt, rw (C .n-is) at (L .well (getD order place 0))) (a-read (C .a-is) tt, rw (C .a-is) at (L .well (getD order p 0)))
-            (C .low) refl (C .below) (C .full) (C .copied)
+            (C .low) refl (C .below) (C .copied)
 
-        pub said-no-copy : c ≡ false → is-bad ≡ checkSlots (size .layout) (size .slots) xs
+        pub said-no-copy : c ≡ false → is-bad ≡ check-of-slots (size .layout) (size .slots) xs
         said-no-copy t = said is-bad (check-bad (size .layout .b) (L .slots) (twin-bad (size .layout .b) lists twins sorted (λ q. no-copy t (q .0))))
 
         module _ (r : Bool) (cs : List ℕ) (f : take (count - 1) cs ≡ take place order ++ drop (suc place) (take count order)) (C : Chained r (ranges (L .slots)) (take (count - 1) cs)) where
           whole-rest : take (count - 1) cs ≡ (leaving order count p place)
           whole-rest = rest-is (take (count - 1) cs) f
 
-          pub said-no-chain : r ≡ false → is-bad ≡ checkSlots (size .layout) (size .slots) xs
+          pub said-no-chain : r ≡ false → is-bad ≡ check-of-slots (size .layout) (size .slots) xs
           unfolding twins
           said-no-chain t = said is-bad (check-bad (size .layout .b) (L .slots) (twin-bad (size .layout .b) lists twins sorted
               (λ q. C .refused t (subst (λ Cs. Chain (ranges (L .slots)) none Cs) (sym whole-rest) (follows-chain (size .layout .b) (L .slots) (L .well) (leaving order count p place) rest-used (q .1))))))
 
-          pub said-cut : c ≡ true → r ≡ true → is-cut (getD order place 0) ≡ checkSlots (size .layout) (size .slots) xs
+          pub said-cut : c ≡ true → r ≡ true → is-cut (getD order place 0) ≡ check-of-slots (size .layout) (size .slots) xs
           unfolding twins
           said-cut u t = said (is-cut (getD order place 0)) (check-cut (size .layout .b) (L .slots) (copy-cut (size .layout .b) lists twins (L .well) (copy u)
               (chain-follows (ranges (L .slots)) (leaving order count p place) (subst (λ Cs. Chain (ranges (L .slots)) none Cs) whole-rest (C .chained t)))))

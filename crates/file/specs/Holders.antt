@@ -7,12 +7,12 @@ use lib.ListN.{getD, length, take}
 use Rattle.model.specs.Order.{Str, _≺_}
 use Rattle.model.specs.Names.{Legal}
 use Rattle.model.specs.Files.{In, Slot, Sound, head, order-of, slot-at, upper-of}
-use Rattle.model.specs.Format.{readFile}
+use Rattle.model.specs.Format.{read-file}
 use Rattle.file.specs.declared.Size.{Size}
 
 -- A sound file, its slots as they are read, and the numbers of its used slots in range order.
 pub record Ordered (xs : List ℕ) (s : Size) (order : List ℕ) (count : ℕ) (fs : List Slot) : Type 0 where
-  pub is : readFile xs ≡ some (s .layout, fs)
+  pub is : read-file xs ≡ some (s .layout, fs)
   pub sound : Sound (s .layout .b) fs
   pub order-is : take count order ≡ order-of fs
   pub count-is : count ≡ length (order-of fs)

@@ -8,10 +8,10 @@ use Prim.Native.Nat.{_<_, _≤_, suc, ℕ}
 use lib.Dec.{eqb, ltb}
 use lib.ListN.{drop, getD, length, take}
 use Rattle.model.specs.Order.{_≺_, _⊴_, none}
-use Rattle.model.specs.Files.{Chain, IsUsed, Ranges, Slot, Well, free, head, lower-of, slot-at, upper-of}
+use Rattle.model.specs.Files.{Chain, IsUsed, RangeTable, Slot, Well, free, head, lower-of, slot-at, upper-of}
 use Rattle.model.specs.Tries.{occ}
-use Rattle.model.specs.Format.{readSlot, slotAt}
-use Rattle.digits.specs.Keys.{continued, lowValue, value}
+use Rattle.model.specs.Format.{bytes-at-slot, read-slot}
+use Rattle.digits.specs.Keys.{continued, low-value, value}
 use Rattle.model.specs.declared.Layout.{Layout}
 use Rattle.file.specs.declared.Size.{Size}
 use Rattle.file.specs.Maps.{map-of}
@@ -22,11 +22,11 @@ ahead high low other-high other-low = ltb high other-high || (eqb high other-hig
 
 -- A range, as it is compared, stands before that of a slot.
 unfoldable pub stands : ℕ → ℕ → Slot → Bool
-stands high low s = ahead high low (value (continued (upper-of (head s)))) (lowValue (lower-of (head s)))
+stands high low s = ahead high low (value (continued (upper-of (head s)))) (low-value (lower-of (head s)))
 
 -- Slots, of which those that are used stand in the file's bytes, and all are free or well formed.
 pub record Known (y : Layout) (xs : List ℕ) (fs : List Slot) : Type 0 where
-  pub read : (B : ℕ) → IsUsed (head (slot-at fs B)) → readSlot y (slotAt y B xs) ≡ some (slot-at fs B)
+  pub read : (B : ℕ) → IsUsed (head (slot-at fs B)) → read-slot y (bytes-at-slot y B xs) ≡ some (slot-at fs B)
   pub well : (B : ℕ) → Well (y .b) (slot-at fs B)
 
 -- The slot at a place of the order.
@@ -43,7 +43,7 @@ pub record Placed (fs : List Slot) (order : List ℕ) (count high low place : �
   pub right : place < count → stands high low (placed fs order place) ≡ true
 
 -- Whether slots in order are a chain.
-pub record Chained (r : Bool) (F : Ranges) (Bs : List ℕ) : Type 0 where
+pub record Chained (r : Bool) (F : RangeTable) (Bs : List ℕ) : Type 0 where
   pub chained : r ≡ true → Chain F none Bs
   pub refused : r ≡ false → Chain F none Bs → ⊥
 
@@ -63,7 +63,7 @@ pub record Laid (xs : List ℕ) (size : Size) (k : ℕ) (order : List ℕ) (coun
   pub slots : List Slot
   pub long : length slots ≡ size .slots
   pub before : (B : ℕ) → B < k → slot-at slots B ≡ free
-  pub read : (B : ℕ) → k ≤ B → B < size .slots → readSlot (size .layout) (slotAt (size .layout) B xs) ≡ some (slot-at slots B)
+  pub read : (B : ℕ) → k ≤ B → B < size .slots → read-slot (size .layout) (bytes-at-slot (size .layout) B xs) ≡ some (slot-at slots B)
   pub well : (B : ℕ) → Well (size .layout .b) (slot-at slots B)
   pub whole : length order ≡ 64
   pub once : (B : ℕ) → IsUsed (head (slot-at slots B)) → occ B (take count order) ≡ 1

@@ -7,8 +7,8 @@ use lib.Dec.{ltb}
 use lib.ListN.{length, take}
 use Rattle.model.specs.declared.Layout.{Layout}
 use Rattle.model.specs.Changes.{Store}
-use Rattle.model.specs.Format.{slotBytes, slotSize}
-use Rattle.model.specs.Calls.{storesBytes}
+use Rattle.model.specs.Format.{bytes-of-slot, slot-size}
+use Rattle.model.specs.Calls.{stores-bytes}
 use Rattle.file.specs.declared.Plan.{Plan}
 use Rattle.file.specs.declared.Size.{Size}
 
@@ -18,7 +18,7 @@ Fits p s = (p .first < s .slots) × (p .second < s .slots)
 
 -- One store: the slot's number, and an array that begins with its bytes.
 abbrev pub Holds : Layout → ℕ → List ℕ → Store → Type 0
-Holds y k bytes s = (k ≡ s .0) × (take (slotSize y) bytes ≡ slotBytes y (s .1))
+Holds y k bytes s = (k ≡ s .0) × (take (slot-size y) bytes ≡ bytes-of-slot y (s .1))
 
 -- The stores that a plan holds, in order: at most two.
 abbrev pub Planned : Plan → Layout → List Store → Type 0
@@ -30,4 +30,4 @@ Planned p y (s ∷ t ∷ u ∷ ss) = ⊥
 -- R7.12, of any stores that the plan holds: xs is the file before, ys after, and r tells whether the limit is below them.
 abbrev pub Committed : Bool → List ℕ → List ℕ → Layout → Plan → ℕ → Type 0
 Committed r xs ys y p limit =
-    (ss : List Store) → Planned p y ss → (ys ≡ storesBytes y (take limit ss) xs) × (r ≡ ltb limit (length ss))
+    (ss : List Store) → Planned p y ss → (ys ≡ stores-bytes y (take limit ss) xs) × (r ≡ ltb limit (length ss))

@@ -6,7 +6,7 @@ use mathlib.Core.Option.{none as nothing, some}
 use mathlib.Core.List.{List}
 use lib.Dec.{eqb}
 use lib.ListN.{getD, length}
-use Rattle.model.specs.Format.{Sizes, fileSize, headerOf, legalSizes, slotSize}
+use Rattle.model.specs.Format.{Sizes, are-legal-sizes, file-size, header-of, slot-size}
 use Rattle.model.specs.declared.Layout.{Layout}
 use Rattle.file.specs.declared.Size.{Size}
 use Rattle.file.specs.declared.Header.{Header}
@@ -17,21 +17,21 @@ use Rattle.file.specs.declared.Room.the-variants.{At, Full}
 -- R2.3 to R2.5, and R2.7: the length
 pub record Sized (n : ℕ) (s : Size) : Type 0 where
   pub legal : Sizes (s .layout) (s .slots)
-  pub whole : n ≡ 16 + s .slots * slotSize (s .layout)
+  pub whole : n ≡ 16 + s .slots * slot-size (s .layout)
 
 -- a layout, slots and a length: they are legal and the length fits them, or not
 abbrev pub Fitting : Header → ℕ → Layout → ℕ → Type 0
 Fitting (Right s) n y slots = Sized n s × (s .layout ≡ y) × (s .slots ≡ slots)
-Fitting Wrong n y slots = (legalSizes y slots && eqb n (fileSize y slots)) ≡ false
+Fitting Wrong n y slots = (are-legal-sizes y slots && eqb n (file-size y slots)) ≡ false
 
 -- what a header that is right says
-pub record Said (s : Size) (xs : List ℕ) : Type 0 where
+pub record Saying (s : Size) (xs : List ℕ) : Type 0 where
   pub sized : Sized (length xs) s
-  pub header : headerOf xs ≡ some (s .layout, s .slots)
+  pub header : header-of xs ≡ some (s .layout, s .slots)
 
 abbrev pub Told : Header → List ℕ → Type 0
-Told (Right s) xs = Said s xs
-Told Wrong xs = headerOf xs ≡ nothing
+Told (Right s) xs = Saying s xs
+Told Wrong xs = header-of xs ≡ nothing
 
 -- each number of the list is below n
 abbrev pub Below : List ℕ → ℕ → Type 0

@@ -6,7 +6,7 @@ use Prim.Native.Nat.{_<_, _≤_, ℕ}
 use lib.ListN.{length, take}
 use Rattle.model.specs.Files as files
 use Rattle.model.specs.Checks.{Kind, is-bad, is-cut, is-sound}
-use Rattle.model.specs.Format.{checkRead, laidOut, readSlots}
+use Rattle.model.specs.Format.{check-read, laid-out, read-slots}
 use Rattle.model.specs.declared.Layout.{Layout}
 use Rattle.file.specs.declared.Size.{Size}
 use Rattle.file.specs.declared.survey.Kind.{Kind as Found}
@@ -22,14 +22,14 @@ verdict Cut N = is-cut N
 verdict Bad N = is-bad
 
 -- Check of a file whose header is right, with its layout and slots.
-unfoldable pub checkSlots : Layout → ℕ → List ℕ → Kind
-checkSlots y slots xs = checkRead (laidOut y (readSlots y slots 0 xs))
+unfoldable pub check-of-slots : Layout → ℕ → List ℕ → Kind
+check-of-slots y slots xs = check-read (laid-out y (read-slots y slots 0 xs))
 
 pub record Surveyed (s : Survey) (xs : List ℕ) (size : Size) : Type 0 where
   pub slots-inside : Below (s .order) (size .slots)
   pub count-most : s .count ≤ 64
   pub inner-inside : s .inner < size .slots
-  pub kind-is : verdict (s .kind) (s .inner) ≡ checkSlots (size .layout) (size .slots) xs
-  pub order-is : {fs : List files.Slot} → readSlots (size .layout) (size .slots) 0 xs ≡ some fs → files.Sound (size .layout .b) fs
+  pub kind-is : verdict (s .kind) (s .inner) ≡ check-of-slots (size .layout) (size .slots) xs
+  pub order-is : {fs : List files.Slot} → read-slots (size .layout) (size .slots) 0 xs ≡ some fs → files.Sound (size .layout .b) fs
       → (s .count ≡ length (files.order-of fs)) × (take (s .count) (s .order) ≡ files.order-of fs)
-  pub used-is : {fs : List files.Slot} → readSlots (size .layout) (size .slots) 0 xs ≡ some fs → files.Sound (size .layout .b) fs → s .used ≡ map-of fs
+  pub used-is : {fs : List files.Slot} → read-slots (size .layout) (size .slots) 0 xs ≡ some fs → files.Sound (size .layout .b) fs → s .used ≡ map-of fs

@@ -8,8 +8,8 @@ ghost use lib.ListN.{length, take, getD, replicate};
 ghost use lib.Seq.{paste};
 ghost use Rattle.model.specs.declared.Layout.{Layout};
 ghost use Rattle.model.specs.Files.{created, free};
-ghost use Rattle.model.specs.Checks.{sameStr};
-ghost use Rattle.model.specs.Format.{fileBytes, headerBytes, isOffered, layoutOf, slotAt, slotSize};
+ghost use Rattle.model.specs.Checks.{same-str};
+ghost use Rattle.model.specs.Format.{bytes-at-slot, file-bytes, header-bytes, is-offered, layout-of, slot-size};
 ghost use Rattle.file.specs.Maps.{RoomTold};
 ghost use Rattle.file.specs.Plans.{Committed, Fits, Planned};
 ghost use Rattle.file.specs.Sizes.{Sized, Fitting, Told};
@@ -47,7 +47,7 @@ pub enum Room {
 
 // R2.3: the versions that are offered.
 fn is_offered(version: usize) -> bool
-    ensures { λ r. ⌜ r ≡ isOffered version ⌝ }
+    ensures { λ r. ⌜ r ≡ is-offered version ⌝ }
 {
     1 <= version && version <= 3
 }
@@ -80,7 +80,7 @@ pub fn sizes(length: usize, layout: Layout, slots: usize) -> Header
 // Whether the bytes are right that say what kind of file it is, and those behind the sizes.
 fn is_marked(file: &[u8]) -> bool
     requires { ⌜ 16 ≤ length (now file) ⌝ }
-    ensures { λ r. ⌜ r ≡ sameStr (take 16 (now (file .entry))) (headerBytes (layoutOf (now (file .entry))) (getD (now (file .entry)) 6 0)) ⌝ }
+    ensures { λ r. ⌜ r ≡ same-str (take 16 (now (file .entry))) (header-bytes (layout-of (now (file .entry))) (getD (now (file .entry)) 6 0)) ⌝ }
 {
     if file[0] != b'T' {
         return false;
@@ -97,7 +97,7 @@ fn is_marked(file: &[u8]) -> bool
 // Bytes 3 and 4 are the version, byte 5 is b.
 fn layout_of(file: &[u8]) -> Layout
     requires { ⌜ 16 ≤ length (now file) ⌝ }
-    ensures { λ r. ⌜ r ≡ layoutOf (now (file .entry)) ⌝ }
+    ensures { λ r. ⌜ r ≡ layout-of (now (file .entry)) ⌝ }
 {
     Layout {
         version: usize_of_u8(file[3]) + 256 * usize_of_u8(file[4]),
@@ -121,7 +121,7 @@ pub fn header_of(file: &[u8]) -> Header
 // The bytes of slot k.
 pub fn slot_at(file: &[u8], size: Size, k: usize) -> &[u8]
     requires { ⌜ (Sized (length (now file)) size) × (k < size .slots) ⌝ }
-    ensures { λ r. ⌜ (now r ≡ slotAt (size .layout) k (now (file .entry))) × (OfSize (now r) (size .layout)) ⌝ }
+    ensures { λ r. ⌜ (now r ≡ bytes-at-slot (size .layout) k (now (file .entry))) × (OfSize (now r) (size .layout)) ⌝ }
 {
     let n = bucket::slot_size(size.layout);
     let at = 16 + k * n;
@@ -187,7 +187,7 @@ pub fn two_stores(first: usize, slot: &[u8; SLOT], second: usize, other: &[u8; S
 fn store(file: &mut [u8], size: Size, k: usize, slot: &[u8; SLOT])
     requires { ⌜ (Sized (length (now file)) size) × (k < size .slots) ⌝ }
     ensures { λ _. ⌜ (length (now (file .exit)) ≡ length (now (file .entry)))
-        × (now (file .exit) ≡ paste (now (file .entry)) (16 + k * slotSize (size .layout)) (take (slotSize (size .layout)) (now (slot .entry))) (slotSize (size .layout))) ⌝ }
+        × (now (file .exit) ≡ paste (now (file .entry)) (16 + k * slot-size (size .layout)) (take (slot-size (size .layout)) (now (slot .entry))) (slot-size (size .layout))) ⌝ }
 {
     let whole = &slot[..];
     let n = bucket::slot_size(size.layout);
@@ -231,7 +231,7 @@ fn clear(file: &mut [u8])
 // R9.1: a new file over the whole buffer.
 pub fn create(file: &mut [u8], size: Size)
     requires { ⌜ Sized (length (now file)) size ⌝ }
-    ensures { λ _. ⌜ now (file .exit) ≡ fileBytes (size .layout) (created (size .slots)) ⌝ }
+    ensures { λ _. ⌜ now (file .exit) ≡ file-bytes (size .layout) (created (size .slots)) ⌝ }
 {
     clear(file);
     file[0] = b'T';

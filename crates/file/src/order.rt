@@ -5,9 +5,9 @@ ghost use Prim.Native.Nat.{ℕ, _≤_, _<_, _+_, _-_, suc};
 ghost use lib.ListN.{drop, length, take};
 ghost use mathlib.Core.Option.{some};
 ghost use Rattle.model.specs.Files.{IsUsed, Slot, Well, head};
-ghost use Rattle.model.specs.Format.{readSlot};
+ghost use Rattle.model.specs.Format.{read-slot};
 ghost use Rattle.model.specs.declared.Layout.{Layout};
-ghost use Rattle.digits.specs.Keys.{keyValue};
+ghost use Rattle.digits.specs.Keys.{key-value};
 ghost use Rattle.file.specs.Sizes.{Sized, Below};
 ghost use Rattle.file.specs.Orders.{Known, Listed, Placed, stands};
 ghost use Rattle.file.specs.Holders.{HolderTold};
@@ -19,7 +19,7 @@ use digits::usize_of_u8;
 // Whether the range (low, high] stands before that of a slot. The low ends matter only where the high ends are equal.
 fn is_before(high: Key, low: Key, slot: &[u8]) -> bool
     requires { ⌜ 64 ≤ length (now slot) ⌝ }
-    ensures { λ r. ⌜ ((y : Layout) (s : Slot) → IsUsed (head s) → readSlot y (now (slot .entry)) ≡ some s → Well (y .b) s → r ≡ stands (keyValue high) (keyValue low) s) ⌝ }
+    ensures { λ r. ⌜ ((y : Layout) (s : Slot) → IsUsed (head s) → read-slot y (now (slot .entry)) ≡ some s → Well (y .b) s → r ≡ stands (key-value high) (key-value low) s) ⌝ }
 {
     let other = bucket::high_key(slot);
     if digits::is_below(high, other) {
@@ -43,7 +43,7 @@ pub fn place_of(
     requires { ⌜ (Sized (length (now file)) size) × (Below (now order) (size .slots)) × (count ≤ 64) ⌝ }
     ensures { λ r. ⌜ (r ≤ count)
         × ((fs : List Slot) → Known (size .layout) (now (file .entry)) fs → Listed fs (now (order .entry)) count
-        → Placed fs (now (order .entry)) count (keyValue high) (keyValue low) r) ⌝ }
+        → Placed fs (now (order .entry)) count (key-value high) (key-value low) r) ⌝ }
 {
     let mut least = 0;
     let mut most = count;

@@ -3,7 +3,7 @@ use Rattle.model.proofs.Prelude.{List, [], _<_, _∙_, _≡_, ap, length, some,
 use Rattle.model.specs.declared.Trie.{Trie}
 use Rattle.model.specs.Order.{Str, diff}
 use Rattle.model.specs.Files.{In, Slot, Sound, head, slot-at, strings-of}
-use Rattle.model.specs.Tries.{Agrees, Spot, root, walk-trie, walkOf}
+use Rattle.model.specs.Tries.{Agrees, Spot, root, walk-of, walk-trie}
 use Rattle.model.proofs.Files.{one-range}
 use Rattle.model.proofs.Agreement.{agrees-walk}
 use Rattle.model.proofs.Walks.{live-cells, path-cells, spot-cells, top-side}
@@ -16,7 +16,7 @@ use Rattle.growth.specs.Grows.{Asked}
 
 module _ {b : ℕ} {fs : List Slot} (S : Sound b fs) {t : Trie} (A : Agrees fs t) where
   pub asked : (r : Walk) {places lens : List ℕ} {c s : Str} {shared a : ℕ} → Placed t places → take (length (strings-of fs)) lens ≡ lengths (strings-of fs)
-      → 0 < length s → s ≡ take (length s) c → In (head (slot-at fs a)) c → Walks r (walkOf t c)
+      → 0 < length s → s ≡ take (length s) c → In (head (slot-at fs a)) c → Walks r (walk-of t c)
       → shared ≡ diff s (take (r .len) (r .path)) → Asked t places lens r c s shared a
   asked r {c = c} {s = s} P lens more begins i w shares =
       record {

@@ -7,7 +7,7 @@ use lib.ListN.{length, take}
 use Rattle.model.specs.declared.Trie.{Trie}
 use Rattle.model.specs.Order.{Str, diff}
 use Rattle.model.specs.Files.{Slot, Sound, strings-of}
-use Rattle.model.specs.Tries.{Agrees, Spot, walkOf}
+use Rattle.model.specs.Tries.{Agrees, Spot, walk-of}
 use Rattle.model.specs.Growth.{grown-trie}
 use Rattle.trie.specs.declared.Walk.{Walk}
 use Rattle.trie.specs.Places.{Placed}
@@ -27,7 +27,7 @@ pub record Asked (t : Trie) (places lens : List ℕ) (w : Walk) (c s : Str) (sha
   pub begins : s ≡ take (length s) c
   pub path : Str
   pub spot : Spot
-  pub walked : walkOf t c ≡ just (path, spot, a)
+  pub walked : walk-of t c ≡ just (path, spot, a)
   pub by : By spot w
   pub shares : shared ≡ diff s path
 

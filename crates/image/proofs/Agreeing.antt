@@ -5,8 +5,8 @@ use Rattle.model.specs.declared.Side.{Side}
 use Rattle.model.specs.declared.Side.the-variants.{Cell as further, Slot as slot}
 use Rattle.model.specs.declared.Trie.{Trie}
 use Rattle.model.specs.Order.{Low, Str}
-use Rattle.model.specs.Files.{Ranges, Slot}
-use Rattle.model.specs.Tries.{Agrees, Leads, Leaves, Reads, Tree, at-cell, here, leaf-last, leaf-next, leaves, occ, one-if, root-side, there, zero-cell}
+use Rattle.model.specs.Files.{RangeTable, Slot}
+use Rattle.model.specs.Tries.{Agrees, Leads, LeafIntervals, Reads, Tree, at-cell, here, leaf-last, leaf-next, leaves, occ, one-if, root-side, there, zero-cell}
 use Rattle.model.proofs.Cells.{occ-append}
 use Rattle.model.proofs.Files.{used-inside}
 use Rattle.image.proofs.Images.{Held, Imaged}
@@ -71,7 +71,7 @@ module _ (cs : List Cell) where
   root-once zero f h r o = absurd (omega arith)
   root-once (suc k) f h (there l r₁ r₂) o = omega (arith, one-same (ℕ-discrete 0 0))
 
-leaf-led : {F : Ranges} {l : Low} {xs : List Str} {u : Str} {Bs : List ℕ} → Leaves (Leads F) l xs u Bs → (B : ℕ) → List·Memᴰ B Bs → F .Used B
+leaf-led : {F : RangeTable} {l : Low} {xs : List Str} {u : Str} {Bs : List ℕ} → LeafIntervals (Leads F) l xs u Bs → (B : ℕ) → List·Memᴰ B Bs → F .Used B
 leaf-led {F} (leaf-last {B = C} h) B m = ⊎-elim (λ e. rw e (h .used)) (λ n. absurd (List·Memᴰ·not-nil n)) (List·Memᴰ·cases-cons m)
 leaf-led {F} (leaf-next {B = C} a b h r) B m = ⊎-elim (λ e. rw e (h .used)) (λ n. leaf-led r B n) (List·Memᴰ·cases-cons m)
 

@@ -4,39 +4,39 @@ use Rattle.model.specs.declared.Cell.{Cell}
 use Rattle.model.specs.declared.Side.the-variants.{Cell as further, Slot as slot}
 use Rattle.model.specs.declared.Trie.{Trie}
 use Rattle.model.specs.Tries.{at-cell, trie-of, zero-cell}
-use Rattle.image.specs.Images.{cellBytes, cellFrom, cellsBytes, cellsOf, headBytes, imageOf, imageSize, pairOf, sideNumber, sideOf, trieOf}
+use Rattle.image.specs.Images.{cell-bytes, cell-from, cells-bytes, cells-from, head-bytes, image-length, image-of, number-of-side, pair-of, side-from, trie-from}
 
 -- A side's number, and the side of a number.
-pub number-cell : (i : ℕ) → (i ≡ 0 → ⊥) → 65535 - (i - 1) ≡ sideNumber (further i)
-unfolding sideNumber
+pub number-cell : (i : ℕ) → (i ≡ 0 → ⊥) → 65535 - (i - 1) ≡ number-of-side (further i)
+unfolding number-of-side
 number-cell zero h = absurd (h refl)
 number-cell (suc i) h = omega arith
 
-pub number-root : (i : ℕ) → i ≡ 0 → 0 ≡ sideNumber (further i)
-unfolding sideNumber
+pub number-root : (i : ℕ) → i ≡ 0 → 0 ≡ number-of-side (further i)
+unfolding number-of-side
 number-root i e = rw e
 
-pub number-slot : (s : ℕ) → s ≡ sideNumber (slot s)
-unfolding sideNumber
+pub number-slot : (s : ℕ) → s ≡ number-of-side (slot s)
+unfolding number-of-side
 number-slot s = refl
 
-pub side-slot : (x : ℕ) → x < 32768 → slot x ≡ sideOf x
-unfolding sideOf
+pub side-slot : (x : ℕ) → x < 32768 → slot x ≡ side-from x
+unfolding side-from
 side-slot x h = rw (lt-ltb x 32768 h)
 
-pub side-cell : (x : ℕ) → 32768 ≤ x → x < 65536 → further (65535 - x + 1) ≡ sideOf x
-unfolding sideOf
+pub side-cell : (x : ℕ) → 32768 ≤ x → x < 65536 → further (65535 - x + 1) ≡ side-from x
+unfolding side-from
 side-cell x h l = let e : 65535 - x + 1 ≡ 65536 - x = omega arith in rw (le-ltb x 32768 h, e)
 
 -- The six stores of a cell.
-pub cell-written : (xs : List ℕ) (at : ℕ) (c : Cell) {l r a b d e : ℕ} → l ≡ sideNumber (c .left) → r ≡ sideNumber (c .right)
+pub cell-written : (xs : List ℕ) (at : ℕ) (c : Cell) {l r a b d e : ℕ} → l ≡ number-of-side (c .left) → r ≡ number-of-side (c .right)
     → a ≡ l % 256 → b ≡ l / 256 → d ≡ r % 256 → e ≡ r / 256
-    → set (set (set (set (set (set xs at (c .digit)) (at + 1) (c .number)) (at + 2) a) (at + 3) b) (at + 4) d) (at + 5) e ≡ sets xs at (cellBytes c)
+    → set (set (set (set (set (set xs at (c .digit)) (at + 1) (c .number)) (at + 2) a) (at + 3) b) (at + 4) d) (at + 5) e ≡ sets xs at (cell-bytes c)
 cell-written xs at c l r a b d e = rw (a, b, d, e, l, r) (simp towards-suc)
 
 -- Written: the first four bytes, then the first i cells.
 abbrev pub written : Trie → ℕ → List ℕ
-written t i = headBytes t ++ cellsBytes i (t .cells)
+written t i = head-bytes t ++ cells-bytes i (t .cells)
 
 sets-begun : (xs vs : List ℕ) (k n : ℕ) → k + length vs ≤ length xs → k + length vs ≡ n → take n (sets xs k vs) ≡ take k xs ++ vs
 sets-begun xs vs k n h e = rw (sets-eq vs xs k h) (take-at (take k xs ++ vs) (drop (k + length vs) xs) n size)
@@ -44,56 +44,56 @@ sets-begun xs vs k n h e = rw (sets-eq vs xs k h) (take-at (take k xs ++ vs) (dr
     size : length (take k xs ++ vs) ≡ n
     size = rw (length-append, length-take-le k xs (omega arith)) e
 
-pub written-first : (t : Trie) (xs : List ℕ) (a b c d : ℕ) → length xs ≡ imageSize → a ∷ b ∷ c ∷ d ∷ [] ≡ headBytes t
+pub written-first : (t : Trie) (xs : List ℕ) (a b c d : ℕ) → length xs ≡ image-length → a ∷ b ∷ c ∷ d ∷ [] ≡ head-bytes t
     → take (4 + 6 * 0) (set (set (set (set xs 0 a) 1 b) 2 c) 3 d) ≡ written t 0
-unfolding cellsBytes
+unfolding cells-bytes
 written-first t [] a b c d h e = absurd (omega arith)
 written-first t (x ∷ []) a b c d h e = absurd (omega arith)
 written-first t (x ∷ y ∷ []) a b c d h e = absurd (omega arith)
 written-first t (x ∷ y ∷ z ∷ []) a b c d h e = absurd (omega arith)
 written-first t (x ∷ y ∷ z ∷ w ∷ xs) a b c d h e = e
 
-pub written-next : (t : Trie) (i : ℕ) (xs ys : List ℕ) → length xs ≡ imageSize → i < 256 → take (4 + 6 * i) xs ≡ written t i
-    → ys ≡ sets xs (4 + 6 * i) (cellBytes (at-cell (t .cells) i)) → take (4 + 6 * (i + 1)) ys ≡ written t (i + 1)
-unfolding cellsBytes
+pub written-next : (t : Trie) (i : ℕ) (xs ys : List ℕ) → length xs ≡ image-length → i < 256 → take (4 + 6 * i) xs ≡ written t i
+    → ys ≡ sets xs (4 + 6 * i) (cell-bytes (at-cell (t .cells) i)) → take (4 + 6 * (i + 1)) ys ≡ written t (i + 1)
+unfolding cells-bytes
 written-next t i xs ys l h e w =
     ap (take (4 + 6 * (i + 1))) w ∙ sets-begun xs vs (4 + 6 * i) (4 + 6 * (i + 1)) (omega arith) (omega arith)
     ∙ ap (λ (r : List ℕ). r ++ vs) e
-    ∙ append-assoc (headBytes t) (cellsBytes i (t .cells)) vs
-    ∙ ap (λ (k : ℕ). headBytes t ++ cellsBytes k (t .cells)) (sym (add-one i))
+    ∙ append-assoc (head-bytes t) (cells-bytes i (t .cells)) vs
+    ∙ ap (λ (k : ℕ). head-bytes t ++ cells-bytes k (t .cells)) (sym (add-one i))
   where
     vs : List ℕ
-    vs = cellBytes (at-cell (t .cells) i)
+    vs = cell-bytes (at-cell (t .cells) i)
 
-pub written-size : (t : Trie) (i : ℕ) (xs ys : List ℕ) → length xs ≡ imageSize → ys ≡ sets xs (4 + 6 * i) (cellBytes (at-cell (t .cells) i))
-    → length ys ≡ imageSize
-written-size t i xs ys l w = ap length w ∙ length-sets xs (4 + 6 * i) (cellBytes (at-cell (t .cells) i)) ∙ l
+pub written-size : (t : Trie) (i : ℕ) (xs ys : List ℕ) → length xs ≡ image-length → ys ≡ sets xs (4 + 6 * i) (cell-bytes (at-cell (t .cells) i))
+    → length ys ≡ image-length
+written-size t i xs ys l w = ap length w ∙ length-sets xs (4 + 6 * i) (cell-bytes (at-cell (t .cells) i)) ∙ l
 
-pub written-all : (t : Trie) (i : ℕ) (xs : List ℕ) → length xs ≡ imageSize → i ≡ 256 → take (4 + 6 * i) xs ≡ written t i → xs ≡ imageOf t
-unfolding imageOf
+pub written-all : (t : Trie) (i : ℕ) (xs : List ℕ) → length xs ≡ image-length → i ≡ 256 → take (4 + 6 * i) xs ≡ written t i → xs ≡ image-of t
+unfolding image-of
 written-all t i xs l h e = sym (take-all (4 + 6 * i) xs (omega arith)) ∙ e ∙ ap (written t) h
 
 -- Read: the first i cells, and no cell past them.
-abbrev pub readTo : ℕ → List ℕ → Trie
-readTo i xs = record { cells = cellsOf i xs ++ replicate (256 - i) zero-cell; count = trieOf xs .count; first = trieOf xs .first }
+abbrev pub read-to : ℕ → List ℕ → Trie
+read-to i xs = record { cells = cells-from i xs ++ replicate (256 - i) zero-cell; count = trie-from xs .count; first = trie-from xs .first }
 
-pub length-cellsOf : (n : ℕ) (xs : List ℕ) → length (cellsOf n xs) ≡ n
-unfolding cellsOf
-length-cellsOf zero xs = refl
-length-cellsOf (suc n) xs = rw (length-append, length-cellsOf n xs) (omega arith)
+pub length-cells-from : (n : ℕ) (xs : List ℕ) → length (cells-from n xs) ≡ n
+unfolding cells-from
+length-cells-from zero xs = refl
+length-cells-from (suc n) xs = rw (length-append, length-cells-from n xs) (omega arith)
 
-pub read-first : (u : Trie) (xs : List ℕ) {f n : ℕ} → u ≡ trie-of [] (slot f) → f ≡ pairOf (getD xs 2 0) (getD xs 3 0) → n ≡ pairOf (getD xs 0 0) (getD xs 1 0)
-    → record { cells = u .cells; count = n; first = u .first } ≡ readTo 0 xs
-unfolding cellsOf
+pub read-first : (u : Trie) (xs : List ℕ) {f n : ℕ} → u ≡ trie-of [] (slot f) → f ≡ pair-of (getD xs 2 0) (getD xs 3 0) → n ≡ pair-of (getD xs 0 0) (getD xs 1 0)
+    → record { cells = u .cells; count = n; first = u .first } ≡ read-to 0 xs
+unfolding cells-from
 read-first u xs e f n = rw (e, f, n)
 
-pub read-next : (t : Trie) (i : ℕ) (xs : List ℕ) {c : Cell} → t ≡ readTo i xs → i < 256 → c ≡ cellFrom xs (4 + 6 * i)
-    → record { cells = set (t .cells) i c; count = t .count; first = t .first } ≡ readTo (i + 1) xs
-unfolding cellsOf
-read-next t i xs {c} e h w = rw (e, w) (ap (λ (r : List Cell). record { cells = r; count = pairOf (getD xs 0 0) (getD xs 1 0); first = pairOf (getD xs 2 0) (getD xs 3 0) }) cells)
+pub read-next : (t : Trie) (i : ℕ) (xs : List ℕ) {c : Cell} → t ≡ read-to i xs → i < 256 → c ≡ cell-from xs (4 + 6 * i)
+    → record { cells = set (t .cells) i c; count = t .count; first = t .first } ≡ read-to (i + 1) xs
+unfolding cells-from
+read-next t i xs {c} e h w = rw (e, w) (ap (λ (r : List Cell). record { cells = r; count = pair-of (getD xs 0 0) (getD xs 1 0); first = pair-of (getD xs 2 0) (getD xs 3 0) }) cells)
   where
     d : Cell
-    d = cellFrom xs (4 + 6 * i)
+    d = cell-from xs (4 + 6 * i)
 
     rest : List Cell
     rest = replicate (256 - (i + 1)) zero-cell
@@ -103,12 +103,12 @@ read-next t i xs {c} e h w = rw (e, w) (ap (λ (r : List Cell). record { cells =
         let e : 256 - i ≡ suc (256 - (i + 1)) = omega arith in
         ap (λ (k : ℕ). replicate k zero-cell) e
 
-    cells : set (cellsOf i xs ++ replicate (256 - i) zero-cell) i d ≡ cellsOf (i + 1) xs ++ replicate (256 - (i + 1)) zero-cell
+    cells : set (cells-from i xs ++ replicate (256 - i) zero-cell) i d ≡ cells-from (i + 1) xs ++ replicate (256 - (i + 1)) zero-cell
     cells =
-        ap (λ (r : List Cell). set (cellsOf i xs ++ r) i d) more
-        ∙ set-at (cellsOf i xs) zero-cell rest d i (length-cellsOf i xs)
-        ∙ sym (append-snoc (cellsOf i xs) d rest)
-        ∙ ap (λ (k : ℕ). cellsOf k xs ++ rest) (sym (add-one i))
+        ap (λ (r : List Cell). set (cells-from i xs ++ r) i d) more
+        ∙ set-at (cells-from i xs) zero-cell rest d i (length-cells-from i xs)
+        ∙ sym (append-snoc (cells-from i xs) d rest)
+        ∙ ap (λ (k : ℕ). cells-from k xs ++ rest) (sym (add-one i))
 
-pub read-all : (t : Trie) (i : ℕ) (xs : List ℕ) → t ≡ readTo i xs → i ≡ 256 → t ≡ trieOf xs
-read-all t i xs e h = e ∙ rw (h, append-nil (cellsOf 256 xs))
+pub read-all : (t : Trie) (i : ℕ) (xs : List ℕ) → t ≡ read-to i xs → i ≡ 256 → t ≡ trie-from xs
+read-all t i xs e h = e ∙ rw (h, append-nil (cells-from 256 xs))

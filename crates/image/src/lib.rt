@@ -8,7 +8,7 @@ ghost use Prim.Native.Nat.{_<_, _+_, _*_, _%_, _/_};
 ghost use lib.ListN.{length};
 ghost use lib.Seq.{sets};
 ghost use Rattle.trie.specs.Walks.{Walks};
-ghost use Rattle.image.specs.Images.{cellBytes, cellFrom, imageOf, imageSize, pairOf, sideNumber, sideOf, trieOf};
+ghost use Rattle.image.specs.Images.{cell-bytes, cell-from, image-length, image-of, number-of-side, pair-of, side-from, trie-from};
 use digits::u16_of_u8;
 use digits::usize_of_u16;
 use model::Cell;
@@ -16,19 +16,19 @@ use model::Side;
 use model::Trie;
 use trie::Place;
 use trie::Walk;
-ghost use Rattle.model.specs.Tries.{walkOf};
+ghost use Rattle.model.specs.Tries.{walk-of};
 
 pub const BYTES: usize = 1540;
 
 // Two bytes, little-endian.
 fn pair(low: u8, high: u8) -> u16
-    ensures { λ r. ⌜ r ≡ pairOf low high ⌝ }
+    ensures { λ r. ⌜ r ≡ pair-of low high ⌝ }
 {
     u16_of_u8(low) + 256 * u16_of_u8(high)
 }
 
 fn side_of(x: u16) -> Side
-    ensures { λ r. ⌜ r ≡ sideOf x ⌝ }
+    ensures { λ r. ⌜ r ≡ side-from x ⌝ }
 {
     if x < 32768 {
         return Side::Slot(x);
@@ -37,8 +37,8 @@ fn side_of(x: u16) -> Side
 }
 
 fn cell_at(image: &[u8], i: usize) -> Cell
-    requires { ⌜ (i < 256) × (length (now image) ≡ imageSize) ⌝ }
-    ensures { λ r. ⌜ r ≡ cellFrom (now (image .entry)) (4 + 6 * i) ⌝ }
+    requires { ⌜ (i < 256) × (length (now image) ≡ image-length) ⌝ }
+    ensures { λ r. ⌜ r ≡ cell-from (now (image .entry)) (4 + 6 * i) ⌝ }
 {
     let at = 4 + 6 * i;
     Cell {
@@ -51,8 +51,8 @@ fn cell_at(image: &[u8], i: usize) -> Cell
 
 // The trie of an image.
 pub fn decoded(image: &[u8]) -> Trie
-    requires { ⌜ length (now image) ≡ imageSize ⌝ }
-    ensures { λ r. ⌜ r ≡ trieOf (now (image .entry)) ⌝ }
+    requires { ⌜ length (now image) ≡ image-length ⌝ }
+    ensures { λ r. ⌜ r ≡ trie-from (now (image .entry)) ⌝ }
 {
     let mut trie = trie::without_cells(pair(image[2], image[3]));
     trie.count = pair(image[0], image[1]);
@@ -67,8 +67,8 @@ pub fn decoded(image: &[u8]) -> Trie
 
 // The walk of a filled name over the trie of an image. It reads the cells that it meets, and no others.
 pub fn walk_in(image: &[u8], name: &[u8; 24]) -> Walk
-    requires { ⌜ length (now image) ≡ imageSize ⌝ }
-    ensures { λ r. ⌜ Walks r (walkOf (trieOf (now (image .entry))) (now (name .entry))) ⌝ }
+    requires { ⌜ length (now image) ≡ image-length ⌝ }
+    ensures { λ r. ⌜ Walks r (walk-of (trie-from (now (image .entry))) (now (name .entry))) ⌝ }
 {
     let count = pair(image[0], image[1]);
     let first = pair(image[2], image[3]);
@@ -96,7 +96,7 @@ fn high(x: u16) -> u8
 }
 
 fn number_of(side: Side) -> u16
-    ensures { λ r. ⌜ r ≡ sideNumber side ⌝ }
+    ensures { λ r. ⌜ r ≡ number-of-side side ⌝ }
 {
     match side {
         Side::Slot(s) => s,
@@ -110,8 +110,8 @@ fn number_of(side: Side) -> u16
 }
 
 fn write_cell(image: &mut [u8], i: usize, cell: Cell)
-    requires { ⌜ (i < 256) × (length (now image) ≡ imageSize) ⌝ }
-    ensures { λ _. ⌜ now (image .exit) ≡ sets (now (image .entry)) (4 + 6 * i) (cellBytes cell) ⌝ }
+    requires { ⌜ (i < 256) × (length (now image) ≡ image-length) ⌝ }
+    ensures { λ _. ⌜ now (image .exit) ≡ sets (now (image .entry)) (4 + 6 * i) (cell-bytes cell) ⌝ }
 {
     let left = cell.left;
     let right = cell.right;
@@ -128,8 +128,8 @@ fn write_cell(image: &mut [u8], i: usize, cell: Cell)
 
 // Writes the image of a trie.
 pub fn encode(image: &mut [u8], trie: Trie)
-    requires { ⌜ length (now image) ≡ imageSize ⌝ }
-    ensures { λ _. ⌜ now (image .exit) ≡ imageOf trie ⌝ }
+    requires { ⌜ length (now image) ≡ image-length ⌝ }
+    ensures { λ _. ⌜ now (image .exit) ≡ image-of trie ⌝ }
 {
     image[0] = low(trie.count);
     image[1] = high(trie.count);

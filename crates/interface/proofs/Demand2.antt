@@ -8,52 +8,52 @@ use Rattle.model.specs.declared.TrieAnswer.{TrieAnswer}
 use Rattle.model.specs.declared.TrieAnswer.the-variants.{Given, Refused as TrieRefused}
 use Rattle.model.specs.Order.{Str}
 use Rattle.model.specs.Files.{Slot}
-use Rattle.model.specs.Format.{Bytes}
-use Rattle.model.specs.Answers.{createSays, lookUpSays, putSays, rebuildSays}
-use Rattle.model.specs.Calls.{createOf, putOf, rebuildOf}
+use Rattle.model.specs.Format.{AreBytes}
+use Rattle.model.specs.Answers.{said-by-create, said-by-look-up, said-by-put, said-by-rebuild}
+use Rattle.model.specs.Calls.{create-of, put-of, rebuild-of}
 use Rattle.promises.specs.Demand2.{LeadsRight, Made, Tells, Truthful, stale, told, true-entry, truly-absent}
 use Rattle.promises.proofs.Demand2.{demand-2}
-use Rattle.image.specs.Images.{imageSize, trieOf}
-use Rattle.capi.specs.Doors.{imageAfter, malformed, outAfter, palCreateOf, palPutOf, palRebuildOf}
+use Rattle.image.specs.Images.{image-length, trie-from}
+use Rattle.capi.specs.Doors.{image-after, malformed, out-after, pal-create-of, pal-put-of, pal-rebuild-of}
 use Rattle.capi.proofs.Doors.{create-malformed, put-malformed, rebuild-malformed}
 use Rattle.interface.specs.Calls.{our-c-calls}
 use Rattle.interface.specs.Demand2.{Demand2C, TellsC, TruthfulC, stale as stale-c, told as told-c, true-entry as true-entry-c, truly-absent as truly-absent-c}
 use Rattle.interface.proofs.Saying.{create-is, look-up-is, number-small, put-is, rebuild-is}
 use Rattle.interface.proofs.Images.{leads-written, replaced-same}
 
-truthful : {fs : List Slot} {n : Str} {a : LookUpAnswer} (out : List ℕ) → Truthful fs n a → TruthfulC fs n out (lookUpSays a .0, outAfter (lookUpSays a) out)
+truthful : {fs : List Slot} {n : Str} {a : LookUpAnswer} (out : List ℕ) → Truthful fs n a → TruthfulC fs n out (said-by-look-up a .0, out-after (said-by-look-up a) out)
 truthful out (true-entry B i f) = true-entry-c B i f
 truthful out (truly-absent B i f) = truly-absent-c B i f
 
-telling : {fs : List Slot} {n : Str} {a : LookUpAnswer} (out : List ℕ) → Tells fs n a → TellsC fs n out (lookUpSays a .0, outAfter (lookUpSays a) out)
+telling : {fs : List Slot} {n : Str} {a : LookUpAnswer} (out : List ℕ) → Tells fs n a → TellsC fs n out (said-by-look-up a .0, out-after (said-by-look-up a) out)
 telling out (told T) = told-c (truthful out T)
 telling out (stale {k = k}) = stale-c k
 
-pub created-said : (a : TrieAnswer) → createSays a .0 ≡ 150 → a ≡ Given
+pub created-said : (a : TrieAnswer) → said-by-create a .0 ≡ 150 → a ≡ Given
 created-said Given e = refl
 created-said (TrieRefused c) e = absurd (omega (arith, number-small c))
 
-pub rebuilt-said : (a : TrieAnswer) → rebuildSays a .0 ≡ 151 → a ≡ Given
+pub rebuilt-said : (a : TrieAnswer) → said-by-rebuild a .0 ≡ 151 → a ≡ Given
 rebuilt-said Given e = refl
 rebuilt-said (TrieRefused c) e = absurd (omega (arith, number-small c))
 
-created-leads : (xs : List ℕ) (v b slots : ℕ) (image : List ℕ) → palCreateOf xs v b slots image .0 ≡ 150
-    → LeadsRight (palCreateOf xs v b slots image .1) (trieOf (palCreateOf xs v b slots image .2))
-created-leads xs v b slots image e = elim (ℕ-discrete (length image) imageSize) [
+created-leads : (xs : List ℕ) (v b slots : ℕ) (image : List ℕ) → pal-create-of xs v b slots image .0 ≡ 150
+    → LeadsRight (pal-create-of xs v b slots image .1) (trie-from (pal-create-of xs v b slots image .2))
+created-leads xs v b slots image e = elim (ℕ-discrete (length image) image-length) [
   | yes w ↦ rw (create-is image w xs v b slots)
-      (leads-written (demand-2 .created xs v b slots (created-said (createOf xs v b slots .answer) (rw (create-is image w xs v b slots) at e))))
+      (leads-written (demand-2 .created xs v b slots (created-said (create-of xs v b slots .answer) (rw (create-is image w xs v b slots) at e))))
   | no n ↦ let z : malformed ≡ 150 = rw (create-malformed image n xs v b slots) at e in absurd (omega arith)
 ]
 
-rebuilt-leads : (xs image : List ℕ) → palRebuildOf xs image .0 ≡ 151 → LeadsRight xs (trieOf (palRebuildOf xs image .1))
-rebuilt-leads xs image e = elim (ℕ-discrete (length image) imageSize) [
-  | yes w ↦ rw (rebuild-is image w xs) (leads-written (demand-2 .rebuilt xs (rebuilt-said (rebuildOf xs .answer) (rw (rebuild-is image w xs) at e))))
+rebuilt-leads : (xs image : List ℕ) → pal-rebuild-of xs image .0 ≡ 151 → LeadsRight xs (trie-from (pal-rebuild-of xs image .1))
+rebuilt-leads xs image e = elim (ℕ-discrete (length image) image-length) [
+  | yes w ↦ rw (rebuild-is image w xs) (leads-written (demand-2 .rebuilt xs (rebuilt-said (rebuild-of xs .answer) (rw (rebuild-is image w xs) at e))))
   | no n ↦ let z : malformed ≡ 151 = rw (rebuild-malformed image n xs) at e in absurd (omega arith)
 ]
 
 -- The image after a put that was made: the trie's, or the one that was lent.
-after-made : (image : List ℕ) (a : PutAnswer) (ys : List ℕ) (t : Trie) → ((old : ℕ) → a ≡ Replaced old → t ≡ trieOf image) → (Made a → LeadsRight ys t)
-    → (putSays a .0 ≡ 110) ⊎ (putSays a .0 ≡ 111) → LeadsRight ys (trieOf (imageAfter a t image))
+after-made : (image : List ℕ) (a : PutAnswer) (ys : List ℕ) (t : Trie) → ((old : ℕ) → a ≡ Replaced old → t ≡ trie-from image) → (Made a → LeadsRight ys t)
+    → (said-by-put a .0 ≡ 110) ⊎ (said-by-put a .0 ≡ 111) → LeadsRight ys (trie-from (image-after a t image))
 after-made image Added ys t same L e = leads-written (L tt)
 after-made image (Replaced old) ys t same L e = subst (λ (u : Trie). LeadsRight ys u) (same old refl) (L tt)
 after-made image (PutStopped made) ys t same L (inl e) = absurd (omega arith)
@@ -65,23 +65,23 @@ not-made : {k : ℕ} → k ≡ 255 → (k ≡ 110) ⊎ (k ≡ 111) → ⊥
 not-made z (inl e) = omega arith
 not-made z (inr e) = omega arith
 
-put-leads : (xs image name : List ℕ) (v limit : ℕ) (out : List ℕ) → Bytes xs → v < 2 ^ 64
-    → (palPutOf xs image name v limit out .0 ≡ 110) ⊎ (palPutOf xs image name v limit out .0 ≡ 111)
-    → LeadsRight (palPutOf xs image name v limit out .1) (trieOf (palPutOf xs image name v limit out .2))
-put-leads xs image name v limit out B s e = elim (ℕ-discrete (length image) imageSize) [
+put-leads : (xs image name : List ℕ) (v limit : ℕ) (out : List ℕ) → AreBytes xs → v < 2 ^ 64
+    → (pal-put-of xs image name v limit out .0 ≡ 110) ⊎ (pal-put-of xs image name v limit out .0 ≡ 111)
+    → LeadsRight (pal-put-of xs image name v limit out .1) (trie-from (pal-put-of xs image name v limit out .2))
+put-leads xs image name v limit out B s e = elim (ℕ-discrete (length image) image-length) [
   | yes w ↦
-      let o = putOf xs (trieOf image) name v limit in
+      let o = put-of xs (trie-from image) name v limit in
       rw (put-is image w xs name v limit out)
-      (after-made image (o .answer) (o .file) (o .trie) (replaced-same xs (trieOf image) name v limit) (demand-2 .grown xs (trieOf image) name v limit B s)
+      (after-made image (o .answer) (o .file) (o .trie) (replaced-same xs (trie-from image) name v limit) (demand-2 .grown xs (trie-from image) name v limit B s)
       (rw (put-is image w xs name v limit out) at e))
-  | no n ↦ let z : palPutOf xs image name v limit out .0 ≡ 255 = rw (put-malformed image n xs name v limit out) in absurd (not-made z e)
+  | no n ↦ let z : pal-put-of xs image name v limit out .0 ≡ 255 = rw (put-malformed image n xs name v limit out) in absurd (not-made z e)
 ]
 
 pub demand-2-c : Demand2C our-c-calls
 demand-2-c = record {
-  tells = λ xs image name out S w g. rw (look-up-is image w xs name out) (telling out (demand-2 .tells xs (trieOf image) name S g));
+  tells = λ xs image name out S w g. rw (look-up-is image w xs name out) (telling out (demand-2 .tells xs (trie-from image) name S g));
   created = created-leads;
   grown = put-leads;
   rebuilt = rebuilt-leads;
-  led = λ xs image name out L w g. rw (look-up-is image w xs name out) (truthful out (demand-2 .led xs (trieOf image) name L g));
+  led = λ xs image name out L w g. rw (look-up-is image w xs name out) (truthful out (demand-2 .led xs (trie-from image) name L g));
 }

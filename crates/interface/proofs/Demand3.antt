@@ -13,13 +13,13 @@ use Rattle.model.specs.declared.TrieAnswer.the-variants.{Given, Refused as Trie
 use Rattle.model.specs.Order.{Str}
 use Rattle.model.specs.Names.{filled}
 use Rattle.model.specs.Changes.{Map}
-use Rattle.model.specs.Answers.{lookUpSays, number, putSays, rebuildSays, recoverSays, removeSays}
-use Rattle.model.specs.Calls.{createOf, heldAnswer, putOf, rebuildOf, recoverOf, removeOf}
+use Rattle.model.specs.Answers.{number, said-by-look-up, said-by-put, said-by-rebuild, said-by-recover, said-by-remove}
+use Rattle.model.specs.Calls.{create-of, held-answer, put-of, rebuild-of, recover-of, remove-of}
 use Rattle.promises.specs.Calls.{our-calls}
 use Rattle.promises.specs.Demand3.{Event, Holds, Kept, Recovers, State, StoppedAt, after, after-freeing, after-put, after-rebuild, after-recover, after-remove, down, file-of, kill, nothing-to-do, now, put, put-by, put-with, rebuild, recover, remove, remove-by, remove-with, running, step, stopped-at-0}
 use Rattle.promises.proofs.Demand3.{demand-3}
-use Rattle.image.specs.Images.{imageOf, imageSize, trieOf}
-use Rattle.capi.specs.Doors.{imageAfter, malformed, outAfter, palCreateOf, palPutOf, palRecoverOf, palRemoveOf}
+use Rattle.image.specs.Images.{image-length, image-of, trie-from}
+use Rattle.capi.specs.Doors.{image-after, malformed, out-after, pal-create-of, pal-put-of, pal-recover-of, pal-remove-of}
 use Rattle.capi.proofs.Doors.{create-malformed, put-malformed, rebuild-malformed, remove-malformed}
 use Rattle.interface.specs.Calls.{IsImage, our-c-calls}
 use Rattle.interface.specs.Demand1.{IsRefusal, change-refusal, recover-refusal}
@@ -32,7 +32,7 @@ use Rattle.interface.proofs.Demand2.{created-said}
 
 -- The state over tries.
 abbrev tries : StateC → State
-tries (C.running xs i m) = running xs (trieOf i) m
+tries (C.running xs i m) = running xs (trie-from i) m
 tries (C.down xs m) = down xs m
 
 abbrev Whole : StateC → Type 0
@@ -54,11 +54,11 @@ other : (c : Cause) (k : ℕ) → 9 ≤ k → eqb (number c) k ≡ false
 other c k h = ne-eqb (number c) k (λ e. omega (arith, number-small c))
 
 -- The image in hand is the trie in hand.
-same-goes : (ys : List ℕ) (t : Trie) (i : List ℕ) (m : Map) → IsImage i → t ≡ trieOf i → Always (running ys t m) → Goes (C.running ys i m)
+same-goes : (ys : List ℕ) (t : Trie) (i : List ℕ) (m : Map) → IsImage i → t ≡ trie-from i → Always (running ys t m) → Goes (C.running ys i m)
 same-goes ys t i m z e A = (z, subst (λ (u : Trie). Always (running ys u m)) e A)
 
-given-goes : (ys : List ℕ) (t : Trie) (m : Map) → Always (running ys t m) → Goes (C.running ys (imageOf t) m)
-given-goes ys t m A = same-goes ys t (imageOf t) m (image-size t) (sym (read-back (here A .in-hand .leads))) A
+given-goes : (ys : List ℕ) (t : Trie) (m : Map) → Always (running ys t m) → Goes (C.running ys (image-of t) m)
+given-goes ys t m A = same-goes ys t (image-of t) m (image-size t) (sym (read-back (here A .in-hand .leads))) A
 
 now-goes : (s : StateC) (ys : List ℕ) → Whole s → Always (now ys (tries s)) → Goes (C.now ys s)
 unfolding now C.now
@@ -72,8 +72,8 @@ now-same (C.down xs m) = refl
 
 -- One call, by its answer.
 put-goes : (s : StateC) → Whole s → (i : List ℕ) → IsImage i → (n : Str) (v : ℕ) (a : PutAnswer) (ys : List ℕ) (t : Trie)
-    → ((old : ℕ) → a ≡ Replaced old → t ≡ trieOf i) → Always (after-put (tries s) n v a ys t)
-    → Goes (C.after-put s n v (putSays a .0) ys (imageAfter a t i))
+    → ((old : ℕ) → a ≡ Replaced old → t ≡ trie-from i) → Always (after-put (tries s) n v a ys t)
+    → Goes (C.after-put s n v (said-by-put a .0) ys (image-after a t i))
 unfolding after-put C.after-put
 put-goes (C.running xs j m) w i z n v Added ys t same A = given-goes ys t _ A
 put-goes (C.down xs m) w i z n v Added ys t same A = given-goes ys t _ A
@@ -87,7 +87,7 @@ put-goes (C.down xs m) w i z n v (PutRefused c) ys t same A =
     rw (other c 110 (omega arith), other c 111 (omega arith), other c 112 (omega arith)) (now-goes (C.down xs m) ys w A)
 
 remove-goes : (s : StateC) → Whole s → (i : List ℕ) → IsImage i → (n : Str) (a : RemoveAnswer) (ys : List ℕ)
-    → Always (after-remove (tries s) n a ys (trieOf i)) → Goes (C.after-remove s n (removeSays a .0) ys i)
+    → Always (after-remove (tries s) n a ys (trie-from i)) → Goes (C.after-remove s n (said-by-remove a .0) ys i)
 unfolding after-remove C.after-remove
 remove-goes (C.running xs j m) w i z n Removed ys A = (z, A)
 remove-goes (C.down xs m) w i z n Removed ys A = (z, A)
@@ -100,7 +100,7 @@ remove-goes (C.running xs j m) w i z n (RemoveRefused c) ys A =
 remove-goes (C.down xs m) w i z n (RemoveRefused c) ys A =
     rw (other c 120 (omega arith), other c 101 (omega arith), other c 112 (omega arith)) (now-goes (C.down xs m) ys w A)
 
-recover-goes : (s : StateC) → Whole s → (a : RecoverAnswer) (ys : List ℕ) → Always (after-recover (tries s) a ys) → Goes (C.after-recover s (recoverSays a .0) ys)
+recover-goes : (s : StateC) → Whole s → (a : RecoverAnswer) (ys : List ℕ) → Always (after-recover (tries s) a ys) → Goes (C.after-recover s (said-by-recover a .0) ys)
 unfolding after-recover C.after-recover
 recover-goes s w (Freed N) ys A = now-goes s ys w A
 recover-goes s w Nothing ys A = now-goes s ys w A
@@ -108,7 +108,7 @@ recover-goes (C.running xs j m) w (RecoverStopped made) ys A = (tt, A)
 recover-goes (C.down xs m) w (RecoverStopped made) ys A = (tt, A)
 recover-goes s w (RecoverRefused c) ys A = rw (other c 112 (omega arith)) (now-goes s ys w A)
 
-rebuild-goes : (s : StateC) → Whole s → (a : TrieAnswer) (t : Trie) → Always (after-rebuild (tries s) a t) → Goes (C.after-rebuild s (rebuildSays a .0) (imageOf t))
+rebuild-goes : (s : StateC) → Whole s → (a : TrieAnswer) (t : Trie) → Always (after-rebuild (tries s) a t) → Goes (C.after-rebuild s (said-by-rebuild a .0) (image-of t))
 unfolding after-rebuild C.after-rebuild
 rebuild-goes (C.running xs j m) w Given t A = given-goes xs t m A
 rebuild-goes (C.down xs m) w Given t A = given-goes xs t m A
@@ -120,28 +120,28 @@ file-same (C.running xs i m) = refl
 file-same (C.down xs m) = refl
 
 put-steps : (s : StateC) → Whole s → (i name : List ℕ) (v limit : ℕ) (out : List ℕ) → IsImage i
-    → Always (put-by our-calls (tries s) (trieOf i) name v limit) → Goes (C.put-by our-c-calls s i name v limit out)
+    → Always (put-by our-calls (tries s) (trie-from i) name v limit) → Goes (C.put-by our-c-calls s i name v limit out)
 unfolding put-by C.put-by
 put-steps s w i name v limit out z A =
     let xs = C.file-of s in
-    let o = putOf xs (trieOf i) name v limit in
+    let o = put-of xs (trie-from i) name v limit in
     rw (put-is i z xs name v limit out)
-    (put-goes s w i z (filled name) v (o .answer) (o .file) (o .trie) (replaced-same xs (trieOf i) name v limit)
-    (subst (λ (ys : List ℕ). Always (after-put (tries s) (filled name) v (putOf ys (trieOf i) name v limit .answer) (putOf ys (trieOf i) name v limit .file) (putOf ys (trieOf i) name v limit .trie))) (file-same s) A))
+    (put-goes s w i z (filled name) v (o .answer) (o .file) (o .trie) (replaced-same xs (trie-from i) name v limit)
+    (subst (λ (ys : List ℕ). Always (after-put (tries s) (filled name) v (put-of ys (trie-from i) name v limit .answer) (put-of ys (trie-from i) name v limit .file) (put-of ys (trie-from i) name v limit .trie))) (file-same s) A))
 
 put-malforms : (s : StateC) (i name : List ℕ) (v limit : ℕ) (out : List ℕ) → ¬ IsImage i → C.put-by our-c-calls s i name v limit out ≡ s
 unfolding C.put-by C.after-put
 put-malforms s i name v limit out n = rw (put-malformed i n (C.file-of s) name v limit out) (now-same s)
 
 remove-steps : (s : StateC) → Whole s → (i name : List ℕ) (limit : ℕ) (out : List ℕ) → IsImage i
-    → Always (remove-by our-calls (tries s) (trieOf i) name limit) → Goes (C.remove-by our-c-calls s i name limit out)
+    → Always (remove-by our-calls (tries s) (trie-from i) name limit) → Goes (C.remove-by our-c-calls s i name limit out)
 unfolding remove-by C.remove-by
 remove-steps s w i name limit out z A =
     let xs = C.file-of s in
-    let o = removeOf xs (trieOf i) name limit in
+    let o = remove-of xs (trie-from i) name limit in
     rw (remove-is i z xs name limit out)
     (remove-goes s w i z (filled name) (o .answer) (o .file)
-    (subst (λ (ys : List ℕ). Always (after-remove (tries s) (filled name) (removeOf ys (trieOf i) name limit .answer) (removeOf ys (trieOf i) name limit .file) (trieOf i))) (file-same s) A))
+    (subst (λ (ys : List ℕ). Always (after-remove (tries s) (filled name) (remove-of ys (trie-from i) name limit .answer) (remove-of ys (trie-from i) name limit .file) (trie-from i))) (file-same s) A))
 
 remove-malforms : (s : StateC) (i name : List ℕ) (limit : ℕ) (out : List ℕ) → ¬ IsImage i → C.remove-by our-c-calls s i name limit out ≡ s
 unfolding C.remove-by C.after-remove
@@ -159,38 +159,38 @@ step-goes (C.put name v small limit out) (C.down xs m) g = g
 step-goes (C.remove name limit out) (C.running xs i m) (w, A) =
     remove-steps (C.running xs i m) w i name limit out w (λ es. A (remove name limit ∷ es))
 step-goes (C.remove name limit out) (C.down xs m) g = g
-step-goes (C.put-with i name v small limit out) s g = elim (ℕ-discrete (length i) imageSize) [
-  | yes z ↦ put-steps s (g .0) i name v limit out z (λ es. g .1 (put-with (trieOf i) name v small limit ∷ es))
+step-goes (C.put-with i name v small limit out) s g = elim (ℕ-discrete (length i) image-length) [
+  | yes z ↦ put-steps s (g .0) i name v limit out z (λ es. g .1 (put-with (trie-from i) name v small limit ∷ es))
   | no n ↦ subst Goes (sym (put-malforms s i name v limit out n)) g
 ]
-step-goes (C.remove-with i name limit out) s g = elim (ℕ-discrete (length i) imageSize) [
-  | yes z ↦ remove-steps s (g .0) i name limit out z (λ es. g .1 (remove-with (trieOf i) name limit ∷ es))
+step-goes (C.remove-with i name limit out) s g = elim (ℕ-discrete (length i) image-length) [
+  | yes z ↦ remove-steps s (g .0) i name limit out z (λ es. g .1 (remove-with (trie-from i) name limit ∷ es))
   | no n ↦ subst Goes (sym (remove-malforms s i name limit out n)) g
 ]
 step-goes C.kill (C.running xs i m) (w, A) = (tt, λ es. A (kill ∷ es))
 step-goes C.kill (C.down xs m) (w, A) = (tt, λ es. A (kill ∷ es))
 step-goes (C.recover limit out) s g =
     let xs = C.file-of s in
-    let o = recoverOf xs limit in
+    let o = recover-of xs limit in
     rw (recover-is xs limit out)
     (recover-goes s (g .0) (o .answer) (o .file)
-    (subst (λ (ys : List ℕ). Always (after-recover (tries s) (recoverOf ys limit .answer) (recoverOf ys limit .file))) (file-same s) (λ es. g .1 (recover limit ∷ es))))
-step-goes (C.rebuild i) s g = elim (ℕ-discrete (length i) imageSize) [
+    (subst (λ (ys : List ℕ). Always (after-recover (tries s) (recover-of ys limit .answer) (recover-of ys limit .file))) (file-same s) (λ es. g .1 (recover limit ∷ es))))
+step-goes (C.rebuild i) s g = elim (ℕ-discrete (length i) image-length) [
   | yes z ↦
       let xs = C.file-of s in
-      let o = rebuildOf xs in
+      let o = rebuild-of xs in
       rw (rebuild-is i z xs)
       (rebuild-goes s (g .0) (o .answer) (o .trie)
-      (subst (λ (ys : List ℕ). Always (after-rebuild (tries s) (rebuildOf ys .answer) (rebuildOf ys .trie))) (file-same s) (λ es. g .1 (rebuild ∷ es))))
+      (subst (λ (ys : List ℕ). Always (after-rebuild (tries s) (rebuild-of ys .answer) (rebuild-of ys .trie))) (file-same s) (λ es. g .1 (rebuild ∷ es))))
   | no n ↦ subst Goes (sym (rebuild-malforms s i n)) g
 ]
 
 -- What holds of the tries holds of the images.
-held-said : (o : Option ℕ) (out : List ℕ) → _≡_ {A = ℕ × List ℕ} (lookUpSays (heldAnswer o) .0, outAfter (lookUpSays (heldAnswer o)) out) (held-says o out)
+held-said : (o : Option ℕ) (out : List ℕ) → _≡_ {A = ℕ × List ℕ} (said-by-look-up (held-answer o) .0, out-after (said-by-look-up (held-answer o)) out) (held-says o out)
 held-said nothing out = refl
 held-said (some v) out = refl
 
-kept : (xs i : List ℕ) (m : Map) → IsImage i → Kept our-calls xs (trieOf i) m → KeptC our-c-calls xs i m
+kept : (xs i : List ℕ) (m : Map) → IsImage i → Kept our-calls xs (trie-from i) m → KeptC our-c-calls xs i m
 kept xs i m z K = record {
   size = z;
   leads = K .leads;
@@ -198,93 +198,93 @@ kept xs i m z K = record {
   looks-up = λ name out g. rw (look-up-is i z xs name out, K .looks-up name g) (held-said (m (filled name)) out);
 }
 
-kept-written : (xs : List ℕ) (t : Trie) (m : Map) → Kept our-calls xs t m → KeptC our-c-calls xs (imageOf t) m
-kept-written xs t m K = kept xs (imageOf t) m (image-size t) (subst (λ (u : Trie). Kept our-calls xs u m) (sym (read-back (K .leads))) K)
+kept-written : (xs : List ℕ) (t : Trie) (m : Map) → Kept our-calls xs t m → KeptC our-c-calls xs (image-of t) m
+kept-written xs t m K = kept xs (image-of t) m (image-size t) (subst (λ (u : Trie). Kept our-calls xs u m) (sym (read-back (K .leads))) K)
 
-rebuilds : (xs : List ℕ) (m : Map) → rebuildOf xs .answer ≡ Given → Kept our-calls xs (rebuildOf xs .trie) m → RebuildsC our-c-calls xs m
-rebuilds xs m e K image z = rw (rebuild-is image z xs, e) (refl, kept-written xs (rebuildOf xs .trie) m K)
+rebuilds : (xs : List ℕ) (m : Map) → rebuild-of xs .answer ≡ Given → Kept our-calls xs (rebuild-of xs .trie) m → RebuildsC our-c-calls xs m
+rebuilds xs m e K image z = rw (rebuild-is image z xs, e) (refl, kept-written xs (rebuild-of xs .trie) m K)
 
 recovers : (xs : List ℕ) (m : Map) (limit : ℕ) (out : List ℕ) (a : RecoverAnswer) (ys : List ℕ) → Recovers our-calls xs m limit a ys
-    → RecoversC our-c-calls xs m limit out (recoverSays a .0, ys, outAfter (recoverSays a) out)
+    → RecoversC our-c-calls xs m limit out (said-by-recover a .0, ys, out-after (said-by-recover a) out)
 recovers xs m limit out a ys (after-freeing {N = N} {ys = zs} e K) = C.after-freeing N (rebuilds zs m e K)
 recovers xs m limit out a ys (nothing-to-do e K) = C.nothing-to-do (rebuilds xs m e K)
 recovers xs m limit out a ys (stopped-at-0 z) = C.stopped-at-0 z
 
 -- Stopped.
-put-stop : (a : PutAnswer) → putSays a .0 ≡ 112 → (made : ℕ) × (a ≡ PutStopped made)
+put-stop : (a : PutAnswer) → said-by-put a .0 ≡ 112 → (made : ℕ) × (a ≡ PutStopped made)
 put-stop Added e = absurd (omega arith)
 put-stop (Replaced old) e = absurd (omega arith)
 put-stop (PutStopped made) e = (made, refl)
 put-stop (PutRefused c) e = absurd (omega (arith, number-small c))
 
-remove-stop : (a : RemoveAnswer) → removeSays a .0 ≡ 112 → (made : ℕ) × (a ≡ RemoveStopped made)
+remove-stop : (a : RemoveAnswer) → said-by-remove a .0 ≡ 112 → (made : ℕ) × (a ≡ RemoveStopped made)
 remove-stop Removed e = absurd (omega arith)
 remove-stop NotHeld e = absurd (omega arith)
 remove-stop (RemoveStopped made) e = (made, refl)
 remove-stop (RemoveRefused c) e = absurd (omega (arith, number-small c))
 
-recover-stop : (a : RecoverAnswer) → recoverSays a .0 ≡ 112 → (made : ℕ) × (a ≡ RecoverStopped made)
+recover-stop : (a : RecoverAnswer) → said-by-recover a .0 ≡ 112 → (made : ℕ) × (a ≡ RecoverStopped made)
 recover-stop (Freed N) e = absurd (omega arith)
 recover-stop Nothing e = absurd (omega arith)
 recover-stop (RecoverStopped made) e = (made, refl)
 recover-stop (RecoverRefused c) e = absurd (omega (arith, number-small c))
 
-stopped : {limit made : ℕ} {xs ys : List ℕ} (out : List ℕ) → StoppedAt limit made xs ys → StoppedC limit xs ys out (outAfter (112, made ∷ []) out)
+stopped : {limit made : ℕ} {xs ys : List ℕ} (out : List ℕ) → StoppedAt limit made xs ys → StoppedC limit xs ys out (out-after (112, made ∷ []) out)
 stopped out S = rw (S .as-limited) (record { as-made = rw (← S .as-limited) (S .as-made); as-said = refl })
 
 module _ (xs : List ℕ) where
-  put-stops : ((t : Trie) (name : List ℕ) (v limit made : ℕ) → putOf xs t name v limit .answer ≡ PutStopped made → StoppedAt limit made xs (putOf xs t name v limit .file))
-      → (i name : List ℕ) (v limit : ℕ) (out : List ℕ) → palPutOf xs i name v limit out .0 ≡ 112
-      → StoppedC limit xs (palPutOf xs i name v limit out .1) out (palPutOf xs i name v limit out .3) × (palPutOf xs i name v limit out .2 ≡ i)
-  put-stops h i name v limit out e = elim (ℕ-discrete (length i) imageSize) [
+  put-stops : ((t : Trie) (name : List ℕ) (v limit made : ℕ) → put-of xs t name v limit .answer ≡ PutStopped made → StoppedAt limit made xs (put-of xs t name v limit .file))
+      → (i name : List ℕ) (v limit : ℕ) (out : List ℕ) → pal-put-of xs i name v limit out .0 ≡ 112
+      → StoppedC limit xs (pal-put-of xs i name v limit out .1) out (pal-put-of xs i name v limit out .3) × (pal-put-of xs i name v limit out .2 ≡ i)
+  put-stops h i name v limit out e = elim (ℕ-discrete (length i) image-length) [
     | yes z ↦
-        let p = put-stop (putOf xs (trieOf i) name v limit .answer) (rw (put-is i z xs name v limit out) at e) in
-        rw (put-is i z xs name v limit out, p .1) (stopped out (h (trieOf i) name v limit (p .0) (p .1)), refl)
+        let p = put-stop (put-of xs (trie-from i) name v limit .answer) (rw (put-is i z xs name v limit out) at e) in
+        rw (put-is i z xs name v limit out, p .1) (stopped out (h (trie-from i) name v limit (p .0) (p .1)), refl)
     | no n ↦ let z : malformed ≡ 112 = rw (put-malformed i n xs name v limit out) at e in absurd (omega arith)
   ]
 
-  remove-stops : ((t : Trie) (name : List ℕ) (limit made : ℕ) → removeOf xs t name limit .answer ≡ RemoveStopped made → StoppedAt limit made xs (removeOf xs t name limit .file))
-      → (i name : List ℕ) (limit : ℕ) (out : List ℕ) → palRemoveOf xs i name limit out .0 ≡ 112
-      → StoppedC limit xs (palRemoveOf xs i name limit out .1) out (palRemoveOf xs i name limit out .3)
-  remove-stops h i name limit out e = elim (ℕ-discrete (length i) imageSize) [
+  remove-stops : ((t : Trie) (name : List ℕ) (limit made : ℕ) → remove-of xs t name limit .answer ≡ RemoveStopped made → StoppedAt limit made xs (remove-of xs t name limit .file))
+      → (i name : List ℕ) (limit : ℕ) (out : List ℕ) → pal-remove-of xs i name limit out .0 ≡ 112
+      → StoppedC limit xs (pal-remove-of xs i name limit out .1) out (pal-remove-of xs i name limit out .3)
+  remove-stops h i name limit out e = elim (ℕ-discrete (length i) image-length) [
     | yes z ↦
-        let p = remove-stop (removeOf xs (trieOf i) name limit .answer) (rw (remove-is i z xs name limit out) at e) in
-        rw (remove-is i z xs name limit out, p .1) (stopped out (h (trieOf i) name limit (p .0) (p .1)))
+        let p = remove-stop (remove-of xs (trie-from i) name limit .answer) (rw (remove-is i z xs name limit out) at e) in
+        rw (remove-is i z xs name limit out, p .1) (stopped out (h (trie-from i) name limit (p .0) (p .1)))
     | no n ↦ let z : malformed ≡ 112 = rw (remove-malformed i n xs name limit out) at e in absurd (omega arith)
   ]
 
-  remove-leaves : (i name : List ℕ) (limit : ℕ) (out : List ℕ) → palRemoveOf xs i name limit out .2 ≡ i
-  remove-leaves i name limit out = elim (ℕ-discrete (length i) imageSize) [
+  remove-leaves : (i name : List ℕ) (limit : ℕ) (out : List ℕ) → pal-remove-of xs i name limit out .2 ≡ i
+  remove-leaves i name limit out = elim (ℕ-discrete (length i) image-length) [
     | yes z ↦ rw (remove-is i z xs name limit out)
     | no n ↦ rw (remove-malformed i n xs name limit out)
   ]
 
-  recover-stops : ((limit made : ℕ) → recoverOf xs limit .answer ≡ RecoverStopped made → StoppedAt limit made xs (recoverOf xs limit .file))
-      → (limit : ℕ) (out : List ℕ) → palRecoverOf xs limit out .0 ≡ 112 → StoppedC limit xs (palRecoverOf xs limit out .1) out (palRecoverOf xs limit out .2)
+  recover-stops : ((limit made : ℕ) → recover-of xs limit .answer ≡ RecoverStopped made → StoppedAt limit made xs (recover-of xs limit .file))
+      → (limit : ℕ) (out : List ℕ) → pal-recover-of xs limit out .0 ≡ 112 → StoppedC limit xs (pal-recover-of xs limit out .1) out (pal-recover-of xs limit out .2)
   recover-stops h limit out e =
-      let p = recover-stop (recoverOf xs limit .answer) (rw (recover-is xs limit out) at e) in
+      let p = recover-stop (recover-of xs limit .answer) (rw (recover-is xs limit out) at e) in
       rw (recover-is xs limit out, p .1) (stopped out (h limit (p .0) (p .1)))
 
-  put-denies : (i name : List ℕ) (v limit : ℕ) (out : List ℕ) → palPutOf xs i name v limit out .0 < 100
-      → IsRefusal (change-refusal xs i out) (palPutOf xs i name v limit out)
-  put-denies i name v limit out e = elim (ℕ-discrete (length i) imageSize) [
+  put-denies : (i name : List ℕ) (v limit : ℕ) (out : List ℕ) → pal-put-of xs i name v limit out .0 < 100
+      → IsRefusal (change-refusal xs i out) (pal-put-of xs i name v limit out)
+  put-denies i name v limit out e = elim (ℕ-discrete (length i) image-length) [
     | yes z ↦ refused-below _ (omega arith, (omega arith, (omega arith, tt))) e (demand-1-c .put-says xs i name v limit out z)
     | no n ↦ let z : malformed < 100 = rw (put-malformed i n xs name v limit out) at e in absurd (omega arith)
   ]
 
-  remove-denies : (i name : List ℕ) (limit : ℕ) (out : List ℕ) → palRemoveOf xs i name limit out .0 < 100
-      → IsRefusal (change-refusal xs i out) (palRemoveOf xs i name limit out)
-  remove-denies i name limit out e = elim (ℕ-discrete (length i) imageSize) [
+  remove-denies : (i name : List ℕ) (limit : ℕ) (out : List ℕ) → pal-remove-of xs i name limit out .0 < 100
+      → IsRefusal (change-refusal xs i out) (pal-remove-of xs i name limit out)
+  remove-denies i name limit out e = elim (ℕ-discrete (length i) image-length) [
     | yes z ↦ refused-below _ (omega arith, (omega arith, (omega arith, tt))) e (demand-1-c .remove-says xs i name limit out z)
     | no n ↦ let z : malformed < 100 = rw (remove-malformed i n xs name limit out) at e in absurd (omega arith)
   ]
 
-  recover-denies : (limit : ℕ) (out : List ℕ) → palRecoverOf xs limit out .0 < 100 → IsRefusal (recover-refusal xs out) (palRecoverOf xs limit out)
+  recover-denies : (limit : ℕ) (out : List ℕ) → pal-recover-of xs limit out .0 < 100 → IsRefusal (recover-refusal xs out) (pal-recover-of xs limit out)
   recover-denies limit out e = refused-below _ (omega arith, (omega arith, (omega arith, tt))) e (demand-1-c .recover-says xs limit out)
 
-  comes-back : (m : Map) → ((limit : ℕ) → limit ≤ 2 → Recovers our-calls xs m limit (recoverOf xs limit .answer) (recoverOf xs limit .file))
-      → (limit : ℕ) (out : List ℕ) → limit ≤ 2 → RecoversC our-c-calls xs m limit out (palRecoverOf xs limit out)
-  comes-back m h limit out l = rw (recover-is xs limit out) (recovers xs m limit out (recoverOf xs limit .answer) (recoverOf xs limit .file) (h limit l))
+  comes-back : (m : Map) → ((limit : ℕ) → limit ≤ 2 → Recovers our-calls xs m limit (recover-of xs limit .answer) (recover-of xs limit .file))
+      → (limit : ℕ) (out : List ℕ) → limit ≤ 2 → RecoversC our-c-calls xs m limit out (pal-recover-of xs limit out)
+  comes-back m h limit out l = rw (recover-is xs limit out) (recovers xs m limit out (recover-of xs limit .answer) (recover-of xs limit .file) (h limit l))
 
 holds : (s : StateC) → Whole s → Holds our-calls (tries s) → HoldsC our-c-calls s
 holds (C.running xs i m) w H = record {
@@ -318,14 +318,14 @@ unfolding C.after
 all-hold [] s g = holds s (g .0) (here (g .1))
 all-hold (e ∷ es) s g = all-hold es (C.step our-c-calls e s) (step-goes e s g)
 
-created-goes : (xs : List ℕ) (version b slots : ℕ) (image : List ℕ) → palCreateOf xs version b slots image .0 ≡ 150 → Goes (C.start (palCreateOf xs version b slots image))
-created-goes xs version b slots image e = elim (ℕ-discrete (length image) imageSize) [
+created-goes : (xs : List ℕ) (version b slots : ℕ) (image : List ℕ) → pal-create-of xs version b slots image .0 ≡ 150 → Goes (C.start (pal-create-of xs version b slots image))
+created-goes xs version b slots image e = elim (ℕ-discrete (length image) image-length) [
   | yes z ↦
-      let o = createOf xs version b slots in
+      let o = create-of xs version b slots in
       rw (create-is image z xs version b slots)
       (given-goes (o .file) (o .trie) _ (demand-3 .always xs version b slots (created-said (o .answer) (rw (create-is image z xs version b slots) at e))))
   | no n ↦ let z : malformed ≡ 150 = rw (create-malformed image n xs version b slots) at e in absurd (omega arith)
 ]
 
 pub demand-3-c : Demand3C our-c-calls
-demand-3-c = record { always = λ xs version b slots image e es. all-hold es (C.start (palCreateOf xs version b slots image)) (created-goes xs version b slots image e) }
+demand-3-c = record { always = λ xs version b slots image e es. all-hold es (C.start (pal-create-of xs version b slots image)) (created-goes xs version b slots image e) }

@@ -5,36 +5,36 @@ use Rattle.model.specs.declared.Layout.{Layout}
 use Rattle.model.specs.declared.PutAnswer.the-variants.{Refused as PutRefused, Replaced, Stopped as PutStopped}
 use Rattle.model.specs.declared.Trie.{Trie}
 use Rattle.model.specs.Order.{Str}
-use Rattle.model.specs.Names.{Legal, filled, legalName}
+use Rattle.model.specs.Names.{Legal, filled, is-legal-name}
 use Rattle.model.specs.Entries.{find}
 use Rattle.model.specs.Files.{In, Slot, entries-of, first, head, slot-at}
 use Rattle.model.specs.Changes.{Result, Store, holds?, put}
 use Rattle.model.specs.Places.{place-of}
-use Rattle.model.specs.Calls.{Looked, PutDone, fine, lookedOf, putAnswer, putLooked, putMade, putOf, refusing, storesBytes, trieAfter}
-use Rattle.model.proofs.Names.{legalName-legal}
+use Rattle.model.specs.Calls.{Looked, PutDone, fine, looked-of, put-answer, put-by-stores, put-of, put-on-looked, refusing, stores-bytes, trie-after-put}
+use Rattle.model.proofs.Names.{is-legal-name-legal}
 use Rattle.model.proofs.Files.{first-right, one-range}
 use Rattle.model.proofs.Changes.{Change, fits, splits, well-a}
 use Rattle.model.proofs.Calls.{Answered, is-denied, is-made, put-right}
-use Rattle.model.proofs.Format.{fileBytes-readFile}
+use Rattle.model.proofs.Format.{file-bytes-read-file}
 use Rattle.entries.proofs.Parts.{length-held}
 use Rattle.promises.specs.Demand2.{LeadsRight}
 use Rattle.promises.proofs.Leading.{Passed, looked-passed}
-use Rattle.image.specs.Images.{imageOf, trieOf}
-use Rattle.image.proofs.Images.{length-cellsBytes, trie-back}
+use Rattle.image.specs.Images.{image-of, trie-from}
+use Rattle.image.proofs.Images.{length-cells-bytes, trie-back}
 use Rattle.image.proofs.Agreeing.{agreeing-imaged}
 use Rattle.interface.specs.Calls.{IsImage}
 
-pub image-size : (t : Trie) → IsImage (imageOf t)
-unfolding imageOf
-image-size t = rw (length-append, length-cellsBytes 256 (t .cells))
+pub image-size : (t : Trie) → IsImage (image-of t)
+unfolding image-of
+image-size t = rw (length-append, length-cells-bytes 256 (t .cells))
 
-pub read-back : {xs : List ℕ} {t : Trie} → LeadsRight xs t → trieOf (imageOf t) ≡ t
-read-back {xs} {t} L = trie-back t (agreeing-imaged (fileBytes-readFile xs (L .file .is) .1 .slots-most) (L .agrees))
+pub read-back : {xs : List ℕ} {t : Trie} → LeadsRight xs t → trie-from (image-of t) ≡ t
+read-back {xs} {t} L = trie-back t (agreeing-imaged (file-bytes-read-file xs (L .file .is) .1 .slots-most) (L .agrees))
 
-pub leads-written : {xs : List ℕ} {t : Trie} → LeadsRight xs t → LeadsRight xs (trieOf (imageOf t))
+pub leads-written : {xs : List ℕ} {t : Trie} → LeadsRight xs t → LeadsRight xs (trie-from (image-of t))
 leads-written {xs} L = subst (λ (u : Trie). LeadsRight xs u) (sym (read-back L)) L
 
-was-held : (o : Option ℕ) (old : ℕ) → putAnswer o ≡ Replaced old → o ≡ some old
+was-held : (o : Option ℕ) (old : ℕ) → put-answer o ≡ Replaced old → o ≡ some old
 was-held nothing old e = clash cc
 was-held (some w) old e = cc
 
@@ -47,8 +47,8 @@ module _ (xs : List ℕ) (t : Trie) (name : List ℕ) (v limit : ℕ) where
 
   -- A held name takes no more room, and so no split.
   one : (y : Layout) (fs : List Slot) → Passed xs t y fs → {ss : List Store} → Change (y .b) (place-of y) fs (put n v) ss → (old : ℕ)
-      → putAnswer (find n (entries-of (slot-at fs (first (holds? n) fs)))) ≡ Replaced old → trieAfter (y .b) (place-of y) fs n v ss t ≡ t
-  unfolding trieAfter
+      → put-answer (find n (entries-of (slot-at fs (first (holds? n) fs)))) ≡ Replaced old → trie-after-put (y .b) (place-of y) fs n v ss t ≡ t
+  unfolding trie-after-put
   one y fs p (fits is g lo up k) old e = refl
   one y fs p (splits {A = A} {l = l} {u = u} {es = es} is g lo up big low few) old e =
       let here : In (head (slot-at fs A)) n = rw is (tt, lo, up) in
@@ -57,28 +57,28 @@ module _ (xs : List ℕ) (t : Trie) (name : List ℕ) (v limit : ℕ) where
       let held : find n es ≡ some old = rw (← there, is) at (was-held (find n (entries-of (slot-at fs (first (holds? n) fs)))) old e) in
       absurd (omega (arith, big, w .4, length-held n v old (w .3) held))
 
-  made : (y : Layout) (fs : List Slot) → Passed xs t y fs → {r : Result} → Answered (y .b) (place-of y) fs (put n v) r → Same (putMade xs t y fs n v limit r)
-  unfolding putMade
+  made : (y : Layout) (fs : List Slot) → Passed xs t y fs → {r : Result} → Answered (y .b) (place-of y) fs (put n v) r → Same (put-by-stores xs t y fs n v limit r)
+  unfolding put-by-stores
   made y fs p (is-denied d) old e = clash cc
   made y fs p (is-made {ss = ss} c) old e = stopped (ltb limit (length ss)) e
     where
       short : PutDone
-      short = record { answer = PutStopped limit; file = storesBytes y (take limit ss) xs; trie = t }
+      short = record { answer = PutStopped limit; file = stores-bytes y (take limit ss) xs; trie = t }
 
       whole : PutDone
-      whole = record { answer = putAnswer (find n (entries-of (slot-at fs (first (holds? n) fs)))); file = storesBytes y ss xs; trie = trieAfter (y .b) (place-of y) fs n v ss t }
+      whole = record { answer = put-answer (find n (entries-of (slot-at fs (first (holds? n) fs)))); file = stores-bytes y ss xs; trie = trie-after-put (y .b) (place-of y) fs n v ss t }
 
       stopped : (s : Bool) → cond s short whole .answer ≡ Replaced old → cond s short whole .trie ≡ t
       stopped true e = refl
       stopped false e = one y fs p c old e
 
-  looked : (l : Looked) → lookedOf xs t ≡ l → Legal n → Same (putLooked xs t n v limit l)
-  unfolding putLooked
+  looked : (l : Looked) → looked-of xs t ≡ l → Legal n → Same (put-on-looked xs t n v limit l)
+  unfolding put-on-looked
   looked (refusing c) e g old h = refl
   looked (fine y fs) e g old h = let p = looked-passed xs t y fs e in made y fs p (put-right (y .b) (place-of y) fs (p .sound) n v g) old h
 
-  pub replaced-same : (old : ℕ) → putOf xs t name v limit .answer ≡ Replaced old → putOf xs t name v limit .trie ≡ t
-  unfolding putOf
+  pub replaced-same : (old : ℕ) → put-of xs t name v limit .answer ≡ Replaced old → put-of xs t name v limit .trie ≡ t
+  unfolding put-of
   replaced-same old h = limited (ltb 2 limit) old h
     where
       big : PutDone
@@ -87,10 +87,10 @@ module _ (xs : List ℕ) (t : Trie) (name : List ℕ) (v limit : ℕ) where
       illegal : PutDone
       illegal = record { answer = PutRefused IllegalName; file = xs; trie = t }
 
-      legal : (g : Bool) → legalName name ≡ g → Same (cond g (putLooked xs t n v limit (lookedOf xs t)) illegal)
-      legal true e old h = looked (lookedOf xs t) refl (legalName-legal name e) old h
+      legal : (g : Bool) → is-legal-name name ≡ g → Same (cond g (put-on-looked xs t n v limit (looked-of xs t)) illegal)
+      legal true e old h = looked (looked-of xs t) refl (is-legal-name-legal name e) old h
       legal false e old h = refl
 
-      limited : (c : Bool) → Same (cond c big (cond (legalName name) (putLooked xs t n v limit (lookedOf xs t)) illegal))
+      limited : (c : Bool) → Same (cond c big (cond (is-legal-name name) (put-on-looked xs t n v limit (looked-of xs t)) illegal))
       limited true old h = refl
-      limited false old h = legal (legalName name) refl old h
+      limited false old h = legal (is-legal-name name) refl old h

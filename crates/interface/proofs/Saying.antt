@@ -14,12 +14,12 @@ use Rattle.model.specs.declared.RemoveAnswer.{RemoveAnswer}
 use Rattle.model.specs.declared.RemoveAnswer.the-variants.{Absent as NotHeld, Refused as RemoveRefused, Removed, Stopped as RemoveStopped}
 use Rattle.model.specs.declared.TrieAnswer.{TrieAnswer}
 use Rattle.model.specs.declared.TrieAnswer.the-variants.{Given, Refused as TrieRefused}
-use Rattle.model.specs.Answers.{createSays, listSays, lookUpSays, number, putSays, rebuildSays, recoverSays, removeSays}
-use Rattle.model.specs.Calls.{createOf, listOf, lookUpOf, putOf, rebuildOf, recoverOf, removeOf}
-use Rattle.image.specs.Images.{imageOf, imageSize, trieOf}
-use Rattle.capi.specs.Doors.{imageAfter, outAfter, palCreateOf, palListOf, palLookUpOf, palPutOf, palRebuildOf, palRecoverOf, palRemoveOf}
+use Rattle.model.specs.Answers.{number, said-by-create, said-by-list, said-by-look-up, said-by-put, said-by-rebuild, said-by-recover, said-by-remove}
+use Rattle.model.specs.Calls.{create-of, list-of, look-up-of, put-of, rebuild-of, recover-of, remove-of}
+use Rattle.image.specs.Images.{image-length, image-of, trie-from}
+use Rattle.capi.specs.Doors.{image-after, out-after, pal-create-of, pal-list-of, pal-look-up-of, pal-put-of, pal-rebuild-of, pal-recover-of, pal-remove-of}
 use Rattle.interface.specs.Calls.{IsImage}
-use Rattle.interface.specs.Demand1.{outRefused}
+use Rattle.interface.specs.Demand1.{out-refused}
 
 pub number-small : (c : Cause) → number c < 9
 number-small IllegalName = omega arith
@@ -37,7 +37,7 @@ cause-of k out =
     cond (eqb k 1) IllegalName (cond (eqb k 2) BadFile (cond (eqb k 3) CutFile (cond (eqb k 4) (StaleTrie (getD out 0 0))
     (cond (eqb k 5) NoFreeSlot (cond (eqb k 6) ManyStrings (cond (eqb k 7) ShortOutput WrongSize))))))
 
-cause-back : (c : Cause) (out : List ℕ) → 0 < length out → cause-of (number c) (outRefused c out) ≡ c
+cause-back : (c : Cause) (out : List ℕ) → 0 < length out → cause-of (number c) (out-refused c out) ≡ c
 cause-back IllegalName out h = refl
 cause-back BadFile out h = refl
 cause-back CutFile out h = refl
@@ -48,7 +48,7 @@ cause-back ManyStrings out h = refl
 cause-back ShortOutput out h = refl
 cause-back WrongSize out h = refl
 
-one-cause : (out : List ℕ) → 0 < length out → (c d : Cause) → number c ≡ number d → outRefused c out ≡ outRefused d out → c ≡ d
+one-cause : (out : List ℕ) → 0 < length out → (c d : Cause) → number c ≡ number d → out-refused c out ≡ out-refused d out → c ≡ d
 one-cause out h c d e f = sym (cause-back c out h) ∙ ap₂ cause-of e f ∙ cause-back d out h
 
 -- The number alone tells a cause that is no stale trie.
@@ -71,7 +71,7 @@ fresh-cause c d f e = elim (ℕ-discrete (number c) 4) [
   | no n ↦ one-cause (0 ∷ []) (omega arith) c d e (same c d e n)
 ]
   where
-    bare : (c : Cause) → ¬ (number c ≡ 4) → outRefused c (0 ∷ []) ≡ 0 ∷ []
+    bare : (c : Cause) → ¬ (number c ≡ 4) → out-refused c (0 ∷ []) ≡ 0 ∷ []
     bare IllegalName n = refl
     bare BadFile n = refl
     bare CutFile n = refl
@@ -81,95 +81,95 @@ fresh-cause c d f e = elim (ℕ-discrete (number c) 4) [
     bare ShortOutput n = refl
     bare WrongSize n = refl
 
-    same : (c d : Cause) → number c ≡ number d → ¬ (number c ≡ 4) → outRefused c (0 ∷ []) ≡ outRefused d (0 ∷ [])
+    same : (c d : Cause) → number c ≡ number d → ¬ (number c ≡ 4) → out-refused c (0 ∷ []) ≡ out-refused d (0 ∷ [])
     same c d e n = bare c n ∙ sym (bare d (λ z. n (e ∙ z)))
 
 -- A cause's number is said by a refusal alone; where the trie may be stale, with its word.
-pub create-cause : (a : TrieAnswer) (c : Cause) → ((k : ℕ) → ¬ (a ≡ TrieRefused (StaleTrie k))) → createSays a .0 ≡ number c → a ≡ TrieRefused c
+pub create-cause : (a : TrieAnswer) (c : Cause) → ((k : ℕ) → ¬ (a ≡ TrieRefused (StaleTrie k))) → said-by-create a .0 ≡ number c → a ≡ TrieRefused c
 create-cause Given c f e = absurd (omega (arith, number-small c))
 create-cause (TrieRefused d) c f e = ap TrieRefused (fresh-cause d c (λ k z. f k (ap TrieRefused z)) e)
 
-pub rebuild-cause : (a : TrieAnswer) (c : Cause) → ((k : ℕ) → ¬ (a ≡ TrieRefused (StaleTrie k))) → rebuildSays a .0 ≡ number c → a ≡ TrieRefused c
+pub rebuild-cause : (a : TrieAnswer) (c : Cause) → ((k : ℕ) → ¬ (a ≡ TrieRefused (StaleTrie k))) → said-by-rebuild a .0 ≡ number c → a ≡ TrieRefused c
 rebuild-cause Given c f e = absurd (omega (arith, number-small c))
 rebuild-cause (TrieRefused d) c f e = ap TrieRefused (fresh-cause d c (λ k z. f k (ap TrieRefused z)) e)
 
-pub recover-cause : (a : RecoverAnswer) (c : Cause) → ((k : ℕ) → ¬ (a ≡ RecoverRefused (StaleTrie k))) → recoverSays a .0 ≡ number c → a ≡ RecoverRefused c
+pub recover-cause : (a : RecoverAnswer) (c : Cause) → ((k : ℕ) → ¬ (a ≡ RecoverRefused (StaleTrie k))) → said-by-recover a .0 ≡ number c → a ≡ RecoverRefused c
 recover-cause (Freed N) c f e = absurd (omega (arith, number-small c))
 recover-cause Nothing c f e = absurd (omega (arith, number-small c))
 recover-cause (RecoverStopped made) c f e = absurd (omega (arith, number-small c))
 recover-cause (RecoverRefused d) c f e = ap RecoverRefused (fresh-cause d c (λ k z. f k (ap RecoverRefused z)) e)
 
 module _ (out : List ℕ) (h : 0 < length out) (c : Cause) where
-  pub look-up-cause : (a : LookUpAnswer) → lookUpSays a .0 ≡ number c → outAfter (lookUpSays a) out ≡ outRefused c out → a ≡ LookUpRefused c
+  pub look-up-cause : (a : LookUpAnswer) → said-by-look-up a .0 ≡ number c → out-after (said-by-look-up a) out ≡ out-refused c out → a ≡ LookUpRefused c
   look-up-cause (Found v) e f = absurd (omega (arith, number-small c))
   look-up-cause NotFound e f = absurd (omega (arith, number-small c))
   look-up-cause (LookUpRefused d) e f = ap LookUpRefused (one-cause out h d c e f)
 
-  pub put-cause : (a : PutAnswer) → putSays a .0 ≡ number c → outAfter (putSays a) out ≡ outRefused c out → a ≡ PutRefused c
+  pub put-cause : (a : PutAnswer) → said-by-put a .0 ≡ number c → out-after (said-by-put a) out ≡ out-refused c out → a ≡ PutRefused c
   put-cause Added e f = absurd (omega (arith, number-small c))
   put-cause (Replaced old) e f = absurd (omega (arith, number-small c))
   put-cause (PutStopped made) e f = absurd (omega (arith, number-small c))
   put-cause (PutRefused d) e f = ap PutRefused (one-cause out h d c e f)
 
-  pub remove-cause : (a : RemoveAnswer) → removeSays a .0 ≡ number c → outAfter (removeSays a) out ≡ outRefused c out → a ≡ RemoveRefused c
+  pub remove-cause : (a : RemoveAnswer) → said-by-remove a .0 ≡ number c → out-after (said-by-remove a) out ≡ out-refused c out → a ≡ RemoveRefused c
   remove-cause Removed e f = absurd (omega (arith, number-small c))
   remove-cause NotHeld e f = absurd (omega (arith, number-small c))
   remove-cause (RemoveStopped made) e f = absurd (omega (arith, number-small c))
   remove-cause (RemoveRefused d) e f = ap RemoveRefused (one-cause out h d c e f)
 
-  pub list-cause : (a : ListAnswer) → listSays a .0 ≡ number c → outAfter (listSays a) out ≡ outRefused c out → a ≡ ListRefused c
+  pub list-cause : (a : ListAnswer) → said-by-list a .0 ≡ number c → out-after (said-by-list a) out ≡ out-refused c out → a ≡ ListRefused c
   list-cause (Listed count) e f = absurd (omega (arith, number-small c))
   list-cause (ListRefused d) e f = ap ListRefused (one-cause out h d c e f)
 
 -- Of an image of the right length.
 module _ (image : List ℕ) (size : IsImage image) where
   pub create-is : (xs : List ℕ) (v b slots : ℕ)
-      → palCreateOf xs v b slots image ≡ (createSays (createOf xs v b slots .answer) .0, createOf xs v b slots .file, imageOf (createOf xs v b slots .trie))
-  unfolding palCreateOf
-  create-is xs v b slots = rw (eq-eqb (length image) imageSize size)
+      → pal-create-of xs v b slots image ≡ (said-by-create (create-of xs v b slots .answer) .0, create-of xs v b slots .file, image-of (create-of xs v b slots .trie))
+  unfolding pal-create-of
+  create-is xs v b slots = rw (eq-eqb (length image) image-length size)
 
-  pub rebuild-is : (xs : List ℕ) → palRebuildOf xs image ≡ (rebuildSays (rebuildOf xs .answer) .0, imageOf (rebuildOf xs .trie))
-  unfolding palRebuildOf
-  rebuild-is xs = rw (eq-eqb (length image) imageSize size)
+  pub rebuild-is : (xs : List ℕ) → pal-rebuild-of xs image ≡ (said-by-rebuild (rebuild-of xs .answer) .0, image-of (rebuild-of xs .trie))
+  unfolding pal-rebuild-of
+  rebuild-is xs = rw (eq-eqb (length image) image-length size)
 
   pub look-up-is : (xs name out : List ℕ)
-      → palLookUpOf xs image name out ≡ (lookUpSays (lookUpOf xs (trieOf image) name) .0, outAfter (lookUpSays (lookUpOf xs (trieOf image) name)) out)
-  unfolding palLookUpOf
-  look-up-is xs name out = rw (eq-eqb (length image) imageSize size)
+      → pal-look-up-of xs image name out ≡ (said-by-look-up (look-up-of xs (trie-from image) name) .0, out-after (said-by-look-up (look-up-of xs (trie-from image) name)) out)
+  unfolding pal-look-up-of
+  look-up-is xs name out = rw (eq-eqb (length image) image-length size)
 
   pub put-is : (xs name : List ℕ) (v limit : ℕ) (out : List ℕ)
-      → palPutOf xs image name v limit out
+      → pal-put-of xs image name v limit out
       ≡ (
-        putSays (putOf xs (trieOf image) name v limit .answer) .0,
-        putOf xs (trieOf image) name v limit .file,
-        imageAfter (putOf xs (trieOf image) name v limit .answer) (putOf xs (trieOf image) name v limit .trie) image,
-        outAfter (putSays (putOf xs (trieOf image) name v limit .answer)) out,
+        said-by-put (put-of xs (trie-from image) name v limit .answer) .0,
+        put-of xs (trie-from image) name v limit .file,
+        image-after (put-of xs (trie-from image) name v limit .answer) (put-of xs (trie-from image) name v limit .trie) image,
+        out-after (said-by-put (put-of xs (trie-from image) name v limit .answer)) out,
       )
-  unfolding palPutOf
-  put-is xs name v limit out = rw (eq-eqb (length image) imageSize size)
+  unfolding pal-put-of
+  put-is xs name v limit out = rw (eq-eqb (length image) image-length size)
 
   pub remove-is : (xs name : List ℕ) (limit : ℕ) (out : List ℕ)
-      → palRemoveOf xs image name limit out
+      → pal-remove-of xs image name limit out
       ≡ (
-        removeSays (removeOf xs (trieOf image) name limit .answer) .0,
-        removeOf xs (trieOf image) name limit .file,
+        said-by-remove (remove-of xs (trie-from image) name limit .answer) .0,
+        remove-of xs (trie-from image) name limit .file,
         image,
-        outAfter (removeSays (removeOf xs (trieOf image) name limit .answer)) out,
+        out-after (said-by-remove (remove-of xs (trie-from image) name limit .answer)) out,
       )
-  unfolding palRemoveOf
-  remove-is xs name limit out = rw (eq-eqb (length image) imageSize size)
+  unfolding pal-remove-of
+  remove-is xs name limit out = rw (eq-eqb (length image) image-length size)
 
   pub list-is : (xs low high output out : List ℕ)
-      → palListOf xs image low high output out
+      → pal-list-of xs image low high output out
       ≡ (
-        listSays (listOf xs (trieOf image) low high output .answer) .0,
-        listOf xs (trieOf image) low high output .output,
-        outAfter (listSays (listOf xs (trieOf image) low high output .answer)) out,
+        said-by-list (list-of xs (trie-from image) low high output .answer) .0,
+        list-of xs (trie-from image) low high output .output,
+        out-after (said-by-list (list-of xs (trie-from image) low high output .answer)) out,
       )
-  unfolding palListOf
-  list-is xs low high output out = rw (eq-eqb (length image) imageSize size)
+  unfolding pal-list-of
+  list-is xs low high output out = rw (eq-eqb (length image) image-length size)
 
 pub recover-is : (xs : List ℕ) (limit : ℕ) (out : List ℕ)
-    → palRecoverOf xs limit out ≡ (recoverSays (recoverOf xs limit .answer) .0, recoverOf xs limit .file, outAfter (recoverSays (recoverOf xs limit .answer)) out)
-unfolding palRecoverOf
+    → pal-recover-of xs limit out ≡ (said-by-recover (recover-of xs limit .answer) .0, recover-of xs limit .file, out-after (said-by-recover (recover-of xs limit .answer)) out)
+unfolding pal-recover-of
 recover-is xs limit out = refl

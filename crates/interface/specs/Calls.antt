@@ -3,8 +3,8 @@ use Prim.Native.Nat.{ℕ}
 use mathlib.Core.Path.{_≡_}
 use mathlib.Core.List.{List}
 use lib.ListN.{length}
-use Rattle.image.specs.Images.{imageSize}
-use Rattle.capi.specs.Doors.{palCheckOf, palCreateOf, palListOf, palLookUpOf, palPutOf, palRebuildOf, palRecoverOf, palRemoveOf}
+use Rattle.image.specs.Images.{image-length}
+use Rattle.capi.specs.Doors.{pal-check-of, pal-create-of, pal-list-of, pal-look-up-of, pal-put-of, pal-rebuild-of, pal-recover-of, pal-remove-of}
 
 -- Each takes what it is lent and gives its number, then the file, the image or output and the words of `out`, as far as it may
 -- change them. The ignored `run` of put is left out.
@@ -21,19 +21,19 @@ pub record CCalls : Type 0 where
 -- Ours: what the contracts of `pal_create` to `pal_list` equate with what the code does.
 abbrev pub our-c-calls : CCalls
 our-c-calls = record {
-  create = palCreateOf;
-  check = palCheckOf;
-  recover = palRecoverOf;
-  rebuild = palRebuildOf;
-  look-up = palLookUpOf;
-  put = palPutOf;
-  remove = palRemoveOf;
-  list = palListOf;
+  create = pal-create-of;
+  check = pal-check-of;
+  recover = pal-recover-of;
+  rebuild = pal-rebuild-of;
+  look-up = pal-look-up-of;
+  put = pal-put-of;
+  remove = pal-remove-of;
+  list = pal-list-of;
 }
 
 -- A trie image has exactly 1,540 bytes.
 abbrev pub IsImage : List ℕ → Type 0
-IsImage image = length image ≡ imageSize
+IsImage image = length image ≡ image-length
 
 -- `out` has four words.
 abbrev pub IsOut : List ℕ → Type 0

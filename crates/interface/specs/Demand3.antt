@@ -12,9 +12,9 @@ use Rattle.model.specs.Changes.{Map, Means, meant, put as to-put, remove as to-
 use Rattle.promises.specs.Demand1.{LegalName}
 use Rattle.promises.specs.Demand2.{LeadsRight}
 use Rattle.promises.specs.Demand3.{replaced}
-use Rattle.model.specs.Entries.{contentOf, runPart, valuePart}
-use Rattle.model.specs.Format.{keptRun, layoutOf}
-use Rattle.image.specs.Images.{trieOf}
+use Rattle.model.specs.Entries.{content-from, run-of-content, value-of-content}
+use Rattle.model.specs.Format.{kept-run, layout-of}
+use Rattle.image.specs.Images.{trie-from}
 use Rattle.interface.specs.Calls.{CCalls, IsImage}
 use Rattle.interface.specs.Demand1.{IsRefusal, change-refusal, recover-refusal}
 
@@ -66,7 +66,7 @@ module _ (C : CCalls) where
   unfoldable pub put-by : StateC → List ℕ → List ℕ → ℕ → ℕ → ℕ → List ℕ → StateC
   put-by s image name v run limit out =
       let d = C .put (file-of s) image name v run limit out in
-      after-put s (filled name) (contentOf v (keptRun (layoutOf (file-of s)) run)) (d .0) (d .1) (d .2)
+      after-put s (filled name) (content-from v (kept-run (layout-of (file-of s)) run)) (d .0) (d .1) (d .2)
 
   unfoldable pub remove-by : StateC → List ℕ → List ℕ → ℕ → List ℕ → StateC
   remove-by s image name limit out =
@@ -100,7 +100,7 @@ start d = running (d .1) (d .2) (λ k. nothing)
 -- The lookup's number and words for what the history says of a name.
 abbrev pub held-says : Option ℕ → List ℕ → ℕ × List ℕ
 held-says nothing out = (101, out)
-held-says (some c) out = (100, sets out 0 (valuePart c ∷ runPart c ∷ []))
+held-says (some c) out = (100, sets out 0 (value-of-content c ∷ run-of-content c ∷ []))
 
 -- A stopped call: word 0 is the limit, no other word has changed, and as many slots are others than before.
 pub record StoppedC (limit : ℕ) (xs ys out words : List ℕ) : Type 0 where
@@ -111,7 +111,7 @@ module _ (C : CCalls) where
   -- With an image in hand.
   pub record KeptC (xs image : List ℕ) (m : Map) : Type 0 where
     pub size : IsImage image
-    pub leads : LeadsRight xs (trieOf image)
+    pub leads : LeadsRight xs (trie-from image)
     pub means : Means (leads .file .slots) m
     pub looks-up : (name out : List ℕ) → LegalName name → C .look-up xs image name out ≡ held-says (m (filled name)) out
 

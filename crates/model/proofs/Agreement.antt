@@ -5,8 +5,8 @@ use Rattle.model.specs.declared.Side.{Side}
 use Rattle.model.specs.declared.Side.the-variants.{Cell as further, Slot as slot}
 use Rattle.model.specs.declared.Trie.{Trie}
 use Rattle.model.specs.Order.{Low, Str, _≺_, _⊑_, _◁_, above, at, least, none, top}
-use Rattle.model.specs.Files.{Chain, In, IsString, Ranges, Slot, Sound, all, bounds, fresh, head, last, next, ranges, slot-at, string-count, strings-of}
-use Rattle.model.specs.Tries.{Agrees, Leads, Leaves, Numbers, Reads, Tree, at-cell, first-leaf-of, leaf, leaves, node, occ, root as no-side, root-side, size, strings, trie-of, walk-trie, walkOf, zero-cell}
+use Rattle.model.specs.Files.{Chain, In, IsString, RangeTable, Slot, Sound, all, bounds, fresh, head, last, next, ranges, slot-at, string-count, strings-of}
+use Rattle.model.specs.Tries.{Agrees, Leads, LeafIntervals, NumbersFit, Reads, Tree, at-cell, first-leaf-of, leaf, leaves, node, occ, root as no-side, root-side, size, strings, trie-of, walk-of, walk-trie, zero-cell}
 use Rattle.model.specs.Rebuilding.{label, laid, lay, rebuilt, rebuilt-trie, side-of}
 use Rattle.model.specs.Deciding.{low?, over}
 use Rattle.model.proofs.Lists.{at-replicate}
@@ -20,7 +20,7 @@ use Rattle.model.proofs.Files.{count-right, order-right, strings-asc, s
 use Rattle.model.proofs.Walks.{path-at, run-live, run-walk, spot, string-fits}
 
 -- The cells, from this side on, are a trie of these slots' bounds and their beginnings, each leaf leading to its bucket.
-pub record CellsAgree (F : Ranges) (Bs : List ℕ) (cs : List Cell) (a : Side) : Type 0 where
+pub record CellsAgree (F : RangeTable) (Bs : List ℕ) (cs : List Cell) (a : Side) : Type 0 where
   pub tree : Tree
   pub visits : List ℕ
   pub reads : Reads cs a tree visits
@@ -56,7 +56,7 @@ module _ (lab : Low → ℕ) where
   expect-slots l [] = refl
   expect-slots l (x ∷ xs) = ap (λ (r : List ℕ). lab l ∷ r) (expect-slots (at x) xs)
 
-module _ (F : Ranges) (Bs : List ℕ) (chain : Chain F none Bs) (listed : (B : ℕ) → F .Used B → List·Memᴰ B Bs) where
+module _ (F : RangeTable) (Bs : List ℕ) (chain : Chain F none Bs) (listed : (B : ℕ) → F .Used B → List·Memᴰ B Bs) where
   pub labelled : (t : Tree) → Spans (Leads F) none [] t (all (bounds F Bs)) → Spans (λ l u B. B ≡ label F Bs l) none [] t (all (bounds F Bs))
   labelled t T = rw (relabel-same) at (relabel-trie (Leads F) (λ l u B. B ≡ label F Bs l) (λ u B. B) T least λ l u B x y mv gap h.
       let k : Leads F l u (label F Bs l) = label-leads F Bs none chain l u least (λ x m. gap x (bounds-all F Bs none chain x m)) in
@@ -89,7 +89,7 @@ module _ (lab : Low → ℕ) where
   tokens-follow C (x ∷ xs) f =
       ap₂ (λ (B : ℕ) (es : List Token). string x ∷ leads B ∷ es) (f x (List·Memᴰ·head refl)) (tokens-follow C xs (λ y m. f y (List·Memᴰ·tail m)))
 
-module _ (F : Ranges) where
+module _ (F : RangeTable) where
   -- After the slot B's leaf: the strings that its upper brings, each followed by a leaf of the next slot.
   abbrev pub coming : ℕ → List ℕ → List Token
   coming B [] = []
@@ -145,8 +145,8 @@ module _ {fs : List Slot} {t : Trie} (A : Agrees fs t) where
 
   -- No string of a sound file has more than 24 digits (`string-fits`).
   module _ (short : (x : Str) → IsString fs x → length x ≤ 24) (n : Str) where
-    pub whole-run : walkOf t n ≡ some (path-at n [] (A .tree), spot n [] no-side (A .reads), walk n [] (A .tree))
-    unfolding walkOf
+    pub whole-run : walk-of t n ≡ some (path-at n [] (A .tree), spot n [] no-side (A .reads), walk n [] (A .tree))
+    unfolding walk-of
     whole-run =
         rw (le-leb (t .count) 256 (A .few))
         (run-live (t .count) (t .count) (t .cells) n [] no-side (root-side (t .count) (t .first))
@@ -175,6 +175,11 @@ module _ (b : ℕ) {fs : List Slot} (S : Sound b fs) where
       strings-same : strings [] (A .tree) ≡ strings-of fs
       strings-same = asc-unique (trie-asc flat) (strings-asc b S) (λ x m. strings-every b S x (A .only x m)) (λ x m. A .every x (strings-only b S x m))
 
+  -- A file that some trie agrees with has few enough strings.
+  pub agrees-few : {t : Trie} → Agrees fs t → string-count fs ≤ 256
+  agrees-few {t} A = let C = agrees-cells A in
+      omega (arith, A .few, count-right b S, cells-count (C .trie), reads-size (C .reads), visits-count (C .reads) (C .each), length-take (t .count) (t .cells))
+
   pub cells-agree : {t : Trie} → length (t .cells) ≡ 256 → t .count ≤ 256
       → ((i : ℕ) → t .count ≤ i → at-cell (t .cells) i ≡ zero-cell) → (0 < t .count → t .first ≡ 0)
       → CellsAgree (ranges fs) (S .order) (take (t .count) (t .cells)) (root-side (t .count) (t .first)) → Agrees fs t
@@ -196,7 +201,7 @@ module _ (b : ℕ) {fs : List Slot} (S : Sound b fs) where
       same : strings [] (A .tree) ≡ all (bounds (ranges fs) (S .order))
       same = strings-are (Leads (ranges fs)) (A .trie)
 
-      flat : Numbers [] (A .tree) × Leaves (Leads (ranges fs)) none (all (bounds (ranges fs) (S .order))) [] (leaves (A .tree))
+      flat : NumbersFit [] (A .tree) × LeafIntervals (Leads (ranges fs)) none (all (bounds (ranges fs) (S .order))) [] (leaves (A .tree))
       flat = trie-flat (Leads (ranges fs)) (A .trie)
 
   -- Cells that agree, held as a trie.

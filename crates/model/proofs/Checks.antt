@@ -1,11 +1,11 @@
 -- The tests of check are what they test; so check names sound files, the slot to free of cut ones, and bad files.
 use Rattle.model.proofs.Prelude.{Bool, List, List·Memᴰ, List·Memᴰ·head, List·Memᴰ·not-nil, List·Memᴰ·tail, [], _&&_, _+_, _<_, _||_, _∙_, _∷_, _≡_, _≤_, _⊎_, add-zero, ap, ap₂, arith, clash, cond, eq-eqb, eqb, eqb-true, false, inl, inr, le-leb, leb, leb-true, length, not, not-true, refl, set, suc, true, zero, zero-add, ℕ, ℕ-discrete}
 use Rattle.model.specs.Order.{Low, Str, _◁_, above, at, least, none}
-use Rattle.model.specs.Names.{BoundLow, atMost, legalBound, legalFilled, limit, unlimited}
+use Rattle.model.specs.Names.{BoundLow, is-at-most, is-legal-bound, is-legal-filled, limit, unlimited}
 use Rattle.model.specs.Entries.{Entry, Row, entry, move, name-at, no-entries, without}
 use Rattle.model.specs.Files.{Bad, Chain, Copied, Cut, IsUsed, Slot, Sound, Well, exactly, free, head, last, lower-of, next, one-more, order-of, ranges, slot-at, upper-of, used, well-free, well-used}
-use Rattle.model.specs.Checks.{Kind, allWell, check, cutBelow, hasTwin, is-bad, is-cut, is-sound, isAbove, isChain, isCopied, isCutBy, isIn, isListed, isRow, isSound, isTwin, isUsed, isWell, legalLow, oneMore, sameEntries, sameLow, sameStr}
-use Rattle.model.proofs.Names.{atMost-le, atMost-lt, both-true, bound-legalBound, le-atMost, legal-legalFilled, legalBound-bound, legalFilled-legal, lt-atMost, never-both}
+use Rattle.model.specs.Checks.{Kind, all-well, are-same-entries, check, cut-among, has-one-more, has-twin, is-above, is-bad, is-chain, is-copied, is-cut, is-cut-by, is-in, is-legal-low, is-listed, is-row, is-sound, is-sound-file, is-twin, is-used-slot, is-well-formed, same-low, same-str}
+use Rattle.model.proofs.Names.{both-true, bound-is-legal-bound, is-at-most-le, is-at-most-lt, is-legal-bound-bound, is-legal-filled-legal, le-is-at-most, legal-is-legal-filled, lt-is-at-most, never-both}
 use Rattle.model.proofs.Ranges.{chain-some}
 use Rattle.model.proofs.Files.{cut-not-sound, cut-unique, order-right, used-inside}
 
@@ -23,282 +23,281 @@ true-right false b e = e
 pub both-join : (a b : Bool) → a ≡ true → b ≡ true → (a && b) ≡ true
 both-join a b e f = rw (e, f)
 
-pub isAbove-above : (l : Low) (x : Str) → isAbove l x ≡ true → l ◁ x
-unfolding isAbove
-isAbove-above none x e = least
-isAbove-above (at l) x e = above (atMost-lt x l (not-true (atMost x l) e))
+pub is-above-above : (l : Low) (x : Str) → is-above l x ≡ true → l ◁ x
+unfolding is-above
+is-above-above none x e = least
+is-above-above (at l) x e = above (is-at-most-lt x l (not-true (is-at-most x l) e))
 
-pub above-isAbove : {l : Low} {x : Str} → l ◁ x → isAbove l x ≡ true
-unfolding isAbove
-above-isAbove least = refl
-above-isAbove (above {l = l} {x = x} p) = rw (lt-atMost x l p)
+pub above-is-above : {l : Low} {x : Str} → l ◁ x → is-above l x ≡ true
+unfolding is-above
+above-is-above least = refl
+above-is-above (above {l = l} {x = x} p) = rw (lt-is-at-most x l p)
 
-legalLow-bound : (l : Low) → legalLow l ≡ true → BoundLow l
-unfolding legalLow
-legalLow-bound none e = unlimited
-legalLow-bound (at x) e = limit (legalBound-bound x e)
+is-legal-low-bound : (l : Low) → is-legal-low l ≡ true → BoundLow l
+unfolding is-legal-low
+is-legal-low-bound none e = unlimited
+is-legal-low-bound (at x) e = limit (is-legal-bound-bound x e)
 
-bound-legalLow : {l : Low} → BoundLow l → legalLow l ≡ true
-unfolding legalLow
-bound-legalLow unlimited = refl
-bound-legalLow (limit g) = bound-legalBound g
+bound-is-legal-low : {l : Low} → BoundLow l → is-legal-low l ≡ true
+unfolding is-legal-low
+bound-is-legal-low unlimited = refl
+bound-is-legal-low (limit g) = bound-is-legal-bound g
 
-pub sameStr-equal : (x y : Str) → sameStr x y ≡ true → x ≡ y
-unfolding sameStr
-sameStr-equal [] [] e = refl
-sameStr-equal [] (b ∷ y) e = cc
-sameStr-equal (a ∷ x) [] e = cc
-sameStr-equal (a ∷ x) (b ∷ y) e =
-    let p = both-true (eqb a b) (sameStr x y) e in
-    ap₂ (λ (c : ℕ) (z : Str). c ∷ z) (eqb-true a b (p .0)) (sameStr-equal x y (p .1))
+pub same-str-equal : (x y : Str) → same-str x y ≡ true → x ≡ y
+unfolding same-str
+same-str-equal [] [] e = refl
+same-str-equal [] (b ∷ y) e = cc
+same-str-equal (a ∷ x) [] e = cc
+same-str-equal (a ∷ x) (b ∷ y) e =
+    let p = both-true (eqb a b) (same-str x y) e in
+    ap₂ (λ (c : ℕ) (z : Str). c ∷ z) (eqb-true a b (p .0)) (same-str-equal x y (p .1))
 
-pub sameStr-self : (x : Str) → sameStr x x ≡ true
-unfolding sameStr
-sameStr-self [] = refl
-sameStr-self (a ∷ x) = rw (eq-eqb a a refl) (sameStr-self x)
+pub same-str-self : (x : Str) → same-str x x ≡ true
+unfolding same-str
+same-str-self [] = refl
+same-str-self (a ∷ x) = rw (eq-eqb a a refl) (same-str-self x)
 
-pub sameStr-other : (x y : Str) → ¬ (x ≡ y) → sameStr x y ≡ false
-sameStr-other x y n = go (sameStr x y) refl
+pub same-str-other : (x y : Str) → ¬ (x ≡ y) → same-str x y ≡ false
+same-str-other x y n = go (same-str x y) refl
   where
-    go : (t : Bool) → sameStr x y ≡ t → t ≡ false
-    go true e = absurd (n (sameStr-equal x y e))
+    go : (t : Bool) → same-str x y ≡ t → t ≡ false
+    go true e = absurd (n (same-str-equal x y e))
     go false e = refl
 
-sameLow-equal : (l m : Low) → sameLow l m ≡ true → l ≡ m
-unfolding sameLow
-sameLow-equal none none e = refl
-sameLow-equal none (at y) e = cc
-sameLow-equal (at x) none e = cc
-sameLow-equal (at x) (at y) e = ap at (sameStr-equal x y e)
+same-low-equal : (l m : Low) → same-low l m ≡ true → l ≡ m
+unfolding same-low
+same-low-equal none none e = refl
+same-low-equal none (at y) e = cc
+same-low-equal (at x) none e = cc
+same-low-equal (at x) (at y) e = ap at (same-str-equal x y e)
 
-sameLow-self : (l : Low) → sameLow l l ≡ true
-unfolding sameLow
-sameLow-self none = refl
-sameLow-self (at x) = sameStr-self x
+same-low-self : (l : Low) → same-low l l ≡ true
+unfolding same-low
+same-low-self none = refl
+same-low-self (at x) = same-str-self x
 
-pub isRow-row : (l : Low) (es : List Entry) (u : Str) → isRow l es u ≡ true → Row l es u
-unfolding isRow
-isRow-row l [] u e = no-entries
-isRow-row l (f ∷ es) u e =
-    let p = both-true (legalFilled (f .0) && isAbove l (f .0) && atMost (f .0) u) (isRow (at (f .0)) es u) e in
-    let q = both-true (legalFilled (f .0) && isAbove l (f .0)) (atMost (f .0) u) (p .0) in
-    let r = both-true (legalFilled (f .0)) (isAbove l (f .0)) (q .0) in
-    entry (legalFilled-legal (f .0) (r .0)) (isAbove-above l (f .0) (r .1)) (atMost-le (f .0) u (q .1)) (isRow-row (at (f .0)) es u (p .1))
+pub is-row-row : (l : Low) (es : List Entry) (u : Str) → is-row l es u ≡ true → Row l es u
+unfolding is-row
+is-row-row l [] u e = no-entries
+is-row-row l (f ∷ es) u e =
+    let p = both-true (is-legal-filled (f .0) && is-above l (f .0) && is-at-most (f .0) u) (is-row (at (f .0)) es u) e in
+    let q = both-true (is-legal-filled (f .0) && is-above l (f .0)) (is-at-most (f .0) u) (p .0) in
+    let r = both-true (is-legal-filled (f .0)) (is-above l (f .0)) (q .0) in
+    entry (is-legal-filled-legal (f .0) (r .0)) (is-above-above l (f .0) (r .1)) (is-at-most-le (f .0) u (q .1)) (is-row-row (at (f .0)) es u (p .1))
 
-pub row-isRow : {l : Low} {es : List Entry} {u : Str} → Row l es u → isRow l es u ≡ true
-unfolding isRow
-row-isRow no-entries = refl
-row-isRow {u = u} (entry {e = e} g a c r) = rw (legal-legalFilled g, above-isAbove a, le-atMost (e .0) u c, row-isRow r)
+pub row-is-row : {l : Low} {es : List Entry} {u : Str} → Row l es u → is-row l es u ≡ true
+unfolding is-row
+row-is-row no-entries = refl
+row-is-row {u = u} (entry {e = e} g a c r) = rw (legal-is-legal-filled g, above-is-above a, le-is-at-most (e .0) u c, row-is-row r)
 
 -- What the test of a used slot says, part by part.
 pub record Wells (b : ℕ) (l : Low) (u : Str) (es : List Entry) : Type 0 where
-  pub low : legalLow l ≡ true
-  pub high : legalBound u ≡ true
-  pub above : isAbove l u ≡ true
-  pub row : isRow l es u ≡ true
+  pub low : is-legal-low l ≡ true
+  pub high : is-legal-bound u ≡ true
+  pub above : is-above l u ≡ true
+  pub row : is-row l es u ≡ true
   pub most : length es ≤ b
 
-pub wells : (b : ℕ) (l : Low) (u : Str) (es : List Entry) → isWell b (used l u es) ≡ true → Wells b l u es
-unfolding isWell
+pub wells : (b : ℕ) (l : Low) (u : Str) (es : List Entry) → is-well-formed b (used l u es) ≡ true → Wells b l u es
+unfolding is-well-formed
 wells b l u es e =
-    let p = both-true (legalLow l && legalBound u && isAbove l u && isRow l es u) (leb (length es) b) e in
-    let q = both-true (legalLow l && legalBound u && isAbove l u) (isRow l es u) (p .0) in
-    let r = both-true (legalLow l && legalBound u) (isAbove l u) (q .0) in
-    let t = both-true (legalLow l) (legalBound u) (r .0) in
+    let p = both-true (is-legal-low l && is-legal-bound u && is-above l u && is-row l es u) (leb (length es) b) e in
+    let q = both-true (is-legal-low l && is-legal-bound u && is-above l u) (is-row l es u) (p .0) in
+    let r = both-true (is-legal-low l && is-legal-bound u) (is-above l u) (q .0) in
+    let t = both-true (is-legal-low l) (is-legal-bound u) (r .0) in
     record { low = t .0; high = t .1; above = r .1; row = q .1; most = leb-true (length es) b (p .1) }
 
 module _ (b : ℕ) where
-  pub isWell-well : (x : Slot) → isWell b x ≡ true → Well b x
-  isWell-well free e = well-free
-  isWell-well (used l u es) e =
+  pub is-well-formed-well : (x : Slot) → is-well-formed b x ≡ true → Well b x
+  is-well-formed-well free e = well-free
+  is-well-formed-well (used l u es) e =
       let t = wells b l u es e in
-      well-used (legalLow-bound l (t .low)) (legalBound-bound u (t .high)) (isAbove-above l u (t .above)) (isRow-row l es u (t .row)) (t .most)
+      well-used (is-legal-low-bound l (t .low)) (is-legal-bound-bound u (t .high)) (is-above-above l u (t .above)) (is-row-row l es u (t .row)) (t .most)
 
-  pub well-isWell : {x : Slot} → Well b x → isWell b x ≡ true
-  unfolding isWell
-  well-isWell well-free = refl
-  well-isWell (well-used {es = es} a c h r k) = rw (bound-legalLow a, bound-legalBound c, above-isAbove h, row-isRow r, le-leb (length es) b k)
+  pub well-is-well-formed : {x : Slot} → Well b x → is-well-formed b x ≡ true
+  unfolding is-well-formed
+  well-is-well-formed well-free = refl
+  well-is-well-formed (well-used {es = es} a c h r k) = rw (bound-is-legal-low a, bound-is-legal-bound c, above-is-above h, row-is-row r, le-leb (length es) b k)
 
-  allWell-well : (fs : List Slot) → allWell b fs ≡ true → (B : ℕ) → Well b (slot-at fs B)
-  unfolding allWell
-  allWell-well [] e B = well-free
-  allWell-well (x ∷ fs) e zero = isWell-well x (both-true (isWell b x) (allWell b fs) e .0)
-  allWell-well (x ∷ fs) e (suc B) = allWell-well fs (both-true (isWell b x) (allWell b fs) e .1) B
+  all-well-well : (fs : List Slot) → all-well b fs ≡ true → (B : ℕ) → Well b (slot-at fs B)
+  unfolding all-well
+  all-well-well [] e B = well-free
+  all-well-well (x ∷ fs) e zero = is-well-formed-well x (both-true (is-well-formed b x) (all-well b fs) e .0)
+  all-well-well (x ∷ fs) e (suc B) = all-well-well fs (both-true (is-well-formed b x) (all-well b fs) e .1) B
 
-  well-allWell : (fs : List Slot) → ((B : ℕ) → Well b (slot-at fs B)) → allWell b fs ≡ true
-  unfolding allWell
-  well-allWell [] w = refl
-  well-allWell (x ∷ fs) w = rw (well-isWell (w 0), well-allWell fs (λ B. w (suc B)))
+  well-all-well : (fs : List Slot) → ((B : ℕ) → Well b (slot-at fs B)) → all-well b fs ≡ true
+  unfolding all-well
+  well-all-well [] w = refl
+  well-all-well (x ∷ fs) w = rw (well-is-well-formed (w 0), well-all-well fs (λ B. w (suc B)))
 
-isUsed-used : (x : Slot) → isUsed x ≡ true → IsUsed (head x)
-unfolding isUsed
-isUsed-used free e = clash cc
-isUsed-used (used l u es) e = tt
+is-used-slot-used : (x : Slot) → is-used-slot x ≡ true → IsUsed (head x)
+unfolding is-used-slot
+is-used-slot-used free e = clash cc
+is-used-slot-used (used l u es) e = tt
 
-used-isUsed : (x : Slot) → IsUsed (head x) → isUsed x ≡ true
-unfolding isUsed
-used-isUsed free h = absurd h
-used-isUsed (used l u es) h = refl
+used-is-used-slot : (x : Slot) → IsUsed (head x) → is-used-slot x ≡ true
+unfolding is-used-slot
+used-is-used-slot free h = absurd h
+used-is-used-slot (used l u es) h = refl
 
-isIn-mem : (B : ℕ) (Bs : List ℕ) → isIn B Bs ≡ true → List·Memᴰ B Bs
-unfolding isIn
-isIn-mem B [] e = clash cc
-isIn-mem B (C ∷ Bs) e = elim (either-true (eqb B C) (isIn B Bs) e) [ inl q ↦ List·Memᴰ·head (eqb-true B C q) | inr q ↦ List·Memᴰ·tail (isIn-mem B Bs q) ]
+is-in-mem : (B : ℕ) (Bs : List ℕ) → is-in B Bs ≡ true → List·Memᴰ B Bs
+unfolding is-in
+is-in-mem B [] e = clash cc
+is-in-mem B (C ∷ Bs) e = elim (either-true (eqb B C) (is-in B Bs) e) [ inl q ↦ List·Memᴰ·head (eqb-true B C q) | inr q ↦ List·Memᴰ·tail (is-in-mem B Bs q) ]
 
-mem-isIn : (B : ℕ) (Bs : List ℕ) → List·Memᴰ B Bs → isIn B Bs ≡ true
-unfolding isIn
-mem-isIn B [] m = absurd (List·Memᴰ·not-nil m)
-mem-isIn B (C ∷ Bs) (List·Memᴰ·head e) = true-left (eqb B C) (isIn B Bs) (eq-eqb B C e)
-mem-isIn B (C ∷ Bs) (List·Memᴰ·tail m) = true-right (eqb B C) (isIn B Bs) (mem-isIn B Bs m)
+mem-is-in : (B : ℕ) (Bs : List ℕ) → List·Memᴰ B Bs → is-in B Bs ≡ true
+unfolding is-in
+mem-is-in B [] m = absurd (List·Memᴰ·not-nil m)
+mem-is-in B (C ∷ Bs) (List·Memᴰ·head e) = true-left (eqb B C) (is-in B Bs) (eq-eqb B C e)
+mem-is-in B (C ∷ Bs) (List·Memᴰ·tail m) = true-right (eqb B C) (is-in B Bs) (mem-is-in B Bs m)
 
 module _ (fs : List Slot) where
-  isChain-chain : (l : Low) (Bs : List ℕ) → isChain fs l Bs ≡ true → Chain (ranges fs) l Bs
-  unfolding isChain
-  isChain-chain l [] e = clash cc
-  isChain-chain l (B ∷ []) e =
+  is-chain-chain : (l : Low) (Bs : List ℕ) → is-chain fs l Bs ≡ true → Chain (ranges fs) l Bs
+  unfolding is-chain
+  is-chain-chain l [] e = clash cc
+  is-chain-chain l (B ∷ []) e =
       let x = slot-at fs B in
-      let p = both-true (isUsed x && sameLow (lower-of (head x)) l) (sameStr (upper-of (head x)) []) e in
-      let q = both-true (isUsed x) (sameLow (lower-of (head x)) l) (p .0) in
-      last (isUsed-used x (q .0)) (sameLow-equal (lower-of (head x)) l (q .1)) (sameStr-equal (upper-of (head x)) [] (p .1))
-  isChain-chain l (B ∷ C ∷ Bs) e =
+      let p = both-true (is-used-slot x && same-low (lower-of (head x)) l) (same-str (upper-of (head x)) []) e in
+      let q = both-true (is-used-slot x) (same-low (lower-of (head x)) l) (p .0) in
+      last (is-used-slot-used x (q .0)) (same-low-equal (lower-of (head x)) l (q .1)) (same-str-equal (upper-of (head x)) [] (p .1))
+  is-chain-chain l (B ∷ C ∷ Bs) e =
       let x = slot-at fs B in
       let u = upper-of (head x) in
-      let p = both-true (isUsed x && sameLow (lower-of (head x)) l && isAbove l u && not (atMost [] u)) (isChain fs (at u) (C ∷ Bs)) e in
-      let q = both-true (isUsed x && sameLow (lower-of (head x)) l && isAbove l u) (not (atMost [] u)) (p .0) in
-      let r = both-true (isUsed x && sameLow (lower-of (head x)) l) (isAbove l u) (q .0) in
-      let t = both-true (isUsed x) (sameLow (lower-of (head x)) l) (r .0) in
-      next (isUsed-used x (t .0)) (sameLow-equal (lower-of (head x)) l (t .1)) (isAbove-above l u (r .1)) (atMost-lt [] u (not-true (atMost [] u) (q .1))) (isChain-chain (at u) (C ∷ Bs) (p .1))
+      let p = both-true (is-used-slot x && same-low (lower-of (head x)) l && is-above l u && not (is-at-most [] u)) (is-chain fs (at u) (C ∷ Bs)) e in
+      let q = both-true (is-used-slot x && same-low (lower-of (head x)) l && is-above l u) (not (is-at-most [] u)) (p .0) in
+      let r = both-true (is-used-slot x && same-low (lower-of (head x)) l) (is-above l u) (q .0) in
+      let t = both-true (is-used-slot x) (same-low (lower-of (head x)) l) (r .0) in
+      next (is-used-slot-used x (t .0)) (same-low-equal (lower-of (head x)) l (t .1)) (is-above-above l u (r .1)) (is-at-most-lt [] u (not-true (is-at-most [] u) (q .1))) (is-chain-chain (at u) (C ∷ Bs) (p .1))
 
-  chain-isChain : (l : Low) (Bs : List ℕ) → Chain (ranges fs) l Bs → isChain fs l Bs ≡ true
-  unfolding isChain
-  chain-isChain l [] c = absurd (chain-some (ranges fs) c)
-  chain-isChain l (B ∷ []) (last u e f) = rw (used-isUsed (slot-at fs B) u, e, f, sameLow-self l) (sameStr-self [])
-  chain-isChain l (B ∷ []) (next u e a c d) = absurd (chain-some (ranges fs) d)
-  chain-isChain l (B ∷ C ∷ Bs) (next u e a c d) =
-      rw (used-isUsed (slot-at fs B) u, e, sameLow-self l, above-isAbove a, lt-atMost [] (upper-of (head (slot-at fs B))) c) (chain-isChain (at (upper-of (head (slot-at fs B)))) (C ∷ Bs) d)
+  chain-is-chain : (l : Low) (Bs : List ℕ) → Chain (ranges fs) l Bs → is-chain fs l Bs ≡ true
+  unfolding is-chain
+  chain-is-chain l [] c = absurd (chain-some (ranges fs) c)
+  chain-is-chain l (B ∷ []) (last u e f) = rw (used-is-used-slot (slot-at fs B) u, e, f, same-low-self l) (same-str-self [])
+  chain-is-chain l (B ∷ []) (next u e a c d) = absurd (chain-some (ranges fs) d)
+  chain-is-chain l (B ∷ C ∷ Bs) (next u e a c d) =
+      rw (used-is-used-slot (slot-at fs B) u, e, same-low-self l, above-is-above a, lt-is-at-most [] (upper-of (head (slot-at fs B))) c) (chain-is-chain (at (upper-of (head (slot-at fs B)))) (C ∷ Bs) d)
 
-listed-used : (i : ℕ) (Bs : List ℕ) (fs : List Slot) → isListed i Bs fs ≡ true → (B : ℕ) → IsUsed (head (slot-at fs B)) → List·Memᴰ (i + B) Bs
-unfolding isListed
+listed-used : (i : ℕ) (Bs : List ℕ) (fs : List Slot) → is-listed i Bs fs ≡ true → (B : ℕ) → IsUsed (head (slot-at fs B)) → List·Memᴰ (i + B) Bs
+unfolding is-listed
 listed-used i Bs [] e B h = absurd h
 listed-used i Bs (x ∷ fs) e zero h =
-    let p = both-true (not (isUsed x) || isIn i Bs) (isListed (suc i) Bs fs) e .0 in
-    rw add-zero (elim (either-true (not (isUsed x)) (isIn i Bs) p)
-    [ inl q ↦ absurd (never-both (isUsed x) (used-isUsed x h) (not-true (isUsed x) q)) | inr q ↦ isIn-mem i Bs q ])
+    let p = both-true (not (is-used-slot x) || is-in i Bs) (is-listed (suc i) Bs fs) e .0 in
+    rw add-zero (elim (either-true (not (is-used-slot x)) (is-in i Bs) p)
+    [ inl q ↦ absurd (never-both (is-used-slot x) (used-is-used-slot x h) (not-true (is-used-slot x) q)) | inr q ↦ is-in-mem i Bs q ])
 listed-used i Bs (x ∷ fs) e (suc B) h =
     let q : suc i + B ≡ i + suc B = omega arith in
-    rw q at (listed-used (suc i) Bs fs (both-true (not (isUsed x) || isIn i Bs) (isListed (suc i) Bs fs) e .1) B h)
+    rw q at (listed-used (suc i) Bs fs (both-true (not (is-used-slot x) || is-in i Bs) (is-listed (suc i) Bs fs) e .1) B h)
 
-used-listed : (i : ℕ) (Bs : List ℕ) (fs : List Slot) → ((B : ℕ) → IsUsed (head (slot-at fs B)) → List·Memᴰ (i + B) Bs) → isListed i Bs fs ≡ true
-unfolding isListed isUsed
+used-listed : (i : ℕ) (Bs : List ℕ) (fs : List Slot) → ((B : ℕ) → IsUsed (head (slot-at fs B)) → List·Memᴰ (i + B) Bs) → is-listed i Bs fs ≡ true
+unfolding is-listed is-used-slot
 used-listed i Bs [] f = refl
 used-listed i Bs (free ∷ fs) f = used-listed (suc i) Bs fs (λ B h. let q : suc i + B ≡ i + suc B = omega arith in rw q (f (suc B) h))
 used-listed i Bs (used l u es ∷ fs) f =
-    rw (mem-isIn i Bs (rw add-zero at (f 0 tt))) (used-listed (suc i) Bs fs (λ B h. let q : suc i + B ≡ i + suc B = omega arith in rw q (f (suc B) h)))
+    rw (mem-is-in i Bs (rw add-zero at (f 0 tt))) (used-listed (suc i) Bs fs (λ B h. let q : suc i + B ≡ i + suc B = omega arith in rw q (f (suc B) h)))
 
 module _ (b : ℕ) where
-  pub isSound-sound : (fs : List Slot) → isSound b fs ≡ true → Sound b fs
-  unfolding isSound
-  isSound-sound fs e =
-      let p = both-true (allWell b fs && isChain fs none (order-of fs)) (isListed 0 (order-of fs) fs) e in
-      let q = both-true (allWell b fs) (isChain fs none (order-of fs)) (p .0) in
+  pub is-sound-file-sound : (fs : List Slot) → is-sound-file b fs ≡ true → Sound b fs
+  unfolding is-sound-file
+  is-sound-file-sound fs e =
+      let p = both-true (all-well b fs && is-chain fs none (order-of fs)) (is-listed 0 (order-of fs) fs) e in
+      let q = both-true (all-well b fs) (is-chain fs none (order-of fs)) (p .0) in
       record {
         order = order-of fs;
-        chain = isChain-chain fs none (order-of fs) (q .1);
+        chain = is-chain-chain fs none (order-of fs) (q .1);
         listed = λ B h. rw zero-add at (listed-used 0 (order-of fs) fs (p .1) B h);
-        well = allWell-well b fs (q .0);
+        well = all-well-well b fs (q .0);
       }
 
-  pub sound-isSound : {fs : List Slot} → Sound b fs → isSound b fs ≡ true
-  unfolding isSound
-  sound-isSound {fs} S =
-      rw (well-allWell b fs (S .well), order-right b S, chain-isChain fs none (S .order) (S .chain)) (used-listed 0 (S .order) fs (λ B h. rw zero-add (S .listed B h)))
+  pub sound-is-sound-file : {fs : List Slot} → Sound b fs → is-sound-file b fs ≡ true
+  unfolding is-sound-file
+  sound-is-sound-file {fs} S =
+      rw (well-all-well b fs (S .well), order-right b S, chain-is-chain fs none (S .order) (S .chain)) (used-listed 0 (S .order) fs (λ B h. rw zero-add (S .listed B h)))
 
-sameEntries-equal : (xs ys : List Entry) → sameEntries xs ys ≡ true → xs ≡ ys
-unfolding sameEntries
-sameEntries-equal [] [] e = refl
-sameEntries-equal [] (y ∷ ys) e = cc
-sameEntries-equal (x ∷ xs) [] e = cc
-sameEntries-equal (x ∷ xs) (y ∷ ys) e =
-    let p = both-true (sameStr (x .0) (y .0) && eqb (x .1) (y .1)) (sameEntries xs ys) e in
-    let q = both-true (sameStr (x .0) (y .0)) (eqb (x .1) (y .1)) (p .0) in
-    let f : x ≡ y = ap₂ (λ (k : Str) (w : ℕ). (k, w)) (sameStr-equal (x .0) (y .0) (q .0)) (eqb-true (x .1) (y .1) (q .1)) in
-    ap₂ (λ (z : Entry) (zs : List Entry). z ∷ zs) f (sameEntries-equal xs ys (p .1))
+are-same-entries-equal : (xs ys : List Entry) → are-same-entries xs ys ≡ true → xs ≡ ys
+unfolding are-same-entries
+are-same-entries-equal [] [] e = refl
+are-same-entries-equal [] (y ∷ ys) e = cc
+are-same-entries-equal (x ∷ xs) [] e = cc
+are-same-entries-equal (x ∷ xs) (y ∷ ys) e =
+    let p = both-true (same-str (x .0) (y .0) && eqb (x .1) (y .1)) (are-same-entries xs ys) e in
+    let q = both-true (same-str (x .0) (y .0)) (eqb (x .1) (y .1)) (p .0) in
+    let f : x ≡ y = ap₂ (λ (k : Str) (w : ℕ). (k, w)) (same-str-equal (x .0) (y .0) (q .0)) (eqb-true (x .1) (y .1) (q .1)) in
+    ap₂ (λ (z : Entry) (zs : List Entry). z ∷ zs) f (are-same-entries-equal xs ys (p .1))
 
-sameEntries-self : (xs : List Entry) → sameEntries xs xs ≡ true
-unfolding sameEntries
-sameEntries-self [] = refl
-sameEntries-self (x ∷ xs) = rw (sameStr-self (x .0), eq-eqb (x .1) (x .1) refl) (sameEntries-self xs)
+are-same-entries-self : (xs : List Entry) → are-same-entries xs xs ≡ true
+unfolding are-same-entries
+are-same-entries-self [] = refl
+are-same-entries-self (x ∷ xs) = rw (same-str-self (x .0), eq-eqb (x .1) (x .1) refl) (are-same-entries-self xs)
 
-oneMore-copied : (i : ℕ) (es ns : List Entry) → i ≤ length ns → oneMore i es ns ≡ true → Copied es ns
-unfolding oneMore
-oneMore-copied zero es ns h e = clash cc
-oneMore-copied (suc i) es ns h e = elim (either-true (sameEntries (without (name-at ns i) ns) es) (oneMore i es ns) e)
-    [ inl q ↦ one-more i h (sameEntries-equal (without (name-at ns i) ns) es q) | inr q ↦ oneMore-copied i es ns (omega arith) q ]
+has-one-more-copied : (i : ℕ) (es ns : List Entry) → i ≤ length ns → has-one-more i es ns ≡ true → Copied es ns
+unfolding has-one-more
+has-one-more-copied zero es ns h e = clash cc
+has-one-more-copied (suc i) es ns h e = elim (either-true (are-same-entries (without (name-at ns i) ns) es) (has-one-more i es ns) e)
+    [ inl q ↦ one-more i h (are-same-entries-equal (without (name-at ns i) ns) es q) | inr q ↦ has-one-more-copied i es ns (omega arith) q ]
 
-copied-oneMore : (k i : ℕ) (es ns : List Entry) → i < k → without (name-at ns i) ns ≡ es → oneMore k es ns ≡ true
-unfolding oneMore
-copied-oneMore zero i es ns h e = absurd (omega arith)
-copied-oneMore (suc k) i es ns h e = elim (ℕ-discrete i k) [
-  | yes q ↦ true-left (sameEntries (without (name-at ns k) ns) es) (oneMore k es ns) (rw (← q, e) (sameEntries-self es))
-  | no q ↦ true-right (sameEntries (without (name-at ns k) ns) es) (oneMore k es ns) (copied-oneMore k i es ns (omega arith) e)
+copied-has-one-more : (k i : ℕ) (es ns : List Entry) → i < k → without (name-at ns i) ns ≡ es → has-one-more k es ns ≡ true
+unfolding has-one-more
+copied-has-one-more zero i es ns h e = absurd (omega arith)
+copied-has-one-more (suc k) i es ns h e = elim (ℕ-discrete i k) [
+  | yes q ↦ true-left (are-same-entries (without (name-at ns k) ns) es) (has-one-more k es ns) (rw (← q, e) (are-same-entries-self es))
+  | no q ↦ true-right (are-same-entries (without (name-at ns k) ns) es) (has-one-more k es ns) (copied-has-one-more k i es ns (omega arith) e)
 ]
 
-pub isCopied-copied : (es ns : List Entry) → isCopied es ns ≡ true → Copied es ns
-unfolding isCopied
-isCopied-copied es ns e = elim (either-true (sameEntries ns es) (oneMore (length ns) es ns) e)
-    [ inl q ↦ rw (sameEntries-equal ns es q) exactly | inr q ↦ oneMore-copied (length ns) es ns (omega arith) q ]
+pub is-copied-copied : (es ns : List Entry) → is-copied es ns ≡ true → Copied es ns
+unfolding is-copied
+is-copied-copied es ns e = elim (either-true (are-same-entries ns es) (has-one-more (length ns) es ns) e)
+    [ inl q ↦ rw (are-same-entries-equal ns es q) exactly | inr q ↦ has-one-more-copied (length ns) es ns (omega arith) q ]
 
-pub copied-isCopied : {es ns : List Entry} → Copied es ns → isCopied es ns ≡ true
-unfolding isCopied
-copied-isCopied {es} exactly = rw (sameEntries-self es)
-copied-isCopied {es} {ns} (one-more i h e) = true-right (sameEntries ns es) (oneMore (length ns) es ns) (copied-oneMore (length ns) i es ns h e)
+pub copied-is-copied : {es ns : List Entry} → Copied es ns → is-copied es ns ≡ true
+unfolding is-copied
+copied-is-copied {es} exactly = rw (are-same-entries-self es)
+copied-is-copied {es} {ns} (one-more i h e) = true-right (are-same-entries ns es) (has-one-more (length ns) es ns) (copied-has-one-more (length ns) i es ns h e)
 
 module _ (b : ℕ) where
   -- A slot that serves as A.
   abbrev Twin : Str → Str → List Entry → Slot → Type 0
   Twin low up ns free = ⊥
-  Twin low up ns (used l u es) = ((u ≡ up) × (l ◁ low)) × ((length es ≡ b) × Copied (move low es) ns)
+  Twin low up ns (used l u es) = (u ≡ up) × (l ◁ low) × Copied (move low es) ns
 
-  isTwin-twin : (low up : Str) (ns : List Entry) (x : Slot) → isTwin b low up ns x ≡ true → Twin low up ns x
-  unfolding isTwin
-  isTwin-twin low up ns free e = clash cc
-  isTwin-twin low up ns (used l u es) e =
-      let p = both-true (sameStr u up && isAbove l low && eqb (length es) b) (isCopied (move low es) ns) e in
-      let q = both-true (sameStr u up && isAbove l low) (eqb (length es) b) (p .0) in
-      let r = both-true (sameStr u up) (isAbove l low) (q .0) in
-      ((sameStr-equal u up (r .0), isAbove-above l low (r .1)), (eqb-true (length es) b (q .1), isCopied-copied (move low es) ns (p .1)))
+  is-twin-twin : (low up : Str) (ns : List Entry) (x : Slot) → is-twin low up ns x ≡ true → Twin low up ns x
+  unfolding is-twin
+  is-twin-twin low up ns free e = clash cc
+  is-twin-twin low up ns (used l u es) e =
+      let p = both-true (same-str u up && is-above l low) (is-copied (move low es) ns) e in
+      let q = both-true (same-str u up) (is-above l low) (p .0) in
+      (same-str-equal u up (q .0), is-above-above l low (q .1), is-copied-copied (move low es) ns (p .1))
 
-  twin-isTwin : (low up : Str) (ns : List Entry) (x : Slot) → Twin low up ns x → isTwin b low up ns x ≡ true
-  unfolding isTwin
-  twin-isTwin low up ns free t = absurd t
-  twin-isTwin low up ns (used l u es) t =
-      rw (t .0 .0, sameStr-self up, above-isAbove (t .0 .1), eq-eqb (length es) b (t .1 .0)) (copied-isCopied (t .1 .1))
+  twin-is-twin : (low up : Str) (ns : List Entry) (x : Slot) → Twin low up ns x → is-twin low up ns x ≡ true
+  unfolding is-twin
+  twin-is-twin low up ns free t = absurd t
+  twin-is-twin low up ns (used l u es) t =
+      rw (t .0, same-str-self up, above-is-above (t .1)) (copied-is-copied (t .2))
 
-  hasTwin-twin : (low up : Str) (ns : List Entry) (gs : List Slot) → hasTwin b low up ns gs ≡ true → (A : ℕ) × Twin low up ns (slot-at gs A)
-  unfolding hasTwin
-  hasTwin-twin low up ns [] e = clash cc
-  hasTwin-twin low up ns (x ∷ gs) e = elim (either-true (isTwin b low up ns x) (hasTwin b low up ns gs) e)
-      [ inl q ↦ (0, isTwin-twin low up ns x q) | inr q ↦ later (hasTwin-twin low up ns gs q) ]
+  has-twin-twin : (low up : Str) (ns : List Entry) (gs : List Slot) → has-twin low up ns gs ≡ true → (A : ℕ) × Twin low up ns (slot-at gs A)
+  unfolding has-twin
+  has-twin-twin low up ns [] e = clash cc
+  has-twin-twin low up ns (x ∷ gs) e = elim (either-true (is-twin low up ns x) (has-twin low up ns gs) e)
+      [ inl q ↦ (0, is-twin-twin low up ns x q) | inr q ↦ later (has-twin-twin low up ns gs q) ]
     where
       later : (A : ℕ) × Twin low up ns (slot-at gs A) → (A : ℕ) × Twin low up ns (slot-at (x ∷ gs) A)
       later (A, t) = (suc A, t)
 
-  twin-hasTwin : (low up : Str) (ns : List Entry) (gs : List Slot) (A : ℕ) → Twin low up ns (slot-at gs A) → hasTwin b low up ns gs ≡ true
-  unfolding hasTwin
-  twin-hasTwin low up ns [] A t = absurd t
-  twin-hasTwin low up ns (x ∷ gs) zero t = true-left (isTwin b low up ns x) (hasTwin b low up ns gs) (twin-isTwin low up ns x t)
-  twin-hasTwin low up ns (x ∷ gs) (suc A) t = true-right (isTwin b low up ns x) (hasTwin b low up ns gs) (twin-hasTwin low up ns gs A t)
+  twin-has-twin : (low up : Str) (ns : List Entry) (gs : List Slot) (A : ℕ) → Twin low up ns (slot-at gs A) → has-twin low up ns gs ≡ true
+  unfolding has-twin
+  twin-has-twin low up ns [] A t = absurd t
+  twin-has-twin low up ns (x ∷ gs) zero t = true-left (is-twin low up ns x) (has-twin low up ns gs) (twin-is-twin low up ns x t)
+  twin-has-twin low up ns (x ∷ gs) (suc A) t = true-right (is-twin low up ns x) (has-twin low up ns gs) (twin-has-twin low up ns gs A t)
 
   module _ (fs : List Slot) (N : ℕ) where
-    pub isCutBy-cut : (x : Slot) → slot-at fs N ≡ x → isCutBy b fs N x ≡ true → Cut b fs N
-    unfolding isCutBy
-    isCutBy-cut free i e = clash cc
-    isCutBy-cut (used none up ns) i e = clash cc
-    isCutBy-cut (used (at low) up ns) i e =
-        let p = both-true (isWell b (used (at low) up ns) && hasTwin b low up ns (set fs N free)) (isSound b (set fs N free)) e in
-        let q = both-true (isWell b (used (at low) up ns)) (hasTwin b low up ns (set fs N free)) (p .0) in
-        let t = hasTwin-twin low up ns (set fs N free) (q .1) in
-        make (isWell-well b (used (at low) up ns) (q .0)) (isSound-sound b (set fs N free) (p .1)) (t .0) (slot-at (set fs N free) (t .0)) refl (t .1)
+    pub is-cut-by-cut : (x : Slot) → slot-at fs N ≡ x → is-cut-by b fs N x ≡ true → Cut b fs N
+    unfolding is-cut-by
+    is-cut-by-cut free i e = clash cc
+    is-cut-by-cut (used none up ns) i e = clash cc
+    is-cut-by-cut (used (at low) up ns) i e =
+        let p = both-true (is-well-formed b (used (at low) up ns) && has-twin low up ns (set fs N free)) (is-sound-file b (set fs N free)) e in
+        let q = both-true (is-well-formed b (used (at low) up ns)) (has-twin low up ns (set fs N free)) (p .0) in
+        let t = has-twin-twin low up ns (set fs N free) (q .1) in
+        make (is-well-formed-well b (used (at low) up ns) (q .0)) (is-sound-file-sound b (set fs N free) (p .1)) (t .0) (slot-at (set fs N free) (t .0)) refl (t .1)
       where
         make : Well b (used (at low) up ns) → Sound b (set fs N free) → (A : ℕ) (x : Slot) → slot-at (set fs N free) A ≡ x → Twin low up ns x → Cut b fs N
         make w S A free j t = absurd t
@@ -312,18 +311,17 @@ module _ (b : ℕ) where
           A = A;
           a-low = l;
           old = es;
-          a-is = j ∙ ap (λ v. used l v es) (t .0 .0);
-          below = t .0 .1;
-          full = t .1 .0;
-          copied = t .1 .1;
+          a-is = j ∙ ap (λ v. used l v es) (t .0);
+          below = t .1;
+          copied = t .2;
         }
 
-    pub cut-isCutBy : Cut b fs N → isCutBy b fs N (slot-at fs N) ≡ true
-    unfolding isCutBy
-    cut-isCutBy C = rw (C .n-is, well-isWell b (rw (C .n-is) at (C .n-well)), twin-hasTwin (C .low) (C .up) (C .new) (set fs N free) (C .A) (rw (C .a-is) twin)) (sound-isSound b (C .freed))
+    pub cut-is-cut-by : Cut b fs N → is-cut-by b fs N (slot-at fs N) ≡ true
+    unfolding is-cut-by
+    cut-is-cut-by C = rw (C .n-is, well-is-well-formed b (rw (C .n-is) at (C .n-well)), twin-has-twin (C .low) (C .up) (C .new) (set fs N free) (C .A) (rw (C .a-is) twin)) (sound-is-sound-file b (C .freed))
       where
-        twin : ((C .up ≡ C .up) × (C .a-low ◁ C .low)) × ((length (C .old) ≡ b) × Copied (move (C .low) (C .old)) (C .new))
-        twin = ((refl, C .below), (C .full, C .copied))
+        twin : (C .up ≡ C .up) × (C .a-low ◁ C .low) × Copied (move (C .low) (C .old)) (C .new)
+        twin = (refl, C .below, C .copied)
 
   -- What check says.
   abbrev pub Checked : List Slot → Kind → Type 0
@@ -331,24 +329,24 @@ module _ (b : ℕ) where
   Checked fs (is-cut N) = Cut b fs N
   Checked fs is-bad = Bad b fs
 
-  cut-below : (k : ℕ) (fs : List Slot) → ¬ Sound b fs → ((N : ℕ) → k ≤ N → ¬ Cut b fs N) → Checked fs (cutBelow k b fs)
-  unfolding cutBelow
+  cut-below : (k : ℕ) (fs : List Slot) → ¬ Sound b fs → ((N : ℕ) → k ≤ N → ¬ Cut b fs N) → Checked fs (cut-among k b fs)
+  unfolding cut-among
   cut-below zero fs s f = (s, λ N. f N (omega arith))
-  cut-below (suc k) fs s f = go (isCutBy b fs k (slot-at fs k)) refl (cut-below k fs s)
+  cut-below (suc k) fs s f = go (is-cut-by b fs k (slot-at fs k)) refl (cut-below k fs s)
     where
-      go : (t : Bool) → isCutBy b fs k (slot-at fs k) ≡ t → (((N : ℕ) → k ≤ N → ¬ Cut b fs N) → Checked fs (cutBelow k b fs)) → Checked fs (cond t (is-cut k) (cutBelow k b fs))
-      go true e g = isCutBy-cut fs k (slot-at fs k) refl e
+      go : (t : Bool) → is-cut-by b fs k (slot-at fs k) ≡ t → (((N : ℕ) → k ≤ N → ¬ Cut b fs N) → Checked fs (cut-among k b fs)) → Checked fs (cond t (is-cut k) (cut-among k b fs))
+      go true e g = is-cut-by-cut fs k (slot-at fs k) refl e
       go false e g = g (λ N h C. elim (ℕ-discrete N k)
-          [ yes q ↦ never-both (isCutBy b fs k (slot-at fs k)) (rw q at (cut-isCutBy fs N C)) e | no q ↦ f N (omega arith) C ])
+          [ yes q ↦ never-both (is-cut-by b fs k (slot-at fs k)) (rw q at (cut-is-cut-by fs N C)) e | no q ↦ f N (omega arith) C ])
 
   -- Sound files are said to be sound, cut ones cut, and the others bad.
   pub check-right : (fs : List Slot) → Checked fs (check b fs)
   unfolding check
-  check-right fs = go (isSound b fs) refl
+  check-right fs = go (is-sound-file b fs) refl
     where
-      go : (t : Bool) → isSound b fs ≡ t → Checked fs (cond t is-sound (cutBelow (length fs) b fs))
-      go true e = isSound-sound b fs e
-      go false e = cut-below (length fs) fs (λ S. never-both (isSound b fs) (sound-isSound b S) e) (λ N h C. inside N h C)
+      go : (t : Bool) → is-sound-file b fs ≡ t → Checked fs (cond t is-sound (cut-among (length fs) b fs))
+      go true e = is-sound-file-sound b fs e
+      go false e = cut-below (length fs) fs (λ S. never-both (is-sound-file b fs) (sound-is-sound-file b S) e) (λ N h C. inside N h C)
         where
           inside : (N : ℕ) → length fs ≤ N → Cut b fs N → ⊥
           inside N h C = omega (arith, used-inside fs N (rw (C .n-is) tt))

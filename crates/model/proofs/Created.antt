@@ -7,13 +7,13 @@ use Rattle.model.specs.Entries.{find, no-entries}
 use Rattle.model.specs.Files.{IsUsed, Sound, Well, created, entries-of, free, head, last, order-of, slot-at, well-free, well-used}
 use Rattle.model.specs.Tries.{Agrees}
 use Rattle.model.specs.Changes.{Means}
-use Rattle.model.specs.Format.{Sizes, entrySize, fileBytes}
+use Rattle.model.specs.Format.{Sizes, entry-length, file-bytes}
 use Rattle.model.specs.Calls.{new-trie}
 use Rattle.model.proofs.Lists.{at-replicate}
 use Rattle.model.proofs.Files.{count-right, order-right}
 use Rattle.model.proofs.Agreement.{rebuilt-trie-agrees}
 use Rattle.model.proofs.Changes.{Fine}
-use Rattle.model.proofs.Format.{Contents, bytes-fileBytes, readFile-fileBytes}
+use Rattle.model.proofs.Format.{Contents, bytes-file-bytes, read-file-file-bytes}
 use Rattle.model.proofs.Stores.{Left}
 
 module _ (b slots : ℕ) where
@@ -44,13 +44,13 @@ module _ (b slots : ℕ) where
       rw order at (rebuilt-trie-agrees b created-sound (created-fine .few))
 
 -- The file that create writes reads so.
-pub created-left : (y : Layout) (slots : ℕ) → Sizes y slots → Left y (created slots) (fileBytes y (created slots))
+pub created-left : (y : Layout) (slots : ℕ) → Sizes y slots → Left y (created slots) (file-bytes y (created slots))
 created-left y slots g =
     let n : length (created slots) ≡ slots = omega (arith, g .slots-least, length-replicate (slots - 1) free) in
     let k : Sizes y (length (created slots)) = rw n g in
     let w = created-well (y .b) slots in
-    record { is = readFile-fileBytes y (created slots) k w contents; bytes = bytes-fileBytes y (created slots) k w }
+    record { is = read-file-file-bytes y (created slots) k w contents; bytes = bytes-file-bytes y (created slots) k w }
   where
-    contents : (B : ℕ) → Contents (entrySize y) (entries-of (slot-at (created slots) B))
+    contents : (B : ℕ) → Contents (entry-length y) (entries-of (slot-at (created slots) B))
     contents zero = tt
     contents (suc B) = rw (at-replicate free (slots - 1) B) tt

@@ -3,7 +3,7 @@ use Rattle.model.proofs.Prelude.{List, List·Memᴰ, List·getD-eq-defa
 use Rattle.model.specs.Order.{Low, Str, _≺_, _◁_, at, none}
 use Rattle.model.specs.Names.{Bound, BoundLow}
 use Rattle.model.specs.Entries.{Entry, Row}
-use Rattle.model.specs.Files.{Begins, BoundOf, Chain, Cut, Head, In, IsString, IsUsed, Ranges, Slot, Sound, Starts, Well, all, bounds, entries-of, first, free, head, last, lower-bound, lower-of, next, no-range, order-from, order-of, range, ranges, slot-at, starts?, string-count, strings-of, upper-bound, upper-of, used, well-free, well-used}
+use Rattle.model.specs.Files.{Begins, BoundOf, Chain, Cut, In, IsString, IsUsed, RangeTable, Slot, SlotHead, Sound, Starts, Well, all, bounds, entries-of, first, free, head, last, lower-bound, lower-of, next, no-range, order-from, order-of, range, ranges, slot-at, starts?, string-count, strings-of, upper-bound, upper-of, used, well-free, well-used}
 use Rattle.model.specs.Tries.{occ, one-if}
 use Rattle.model.specs.Rebuilding.{rebuilt}
 use Rattle.model.specs.Deciding.{le?, nil-not-le, over, str?}
@@ -17,6 +17,13 @@ use Rattle.model.proofs.Tries.{walk}
 
 pub used-inside : (fs : List Slot) (A : ℕ) → IsUsed (head (slot-at fs A)) → A < length fs
 used-inside fs A h = elim (decLt A (length fs)) [ yes k ↦ k | no k ↦ absurd (rw (List·getD-eq-default fs free {n = A} (omega arith)) at h) ]
+
+-- What a store at A leaves: the new slot at A, the old ones elsewhere.
+pub at-set : (P : ℕ → Slot → Type 0) (fs : List Slot) (A : ℕ) (x : Slot) → A < length fs → P A x → ((B : ℕ) → B ≢ A → P B (slot-at fs B)) → (B : ℕ) → P B (slot-at (set fs A x) B)
+at-set P fs A x h p f B = elim (ℕ-discrete B A) [
+  | yes e ↦ subst (λ C. P C (slot-at (set fs A x) C)) (sym e) (rw (getD-set-same fs A x free h) p)
+  | no e ↦ rw (getD-set-other fs A B x free e) (f B e)
+]
 
 pub first-right : {P : Slot → Type 0} (t : (x : Slot) → Dec (P x)) (fs : List Slot) (B : ℕ) → P (slot-at fs B) → ¬ P free → P (slot-at fs (first t fs))
 unfolding first
@@ -56,7 +63,7 @@ first-before t (x ∷ xs) (suc B) h = elim (t x) [
     lower : (i : ℕ) → suc B < suc i → B < i
     lower i h = omega arith
 
-pub chain-once : (F : Ranges) (Bs : List ℕ) {l : Low} → Chain F l Bs → (i : ℕ) → occ i Bs ≤ 1
+pub chain-once : (F : RangeTable) (Bs : List ℕ) {l : Low} → Chain F l Bs → (i : ℕ) → occ i Bs ≤ 1
 chain-once F Bs (last {B = B} u e f) i = go (ℕ-discrete i B)
   where
     go : (d : Dec (i ≡ B)) → one-if d + 0 ≤ 1
@@ -155,7 +162,7 @@ module _ (b : ℕ) where
     bucket n = (walk n [] (rebuilt (ranges fs) (S .order)), walk-right (ranges fs) (rebuilt-agrees (ranges fs) (S .order) (S .chain)) n)
 
   module _ {fs : List Slot} (S : Sound b fs) where
-    starts-one : (l : Low) (B : ℕ) → IsUsed (head (slot-at fs B)) → lower-of (head (slot-at fs B)) ≡ l → first (starts? l) fs ≡ B
+    pub starts-one : (l : Low) (B : ℕ) → IsUsed (head (slot-at fs B)) → lower-of (head (slot-at fs B)) ≡ l → first (starts? l) fs ≡ B
     starts-one l B u e =
         let h : Starts l (slot-at fs (first (starts? l) fs)) = first-right (starts? l) fs B (u, e) (λ h. h .0) in
         one-lower S (first (starts? l) fs) B (h .0) u (h .1 ∙ sym e)
@@ -192,7 +199,7 @@ module _ (b : ℕ) where
     pub strings-only : (x : Str) → List·Memᴰ x (strings-of fs) → IsString fs x
     strings-only x m = go (all-begins (bounds (ranges fs) (S .order)) x (rw strings-right at m))
       where
-        upper : (h : Head) → IsUsed h → BoundOf h (upper-of h)
+        upper : (h : SlotHead) → IsUsed h → BoundOf h (upper-of h)
         upper no-range u = absurd u
         upper (range l u) h = upper-bound
 
@@ -206,7 +213,7 @@ module _ (b : ℕ) where
     pub strings-every : (x : Str) → IsString fs x → List·Memᴰ x (strings-of fs)
     strings-every x i = rw strings-right (begins-in (bounds (ranges fs) (S .order)) (i .bound) x (go (parts (head (slot-at fs (i .bucket))) (i .bound) (i .is-bound))) (i .begins))
       where
-        parts : (h : Head) (y : Str) → BoundOf h y → IsUsed h × ((lower-of h ≡ at y) ⊎ (y ≡ upper-of h))
+        parts : (h : SlotHead) (y : Str) → BoundOf h y → IsUsed h × ((lower-of h ≡ at y) ⊎ (y ≡ upper-of h))
         parts (range (at l) u) y lower-bound = (tt, inl refl)
         parts (range l u) y upper-bound = (tt, inr refl)
 

@@ -4,7 +4,7 @@ use Rattle.model.specs.declared.Cell.{Cell}
 use Rattle.model.specs.declared.Side.{Side}
 use Rattle.model.specs.declared.Side.the-variants.{Cell as further}
 use Rattle.model.specs.Order.{Low, Str, _≺_, _⊑_, _◁_, above, at, diff, diff-at, least, none, top}
-use Rattle.model.specs.Files.{Chain, Ranges, all, bounds}
+use Rattle.model.specs.Files.{Chain, RangeTable, all, bounds}
 use Rattle.model.specs.Tries.{Leads, Reads, Spot, Tree, at-cell, cell, here, leaf, left, node, occ, one-if, right, root, size, there, zero-cell}
 use Rattle.model.specs.Rebuilding.{lay, side-of}
 use Rattle.model.specs.Growth.{cell-of, changed, grow-cells, grown, placed, turn, turn-cell, turn-cells, turn-side}
@@ -267,7 +267,7 @@ module _ (cs : List Cell) (a : Side) (c s : Str) (A N : ℕ) where
   root-turned = turn-side (turn s A N) [] root-grown
 
 -- c is the split key, z the last name, both in A's range.
-module _ (F G : Ranges) (A N : ℕ) (Xs Ys : List ℕ) (c z : Str) (chain : Chain F none (Xs ++ (A ∷ Ys)))
+module _ (F G : RangeTable) (A N : ℕ) (Xs Ys : List ℕ) (c z : Str) (chain : Chain F none (Xs ++ (A ∷ Ys)))
     (lo : F .lower A ◁ c) (cz : c ≺ z) (up : z ⊑ F .upper A) (S : SplitAt F G (take (suc (diff c z)) c) A N)
     (cs : List Cell) (a : Side) (agrees : CellsAgree F (Xs ++ (A ∷ Ys)) cs a) where
   abbrev s : Str

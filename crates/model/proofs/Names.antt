@@ -2,7 +2,7 @@
 -- string is the first difference's.
 use Rattle.model.proofs.Prelude.{Bool, List·getD-append, [], _&&_, _++_, _+_, _-_, _<_, _∙_, _∷_, _≡_, _≤_, ap, ap₂, arith, clash, cond, decLe, decLt, eq-eqb, eqb, eqb-true, false, getD, getD-append-add, getD-replicate, le-leb, le-ltb, leb, leb-true, length, length-append, length-replicate, length-take, lt-ltb, ltb, ne-eqb, not, refl, replicate, suc, sym, take, take-append-seam, true, true≢false, zero, ℕ, ℕ-discrete}
 use Rattle.model.specs.Order.{Str, _≺_, _⊑_, at, diff, diff-at, digit, top}
-use Rattle.model.specs.Names.{Bound, Digits, Legal, areDigits, atMost, filled, firstOf, isBlank, lastOf, legalBound, legalFilled, legalName, notGreater, smaller, splitFrom, splitString, within}
+use Rattle.model.specs.Names.{Bound, Digits, Legal, are-digits, filled, first-digit, is-at-most, is-blank-digit, is-legal-bound, is-legal-filled, is-legal-name, last-of, not-greater, smaller, split-beginning, split-tried, within}
 use Rattle.model.specs.Deciding.{head-le, nil-not-le, tail-le}
 use Rattle.model.proofs.Lists.{length-made, made-short}
 use Rattle.model.proofs.Order.{diff-lt-left, lt-le, split-shortest}
@@ -24,48 +24,48 @@ both-true false b e = clash cc
 pub never-both : (t : Bool) → t ≡ true → t ≡ false → ⊥
 never-both t e f = true≢false (sym e ∙ f)
 
-pub le-atMost : (x y : Str) → x ⊑ y → atMost x y ≡ true
-unfolding atMost
-le-atMost [] [] p = refl
-le-atMost (a ∷ x) [] p = refl
-le-atMost [] (b ∷ y) p = absurd (nil-not-le p)
-le-atMost (a ∷ x) (b ∷ y) p = go (stand a b) (le-atMost x y)
+pub le-is-at-most : (x y : Str) → x ⊑ y → is-at-most x y ≡ true
+unfolding is-at-most
+le-is-at-most [] [] p = refl
+le-is-at-most (a ∷ x) [] p = refl
+le-is-at-most [] (b ∷ y) p = absurd (nil-not-le p)
+le-is-at-most (a ∷ x) (b ∷ y) p = go (stand a b) (le-is-at-most x y)
   where
-    go : Stand a b → (x ⊑ y → atMost x y ≡ true) → cond (ltb a b) true (cond (eqb a b) (atMost x y) false) ≡ true
+    go : Stand a b → (x ⊑ y → is-at-most x y ≡ true) → cond (ltb a b) true (cond (eqb a b) (is-at-most x y) false) ≡ true
     go (less h) f = rw (lt-ltb a b h)
     go (equal e) f = rw (le-ltb a b (omega arith), eq-eqb a b e) (f (tail-le p e))
     go (more h) f = absurd (omega (arith, head-le p))
 
-pub atMost-le : (x y : Str) → atMost x y ≡ true → x ⊑ y
-unfolding atMost
-atMost-le [] [] e = top
-atMost-le (a ∷ x) [] e = top
-atMost-le [] (b ∷ y) e = clash cc
-atMost-le (a ∷ x) (b ∷ y) e = go (stand a b) e (atMost-le x y)
+pub is-at-most-le : (x y : Str) → is-at-most x y ≡ true → x ⊑ y
+unfolding is-at-most
+is-at-most-le [] [] e = top
+is-at-most-le (a ∷ x) [] e = top
+is-at-most-le [] (b ∷ y) e = clash cc
+is-at-most-le (a ∷ x) (b ∷ y) e = go (stand a b) e (is-at-most-le x y)
   where
-    go : Stand a b → cond (ltb a b) true (cond (eqb a b) (atMost x y) false) ≡ true → (atMost x y ≡ true → x ⊑ y) → (a ∷ x) ⊑ (b ∷ y)
+    go : Stand a b → cond (ltb a b) true (cond (eqb a b) (is-at-most x y) false) ≡ true → (is-at-most x y ≡ true → x ⊑ y) → (a ∷ x) ⊑ (b ∷ y)
     go (less h) e f = let k : a ≤ b = omega arith in digit k (λ q. absurd (omega arith))
     go (equal q) e f = let k : a ≤ b = omega arith in digit k (λ r. f (rw (le-ltb a b (omega arith), eq-eqb a b q) at e))
     go (more h) e f =
         let n : false ≡ true = rw (le-ltb a b (omega arith), ne-eqb a b (λ q. absurd (omega arith))) at e in
         clash cc
 
-pub atMost-lt : (x y : Str) → atMost x y ≡ false → y ≺ x
-atMost-lt x y e p = never-both (atMost x y) (le-atMost x y p) e
+pub is-at-most-lt : (x y : Str) → is-at-most x y ≡ false → y ≺ x
+is-at-most-lt x y e p = never-both (is-at-most x y) (le-is-at-most x y p) e
 
-pub lt-atMost : (x y : Str) → y ≺ x → atMost x y ≡ false
-lt-atMost x y p = go (atMost x y) refl
+pub lt-is-at-most : (x y : Str) → y ≺ x → is-at-most x y ≡ false
+lt-is-at-most x y p = go (is-at-most x y) refl
   where
-    go : (t : Bool) → atMost x y ≡ t → t ≡ false
-    go true e = absurd (p (atMost-le x y e))
+    go : (t : Bool) → is-at-most x y ≡ t → t ≡ false
+    go true e = absurd (p (is-at-most-le x y e))
     go false e = refl
 
 -- A name is within a bound exactly where it is not above it.
-pub within-atMost : (n p : Str) → length p ≤ length n → within n p ≡ atMost n p
-unfolding within notGreater atMost
-within-atMost n p h = go n p h
+pub within-is-at-most : (n p : Str) → length p ≤ length n → within n p ≡ is-at-most n p
+unfolding within not-greater is-at-most
+within-is-at-most n p h = go n p h
   where
-    go : (n p : Str) → length p ≤ length n → notGreater (take (length p) n) p ≡ atMost n p
+    go : (n p : Str) → length p ≤ length n → not-greater (take (length p) n) p ≡ is-at-most n p
     go [] [] h = refl
     go (a ∷ n) [] h = refl
     go [] (b ∷ p) h = absurd (omega arith)
@@ -108,68 +108,68 @@ legal-bound {n} g k = record {
   digits = digits-take k n (legal-digits g);
 }
 
-pub areDigits-digits : (lo : ℕ) (x : Str) → areDigits lo x ≡ true → Digits lo x
-unfolding areDigits
-areDigits-digits lo [] e = tt
-areDigits-digits lo (d ∷ x) e =
-    let p = both-true (leb lo d && leb d 0x7D) (areDigits lo x) e in
+pub are-digits-digits : (lo : ℕ) (x : Str) → are-digits lo x ≡ true → Digits lo x
+unfolding are-digits
+are-digits-digits lo [] e = tt
+are-digits-digits lo (d ∷ x) e =
+    let p = both-true (leb lo d && leb d 0x7D) (are-digits lo x) e in
     let q = both-true (leb lo d) (leb d 0x7D) (p .0) in
-    (leb-true lo d (q .0), leb-true d 0x7D (q .1), areDigits-digits lo x (p .1))
+    (leb-true lo d (q .0), leb-true d 0x7D (q .1), are-digits-digits lo x (p .1))
 
-pub digits-areDigits : (lo : ℕ) (x : Str) → Digits lo x → areDigits lo x ≡ true
-unfolding areDigits
-digits-areDigits lo [] h = refl
-digits-areDigits lo (d ∷ x) h = rw (le-leb lo d (h .0), le-leb d 0x7D (h .1), digits-areDigits lo x (h .2))
+pub digits-are-digits : (lo : ℕ) (x : Str) → Digits lo x → are-digits lo x ≡ true
+unfolding are-digits
+digits-are-digits lo [] h = refl
+digits-are-digits lo (d ∷ x) h = rw (le-leb lo d (h .0), le-leb d 0x7D (h .1), digits-are-digits lo x (h .2))
 
 -- Digits that are no blanks.
-pub no-blank : (d : ℕ) → ¬ (d ≡ 0x20) → not (isBlank d) ≡ true
+pub no-blank : (d : ℕ) → ¬ (d ≡ 0x20) → not (is-blank-digit d) ≡ true
 no-blank d n = rw (ne-eqb d 0x20 n)
 
-pub blank-no : (d : ℕ) → not (isBlank d) ≡ true → ¬ (d ≡ 0x20)
+pub blank-no : (d : ℕ) → not (is-blank-digit d) ≡ true → ¬ (d ≡ 0x20)
 blank-no d e q = let z : not true ≡ true = rw (eq-eqb d 0x20 q) at e in clash cc
 
-pub legalName-legal : (n : Str) → legalName n ≡ true → Legal (filled n)
-unfolding legalName
-legalName-legal n e =
-    let p = both-true (leb 1 (length n) && leb (length n) 24 && areDigits 0x20 n && not (isBlank (firstOf n))) (not (isBlank (lastOf n))) e in
-    let q = both-true (leb 1 (length n) && leb (length n) 24 && areDigits 0x20 n) (not (isBlank (firstOf n))) (p .0) in
-    let r = both-true (leb 1 (length n) && leb (length n) 24) (areDigits 0x20 n) (q .0) in
+pub is-legal-name-legal : (n : Str) → is-legal-name n ≡ true → Legal (filled n)
+unfolding is-legal-name
+is-legal-name-legal n e =
+    let p = both-true (leb 1 (length n) && leb (length n) 24 && are-digits 0x20 n && not (is-blank-digit (first-digit n))) (not (is-blank-digit (last-of n))) e in
+    let q = both-true (leb 1 (length n) && leb (length n) 24 && are-digits 0x20 n) (not (is-blank-digit (first-digit n))) (p .0) in
+    let r = both-true (leb 1 (length n) && leb (length n) 24) (are-digits 0x20 n) (q .0) in
     let s = both-true (leb 1 (length n)) (leb (length n) 24) (r .0) in
     record {
       name = n;
       some = leb-true 1 (length n) (s .0);
       fits = leb-true (length n) 24 (s .1);
-      digits = areDigits-digits 0x20 n (r .1);
-      first = blank-no (firstOf n) (q .1);
-      last = blank-no (lastOf n) (p .1);
+      digits = are-digits-digits 0x20 n (r .1);
+      first = blank-no (first-digit n) (q .1);
+      last = blank-no (last-of n) (p .1);
       is = refl;
     }
 
-pub legalBound-bound : (p : Str) → legalBound p ≡ true → Bound p
-unfolding legalBound
-legalBound-bound p e =
-    let q = both-true (leb (length p) 24) (areDigits 0x20 p) e in
-    record { fits = leb-true (length p) 24 (q .0); digits = areDigits-digits 0x20 p (q .1) }
+pub is-legal-bound-bound : (p : Str) → is-legal-bound p ≡ true → Bound p
+unfolding is-legal-bound
+is-legal-bound-bound p e =
+    let q = both-true (leb (length p) 24) (are-digits 0x20 p) e in
+    record { fits = leb-true (length p) 24 (q .0); digits = are-digits-digits 0x20 p (q .1) }
 
-pub bound-legalBound : {p : Str} → Bound p → legalBound p ≡ true
-unfolding legalBound
-bound-legalBound {p} g = rw (le-leb (length p) 24 (g .fits), digits-areDigits 0x20 p (g .digits))
+pub bound-is-legal-bound : {p : Str} → Bound p → is-legal-bound p ≡ true
+unfolding is-legal-bound
+bound-is-legal-bound {p} g = rw (le-leb (length p) 24 (g .fits), digits-are-digits 0x20 p (g .digits))
 
 -- Of a string, what stands before the blanks at its end.
 record Ended (n : Str) : Type 0 where
   name : Str
   behind : ℕ
   is : n ≡ name ++ replicate behind 0x20
-  last : 0 < length name → ¬ (lastOf name ≡ 0x20)
+  last : 0 < length name → ¬ (last-of name ≡ 0x20)
 
-pub last-later : (d a : ℕ) (x : Str) → lastOf (d ∷ a ∷ x) ≡ lastOf (a ∷ x)
+pub last-later : (d a : ℕ) (x : Str) → last-of (d ∷ a ∷ x) ≡ last-of (a ∷ x)
 last-later d a x = let e : suc (suc (length x)) - 1 ≡ suc (suc (length x) - 1) = omega arith in rw e
 
 ended : (n : Str) → Ended n
 ended [] = record { name = []; behind = 0; is = refl; last = λ h. absurd (omega arith) }
 ended (d ∷ n) = let r = ended n in go (r .name) (r .behind) (r .is) (r .last)
   where
-    go : (name : Str) (k : ℕ) → n ≡ name ++ replicate k 0x20 → (0 < length name → ¬ (lastOf name ≡ 0x20)) → Ended (d ∷ n)
+    go : (name : Str) (k : ℕ) → n ≡ name ++ replicate k 0x20 → (0 < length name → ¬ (last-of name ≡ 0x20)) → Ended (d ∷ n)
     go [] k i l = elim (ℕ-discrete d 0x20) [
       | yes e ↦ record { name = []; behind = suc k; is = ap₂ (λ (a : ℕ) (x : Str). a ∷ x) e i; last = λ h. absurd (omega arith) }
       | no e ↦ record { name = d ∷ []; behind = k; is = ap (λ (x : Str). d ∷ x) i; last = λ h. e }
@@ -177,17 +177,17 @@ ended (d ∷ n) = let r = ended n in go (r .name) (r .behind) (r .is) (r .last)
     go (a ∷ x) k i l = record { name = d ∷ a ∷ x; behind = k; is = ap (λ (x : Str). d ∷ x) i; last = λ h q. l (omega arith) (sym (last-later d a x) ∙ q) }
 
 -- 24 digits of which the first is no blank are a legal name, filled.
-pub legalFilled-legal : (n : Str) → legalFilled n ≡ true → Legal n
-unfolding legalFilled
-legalFilled-legal n e =
-    let p = both-true (eqb (length n) 24 && areDigits 0x20 n) (not (isBlank (firstOf n))) e in
-    let q = both-true (eqb (length n) 24) (areDigits 0x20 n) (p .0) in
+pub is-legal-filled-legal : (n : Str) → is-legal-filled n ≡ true → Legal n
+unfolding is-legal-filled
+is-legal-filled-legal n e =
+    let p = both-true (eqb (length n) 24 && are-digits 0x20 n) (not (is-blank-digit (first-digit n))) e in
+    let q = both-true (eqb (length n) 24) (are-digits 0x20 n) (p .0) in
     let r = ended n in
-    go (r .name) (r .behind) (r .is) (r .last) (eqb-true (length n) 24 (q .0)) (areDigits-digits 0x20 n (q .1)) (blank-no (firstOf n) (p .1))
+    go (r .name) (r .behind) (r .is) (r .last) (eqb-true (length n) 24 (q .0)) (are-digits-digits 0x20 n (q .1)) (blank-no (first-digit n) (p .1))
   where
-    go : (name : Str) (k : ℕ) → n ≡ name ++ replicate k 0x20 → (0 < length name → ¬ (lastOf name ≡ 0x20)) → length n ≡ 24 → Digits 0x20 n → ¬ (firstOf n ≡ 0x20) → Legal n
+    go : (name : Str) (k : ℕ) → n ≡ name ++ replicate k 0x20 → (0 < length name → ¬ (last-of name ≡ 0x20)) → length n ≡ 24 → Digits 0x20 n → ¬ (first-digit n ≡ 0x20) → Legal n
     go [] zero i l len d f = let z : length n ≡ 0 = ap length i in absurd (omega arith)
-    go [] (suc k) i l len d f = absurd (f (ap firstOf i))
+    go [] (suc k) i l len d f = absurd (f (ap first-digit i))
     go (a ∷ x) k i l len d f =
         let sum : suc (length x) + k ≡ 24 =
         sym (length-append (a ∷ x) (replicate k 0x20) ∙ ap (λ (j : ℕ). suc (length x) + j) (length-replicate {A = ℕ} k 0x20)) ∙ sym (ap length i) ∙ len in
@@ -197,7 +197,7 @@ legalFilled-legal n e =
           some = omega arith;
           fits = omega arith;
           digits = digits-front (a ∷ x) (replicate k 0x20) (rw i at d);
-          first = λ q. f (ap firstOf i ∙ q);
+          first = λ q. f (ap first-digit i ∙ q);
           last = l (omega arith);
           is = i ∙ sym (filled-short (a ∷ x) (omega arith) ∙ ap (λ (j : ℕ). a ∷ (x ++ replicate j 0x20)) b);
         }
@@ -211,20 +211,20 @@ filled-behind n i h k =
     let e : length n + (i - length n) ≡ i = omega arith in
     rw (filled-short n (omega arith), ← e) (getD-append-add n (replicate (24 - length n) 0x20) (i - length n) 0 ∙ getD-replicate (24 - length n) (i - length n) 0x20 0 (omega arith))
 
-pub legal-legalFilled : {n : Str} → Legal n → legalFilled n ≡ true
-unfolding legalFilled
-legal-legalFilled {n} g =
-    let f : firstOf n ≡ firstOf (g .name) = ap firstOf (g .is) ∙ filled-at (g .name) 0 (g .fits) (g .some) in
-    rw (eq-eqb (length n) 24 (legal-length g), digits-areDigits 0x20 n (legal-digits g), no-blank (firstOf n) (λ e. g .first (sym f ∙ e)))
+pub legal-is-legal-filled : {n : Str} → Legal n → is-legal-filled n ≡ true
+unfolding is-legal-filled
+legal-is-legal-filled {n} g =
+    let f : first-digit n ≡ first-digit (g .name) = ap first-digit (g .is) ∙ filled-at (g .name) 0 (g .fits) (g .some) in
+    rw (eq-eqb (length n) 24 (legal-length g), digits-are-digits 0x20 n (legal-digits g), no-blank (first-digit n) (λ e. g .first (sym f ∙ e)))
 
 -- A filled name has one name: what stands before the blanks at its end.
-no-longer : (m n : Str) → length m ≤ 24 → length n ≤ 24 → 0 < length n → ¬ (lastOf n ≡ 0x20) → filled m ≡ filled n → length n ≤ length m
+no-longer : (m n : Str) → length m ≤ 24 → length n ≤ 24 → 0 < length n → ¬ (last-of n ≡ 0x20) → filled m ≡ filled n → length n ≤ length m
 no-longer m n h k s l e = elim (decLe (length n) (length m)) [
   | yes j ↦ j
   | no j ↦ absurd (l (sym (filled-at n (length n - 1) k (omega arith)) ∙ ap (λ (x : Str). getD x (length n - 1) 0) (sym e) ∙ filled-behind m (length n - 1) (omega arith) (omega arith)))
 ]
 
-pub one-name : (m n : Str) → length m ≤ 24 → length n ≤ 24 → 0 < length m → 0 < length n → ¬ (lastOf m ≡ 0x20) → ¬ (lastOf n ≡ 0x20) → filled m ≡ filled n → m ≡ n
+pub one-name : (m n : Str) → length m ≤ 24 → length n ≤ 24 → 0 < length m → 0 < length n → ¬ (last-of m ≡ 0x20) → ¬ (last-of n ≡ 0x20) → filled m ≡ filled n → m ≡ n
 one-name m n h k s r f l e =
     let a = no-longer m n h k r l e in
     let b = no-longer n m k h s f (sym e) in
@@ -254,14 +254,14 @@ smaller-first (a ∷ c) (b ∷ z) p h = go (ℕ-discrete a b) (smaller-first c z
     go (no n) f = rw (lt-ltb a b (omega (arith, head-le (lt-le p))))
 
 split-from : (f i : ℕ) (c z : Str) → c ≺ z → length c ≡ length z → i ≤ suc (diff c z) → suc (diff c z) ≤ i + f
-    → splitFrom f i c z ≡ take (suc (diff c z)) c
-unfolding splitFrom
+    → split-tried f i c z ≡ take (suc (diff c z)) c
+unfolding split-tried
 split-from zero i c z p h lo up = let e : i ≡ suc (diff c z) = omega arith in rw e
 split-from (suc f) i c z p h lo up = elim (decLe i (diff c z)) [
   | yes k ↦ rw (split-shortest c z i k, smaller-same (take i z)) (split-from f (suc i) c z p h (omega arith) (omega arith))
   | no k ↦ let e : i ≡ suc (diff c z) = omega arith in rw (e, smaller-first c z p h)
 ]
 
-pub split-is : (c z : Str) → c ≺ z → length c ≡ length z → splitString c z ≡ take (suc (diff c z)) c
-unfolding splitString
+pub split-is : (c z : Str) → c ≺ z → length c ≡ length z → split-beginning c z ≡ take (suc (diff c z)) c
+unfolding split-beginning
 split-is c z p h = split-from (length c) 0 c z p h (omega arith) (omega (arith, diff-lt-left c z p))

@@ -1,7 +1,7 @@
 -- Slots in range order: each name in the range of one slot, each leaf with one slot; the bounds ascend.
 use Rattle.model.proofs.Prelude.{List, List·Memᴰ, List·Memᴰ·cases-cons, List·Memᴰ·head, List·Memᴰ·not-nil, List·Memᴰ·tail, Memᴰ·cast, [], _<_, _∙_, _∷_, _≡_, _≢_, _⊎_, ap, arith, inl, inr, length, refl, sym, take-length, ℕ}
 use Rattle.model.specs.Order.{Low, Str, _≺_, _⊑_, _⊴_, _◁_, at, top}
-use Rattle.model.specs.Files.{Chain, Ranges, all, bounds, last, next}
+use Rattle.model.specs.Files.{Chain, RangeTable, all, bounds, last, next}
 use Rattle.model.specs.Tries.{Leads}
 use Rattle.model.specs.Rebuilding.{label}
 use Rattle.model.specs.Deciding.{low?, over}
@@ -9,7 +9,7 @@ use Rattle.model.proofs.Order.{Asc, end, le-refl, low-at, low-lower, lo
 use Rattle.model.proofs.Tries.{Gap}
 use Rattle.model.proofs.Strings.{asc-mem, begins-all}
 
-module _ (F : Ranges) where
+module _ (F : RangeTable) where
   pub chain-some : {l : Low} → Chain F l [] → ⊥
   chain-some c = elim c [ ]
 
@@ -55,7 +55,7 @@ module _ (F : Ranges) where
   leads-unique (next u e a b c) h {B = B} (List·Memᴰ·tail p) (List·Memᴰ·head q) x y = absurd (apart h y x (rw q (chain-above c B p)))
   leads-unique (next u e a b c) h (List·Memᴰ·tail p) (List·Memᴰ·tail q) x y = leads-unique c h p q x y
 
-module _ (F : Ranges) where
+module _ (F : RangeTable) where
   -- A name lies in the range of one slot only.
   pub range-unique : {l : Low} {Bs : List ℕ} → Chain F l Bs → (n : Str) {B C : ℕ} → List·Memᴰ B Bs → List·Memᴰ C Bs
       → F .lower B ◁ n → n ⊑ F .upper B → F .lower C ◁ n → n ⊑ F .upper C → B ≡ C

@@ -1,7 +1,7 @@
 -- Of a run, any string with fewest digits serves as root; the middle one has fewest; so the rebuilt trie leads every leaf to its bucket.
 use Rattle.model.proofs.Prelude.{List, List·Memᴰ, List·Memᴰ·append-cases, List·Memᴰ·cases-cons, List·Memᴰ·head, List·Memᴰ·not-nil, List·Memᴰ·tail, Memᴰ·append-left, Memᴰ·append-right, [], _++_, _+_, _-_, _/_, _<_, _∙_, _∷_, _≡_, _≤_, _⊎_, ap, arith, drop, getD, inl, inr, length, length-drop, length-take, min, refl, split-at, sub-zero, subst, suc, sym, take, take-all, take-suc, zero, ℕ, ℕ-discrete}
 use Rattle.model.specs.Order.{Low, Str, _≺_, _⊑_, _◁_, at, least, none, top}
-use Rattle.model.specs.Files.{Chain, Ranges, all, bounds}
+use Rattle.model.specs.Files.{Chain, RangeTable, all, bounds}
 use Rattle.model.specs.Tries.{Leads, Tree, cell}
 use Rattle.model.specs.Rebuilding.{build, fewest, kept, label, last-digit, pick, places, rebuilt}
 use Rattle.model.specs.Deciding.{over}
@@ -128,7 +128,7 @@ pick-fewest (x ∷ xs) y m =
     let h : length (getD (x ∷ xs) (pick (x ∷ xs)) []) ≡ fewest x xs = rw sub-zero at (pick-place x xs .2) in
     omega (arith, h, fewest-le x xs y m)
 
-module _ (F : Ranges) where
+module _ (F : RangeTable) where
   pub rebuilt-agrees : (Bs : List ℕ) → Chain F none Bs → Spans (Leads F) none [] (rebuilt F Bs) (all (bounds F Bs))
   rebuilt-agrees Bs c =
       rw relabel-same at (relabel-trie (λ l u B. B ≡ label F Bs l) (Leads F) (λ u B. B)

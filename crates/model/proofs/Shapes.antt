@@ -2,7 +2,7 @@
 -- smaller than the cell's own: so a pass that compares these two alone decides which strings a trie has.
 use Rattle.model.proofs.Prelude.{List, List·Memᴰ, List·Memᴰ·head, Memᴰ·append-left, Memᴰ·append-right, [], _++_, _<_, _∙_, _∷_, _≡_, _≤_, ap, arith, decLt, length, length-take-le, refl, sym, take, take-all, take-append-le, take-take, ℕ}
 use Rattle.model.specs.Order.{Low, Str, _≺_, _⊑_, _◁_, at}
-use Rattle.model.specs.Tries.{Numbers, Tree, cell, leaf, node, strings}
+use Rattle.model.specs.Tries.{NumbersFit, Tree, cell, leaf, node, strings}
 use Rattle.model.specs.Deciding.{over}
 use Rattle.model.proofs.Order.{le-take, le-trans, lt-le, sandwich}
 use Rattle.model.proofs.Tries.{Spans, cell-length, cut, inside, tip}
@@ -45,14 +45,14 @@ take-cell k d i u h g =
     take-append-le k (take i u) (d ∷ []) (omega (arith, length-take-le i u g)) ∙ take-take k i u h
 
 -- With a floor, the first string begins as the path does.
-pub floor-begins : (f : ℕ) (u : Str) (t : Tree) → Numbers u t → Floors f t → take f (head-or (strings u t) u) ≡ take f u
+pub floor-begins : (f : ℕ) (u : Str) (t : Tree) → NumbersFit u t → Floors f t → take f (head-or (strings u t) u) ≡ take f u
 floor-begins f u (leaf s) n h = refl
 floor-begins f u (node d i L R) n h =
     ap (take f) (head-append (strings (cell d i u) L) (cell d i u) (strings u R) u)
     ∙ floor-begins f (cell d i u) L (n .1) (h .1) ∙ take-cell f d i u (h .0) (n .0)
 
 -- The strings of a trie with a floor are those made of its shapes.
-pub strings-made : (f : ℕ) (u : Str) (t : Tree) → Numbers u t → Floors f t → strings u t ≡ made (shapes t) u
+pub strings-made : (f : ℕ) (u : Str) (t : Tree) → NumbersFit u t → Floors f t → strings u t ≡ made (shapes t) u
 strings-made f u (leaf s) n h = refl
 strings-made f u (node d i L R) n h =
     let q : Str = cell d i u in
@@ -63,7 +63,7 @@ strings-made f u (node d i L R) n h =
     rw (made-append (shapes L) ((i, d) ∷ shapes R) u, here, ← left, ← right)
 
 -- Two tries with floors and the same shapes have the same strings.
-pub same-shapes : (f : ℕ) (u : Str) (t r : Tree) → Numbers u t → Floors f t → Numbers u r → Floors f r → shapes t ≡ shapes r → strings u t ≡ strings u r
+pub same-shapes : (f : ℕ) (u : Str) (t r : Tree) → NumbersFit u t → Floors f t → NumbersFit u r → Floors f r → shapes t ≡ shapes r → strings u t ≡ strings u r
 same-shapes f u t r n h m k e =
     strings-made f u t n h ∙ ap (λ (ss : List (ℕ × ℕ)). made ss u) e ∙ sym (strings-made f u r m k)
 

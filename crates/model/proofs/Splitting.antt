@@ -1,7 +1,7 @@
 -- A split of a bucket: N comes right after A, s is added to the bounds, and the grown trie leads every leaf to its bucket.
 use Rattle.model.proofs.Prelude.{List, List·Memᴰ, List·Memᴰ·append-cases, List·Memᴰ·head, List·Memᴰ·tail, Memᴰ·append-left, Memᴰ·append-right, Memᴰ·cast, [], _++_, _<_, _∙_, _∷_, _≡_, _≢_, _≤_, _⊎_, ap, arith, inl, inr, length, length-take-le, refl, suc, sym, take, take-length, take-nil, ℕ, ℕ-discrete}
 use Rattle.model.specs.Order.{Low, Str, _≺_, _⊑_, _◁_, above, at, diff, least, none, top}
-use Rattle.model.specs.Files.{Begins, Chain, Ranges, all, bounds, fresh, last, next}
+use Rattle.model.specs.Files.{Begins, Chain, RangeTable, all, bounds, fresh, last, next}
 use Rattle.model.specs.Tries.{Leads, Tree}
 use Rattle.model.specs.Growth.{turn, turned}
 use Rattle.model.specs.Deciding.{le?}
@@ -13,7 +13,7 @@ use Rattle.model.proofs.Strings.{Closed, all-asc, all-begins, all-close
 use Rattle.model.proofs.Ranges.{bounds-asc, bounds-from, bounds-to, chain-other, chain-used}
 
 -- The file after both stores of a split of A at s, with the new slot N.
-pub record SplitAt (F G : Ranges) (s : Str) (A N : ℕ) : Type 0 where
+pub record SplitAt (F G : RangeTable) (s : Str) (A N : ℕ) : Type 0 where
   pub new-used : G .Used N
   pub new-lower : G .lower N ≡ at s
   pub new-upper : G .upper N ≡ F .upper A
@@ -22,7 +22,7 @@ pub record SplitAt (F G : Ranges) (s : Str) (A N : ℕ) : Type 0 where
   pub old-upper : G .upper A ≡ s
   pub other : (B : ℕ) → B ≢ A → F .Used B → (G .Used B) × (G .lower B ≡ F .lower B) × (G .upper B ≡ F .upper B)
 
-pub split-trie : (F G : Ranges) (s : Str) (A N : ℕ) → SplitAt F G s A N → {l : Low} {u : Str} {t : Tree} {ss : List Str}
+pub split-trie : (F G : RangeTable) (s : Str) (A N : ℕ) → SplitAt F G s A N → {l : Low} {u : Str} {t : Tree} {ss : List Str}
     → List·Memᴰ s ss → l ◁ u → Spans (Leads F) l u t ss → Spans (Leads G) l u (relabel (turn s A N) u t) ss
 split-trie F G s A N S {ss = ss} ms lu T = relabel-trie (Leads F) (Leads G) (turn s A N) T lu λ l u B lm vu mv gap h. go l u B (ℕ-discrete B A) (le? u s) gap h
   where
@@ -32,11 +32,11 @@ split-trie F G s A N S {ss = ss} ms lu T = relabel-trie (Leads F) (Leads G) (tur
     go l u B (yes e) (yes k) gap h = rw e (record { used = S .old-used; under = rw (S .old-lower) (rw e at (h .under)); within = rw (S .old-upper) k })
     go l u B (yes e) (no k) gap h = record { used = S .new-used; under = rw (S .new-lower) (not-over l s (λ j. gap s ms j k)); within = rw (S .new-upper) (rw e at (h .within)) }
 
-pub leads-shrinks : (F : Ranges) → Shrinks (Leads F)
+pub leads-shrinks : (F : RangeTable) → Shrinks (Leads F)
 leads-shrinks F = record { shrink = λ h a b. record { used = h .used; under = low-trans (h .under) a; within = le-trans b (h .within) } }
 
 -- The split of A at s, a beginning of c with at least a digit: F before, G after both stores.
-module _ (F G : Ranges) (c s : Str) (k : ℕ) (pos : 0 < k) (hk : k ≤ length c) (es : take k c ≡ s) (A N : ℕ)
+module _ (F G : RangeTable) (c s : Str) (k : ℕ) (pos : 0 < k) (hk : k ≤ length c) (es : take k c ≡ s) (A N : ℕ)
     (S : SplitAt F G s A N) (t : Tree) (ss : List Str) (T : Spans (Leads F) none [] t ss) (closed : Closed ss []) where
   -- s is a string already: no cell is added.
   pub put-same : List·Memᴰ s ss → Spans (Leads G) none [] (relabel (turn s A N) [] t) ss
@@ -98,7 +98,7 @@ pub record Adds (bs bs′ : List Str) (s : Str) : Type 0 where
   pub gains : List·Memᴰ s bs′
   pub only : (x : Str) → List·Memᴰ x bs′ → List·Memᴰ x bs ⊎ (x ≡ s)
 
-module _ (F G : Ranges) (c s : Str) (k : ℕ) (pos : 0 < k) (hk : k ≤ length c) (es : take k c ≡ s) (A N : ℕ)
+module _ (F G : RangeTable) (c s : Str) (k : ℕ) (pos : 0 < k) (hk : k ≤ length c) (es : take k c ≡ s) (A N : ℕ)
     (S : SplitAt F G s A N) (t : Tree) (bs bs′ : List Str) (add : Adds bs bs′ s) (T : Spans (Leads F) none [] t (all bs)) where
   pub grow-same : List·Memᴰ s (all bs) → Spans (Leads G) none [] (relabel (turn s A N) [] t) (all bs′)
   grow-same m = cast (Leads G) (asc-unique (trie-asc T) (all-asc bs′ none (add .asc)) to from)
@@ -135,7 +135,7 @@ module _ (F G : Ranges) (c s : Str) (k : ℕ) (pos : 0 < k) (hk : k ≤ length c
         | inr e ↦ gained x (rw e at (r .2))
       ]
 
-module _ (F G : Ranges) (s : Str) (A N : ℕ) (S : SplitAt F G s A N) where
+module _ (F G : RangeTable) (s : Str) (A N : ℕ) (S : SplitAt F G s A N) where
   chain-same : {l : Low} {Bs : List ℕ} → Chain F l Bs → ((B : ℕ) → List·Memᴰ B Bs → B ≢ A) → Chain G l Bs
   chain-same (last {B = B} u e f) n = let o = S .other B (n B (List·Memᴰ·head refl)) u in last (o .0) (o .1 ∙ e) (o .2 ∙ f)
   chain-same (next {B = B} u e a b c) n =
@@ -199,7 +199,7 @@ module _ (F G : Ranges) (s : Str) (A N : ℕ) (S : SplitAt F G s A N) where
           ]
 
 -- c the split key, z the last name, both of A's range; s the split string.
-pub split-agrees : (F G : Ranges) (A N : ℕ) (Xs Ys : List ℕ) (c z : Str) (t : Tree)
+pub split-agrees : (F G : RangeTable) (A N : ℕ) (Xs Ys : List ℕ) (c z : Str) (t : Tree)
     → Chain F none (Xs ++ (A ∷ Ys)) → F .lower A ◁ c → c ≺ z → z ⊑ F .upper A
     → SplitAt F G (take (suc (diff c z)) c) A N
     → Spans (Leads F) none [] t (all (bounds F (Xs ++ (A ∷ Ys))))

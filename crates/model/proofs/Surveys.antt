@@ -2,7 +2,7 @@
 use Rattle.model.proofs.Prelude.{List, List·Memᴰ, List·Memᴰ·cases-cons, List·Memᴰ·head, List·Memᴰ·not-nil, List·Memᴰ·tail, Memᴰ·append-right, Memᴰ·cast, [], _++_, _<_, _∙_, _∷_, _≡_, _≢_, _≤_, _⊎_, ap, arith, clash, getD-set-other, inl, inr, length, refl, set, subst, sym, ℕ, ℕ-discrete}
 use Rattle.model.specs.Order.{Low, Str, _≺_, _⊴_, _◁_, at, below, least, none, top}
 use Rattle.model.specs.Entries.{Entry, move}
-use Rattle.model.specs.Files.{Bad, Chain, Copied, Cut, IsUsed, Ranges, Slot, Sound, Well, free, head, last, lower-of, next, ranges, slot-at, upper-of, used, well-free}
+use Rattle.model.specs.Files.{Bad, Chain, Copied, Cut, IsUsed, RangeTable, Slot, Sound, Well, free, head, last, lower-of, next, ranges, slot-at, upper-of, used, well-free}
 use Rattle.model.specs.Tries.{occ}
 use Rattle.model.specs.Deciding.{over}
 use Rattle.model.proofs.Lists.{mem-insert, mem-leave, mem-parts}
@@ -26,21 +26,21 @@ Neighbours R [] = Unit {0}
 Neighbours R (B ∷ Bs) = From R B Bs
 
 -- The first range stands before the second, or is equal to it.
-abbrev pub Before : Ranges → ℕ → ℕ → Type 0
+abbrev pub Before : RangeTable → ℕ → ℕ → Type 0
 Before F B C = (F .upper B ≺ F .upper C) ⊎ ((F .upper B ≡ F .upper C) × (F .lower B ⊴ F .lower C))
 
 abbrev pub Sorted : List Slot → List ℕ → Type 0
 Sorted fs Bs = Neighbours (Before (ranges fs)) Bs
 
 -- No two neighbours have the same upper.
-abbrev pub Differ : Ranges → ℕ → ℕ → Type 0
+abbrev pub Differ : RangeTable → ℕ → ℕ → Type 0
 Differ F B C = F .upper B ≢ F .upper C
 
 abbrev pub Apart : List Slot → List ℕ → Type 0
 Apart fs Bs = Neighbours (Differ (ranges fs)) Bs
 
 -- R4.5 and R4.6: the chain of bounds, from a lower limit on.
-abbrev pub Follows : Ranges → Low → List ℕ → Type 0
+abbrev pub Follows : RangeTable → Low → List ℕ → Type 0
 Follows F l [] = l ≡ at []
 Follows F l (B ∷ Bs) = (F .lower B ≡ l) × Follows F (at (F .upper B)) Bs
 
@@ -120,7 +120,7 @@ low-antisym : {l m : Low} → l ⊴ m → m ⊴ l → l ≡ m
 low-antisym least least = refl
 low-antisym (below p) (below q) = ap at (le-antisym p q)
 
-module _ (F : Ranges) where
+module _ (F : RangeTable) where
   before-trans : {A B C : ℕ} → Before F A B → Before F B C → Before F A C
   before-trans (inl p) (inl q) = inl (lt-trans p q)
   before-trans (inl p) (inr q) = inl (rw (← q .0) p)
@@ -219,7 +219,6 @@ module _ (b : ℕ) where
     pub old : List Entry
     pub a-is : slot-at fs A ≡ used a-low up old
     pub below : a-low ◁ low
-    pub full : length old ≡ b
     pub copied : Copied (move low old) new
 
   module _ (fs : List Slot) (w : (B : ℕ) → Well b (slot-at fs B)) where
@@ -302,16 +301,15 @@ module _ (b : ℕ) where
       old = c .old;
       a-is = kept fs N A (freed-other fs N A (chain-used (ranges (set fs N free)) d A (Memᴰ·append-right Xs (List·Memᴰ·head refl)))) ∙ c .a-is;
       below = c .below;
-      full = c .full;
       copied = c .copied;
     }
 
   -- In a cut file the sorted slots have A and the slot to free as the first neighbours with the same upper, and the rest is a chain.
   module _ {fs : List Slot} {N : ℕ} (C : Cut b fs N) where
-    abbrev F : Ranges
+    abbrev F : RangeTable
     F = ranges fs
 
-    abbrev G : Ranges
+    abbrev G : RangeTable
     G = ranges (set fs N free)
 
     place : (Xs : List ℕ) × (Ys : List ℕ) × (C .freed .order ≡ Xs ++ (C .A ∷ Ys))
@@ -443,7 +441,6 @@ module _ (b : ℕ) where
     old = C .old;
     a-is = a-there b C;
     below = C .below;
-    full = C .full;
     copied = C .copied;
   }
 

@@ -1,7 +1,7 @@
 -- The walk ends at the leaf whose interval holds the name; all strings lie inside; the flat wording and the tree's are the same.
 use Rattle.model.proofs.Prelude.{List, List·Memᴰ, List·Memᴰ·append-cases, List·Memᴰ·cases-cons, List·Memᴰ·not-nil, [], _++_, _∙_, _∷_, _≡_, _≤_, _⊎_, add-one, ap, arith, inl, inr, length, length-append, length-take-le, refl, subst, suc, take, ℕ}
 use Rattle.model.specs.Order.{Low, Str, _≺_, _⊑_, _⊴_, _◁_, above, at}
-use Rattle.model.specs.Tries.{Leaves, Numbers, Tree, cell, leaf, leaf-last, leaf-next, leaves, node, size, strings}
+use Rattle.model.specs.Tries.{LeafIntervals, NumbersFit, Tree, cell, leaf, leaf-last, leaf-next, leaves, node, size, strings}
 use Rattle.model.specs.Deciding.{le?, over}
 use Rattle.model.proofs.Order.{le-refl, le-trans, low-at, low-lower, low-refl, low-trans, lt-le, lt-le-trans, lt-trans}
 
@@ -16,7 +16,7 @@ relabel f p (leaf B) = leaf (f p B)
 relabel f p (node d i L R) = node d i (relabel f (cell d i p) L) (relabel f p R)
 
 module _ (P : Low → Str → ℕ → Type 0) where
-  -- `Leaves` of a tree, its path u being the upper end: the tree is a trie of the interval (l, u] with these strings.
+  -- `LeafIntervals` of a tree, its path u being the upper end: the tree is a trie of the interval (l, u] with these strings.
   pub data Spans : Low → Str → Tree → List Str → Type 0 where
     tip : {l : Low} {u : Str} {s : ℕ} → P l u s → Spans l u (leaf s) []
     cut : {l : Low} {u : Str} {d i : ℕ} {L R : Tree} {xs ys : List Str} → i ≤ length u → l ◁ cell d i u → cell d i u ≺ u
@@ -102,16 +102,16 @@ relabel-same p (leaf s) = refl
 relabel-same p (node d i L R) = rw (relabel-same (cell d i p) L, relabel-same p R)
 
 module _ (P : Low → Str → ℕ → Type 0) where
-  leaves-join : {l : Low} {u q : Str} {xs ys : List Str} {As Bs : List ℕ} → l ◁ q → q ≺ u → Leaves P l xs q As → Leaves P (at q) ys u Bs → Leaves P l (xs ++ (q ∷ ys)) u (As ++ Bs)
+  leaves-join : {l : Low} {u q : Str} {xs ys : List Str} {As Bs : List ℕ} → l ◁ q → q ≺ u → LeafIntervals P l xs q As → LeafIntervals P (at q) ys u Bs → LeafIntervals P l (xs ++ (q ∷ ys)) u (As ++ Bs)
   leaves-join a b (leaf-last h) r = leaf-next a b h r
   leaves-join a b (leaf-next c d h s) r = leaf-next c (lt-trans d b) h (leaves-join (above d) b s r)
 
-  pub trie-flat : {l : Low} {u : Str} {t : Tree} {ss : List Str} → Spans P l u t ss → (Numbers u t) × (Leaves P l ss u (leaves t))
+  pub trie-flat : {l : Low} {u : Str} {t : Tree} {ss : List Str} → Spans P l u t ss → (NumbersFit u t) × (LeafIntervals P l ss u (leaves t))
   trie-flat (tip h) = (tt, leaf-last h)
   trie-flat (cut hi a b L R) = ((hi, trie-flat L .0, trie-flat R .0), leaves-join a b (trie-flat L .1) (trie-flat R .1))
 
   leaves-split : (xs : List Str) (As : List ℕ) {l : Low} {u q : Str} {ys : List Str} {Bs : List ℕ} → length As ≡ suc (length xs)
-      → Leaves P l (xs ++ (q ∷ ys)) u (As ++ Bs) → (Leaves P l xs q As) × (l ◁ q) × (q ≺ u) × (Leaves P (at q) ys u Bs)
+      → LeafIntervals P l (xs ++ (q ∷ ys)) u (As ++ Bs) → (LeafIntervals P l xs q As) × (l ◁ q) × (q ≺ u) × (LeafIntervals P (at q) ys u Bs)
   leaves-split [] [] e r = absurd (omega arith)
   leaves-split (x ∷ xs) [] e r = absurd (omega arith)
   leaves-split [] (A ∷ A′ ∷ As) e r = absurd (omega arith)
@@ -124,7 +124,7 @@ module _ (P : Low → Str → ℕ → Type 0) where
   leaves-length p (leaf s) = refl
   leaves-length p (node d i L R) = simp (length-append, leaves-length (cell d i p) L, leaves-length p R) (omega arith)
 
-  pub flat-trie : (t : Tree) {l : Low} {u : Str} → Numbers u t → Leaves P l (strings u t) u (leaves t) → Spans P l u t (strings u t)
+  pub flat-trie : (t : Tree) {l : Low} {u : Str} → NumbersFit u t → LeafIntervals P l (strings u t) u (leaves t) → Spans P l u t (strings u t)
   flat-trie (leaf s) n (leaf-last h) = tip h
   flat-trie (node d i L R) {l} {u} n r =
       let s = leaves-split (strings (cell d i u) L) (leaves L) (leaves-length (cell d i u) L) r in

@@ -5,11 +5,11 @@ use Rattle.model.specs.declared.Side.{Side}
 use Rattle.model.specs.declared.Side.the-variants.{Cell as further, Slot as slot}
 use Rattle.model.specs.declared.Trie.{Trie}
 use Rattle.model.specs.Order.{Str, _⊑_}
-use Rattle.model.specs.Names.{atMost, limit}
+use Rattle.model.specs.Names.{is-at-most, limit}
 use Rattle.model.specs.Files.{BoundOf, IsString, Slot, Sound, Well, head, lower-bound, slot-at, upper-bound, used, well-used}
-use Rattle.model.specs.Tries.{Numbers, Reads, Spot, Tree, at-cell, cell, here, leaf, left, node, occ, right, root-side, strings, there, walkRun, zero-cell}
+use Rattle.model.specs.Tries.{NumbersFit, Reads, Spot, Tree, at-cell, cell, here, leaf, left, node, occ, right, root-side, strings, there, walk-run, zero-cell}
 use Rattle.model.specs.Deciding.{le?}
-use Rattle.model.proofs.Names.{le-atMost, lt-atMost}
+use Rattle.model.proofs.Names.{le-is-at-most, lt-is-at-most}
 use Rattle.model.proofs.Tries.{cell-length, walk}
 use Rattle.model.proofs.Cells.{occ-append, one-if-equal}
 
@@ -103,8 +103,8 @@ spot-reads {cs} n (suc fuel) p k (there {n = m} {L = L} {R = R} {vs = vs} {ws = 
     go (no h) e f = f
 
 -- The cells past the count do not matter.
-pub run-live : (f count : ℕ) (cs : List Cell) (n p : Str) (k : Spot) (a : Side) → walkRun f count cs n p k a ≡ walkRun f count (take count cs) n p k a
-unfolding walkRun
+pub run-live : (f count : ℕ) (cs : List Cell) (n p : Str) (k : Spot) (a : Side) → walk-run f count cs n p k a ≡ walk-run f count (take count cs) n p k a
+unfolding walk-run
 run-live zero count cs n p k (slot s) = refl
 run-live zero count cs n p k (further m) = refl
 run-live (suc f) count cs n p k (slot s) = refl
@@ -114,17 +114,17 @@ run-live (suc f) count cs n p k (further m) =
     q : Str
     q = cell (at-cell cs m .digit) (at-cell cs m .number) p
 
-    go : Dec (m < count) → walkRun f count cs n q (left m) (at-cell cs m .left) ≡ walkRun f count (take count cs) n q (left m) (at-cell cs m .left)
-        → walkRun f count cs n p (right m) (at-cell cs m .right) ≡ walkRun f count (take count cs) n p (right m) (at-cell cs m .right)
-        → walkRun (suc f) count cs n p k (further m) ≡ walkRun (suc f) count (take count cs) n p k (further m)
+    go : Dec (m < count) → walk-run f count cs n q (left m) (at-cell cs m .left) ≡ walk-run f count (take count cs) n q (left m) (at-cell cs m .left)
+        → walk-run f count cs n p (right m) (at-cell cs m .right) ≡ walk-run f count (take count cs) n p (right m) (at-cell cs m .right)
+        → walk-run (suc f) count cs n p k (further m) ≡ walk-run (suc f) count (take count cs) n p k (further m)
     go (yes h) e g = rw (getD-take count cs m zero-cell h, e, g)
     go (no h) e g = rw (le-ltb m count (omega arith))
 
 -- The walk that tests each step meets nothing that refuses it.
 pub run-walk : (count : ℕ) {cs : List Cell} (n : Str) (f : ℕ) (p : Str) (k : Spot) {a : Side} {t : Tree} {vs : List ℕ} (x : Reads cs a t vs) → length vs ≤ f
-    → ((m : ℕ) → 0 < occ m vs → m < count) → Numbers p t → ((y : Str) → List·Memᴰ y (strings p t) → length y ≤ 24)
-    → walkRun f count cs n p k a ≡ some (path-at n p t, spot n p k x, walk n p t)
-unfolding walkRun
+    → ((m : ℕ) → 0 < occ m vs → m < count) → NumbersFit p t → ((y : Str) → List·Memᴰ y (strings p t) → length y ≤ 24)
+    → walk-run f count cs n p k a ≡ some (path-at n p t, spot n p k x, walk n p t)
+unfolding walk-run
 run-walk count n zero p k here h below num short = refl
 run-walk count n (suc f) p k here h below num short = refl
 run-walk count n zero p k (there i l r) h below num short = absurd (omega arith)
@@ -143,16 +143,16 @@ run-walk count {cs} n (suc f) p k (there {n = m} {L = L} {R = R} {vs = vs} {ws =
     number : c .number ≤ 23
     number = omega (arith, short q (Memᴰ·append-right (strings q L) (List·Memᴰ·head refl)), cell-length (c .digit) (c .number) p (num .0))
 
-    go : (d : Dec (n ⊑ q)) → walkRun f count cs n q (left m) (c .left) ≡ some (path-at n q L, spot n q (left m) l, walk n q L)
-        → walkRun f count cs n p (right m) (c .right) ≡ some (path-at n p R, spot n p (right m) r, walk n p R)
-        → cond (atMost n q) (walkRun f count cs n q (left m) (c .left)) (walkRun f count cs n p (right m) (c .right))
+    go : (d : Dec (n ⊑ q)) → walk-run f count cs n q (left m) (c .left) ≡ some (path-at n q L, spot n q (left m) l, walk n q L)
+        → walk-run f count cs n p (right m) (c .right) ≡ some (path-at n p R, spot n p (right m) r, walk n p R)
+        → cond (is-at-most n q) (walk-run f count cs n q (left m) (c .left)) (walk-run f count cs n p (right m) (c .right))
         ≡ some (
           elim d [ yes h ↦ path-at n q L | no h ↦ path-at n p R ],
           elim d [ yes h ↦ spot n q (left m) l | no h ↦ spot n p (right m) r ],
           elim d [ yes h ↦ walk n q L | no h ↦ walk n p R ],
         )
-    go (yes h) x y = rw (le-atMost n q h) x
-    go (no h) x y = rw (lt-atMost n q h) y
+    go (yes h) x y = rw (le-is-at-most n q h) x
+    go (no h) x y = rw (lt-is-at-most n q h) y
 
 -- The bounds and strings of a sound file have at most 24 digits.
 pub bound-fits : (b : ℕ) (s : Slot) {y : Str} → Well b s → BoundOf (head s) y → length y ≤ 24

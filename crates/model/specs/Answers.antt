@@ -35,8 +35,8 @@ abbrev pub stale-trie : Cause
 stale-trie = StaleTrie 255
 
 -- An answer's number in the C interface, and its values.
-abbrev pub Said : Type 0
-Said = ℕ × List ℕ
+abbrev pub Saying : Type 0
+Saying = ℕ × List ℕ
 
 -- R10.11 and R10.13: a refusal is its number and nothing else, but 4 carries a digit number or 255.
 abbrev pub carried : Cause → List ℕ
@@ -50,52 +50,52 @@ carried ShortOutput = []
 carried WrongSize = []
 carried OlderRun = []
 
-abbrev pub refusedWith : Cause → Said
-refusedWith c = (number c, carried c)
+abbrev pub refused-with : Cause → Saying
+refused-with c = (number c, carried c)
 
 -- R11.11: found with value and run, or absent.
-abbrev pub lookUpSays : LookUpAnswer → Said
-lookUpSays (Found v r) = (100, v ∷ r ∷ [])
-lookUpSays NotFound = (101, [])
-lookUpSays (LookUpRefused c) = refusedWith c
+abbrev pub said-by-look-up : LookUpAnswer → Saying
+said-by-look-up (Found v r) = (100, v ∷ r ∷ [])
+said-by-look-up NotFound = (101, [])
+said-by-look-up (LookUpRefused c) = refused-with c
 
 -- R7.2 and R7.8: added; R7.9: replaced, with the old value and run; R7.12: stopped, with the number of stores made.
-abbrev pub putSays : PutAnswer → Said
-putSays Added = (110, [])
-putSays (Replaced v r) = (111, v ∷ r ∷ [])
-putSays (PutStopped n) = (112, n ∷ [])
-putSays (PutRefused c) = refusedWith c
+abbrev pub said-by-put : PutAnswer → Saying
+said-by-put Added = (110, [])
+said-by-put (Replaced v r) = (111, v ∷ r ∷ [])
+said-by-put (PutStopped n) = (112, n ∷ [])
+said-by-put (PutRefused c) = refused-with c
 
 -- R7.10: removed, without a value; R7.11: absent.
-abbrev pub removeSays : RemoveAnswer → Said
-removeSays Removed = (120, [])
-removeSays NotHeld = (101, [])
-removeSays (RemoveStopped n) = (112, n ∷ [])
-removeSays (RemoveRefused c) = refusedWith c
+abbrev pub said-by-remove : RemoveAnswer → Saying
+said-by-remove Removed = (120, [])
+said-by-remove NotHeld = (101, [])
+said-by-remove (RemoveStopped n) = (112, n ∷ [])
+said-by-remove (RemoveRefused c) = refused-with c
 
 -- R9.3: recover frees N and names it; on a sound file there is nothing to do.
-abbrev pub recoverSays : RecoverAnswer → Said
-recoverSays (Freed k) = (130, k ∷ [])
-recoverSays Nothing = (131, [])
-recoverSays (RecoverStopped n) = (112, n ∷ [])
-recoverSays (RecoverRefused c) = refusedWith c
+abbrev pub said-by-recover : RecoverAnswer → Saying
+said-by-recover (Freed k) = (130, k ∷ [])
+said-by-recover Nothing = (131, [])
+said-by-recover (RecoverStopped n) = (112, n ∷ [])
+said-by-recover (RecoverRefused c) = refused-with c
 
 -- R9.2: sound, cut or bad.
-abbrev pub checkSays : Kind → Said
-checkSays is-sound = (140, [])
-checkSays (is-cut N) = (141, [])
-checkSays is-bad = (142, [])
+abbrev pub said-by-check : Kind → Saying
+said-by-check is-sound = (140, [])
+said-by-check (is-cut N) = (141, [])
+said-by-check is-bad = (142, [])
 
 -- Create and rebuild, which give a trie.
-abbrev pub createSays : TrieAnswer → Said
-createSays Given = (150, [])
-createSays (TrieRefused c) = refusedWith c
+abbrev pub said-by-create : TrieAnswer → Saying
+said-by-create Given = (150, [])
+said-by-create (TrieRefused c) = refused-with c
 
-abbrev pub rebuildSays : TrieAnswer → Said
-rebuildSays Given = (151, [])
-rebuildSays (TrieRefused c) = refusedWith c
+abbrev pub said-by-rebuild : TrieAnswer → Saying
+said-by-rebuild Given = (151, [])
+said-by-rebuild (TrieRefused c) = refused-with c
 
 -- R9.8: list answers how many entries it wrote.
-abbrev pub listSays : ListAnswer → Said
-listSays (Listed n) = (152, n ∷ [])
-listSays (ListRefused c) = refusedWith c
+abbrev pub said-by-list : ListAnswer → Saying
+said-by-list (Listed n) = (152, n ∷ [])
+said-by-list (ListRefused c) = refused-with c

@@ -13,19 +13,19 @@ use Rattle.model.specs.Deciding.{le?, not?, str?}
 abbrev pub Entry : Type 0
 Entry = Str × ℕ
 
-unfoldable pub contentOf : ℕ → ℕ → ℕ
-contentOf v r = v + 2 ^ 64 * r
+unfoldable pub content-from : ℕ → ℕ → ℕ
+content-from v r = v + 2 ^ 64 * r
 
-unfoldable pub valuePart : ℕ → ℕ
-valuePart c = c % 2 ^ 64
+unfoldable pub value-of-content : ℕ → ℕ
+value-of-content c = c % 2 ^ 64
 
-unfoldable pub runPart : ℕ → ℕ
-runPart c = c / 2 ^ 64
+unfoldable pub run-of-content : ℕ → ℕ
+run-of-content c = c / 2 ^ 64
 
 -- R10.14: what is held has a higher run than the one that is to write.
-unfoldable pub isOlder : ℕ → Option ℕ → Bool
-isOlder r nothing = false
-isOlder r (some w) = ltb r (runPart w)
+unfoldable pub is-older : ℕ → Option ℕ → Bool
+is-older r nothing = false
+is-older r (some w) = ltb r (run-of-content w)
 
 abbrev pub name-at : List Entry → ℕ → Str
 name-at es i = getD es i ([], 0) .0

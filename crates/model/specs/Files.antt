@@ -22,43 +22,43 @@ abbrev pub slot-at : List Slot → ℕ → Slot
 slot-at fs B = getD fs B free
 
 -- What a slot's header says: no range, or the two bounds.
-pub data Head : Type 0 where
-  no-range : Head
-  range : Low → Str → Head
+pub data SlotHead : Type 0 where
+  no-range : SlotHead
+  range : Low → Str → SlotHead
 
-abbrev pub head : Slot → Head
+abbrev pub head : Slot → SlotHead
 head free = no-range
 head (used l u es) = range l u
 
-abbrev pub IsUsed : Head → Type 0
+abbrev pub IsUsed : SlotHead → Type 0
 IsUsed no-range = ⊥
 IsUsed (range l u) = Unit {0}
 
-abbrev pub lower-of : Head → Low
+abbrev pub lower-of : SlotHead → Low
 lower-of no-range = none
 lower-of (range l u) = l
 
-abbrev pub upper-of : Head → Str
+abbrev pub upper-of : SlotHead → Str
 upper-of no-range = []
 upper-of (range l u) = u
 
 -- R1.8: within the upper bound and not within the lower.
-abbrev pub In : Head → Str → Type 0
+abbrev pub In : SlotHead → Str → Type 0
 In h n = IsUsed h × (lower-of h ◁ n) × (n ⊑ upper-of h)
 
 -- All that a trie needs of a file: which slots are used, and their bounds.
-pub record Ranges : Type 1 where
+pub record RangeTable : Type 1 where
   pub Used : ℕ → Type 0
   pub lower : ℕ → Low
   pub upper : ℕ → Str
 
-abbrev pub by-heads : (ℕ → Head) → Ranges
+abbrev pub by-heads : (ℕ → SlotHead) → RangeTable
 by-heads h = record { Used = λ B. IsUsed (h B); lower = λ B. lower-of (h B); upper = λ B. upper-of (h B) }
 
-abbrev pub ranges : List Slot → Ranges
+abbrev pub ranges : List Slot → RangeTable
 ranges fs = by-heads (λ B. head (slot-at fs B))
 
-module _ (F : Ranges) where
+module _ (F : RangeTable) where
   -- R4.4 to R4.7: used slots in range order, from a lower limit on.
   pub data Chain : Low → List ℕ → Type 0 where
     last : {l : Low} {B : ℕ} → F .Used B → F .lower B ≡ l → F .upper B ≡ [] → Chain l (B ∷ [])
@@ -90,7 +90,8 @@ module _ (b : ℕ) where
     pub listed : (B : ℕ) → IsUsed (head (slot-at fs B)) → List·Memᴰ B order
     pub well : (B : ℕ) → Well (slot-at fs B)
 
-  -- R4.8 to R4.13: cut. N's lower is not empty (R4.12), since no slot with an empty lower string is well formed.
+  -- R4.8 to R4.13: cut; since request 03 A may have any number of entries. N's lower is not empty (R4.12), since no slot with
+  -- an empty lower string is well formed.
   pub record Cut (fs : List Slot) (N : ℕ) : Type 0 where
     pub low : Str
     pub up : Str
@@ -103,7 +104,6 @@ module _ (b : ℕ) where
     pub old : List Entry
     pub a-is : slot-at (set fs N free) A ≡ used a-low up old
     pub below : a-low ◁ low
-    pub full : length old ≡ b
     pub copied : Copied (move low old) new
 
   -- R4.14: neither sound nor cut.
@@ -146,7 +146,7 @@ pub record Begins (s x : Str) : Type 0 where
   pub is : x ≡ take count s
 
 -- R5.7: the strings of a file.
-pub data BoundOf : Head → Str → Type 0 where
+pub data BoundOf : SlotHead → Str → Type 0 where
   lower-bound : {l u : Str} → BoundOf (range (at l) u) l
   upper-bound : {l : Low} {u : Str} → BoundOf (range l u) u
 

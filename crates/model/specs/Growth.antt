@@ -11,7 +11,7 @@ use Rattle.model.specs.declared.Side.{Side}
 use Rattle.model.specs.declared.Side.the-variants.{Cell as further, Slot as slot}
 use Rattle.model.specs.declared.Trie.{Trie}
 use Rattle.model.specs.Order.{Str, diff}
-use Rattle.model.specs.Tries.{Spot, Tree, at-cell, cell, leaf, left, node, right, root, root-side, trie-of, walkOf}
+use Rattle.model.specs.Tries.{Spot, Tree, at-cell, cell, leaf, left, node, right, root, root-side, trie-of, walk-of}
 use Rattle.model.specs.Rebuilding.{lay, side-of}
 use Rattle.model.specs.Deciding.{le?}
 
@@ -99,4 +99,4 @@ grown-by t s A N (some (p, k, B)) = trie-with (take (t .count) (t .cells)) (root
 
 -- The trie after A was split at s, the split key being c, and N took the names above s.
 abbrev pub grown-trie : Trie → Str → Str → ℕ → ℕ → Trie
-grown-trie t c s A N = grown-by t s A N (walkOf t c)
+grown-trie t c s A N = grown-by t s A N (walk-of t c)

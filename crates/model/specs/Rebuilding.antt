@@ -8,7 +8,7 @@ use Rattle.model.specs.declared.Side.{Side}
 use Rattle.model.specs.declared.Side.the-variants.{Cell as further, Slot as slot}
 use Rattle.model.specs.declared.Trie.{Trie}
 use Rattle.model.specs.Order.{Low, Str, at, none}
-use Rattle.model.specs.Files.{Ranges, Slot, all, bounds, order-of, ranges}
+use Rattle.model.specs.Files.{RangeTable, Slot, all, bounds, order-of, ranges}
 use Rattle.model.specs.Tries.{Tree, leaf, node, size, trie-of}
 use Rattle.model.specs.Deciding.{low?}
 
@@ -49,7 +49,7 @@ build pick label (suc n) l u (x ∷ xs) =
     node (last-digit r) (length r - 1) (build pick label n l r (take m (x ∷ xs)))
     (build pick label n (at r) u (drop (suc m) (x ∷ xs)))
 
-module _ (F : Ranges) where
+module _ (F : RangeTable) where
   -- The slot of a leaf: in range order, the first whose upper is above the string just left of the leaf.
   abbrev pub label : List ℕ → Low → ℕ
   label [] l = 0

@@ -12,8 +12,8 @@ use Rattle.model.specs.declared.Side.{Side}
 use Rattle.model.specs.declared.Side.the-variants.{Cell as further, Slot as slot}
 use Rattle.model.specs.declared.Trie.{Trie}
 use Rattle.model.specs.Order.{Low, Str, _≺_, _⊑_, _⊴_, _◁_, at, none}
-use Rattle.model.specs.Names.{atMost}
-use Rattle.model.specs.Files.{IsString, Ranges, Slot, first, ranges}
+use Rattle.model.specs.Names.{is-at-most}
+use Rattle.model.specs.Files.{IsString, RangeTable, Slot, first, ranges}
 
 -- A side, unfolded: a leaf that leads to a slot, or a cell with a digit, a digit number and two sides.
 pub data Tree : Type 0 where
@@ -39,20 +39,20 @@ size (leaf s) = 0
 size (node d i L R) = suc (size L + size R)
 
 -- R5.10: no number is greater than the length of its path.
-abbrev pub Numbers : Str → Tree → Type 0
-Numbers p (leaf s) = Unit {0}
-Numbers p (node d i L R) = (i ≤ length p) × Numbers (cell d i p) L × Numbers p R
+abbrev pub NumbersFit : Str → Tree → Type 0
+NumbersFit p (leaf s) = Unit {0}
+NumbersFit p (node d i L R) = (i ≤ length p) × NumbersFit (cell d i p) L × NumbersFit p R
 
 module _ (P : Low → Str → ℕ → Type 0) where
   -- Strings strictly ascending between l and u, and leaves between them: P holds at each leaf, of the string just left of
   -- it and the string just right of it.
-  pub data Leaves : Low → List Str → Str → List ℕ → Type 0 where
-    leaf-last : {l : Low} {u : Str} {B : ℕ} → P l u B → Leaves l [] u (B ∷ [])
+  pub data LeafIntervals : Low → List Str → Str → List ℕ → Type 0 where
+    leaf-last : {l : Low} {u : Str} {B : ℕ} → P l u B → LeafIntervals l [] u (B ∷ [])
     leaf-next : {l : Low} {u x : Str} {xs : List Str} {B : ℕ} {Bs : List ℕ} → l ◁ x → x ≺ u → P l x B
-        → Leaves (at x) xs u Bs → Leaves l (x ∷ xs) u (B ∷ Bs)
+        → LeafIntervals (at x) xs u Bs → LeafIntervals l (x ∷ xs) u (B ∷ Bs)
 
 -- R5.12: the one bucket that a leaf may lead to, between the string just left of it and the string just right of it.
-pub record Leads (F : Ranges) (l : Low) (u : Str) (B : ℕ) : Type 0 where
+pub record Leads (F : RangeTable) (l : Low) (u : Str) (B : ℕ) : Type 0 where
   pub used : F .Used B
   pub under : F .lower B ⊴ l
   pub within : u ⊑ F .upper B
@@ -101,22 +101,22 @@ pub data Spot : Type 0 where
 -- R5.5: the walk over any cells. A name within the cell's string, so not above it, goes left, with that string as its path;
 -- any other goes right. It ends with the leaf's path, the side by which it came there, and the slot. Nothing where R11.4,
 -- R11.5 or R11.6 refuses it. The first number is how many cells may still be met.
-unfoldable pub walkRun : ℕ → ℕ → List Cell → Str → Str → Spot → Side → Option (Str × Spot × ℕ)
-walkRun zero count cs n p k (slot s) = some (p, k, s)
-walkRun zero count cs n p k (further m) = nothing
-walkRun (suc f) count cs n p k (slot s) = some (p, k, s)
-walkRun (suc f) count cs n p k (further m) =
+unfoldable pub walk-run : ℕ → ℕ → List Cell → Str → Str → Spot → Side → Option (Str × Spot × ℕ)
+walk-run zero count cs n p k (slot s) = some (p, k, s)
+walk-run zero count cs n p k (further m) = nothing
+walk-run (suc f) count cs n p k (slot s) = some (p, k, s)
+walk-run (suc f) count cs n p k (further m) =
     let c = at-cell cs m in
     let q = cell (c .digit) (c .number) p in
-    let l = walkRun f count cs n q (left m) (c .left) in
-    let r = walkRun f count cs n p (right m) (c .right) in
-    let w = cond (atMost n q) l r in
+    let l = walk-run f count cs n q (left m) (c .left) in
+    let r = walk-run f count cs n p (right m) (c .right) in
+    let w = cond (is-at-most n q) l r in
     cond (ltb m count && leb (c .number) (length p) && leb (c .number) 23) w nothing
 
 -- From the root on, over a trie with at most 256 cells (R11.3).
-unfoldable pub walkOf : Trie → Str → Option (Str × Spot × ℕ)
-walkOf t n =
-    let w = walkRun (t .count) (t .count) (t .cells) n [] root (root-side (t .count) (t .first)) in
+unfoldable pub walk-of : Trie → Str → Option (Str × Spot × ℕ)
+walk-of t n =
+    let w = walk-run (t .count) (t .count) (t .cells) n [] root (root-side (t .count) (t .first)) in
     cond (leb (t .count) 256) w nothing
 
 -- The slot that a name leads to.
@@ -125,7 +125,7 @@ slot-reached nothing = 0
 slot-reached (some (p, k, s)) = s
 
 abbrev pub walk-trie : Trie → Str → ℕ
-walk-trie t n = slot-reached (walkOf t n)
+walk-trie t n = slot-reached (walk-of t n)
 
 -- Section 5 of the rules: a trie agrees with a sound file.
 pub record Agrees (fs : List Slot) (t : Trie) : Type 0 where
@@ -140,9 +140,9 @@ pub record Agrees (fs : List Slot) (t : Trie) : Type 0 where
   pub reads : Reads (take (t .count) (t .cells)) (root-side (t .count) (t .first)) tree visits
   pub once : (i : ℕ) → i < t .count → occ i visits ≡ 1
   -- R5.10: no number is greater than the length of its path.
-  pub numbers : Numbers [] tree
+  pub numbers : NumbersFit [] tree
   -- R5.11: the cells' strings are the strings of the file, in ascending order.
   pub only : (x : Str) → List·Memᴰ x (strings [] tree) → IsString fs x
   pub every : (x : Str) → IsString fs x → List·Memᴰ x (strings [] tree)
   -- R5.12: where each leaf leads. (The order of R5.11 is here, too.)
-  pub leading : Leaves (Leads (ranges fs)) none (strings [] tree) [] (leaves tree)
+  pub leading : LeafIntervals (Leads (ranges fs)) none (strings [] tree) [] (leaves tree)

@@ -1,12 +1,12 @@
 -- The first difference of a name and a bound, and the one bound of a range that a name breaks.
 use Rattle.model.proofs.Prelude.{Bool, List, _<_, _∙_, _≡_, _≤_, ap, arith, cond, decLt, false, getD, getD-take, length, refl, sym, true, ℕ}
 use Rattle.model.specs.Order.{Low, Str, _⊑_, _◁_, above, at, diff, least, none}
-use Rattle.model.specs.Names.{Bound, BoundLow, atMost, broken, limit}
+use Rattle.model.specs.Names.{Bound, BoundLow, broken, is-at-most, limit}
 use Rattle.model.specs.Entries.{Entry}
 use Rattle.model.specs.Files.{In, Well, range, used}
 use Rattle.model.specs.Deciding.{over}
 use Rattle.model.proofs.Order.{diff-apart, diff-le-right, le-trans, lt-le, take-diff}
-use Rattle.model.proofs.Names.{atMost-le, atMost-lt}
+use Rattle.model.proofs.Names.{is-at-most-le, is-at-most-lt}
 use Rattle.model.proofs.Files.{well-parts}
 use Rattle.promises.specs.Demand1.{Breaks, Differs, above-upper, within-lower}
 
@@ -51,8 +51,8 @@ breaks-out (above-upper p D) i = p (i .2)
 pub out-breaks : (b : ℕ) (l : Low) (u : Str) (es : List Entry) → Well b (used l u es) → (n : Str) → length n ≡ 24 → ¬ In (range l u) n → Breaks n l u (broken l u n)
 unfolding broken
 out-breaks b none u es w n h out = above-upper (λ p. out (tt, least, p)) (differs n u (omega (arith, well-parts b w .1 .fits)))
-out-breaks b (at l) u es w n h out = go (atMost n l) refl
+out-breaks b (at l) u es w n h out = go (is-at-most n l) refl
   where
-    go : (c : Bool) → atMost n l ≡ c → Breaks n (at l) u (cond c (diff n l) (diff n u))
-    go true e = within-lower (atMost-le n l e) (differs n l (omega (arith, low-fits (well-parts b w .0))))
-    go false e = above-upper (λ p. out (tt, above (atMost-lt n l e), p)) (differs n u (omega (arith, well-parts b w .1 .fits)))
+    go : (c : Bool) → is-at-most n l ≡ c → Breaks n (at l) u (cond c (diff n l) (diff n u))
+    go true e = within-lower (is-at-most-le n l e) (differs n l (omega (arith, low-fits (well-parts b w .0))))
+    go false e = above-upper (λ p. out (tt, above (is-at-most-lt n l e), p)) (differs n u (omega (arith, well-parts b w .1 .fits)))

@@ -1,13 +1,13 @@
 -- The entries to be listed are one list, and the buckets in range order give it.
 use Rattle.model.proofs.Prelude.{Bool, List, List·Memᴰ, List·Memᴰ·append-cases, List·Memᴰ·cases-cons, List·Memᴰ·head, List·Memᴰ·not-nil, List·Memᴰ·tail, Memᴰ·append-left, Memᴰ·append-right, [], _&&_, _++_, _∷_, _≡_, _⊎_, ap₂, cond, false, inl, inr, refl, sym, true, ℕ}
 use Rattle.model.specs.Order.{Low, Str, _⊑_, _⊴_, _◁_, at, below, top}
-use Rattle.model.specs.Names.{atMost}
+use Rattle.model.specs.Names.{is-at-most}
 use Rattle.model.specs.Entries.{Entry, Row, entry, no-entries}
 use Rattle.model.specs.Files.{Chain, IsUsed, Slot, Sound, Well, entries-of, free, head, last, lower-of, next, order-of, ranges, slot-at, upper-of, used}
-use Rattle.model.specs.Calls.{between, entriesIn}
+use Rattle.model.specs.Calls.{between, entries-in}
 use Rattle.model.specs.Deciding.{over}
 use Rattle.model.proofs.Order.{le-refl, le-trans, low-at, low-lower, lt-le}
-use Rattle.model.proofs.Names.{atMost-le, both-true, le-atMost}
+use Rattle.model.proofs.Names.{both-true, is-at-most-le, le-is-at-most}
 use Rattle.model.proofs.Files.{order-right, slot-row, well-head}
 use Rattle.promises.specs.Demand1.{Listing}
 
@@ -56,7 +56,7 @@ rows-same (entry {e = e} {es = es} x a c r) (entry {e = d} {es = ds} y b k s) f 
 -- Those between two names.
 module _ (low high : Str) where
   abbrev inside : Entry → Bool
-  inside d = atMost low (d .0) && atMost (d .0) high
+  inside d = is-at-most low (d .0) && is-at-most (d .0) high
 
   between-row : {l : Low} {u : Str} {es : List Entry} → Row l es u → Row l (between low high es) u
   unfolding between
@@ -78,9 +78,9 @@ module _ (low high : Str) where
       go : (t : Bool) → inside d ≡ t → (List·Memᴰ e (between low high es) → List·Memᴰ e es × (low ⊑ e .0) × (e .0 ⊑ high))
           → List·Memᴰ e (cond t (d ∷ between low high es) (between low high es)) → List·Memᴰ e (d ∷ es) × (low ⊑ e .0) × (e .0 ⊑ high)
       go true h f m =
-          let p = both-true (atMost low (d .0)) (atMost (d .0) high) h in
+          let p = both-true (is-at-most low (d .0)) (is-at-most (d .0) high) h in
           elim (List·Memᴰ·cases-cons m) [
-            | inl q ↦ (List·Memᴰ·head q, rw q (atMost-le low (d .0) (p .0)), rw q (atMost-le (d .0) high (p .1)))
+            | inl q ↦ (List·Memᴰ·head q, rw q (is-at-most-le low (d .0) (p .0)), rw q (is-at-most-le (d .0) high (p .1)))
             | inr k ↦ rest (f k)
           ]
       go false h f m = rest (f m)
@@ -89,7 +89,7 @@ module _ (low high : Str) where
   unfolding between
   between-every [] e m p q = absurd (List·Memᴰ·not-nil m)
   between-every (d ∷ es) e m p q = elim (List·Memᴰ·cases-cons m) [
-    | inl s ↦ rw (le-atMost low (d .0) (rw s at p), le-atMost (d .0) high (rw s at q)) (List·Memᴰ·head s)
+    | inl s ↦ rw (le-is-at-most low (d .0) (rw s at p), le-is-at-most (d .0) high (rw s at q)) (List·Memᴰ·head s)
     | inr k ↦ go (inside d) (between-every es e k p q)
   ]
     where
@@ -99,16 +99,16 @@ module _ (low high : Str) where
 
 -- Those of all buckets, in range order.
 module _ (fs : List Slot) where
-  in-only : (Bs : List ℕ) (e : Entry) → List·Memᴰ e (entriesIn fs Bs) → (B : ℕ) × List·Memᴰ e (entries-of (slot-at fs B))
-  unfolding entriesIn
+  in-only : (Bs : List ℕ) (e : Entry) → List·Memᴰ e (entries-in fs Bs) → (B : ℕ) × List·Memᴰ e (entries-of (slot-at fs B))
+  unfolding entries-in
   in-only [] e m = absurd (List·Memᴰ·not-nil m)
   in-only (B ∷ Bs) e m = elim (List·Memᴰ·append-cases (entries-of (slot-at fs B)) m) [ inl k ↦ (B, k) | inr k ↦ in-only Bs e k ]
 
-  in-every : (Bs : List ℕ) (e : Entry) {B : ℕ} → List·Memᴰ B Bs → List·Memᴰ e (entries-of (slot-at fs B)) → List·Memᴰ e (entriesIn fs Bs)
-  unfolding entriesIn
+  in-every : (Bs : List ℕ) (e : Entry) {B : ℕ} → List·Memᴰ B Bs → List·Memᴰ e (entries-of (slot-at fs B)) → List·Memᴰ e (entries-in fs Bs)
+  unfolding entries-in
   in-every [] e m k = absurd (List·Memᴰ·not-nil m)
   in-every (C ∷ Bs) e m k = elim (List·Memᴰ·cases-cons m) [
-    | inl q ↦ Memᴰ·append-left (entriesIn fs Bs) (rw q at k)
+    | inl q ↦ Memᴰ·append-left (entries-in fs Bs) (rw q at k)
     | inr n ↦ Memᴰ·append-right (entries-of (slot-at fs C)) (in-every Bs e n k)
   ]
 
@@ -121,18 +121,18 @@ module _ (fs : List Slot) where
         → Row (lower-of (head (slot-at fs B))) (entries-of (slot-at fs B) ++ gs) []
     bucket-row B h r = row-append (slot-row b (slot-at fs B) (well B) h) (low-at (well-head b (well B) h)) top r
 
-    chain-row : {l : Low} {Bs : List ℕ} → Chain (ranges fs) l Bs → Row l (entriesIn fs Bs) []
-    unfolding entriesIn
+    chain-row : {l : Low} {Bs : List ℕ} → Chain (ranges fs) l Bs → Row l (entries-in fs Bs) []
+    unfolding entries-in
     chain-row (last {B = B} h e f) = rw e at (bucket-row B h no-entries)
     chain-row (next {B = B} h e a f c) = rw e at (bucket-row B h (chain-row c))
 
 -- R9.8: list writes the entries in the range, ascending.
 module _ (b : ℕ) {fs : List Slot} (S : Sound b fs) (low high : Str) where
-  pub listed-right : Listing fs low high (between low high (entriesIn fs (order-of fs)))
+  pub listed-right : Listing fs low high (between low high (entries-in fs (order-of fs)))
   listed-right = rw (order-right b S) (record {
     ascending = between-row low high (chain-row fs b (S .well) (S .chain));
-    only = λ e m. let k = between-only low high (entriesIn fs (S .order)) e m in (in-only fs (S .order) e (k .0), k .1, k .2);
-    every = λ e B m p q. between-every low high (entriesIn fs (S .order)) e (in-every fs (S .order) e (S .listed B (holder-used fs (slot-at fs B) e m)) m) p q;
+    only = λ e m. let k = between-only low high (entries-in fs (S .order)) e m in (in-only fs (S .order) e (k .0), k .1, k .2);
+    every = λ e B m p q. between-every low high (entries-in fs (S .order)) e (in-every fs (S .order) e (S .listed B (holder-used fs (slot-at fs B) e m)) m) p q;
   })
 
 pub listings-same : {fs : List Slot} {low high : Str} {es gs : List Entry} → Listing fs low high es → Listing fs low high gs → es ≡ gs

@@ -6,25 +6,25 @@ use Rattle.model.specs.declared.ListAnswer.the-variants.{Listed, Refused as Lis
 use Rattle.model.specs.declared.RecoverAnswer.the-variants.{Freed, Nothing, Refused as RecoverRefused, Stopped as RecoverStopped}
 use Rattle.model.specs.declared.Trie.{Trie}
 use Rattle.model.specs.Order.{Low, Str, at}
-use Rattle.model.specs.Names.{filled, legalName}
+use Rattle.model.specs.Names.{filled, is-legal-name}
 use Rattle.model.specs.Entries.{Entry, insert}
 use Rattle.model.specs.Files.{Slot, Sound, free, order-of, string-count, strings-of}
 use Rattle.model.specs.Tries.{Agrees}
 use Rattle.model.specs.Places.{place-of}
 use Rattle.model.specs.Checks.{Kind, is-bad, is-cut, is-sound}
-use Rattle.model.specs.Format.{BadFile, Bytes, CutFile, SoundFile, checkFile, entriesBytes, entrySize, layoutOf, readFile, slotBytes, slotSize, storeBytes}
-use Rattle.model.specs.Calls.{ListDone, Looked, Recovered, between, entriesIn, fine, listEntries, listLooked, listOf, lookedBy, lookedOf, recoverBy, recoverOf, refusing}
+use Rattle.model.specs.Format.{AreBytes, BadFile, CutFile, SoundFile, bytes-of-entries, bytes-of-slot, check-file, entry-length, layout-of, read-file, slot-size, store-bytes}
+use Rattle.model.specs.Calls.{ListDone, Looked, RecoverDone, between, entries-in, fine, list-entries, list-of, list-on-looked, looked-at-by, looked-of, recover-by, recover-of, refusing}
 use Rattle.model.specs.Deciding.{over}
 use Rattle.model.proofs.Order.{Asc, end, le-refl, step}
-use Rattle.model.proofs.Names.{atMost-le, le-atMost, legal-legalFilled, legalFilled-legal, one-name}
+use Rattle.model.proofs.Names.{is-at-most-le, is-legal-filled-legal, le-is-at-most, legal-is-legal-filled, one-name}
 use Rattle.model.proofs.Strings.{asc-mem}
 use Rattle.model.proofs.Files.{cut-inside, strings-asc, strings-every, strings-only}
-use Rattle.model.proofs.Checks.{above-isAbove, check-bad, check-cut, check-right, check-sound, isAbove-above, isWell-well, sameStr-equal, sameStr-self, well-isWell}
-use Rattle.model.proofs.Agreeing.{agrees-isAgreeing, isAgreeing-agrees}
-use Rattle.model.proofs.CheckedFiles.{CheckedFile, checkFile-cut, checkFile-right, checkFile-sound, one-cut, sound-not-cut}
+use Rattle.model.proofs.Checks.{above-is-above, check-bad, check-cut, check-right, check-sound, is-above-above, is-well-formed-well, same-str-equal, same-str-self, well-is-well-formed}
+use Rattle.model.proofs.Agreeing.{agrees-is-agreeing, is-agreeing-agrees}
+use Rattle.model.proofs.CheckedFiles.{CheckedFile, check-file-cut, check-file-right, check-file-sound, one-cut, sound-not-cut}
 use Rattle.model.proofs.Changes.{second-sound}
 use Rattle.model.proofs.Places.{place-lt}
-use Rattle.model.proofs.Format.{headed-slots, readFile-read}
+use Rattle.model.proofs.Format.{headed-slots, read-file-read}
 use Rattle.model.proofs.Stores.{left-freed}
 use Rattle.promises.specs.Calls.{our-calls}
 use Rattle.promises.specs.Meanings.{AllStrings, Distinct, Meanings, OneFreed, Tests, Wrote}
@@ -33,8 +33,8 @@ use Rattle.promises.proofs.Leading.{Passed, looked-passed}
 use Rattle.promises.proofs.Listings.{listed-right}
 
 -- Check, of a file's bytes and of its slots.
-bad-file : (xs : List ℕ) → BadFile xs → checkFile xs ≡ is-bad
-bad-file xs B = go (checkFile xs) (checkFile-right xs)
+bad-file : (xs : List ℕ) → BadFile xs → check-file xs ≡ is-bad
+bad-file xs B = go (check-file xs) (check-file-right xs)
   where
     go : (k : Kind) → CheckedFile xs k → k ≡ is-bad
     go is-sound S = absurd (B .0 S)
@@ -44,70 +44,70 @@ bad-file xs B = go (checkFile xs) (checkFile-right xs)
 -- Recover.
 module _ (xs : List ℕ) (limit : ℕ) where
   -- What it does, by its limit and what the file is.
-  data Does : Recovered → Type 0 where
+  data Does : RecoverDone → Type 0 where
     too-high : 2 < limit → Does (record { answer = RecoverRefused WrongSize; file = xs })
     finds-bad : BadFile xs → Does (record { answer = RecoverRefused is-a-bad-file; file = xs })
     finds-sound : limit ≤ 2 → SoundFile xs → Does (record { answer = Nothing; file = xs })
     stops : {N : ℕ} → limit ≡ 0 → CutFile xs N → Does (record { answer = RecoverStopped 0; file = xs })
-    frees : {N : ℕ} → 1 ≤ limit → limit ≤ 2 → CutFile xs N → Does (record { answer = Freed N; file = storeBytes (layoutOf xs) N free xs })
+    frees : {N : ℕ} → 1 ≤ limit → limit ≤ 2 → CutFile xs N → Does (record { answer = Freed N; file = store-bytes (layout-of xs) N free xs })
 
-  does : Does (recoverOf xs limit)
-  unfolding recoverOf recoverBy
+  does : Does (recover-of xs limit)
+  unfolding recover-of recover-by
   does = go (ltb 2 limit) refl
     where
       cut : (N : ℕ) → CutFile xs N → limit ≤ 2 → (c : Bool) → ltb limit 1 ≡ c
-          → Does (cond c (record { answer = RecoverStopped 0; file = xs }) (record { answer = Freed N; file = storeBytes (layoutOf xs) N free xs }))
+          → Does (cond c (record { answer = RecoverStopped 0; file = xs }) (record { answer = Freed N; file = store-bytes (layout-of xs) N free xs }))
       cut N C h true e = stops (omega (arith, ltb-true limit 1 e)) C
       cut N C h false e = frees (omega (arith, ltb-false limit 1 e)) h C
 
-      by : (k : Kind) → CheckedFile xs k → limit ≤ 2 → Does (recoverBy xs limit k)
+      by : (k : Kind) → CheckedFile xs k → limit ≤ 2 → Does (recover-by xs limit k)
       by is-bad B h = finds-bad B
       by is-sound S h = finds-sound h S
       by (is-cut N) C h = cut N C h (ltb limit 1) refl
 
-      go : (c : Bool) → ltb 2 limit ≡ c → Does (cond c (record { answer = RecoverRefused WrongSize; file = xs }) (recoverBy xs limit (checkFile xs)))
+      go : (c : Bool) → ltb 2 limit ≡ c → Does (cond c (record { answer = RecoverRefused WrongSize; file = xs }) (recover-by xs limit (check-file xs)))
       go true e = too-high (ltb-true 2 limit e)
-      go false e = by (checkFile xs) (checkFile-right xs) (omega (arith, ltb-false 2 limit e))
+      go false e = by (check-file xs) (check-file-right xs) (omega (arith, ltb-false 2 limit e))
 
-  says-freed : (N : ℕ) → (recoverOf xs limit .answer ≡ Freed N → (1 ≤ limit) × (limit ≤ 2) × CutFile xs N)
-      × ((1 ≤ limit) × (limit ≤ 2) × CutFile xs N → recoverOf xs limit .answer ≡ Freed N)
+  says-freed : (N : ℕ) → (recover-of xs limit .answer ≡ Freed N → (1 ≤ limit) × (limit ≤ 2) × CutFile xs N)
+      × ((1 ≤ limit) × (limit ≤ 2) × CutFile xs N → recover-of xs limit .answer ≡ Freed N)
   says-freed N = (λ e. there does e, λ h. back does h)
     where
-      there : {d : Recovered} → Does d → d .answer ≡ Freed N → (1 ≤ limit) × (limit ≤ 2) × CutFile xs N
+      there : {d : RecoverDone} → Does d → d .answer ≡ Freed N → (1 ≤ limit) × (limit ≤ 2) × CutFile xs N
       there (too-high h) e = clash cc
       there (finds-bad B) e = clash cc
       there (finds-sound h S) e = clash cc
       there (stops z C) e = clash cc
       there (frees {N = M} h k C) e = let q : M ≡ N = cc in (h, k, rw q at C)
 
-      back : {d : Recovered} → Does d → (1 ≤ limit) × (limit ≤ 2) × CutFile xs N → d .answer ≡ Freed N
+      back : {d : RecoverDone} → Does d → (1 ≤ limit) × (limit ≤ 2) × CutFile xs N → d .answer ≡ Freed N
       back (too-high h) (a, c, C) = absurd (omega arith)
       back (finds-bad B) (a, c, C) = absurd (B .1 N C)
       back (finds-sound h S) (a, c, C) = absurd (sound-not-cut S C)
       back (stops z D) (a, c, C) = absurd (omega arith)
       back (frees h k D) (a, c, C) = ap Freed (one-cut D C)
 
-  says-nothing : (recoverOf xs limit .answer ≡ Nothing → (limit ≤ 2) × SoundFile xs) × ((limit ≤ 2) × SoundFile xs → recoverOf xs limit .answer ≡ Nothing)
+  says-nothing : (recover-of xs limit .answer ≡ Nothing → (limit ≤ 2) × SoundFile xs) × ((limit ≤ 2) × SoundFile xs → recover-of xs limit .answer ≡ Nothing)
   says-nothing = (λ e. there does e, λ h. back does h)
     where
-      there : {d : Recovered} → Does d → d .answer ≡ Nothing → (limit ≤ 2) × SoundFile xs
+      there : {d : RecoverDone} → Does d → d .answer ≡ Nothing → (limit ≤ 2) × SoundFile xs
       there (too-high h) e = clash cc
       there (finds-bad B) e = clash cc
       there (finds-sound h S) e = (h, S)
       there (stops z C) e = clash cc
       there (frees h k C) e = clash cc
 
-      back : {d : Recovered} → Does d → (limit ≤ 2) × SoundFile xs → d .answer ≡ Nothing
+      back : {d : RecoverDone} → Does d → (limit ≤ 2) × SoundFile xs → d .answer ≡ Nothing
       back (too-high h) (c, S) = absurd (omega arith)
       back (finds-bad B) (c, S) = absurd (B .0 S)
       back (finds-sound h S) (c, T) = refl
       back (stops z C) (c, S) = absurd (sound-not-cut S C)
       back (frees h k C) (c, S) = absurd (sound-not-cut S C)
 
-  leaves : recoverOf xs limit .answer ≡ Nothing → recoverOf xs limit .file ≡ xs
+  leaves : recover-of xs limit .answer ≡ Nothing → recover-of xs limit .file ≡ xs
   leaves e = go does e
     where
-      go : {d : Recovered} → Does d → d .answer ≡ Nothing → d .file ≡ xs
+      go : {d : RecoverDone} → Does d → d .answer ≡ Nothing → d .file ≡ xs
       go (too-high h) e = refl
       go (finds-bad B) e = refl
       go (finds-sound h S) e = refl
@@ -115,28 +115,28 @@ module _ (xs : List ℕ) (limit : ℕ) where
       go (frees h k C) e = clash cc
 
   -- What it leaves is the store that frees N.
-  stored : (N : ℕ) → recoverOf xs limit .answer ≡ Freed N → CutFile xs N × (recoverOf xs limit .file ≡ storeBytes (layoutOf xs) N free xs)
+  stored : (N : ℕ) → recover-of xs limit .answer ≡ Freed N → CutFile xs N × (recover-of xs limit .file ≡ store-bytes (layout-of xs) N free xs)
   stored N e = go does e
     where
-      go : {d : Recovered} → Does d → d .answer ≡ Freed N → CutFile xs N × (d .file ≡ storeBytes (layoutOf xs) N free xs)
+      go : {d : RecoverDone} → Does d → d .answer ≡ Freed N → CutFile xs N × (d .file ≡ store-bytes (layout-of xs) N free xs)
       go (too-high h) e = clash cc
       go (finds-bad B) e = clash cc
       go (finds-sound h S) e = clash cc
       go (stops z C) e = clash cc
       go (frees {N = M} h k C) e = let q : M ≡ N = cc in (rw q at C, rw q)
 
-  one-freed : (N : ℕ) → recoverOf xs limit .answer ≡ Freed N → OneFreed xs N (recoverOf xs limit .file)
-  unfolding storeBytes slotBytes
+  one-freed : (N : ℕ) → recover-of xs limit .answer ≡ Freed N → OneFreed xs N (recover-of xs limit .file)
+  unfolding store-bytes bytes-of-slot
   one-freed N e =
       let s = stored N e in
       let K = s .0 in
-      let z = slotSize (layoutOf xs) in
+      let z = slot-size (layout-of xs) in
       let zeros : List ℕ = replicate z 0 in
       let w : take z zeros ≡ zeros = take-all z zeros (omega (arith, length-replicate {A = ℕ} z 0)) in
-      record { inside = rw (headed-slots (readFile-read xs (K .is) .headed)) (cut-inside (K .layout .b) (K .cut)); is = s .1 ∙ rw w }
+      record { inside = rw (headed-slots (read-file-read xs (K .is) .headed)) (cut-inside (K .layout .b) (K .cut)); is = s .1 ∙ rw w }
 
-  freed-slot : (N : ℕ) → Bytes xs → recoverOf xs limit .answer ≡ Freed N → (K : CutFile xs N)
-      → readFile (recoverOf xs limit .file) ≡ some (K .layout, set (K .slots) N free)
+  freed-slot : (N : ℕ) → AreBytes xs → recover-of xs limit .answer ≡ Freed N → (K : CutFile xs N)
+      → read-file (recover-of xs limit .file) ≡ some (K .layout, set (K .slots) N free)
   freed-slot N bytes e K = rw (stored N e .1) (left-freed (K .layout) xs bytes (K .is) (K .cut) .is)
 
 -- List.
@@ -144,12 +144,12 @@ module _ (xs : List ℕ) (t : Trie) (low high out : List ℕ) (count : ℕ) wher
   abbrev Writes : ListDone → Type 0
   Writes d = d .answer ≡ Listed count → Wrote xs low high out count (d .output)
 
-  writes : Writes (listOf xs t low high out)
-  unfolding listOf listLooked listEntries
-  writes = go (legalName low && legalName high)
+  writes : Writes (list-of xs t low high out)
+  unfolding list-of list-on-looked list-entries
+  writes = go (is-legal-name low && is-legal-name high)
     where
-      by : (y : Layout) (fs : List Slot) → Passed xs t y fs → (es : List Entry) → es ≡ between (filled low) (filled high) (entriesIn fs (order-of fs)) → (c : Bool) → ltb (length out) (entrySize y * length es) ≡ c
-          → Writes (cond c (record { answer = ListRefused ShortOutput; output = out }) (record { answer = Listed (length es); output = entriesBytes (entrySize y) es ++ drop (entrySize y * length es) out }))
+      by : (y : Layout) (fs : List Slot) → Passed xs t y fs → (es : List Entry) → es ≡ between (filled low) (filled high) (entries-in fs (order-of fs)) → (c : Bool) → ltb (length out) (entry-length y * length es) ≡ c
+          → Writes (cond c (record { answer = ListRefused ShortOutput; output = out }) (record { answer = Listed (length es); output = bytes-of-entries (entry-length y) es ++ drop (entry-length y * length es) out }))
       by y fs p es i true h e = clash cc
       by y fs p es i false h e =
           let q : length es ≡ count = cc in
@@ -158,25 +158,25 @@ module _ (xs : List ℕ) (t : Trie) (low high out : List ℕ) (count : ℕ) wher
             listed = es;
             listing = rw i (listed-right (y .b) (p .sound) (filled low) (filled high));
             number = sym q;
-            fits = rw q at (ltb-false (length out) (entrySize y * length es) h);
+            fits = rw q at (ltb-false (length out) (entry-length y * length es) h);
             written = rw q;
           }
 
-      looked : (l : Looked) → lookedOf xs t ≡ l → Writes (listLooked (filled low) (filled high) out l)
+      looked : (l : Looked) → looked-of xs t ≡ l → Writes (list-on-looked (filled low) (filled high) out l)
       looked (refusing c) e q = clash cc
       looked (fine y fs) e q =
-          let es = between (filled low) (filled high) (entriesIn fs (order-of fs)) in
-          by y fs (looked-passed xs t y fs e) es refl (ltb (length out) (entrySize y * length es)) refl q
+          let es = between (filled low) (filled high) (entries-in fs (order-of fs)) in
+          by y fs (looked-passed xs t y fs e) es refl (ltb (length out) (entry-length y * length es)) refl q
 
-      go : (g : Bool) → Writes (cond g (listLooked (filled low) (filled high) out (lookedOf xs t)) (record { answer = ListRefused IllegalName; output = out }))
-      go true q = looked (lookedOf xs t) refl q
+      go : (g : Bool) → Writes (cond g (list-on-looked (filled low) (filled high) out (looked-of xs t)) (record { answer = ListRefused IllegalName; output = out }))
+      go true q = looked (looked-of xs t) refl q
       go false q = clash cc
 
 pub meanings : Meanings our-calls
 meanings = record {
-  says-sound = λ xs. (λ e. rw e at (checkFile-right xs), checkFile-sound xs);
-  says-cut = λ xs N. (λ e. rw e at (checkFile-right xs), checkFile-cut xs);
-  says-bad = λ xs. (λ e. rw e at (checkFile-right xs), bad-file xs);
+  says-sound = λ xs. (λ e. rw e at (check-file-right xs), check-file-sound xs);
+  says-cut = λ xs N. (λ e. rw e at (check-file-right xs), check-file-cut xs);
+  says-bad = λ xs. (λ e. rw e at (check-file-right xs), bad-file xs);
   says-freed = says-freed;
   frees = one-freed;
   frees-slot = freed-slot;
@@ -186,10 +186,10 @@ meanings = record {
 }
 
 -- The checks of put, remove and list.
-passed-looked : (xs : List ℕ) (t : Trie) (y : Layout) (fs : List Slot) → readFile xs ≡ some (y, fs) → Sound (y .b) fs → Agrees fs t → lookedOf xs t ≡ fine y fs
-unfolding lookedOf lookedBy
+passed-looked : (xs : List ℕ) (t : Trie) (y : Layout) (fs : List Slot) → read-file xs ≡ some (y, fs) → Sound (y .b) fs → Agrees fs t → looked-of xs t ≡ fine y fs
+unfolding looked-of looked-at-by
 passed-looked xs t y fs e S A =
-    rw (checkFile-sound xs (record { layout = y; slots = fs; is = e; sound = S }), e, agrees-isAgreeing (y .b) S A)
+    rw (check-file-sound xs (record { layout = y; slots = fs; is = e; sound = S }), e, agrees-is-agreeing (y .b) S A)
 
 -- Ascending strings are distinct.
 distinct : {l : Low} {u : Str} (ss : List Str) → Asc l ss u → Distinct ss
@@ -229,16 +229,16 @@ pub tests : Tests
 unfolding string-count
 tests = record {
   legal = λ name. (legal-name name, name-legal);
-  legal-filled = λ n. (legalFilled-legal n, legal-legalFilled);
+  legal-filled = λ n. (is-legal-filled-legal n, legal-is-legal-filled);
   one-name = λ m n f g. one-name m n (f .most) (g .most) (f .least) (g .least) (f .last) (g .last);
-  at-most = λ x y. (atMost-le x y, le-atMost x y);
-  above = λ l x. (isAbove-above l x, above-isAbove);
-  same = λ x y. (sameStr-equal x y, λ e. rw e (sameStr-self y));
-  well = λ b x. (isWell-well b x, well-isWell b);
+  at-most = λ x y. (is-at-most-le x y, le-is-at-most x y);
+  above = λ l x. (is-above-above l x, above-is-above);
+  same = λ x y. (same-str-equal x y, λ e. rw e (same-str-self y));
+  well = λ b x. (is-well-formed-well b x, well-is-well-formed b);
   sound = λ b fs. (λ e. rw e at (check-right b fs), check-sound b fs);
   cut = λ b fs N. (λ e. rw e at (check-right b fs), check-cut b fs);
   bad = λ b fs. (λ e. rw e at (check-right b fs), check-bad b fs);
-  agreeing = λ b fs t S. (isAgreeing-agrees b S t, agrees-isAgreeing b S);
+  agreeing = λ b fs t S. (is-agreeing-agrees b S t, agrees-is-agreeing b S);
   passes = λ xs t y fs. (λ e. let p = looked-passed xs t y fs e in (p .is, p .sound, p .agrees), λ h. passed-looked xs t y fs (h .0) (h .1) (h .2));
   listable = λ b fs S. (strings-of fs, all-strings b fs S);
   counted = λ b fs S ss A.

@@ -6,26 +6,26 @@ use Rattle.model.specs.Entries.{Entry}
 use Rattle.model.specs.Files.{Slot, Sound, string-count}
 use Rattle.model.specs.Changes.{Map, Means, Request, Result, Store, call, put, split-of, split-string, stores}
 use Rattle.model.specs.Places.{digits-at, place-of}
-use Rattle.model.specs.Format.{isOffered, version-1, version-2, version-3}
+use Rattle.model.specs.Format.{is-offered, version-1, version-2, version-3}
 use Rattle.model.proofs.Names.{both-true}
 use Rattle.model.proofs.Changes.{Change, Fine, change-made, change-stopped}
 use Rattle.model.proofs.Calls.{Answered, is-denied, is-made, put-right}
-use Rattle.model.proofs.Stores.{trieAfter-is}
+use Rattle.model.proofs.Stores.{trie-after-put-is}
 use Rattle.model.proofs.GrownTries.{change-agrees}
 use Rattle.model.proofs.Places.{place-first, place-lt, place-not-after, place-shortest, place-wins, positions-m, positions-three, positions-two, wins-one}
 use Rattle.promises.specs.Separators.{PutLeaves, Separators}
 
 -- A version that is offered is one of the three.
-offered-one : (v : ℕ) → isOffered v ≡ true → (v ≡ 1) ⊎ (v ≡ 2) ⊎ (v ≡ 3)
-unfolding isOffered
+offered-one : (v : ℕ) → is-offered v ≡ true → (v ≡ 1) ⊎ (v ≡ 2) ⊎ (v ≡ 3)
+unfolding is-offered
 offered-one v e =
     let p = both-true (leb 1 v) (leb v 3) e in
     let least : 1 ≤ v = leb-true 1 v (p .0) in
     let most : v ≤ 3 = leb-true v 3 (p .1) in
     elim (ℕ-discrete v 1) [ yes i ↦ inl i | no n ↦ elim (ℕ-discrete v 2) [ yes j ↦ inr (inl j) | no m ↦ inr (inr (omega (arith, least, most, n, m))) ] ]
 
-one-offered : (v : ℕ) → (v ≡ 1) ⊎ (v ≡ 2) ⊎ (v ≡ 3) → isOffered v ≡ true
-unfolding isOffered
+one-offered : (v : ℕ) → (v ≡ 1) ⊎ (v ≡ 2) ⊎ (v ≡ 3) → is-offered v ≡ true
+unfolding is-offered
 one-offered v (inl e) = rw e refl
 one-offered v (inr (inl e)) = rw e refl
 one-offered v (inr (inr e)) = rw e refl
@@ -47,6 +47,7 @@ made-change (is-denied d) e = clash cc
 leaves : (b : ℕ) (place : List Entry → ℕ) → ((ws : List Entry) → place ws < b)
     → (fs : List Slot) (m : Map) → Sound b fs → Means fs m → string-count fs ≤ 256
     → (n : Str) (v : ℕ) → Legal n → (ss : List Store) → call b place fs (put n v) ≡ stores ss → PutLeaves b place fs m n v ss
+unfolding counts
 leaves b place lt fs m S M few n v g ss e =
     let c = made-change (put-right b place fs S n v g) e in
     let before : Fine b fs m = record { sound = S; means = M; few = few } in
@@ -55,8 +56,8 @@ leaves b place lt fs m S M few n v g ss e =
       sound = F .sound;
       means = F .means;
       few = F .few;
-      stopped = change-stopped b place lt before c;
-      agrees = λ t G. rw (trieAfter-is b place n v c t) (change-agrees b place lt S c G);
+      stopped = λ k h. elim (change-stopped b place lt before c k h) [ inl x ↦ inl (x .0) | inr x ↦ inr x ];
+      agrees = λ t G. rw (trie-after-put-is b place n v c t) (change-agrees b place lt S c G);
     }
 
 -- Version 3 splits as version 2.

@@ -1,40 +1,40 @@
 -- The situations of section 14 of the rules hold: both sides compute to the same.
 use Rattle.model.proofs.Prelude.{List, _≡_, decLe, decLt, refl, true, ℕ, ℕ-discrete}
 use Rattle.model.specs.declared.Trie.{Trie}
-use Rattle.model.specs.Names.{areDigits, atMost, broken, filled, legalBound, legalFilled, legalName, notGreater, smaller, splitFrom, splitString, within}
+use Rattle.model.specs.Names.{are-digits, broken, filled, is-at-most, is-legal-bound, is-legal-filled, is-legal-name, not-greater, smaller, split-beginning, split-tried, within}
 use Rattle.model.specs.Entries.{chosen, find, insert, keep}
 use Rattle.model.specs.Files.{Slot, first, order-from, starts?, string-count}
-use Rattle.model.specs.Tries.{Agrees, walkOf, walkRun}
-use Rattle.model.specs.Changes.{call, free?, holds?, put-in}
-use Rattle.model.specs.Checks.{allWell, check, cutBelow, hasTwin, isAbove, isChain, isCopied, isCutBy, isIn, isListed, isRow, isSound, isTwin, isUsed, isWell, legalLow, oneMore, sameEntries, sameLow, sameStr}
-use Rattle.model.specs.Agreeing.{areNumbers, areZeroCells, eachOnce, isAgreeing, isTrieOf, joinTrees, readTree, sameSide, sameStrs, slotsBetween, times}
-use Rattle.model.specs.Format.{entriesBytes, entriesOf, entrySize, fileBytes, fileSize, headerBytes, headerOf, isOffered, layoutOf, legalSizes, littleEndian, lowDigits, lowOf, padded, readSlot, readUsed, rightHeader, slotAt, slotBytes, slotSize, slotsBytes, usedOf, valueOf}
+use Rattle.model.specs.Tries.{Agrees, walk-of, walk-run}
+use Rattle.model.specs.Changes.{call, counts, free?, holds?, put-in}
+use Rattle.model.specs.Checks.{all-well, are-same-entries, check, cut-among, has-one-more, has-twin, is-above, is-chain, is-copied, is-cut-by, is-in, is-legal-low, is-listed, is-row, is-sound-file, is-twin, is-used-slot, is-well-formed, same-low, same-str}
+use Rattle.model.specs.Agreeing.{are-numbers, are-zero-cells, is-agreeing, is-each-once, is-trie-of, join-trees, read-tree, same-side, same-strs, slots-between, times}
+use Rattle.model.specs.Format.{are-legal-sizes, bytes-at-slot, bytes-of-entries, bytes-of-slot, digits-of-low, entry-length, file-bytes, file-size, header-bytes, header-of, is-offered, is-right-header, layout-of, little-endian, low-of, padded, read-entries, read-slot, read-used-slot, slot-size, slots-bytes, used-of, value-of}
 use Rattle.model.specs.Places.{only-from, place-of, positions, shortest, winner}
-use Rattle.model.specs.Calls.{arrivedAnswer, headedAnswer, lookUpOf, slotAnswer, trieAfter}
+use Rattle.model.specs.Calls.{arrived-answer, headed-answer, look-up-of, slot-answer, trie-after-put}
 use Rattle.model.specs.Deciding.{le?, low-same?, low?, not?, str?}
-use Rattle.model.proofs.Checks.{isSound-sound}
-use Rattle.model.proofs.Agreeing.{isAgreeing-agrees}
+use Rattle.model.proofs.Checks.{is-sound-file-sound}
+use Rattle.model.proofs.Agreeing.{is-agreeing-agrees}
 use Rattle.promises.specs.Texts.{bytes}
 use Rattle.promises.specs.Growing.{after-put, puts}
 use Rattle.promises.specs.Situations.{Situations, entries, five-cells, names, rates-slots, razz-slots, rebuilt-cells, rz-cells, rz-slots, shorter-cells, shorter-slots, words-cells, words-slots}
 use Rattle.promises.specs.Histories.{act, answered, recovered, run}
 
 -- The tests say it, so it is so.
-agreed : (b : ℕ) (fs : List Slot) (t : Trie) → isSound b fs ≡ true → isAgreeing fs t ≡ true → Agrees fs t
-agreed b fs t sound e = isAgreeing-agrees b (isSound-sound b fs sound) t e
+agreed : (b : ℕ) (fs : List Slot) (t : Trie) → is-sound-file b fs ≡ true → is-agreeing fs t ≡ true → Agrees fs t
+agreed b fs t sound e = is-agreeing-agrees b (is-sound-file-sound b fs sound) t e
 
 pub situations : Situations
 unfolding
-    bytes filled names entries legalName areDigits within notGreater splitString splitFrom smaller
-    puts after-put trieAfter walkRun walkOf place-of winner shortest positions only-from
+    bytes filled names entries is-legal-name are-digits within not-greater split-beginning split-tried smaller
+    puts after-put trie-after-put walk-run walk-of place-of winner shortest positions only-from
     call put-in holds? free? first chosen insert find keep not? le? str? low? decLe decLt ℕ-discrete
     low-same? starts? order-from string-count
-    run act answered recovered check cutBelow isCutBy hasTwin isTwin isCopied oneMore sameEntries
-    isSound allWell isWell isRow isChain isListed isIn isUsed isAbove legalLow legalBound legalFilled atMost sameStr sameLow
-    isAgreeing isTrieOf readTree joinTrees areZeroCells sameSide eachOnce times areNumbers sameStrs slotsBetween
-    isOffered entrySize slotSize fileSize legalSizes headerBytes padded littleEndian valueOf entriesBytes lowDigits lowOf
-    slotBytes slotsBytes fileBytes entriesOf usedOf readUsed readSlot slotAt rightHeader layoutOf headerOf
-    lookUpOf headedAnswer arrivedAnswer slotAnswer broken
+    run act answered counts recovered check cut-among is-cut-by has-twin is-twin is-copied has-one-more are-same-entries
+    is-sound-file all-well is-well-formed is-row is-chain is-listed is-in is-used-slot is-above is-legal-low is-legal-bound is-legal-filled is-at-most same-str same-low
+    is-agreeing is-trie-of read-tree join-trees are-zero-cells same-side is-each-once times are-numbers same-strs slots-between
+    is-offered entry-length slot-size file-size are-legal-sizes header-bytes padded little-endian value-of bytes-of-entries digits-of-low low-of
+    bytes-of-slot slots-bytes file-bytes read-entries used-of read-used-slot read-slot bytes-at-slot is-right-header layout-of header-of
+    look-up-of headed-answer arrived-answer slot-answer broken
 situations = record {
   legals = record { longest = refl; empty = refl; too-long = refl; highest = refl; too-high = refl; blank = refl; blank-inside = refl; blank-first = refl; blank-last = refl };
   withins = record { i-in-i-blank = refl; in-not-in-i-blank = refl; in-in-i = refl };

@@ -10,26 +10,26 @@ use Rattle.model.specs.declared.TrieAnswer.the-variants.{Given, Refused as Trie
 use Rattle.model.specs.declared.ListAnswer.the-variants.{Listed, Refused as ListRefused}
 use Rattle.model.specs.declared.LookUpAnswer.{LookUpAnswer}
 use Rattle.model.specs.declared.RecoverAnswer.{RecoverAnswer}
-use Rattle.model.specs.Tries.{walk-trie, walkOf, walkRun}
-use Rattle.model.proofs.Agreeing.{agrees-isAgreeing}
+use Rattle.model.specs.Tries.{walk-of, walk-run, walk-trie}
+use Rattle.model.proofs.Agreeing.{agrees-is-agreeing}
 use Rattle.model.proofs.Created.{created-left}
-use Rattle.model.proofs.Names.{legalName-legal, never-both}
-use Rattle.model.proofs.Format.{legalSizes-sizes}
+use Rattle.model.proofs.Names.{is-legal-name-legal, never-both}
+use Rattle.model.proofs.Format.{are-legal-sizes-sizes}
 use Rattle.model.specs.declared.LookUpAnswer.the-variants.{Absent as NotFound, Found, Refused as LookUpRefused}
 use Rattle.model.specs.declared.PutAnswer.the-variants.{Added, Refused as PutRefused, Stopped as PutStopped}
 use Rattle.model.specs.declared.RecoverAnswer.the-variants.{Freed, Nothing, Refused as RecoverRefused}
 use Rattle.model.specs.declared.RemoveAnswer.the-variants.{Absent as NotHeld, Refused as RemoveRefused}
 use Rattle.model.specs.Order.{Str}
-use Rattle.model.specs.Names.{areDigits, atMost, filled, legalBound, legalFilled, legalName, notGreater, smaller, splitFrom, splitString, within}
-use Rattle.model.specs.Entries.{chosen, contentOf, find, insert, isOlder, keep, runPart, valuePart}
+use Rattle.model.specs.Names.{are-digits, filled, is-at-most, is-legal-bound, is-legal-filled, is-legal-name, not-greater, smaller, split-beginning, split-tried, within}
+use Rattle.model.specs.Entries.{chosen, content-from, find, insert, is-older, keep, run-of-content, value-of-content}
 use Rattle.model.specs.Files.{Slot, created, entries-of, first, free, order-from, slot-at, starts?, string-count}
 use Rattle.model.specs.Changes.{Map, Result, call, free?, holds?, put, put-in, refuse, remove, remove-in, split-of, split-string, stores, stores-if}
-use Rattle.model.specs.Checks.{allWell, check, cutBelow, hasTwin, is-bad, isAbove, isChain, isCopied, isCutBy, isIn, isListed, isRow, isSound, isTwin, isUsed, isWell, legalLow, oneMore, sameEntries, sameLow, sameStr}
-use Rattle.model.specs.Agreeing.{areNumbers, areZeroCells, eachOnce, isAgreeing, isTrieOf, joinTrees, readTree, sameSide, sameStrs, slotsBetween, times}
-use Rattle.model.specs.Format.{checkFile, checkRead, entriesBytes, entriesOf, entryBytes, entrySize, fileBytes, fileSize, headerBytes, headerOf, isOffered, joined, keptRun, laidOut, layoutOf, legalSizes, littleEndian, lowDigits, lowOf, padded, readBy, readFile, readSlot, readSlots, readUsed, rightHeader, slotAt, slotBytes, slotSize, slotsBytes, storeBytes, usedOf, valueOf, version-1}
+use Rattle.model.specs.Checks.{all-well, are-same-entries, check, cut-among, has-one-more, has-twin, is-above, is-bad, is-chain, is-copied, is-cut-by, is-in, is-legal-low, is-listed, is-row, is-sound-file, is-twin, is-used-slot, is-well-formed, same-low, same-str}
+use Rattle.model.specs.Agreeing.{are-numbers, are-zero-cells, is-agreeing, is-each-once, is-trie-of, join-trees, read-tree, same-side, same-strs, slots-between, times}
+use Rattle.model.specs.Format.{are-legal-sizes, bytes-at-slot, bytes-of-entries, bytes-of-entry, bytes-of-slot, check-file, check-read, digits-of-low, entry-length, file-bytes, file-size, header-bytes, header-of, is-offered, is-right-header, joined, kept-run, laid-out, layout-of, little-endian, low-of, padded, read-by, read-entries, read-file, read-slot, read-slots, read-used-slot, slot-size, slots-bytes, store-bytes, used-of, value-of, version-1}
 use Rattle.model.specs.Places.{place-of}
 use Rattle.model.specs.Answers.{stale-trie}
-use Rattle.model.specs.Calls.{Looked, PutDone, arrivedAnswer, between, createOf, entriesIn, fine, headedAnswer, held, heldAnswer, listEntries, listLooked, listOf, lookUpOf, lookedBy, lookedOf, new-trie, putAnswer, putLooked, putMade, putOf, putTakes, rebuildBy, rebuildOf, recoverBy, recoverOf, refusalOf, refusing, removeLooked, removeMade, removeOf, slotAnswer, storesBytes, trieAfter}
+use Rattle.model.specs.Calls.{Looked, PutDone, arrived-answer, between, create-of, entries-in, fine, headed-answer, held, held-answer, list-entries, list-of, list-on-looked, look-up-of, looked-at-by, looked-of, new-trie, put-answer, put-by-stores, put-of, put-on-looked, put-takes, rebuild-by, rebuild-of, recover-by, recover-of, refusal-of, refusing, remove-by-stores, remove-of, remove-on-looked, slot-answer, stores-bytes, trie-after-put}
 use Rattle.model.specs.Deciding.{le?, low-same?, low?, not?, str?}
 use Rattle.model.proofs.Calls.{Answered, is-denied, is-made, put-right, put-taken}
 use Rattle.promises.specs.Texts.{bytes, name}
@@ -70,11 +70,11 @@ abbrev put-c-stopped : Event
 put-c-stopped = put-event (bytes "c") 3 (omega arith) 0 (omega arith) 1
 
 abbrev new-file : List ℕ
-new-file = fileBytes (version-1 2) (created 2)
+new-file = file-bytes (version-1 2) (created 2)
 
 -- The wrong versions' states: what the new file is, and what is left after a, after a and b, and after a put that is stopped.
 abbrev new-state : State
-new-state = start (createOf buffer 1 2 2)
+new-state = start (create-of buffer 1 2 2)
 
 abbrev one-put : Calls → State
 one-put C = after C (put-a ∷ []) new-state
@@ -97,67 +97,67 @@ rebuilt-look-up C s w = C .look-up (file-of s) (C .rebuild (file-of s) .trie) (b
 
 -- What computes.
 record Computed : Type 0 where
-  create-given : createOf buffer 1 2 2 .answer ≡ Given
-  recover-nothing : recoverOf new-file 2 .answer ≡ Nothing
-  rebuild-given : rebuildOf new-file .answer ≡ Given
-  look-up-absent : lookUpOf new-file new-trie (bytes "a") ≡ NotFound
-  put-added : putOf new-file new-trie (bytes "a") 1 0 2 .answer ≡ Added
-  remove-absent : removeOf new-file new-trie (bytes "a") 2 .answer ≡ NotHeld
-  list-none : listOf new-file new-trie (bytes "a") (bytes "b") [] .answer ≡ Listed 0
-  created-file : createOf buffer 1 2 2 .file ≡ new-file
-  created-trie : createOf buffer 1 2 2 .trie ≡ new-trie
-  new-sizes : legalSizes (version-1 2) 2 ≡ true
-  a-legal : legalName (bytes "a") ≡ true
-  c-legal : legalName (bytes "c") ≡ true
-  put-found : lookUpOf (putOf new-file new-trie (bytes "a") 1 0 2 .file) (putOf new-file new-trie (bytes "a") 1 0 2 .trie) (bytes "a") ≡ Found 1 0
+  create-given : create-of buffer 1 2 2 .answer ≡ Given
+  recover-nothing : recover-of new-file 2 .answer ≡ Nothing
+  rebuild-given : rebuild-of new-file .answer ≡ Given
+  look-up-absent : look-up-of new-file new-trie (bytes "a") ≡ NotFound
+  put-added : put-of new-file new-trie (bytes "a") 1 0 2 .answer ≡ Added
+  remove-absent : remove-of new-file new-trie (bytes "a") 2 .answer ≡ NotHeld
+  list-none : list-of new-file new-trie (bytes "a") (bytes "b") [] .answer ≡ Listed 0
+  created-file : create-of buffer 1 2 2 .file ≡ new-file
+  created-trie : create-of buffer 1 2 2 .trie ≡ new-trie
+  new-sizes : are-legal-sizes (version-1 2) 2 ≡ true
+  a-legal : is-legal-name (bytes "a") ≡ true
+  c-legal : is-legal-name (bytes "c") ≡ true
+  put-found : look-up-of (put-of new-file new-trie (bytes "a") 1 0 2 .file) (put-of new-file new-trie (bytes "a") 1 0 2 .trie) (bytes "a") ≡ Found 1 0
   nothing-recovered : stores-nothing .recover (file-of (one-put stores-nothing)) 1 .answer ≡ Nothing
   nothing-found : rebuilt-look-up stores-nothing (one-put stores-nothing) "a" ≡ NotFound
-  nothing-said : heldAnswer (said (one-put stores-nothing) (name "a")) ≡ Found 1 0
+  nothing-said : held-answer (said (one-put stores-nothing) (name "a")) ≡ Found 1 0
   absent-recovered : removes-nothing .recover (file-of (put-and-removed removes-nothing)) 1 .answer ≡ Nothing
   absent-found : rebuilt-look-up removes-nothing (put-and-removed removes-nothing) "a" ≡ Found 1 0
-  absent-said : heldAnswer (said (put-and-removed removes-nothing) (name "a")) ≡ NotFound
+  absent-said : held-answer (said (put-and-removed removes-nothing) (name "a")) ≡ NotFound
   both-recovered : both-at-once .recover (file-of (stopped-put both-at-once)) 1 .answer ≡ Nothing
   both-found : rebuilt-look-up both-at-once (stopped-put both-at-once) "c" ≡ Found 3 0
-  both-said : heldAnswer (said (stopped-put both-at-once) (name "c")) ≡ NotFound
+  both-said : held-answer (said (stopped-put both-at-once) (name "c")) ≡ NotFound
   miscounted : miscounts .put (file-of (two-puts miscounts)) new-trie (bytes "c") 3 0 1 .answer ≡ PutStopped 2
   idled : idles .put (file-of (two-puts idles)) new-trie (bytes "c") 3 0 1 .answer ≡ PutStopped 1
   idle-file : replaced (file-of (two-puts idles)) (idles .put (file-of (two-puts idles)) new-trie (bytes "c") 3 0 1 .file) ≡ 0
   cut-first-bad : cuts-first .recover (file-of (stopped-inside cuts-first)) 1 .answer ≡ RecoverRefused BadFile
   inner-freed : keeps-inner .recover (file-of (stopped-put keeps-inner)) 1 .answer ≡ Freed 0
   inner-refused : keeps-inner .rebuild (keeps-inner .recover (file-of (stopped-put keeps-inner)) 1 .file) .answer ≡ TrieRefused BadFile
-  stopped-0 : putOf full-file new-trie (bytes "c") 3 0 0 ≡ record { answer = PutStopped 0; file = full-file; trie = new-trie }
-  stopped-1 : putOf full-file new-trie (bytes "c") 3 0 1 ≡ record { answer = PutStopped 1; file = stopped-file; trie = new-trie }
-  made-2 : putOf full-file new-trie (bytes "c") 3 0 2 ≡ record { answer = Added; file = split-file; trie = of-cells (a-cell "b" 0 (slot 0) (slot 1) ∷ []) }
-  kept-cut : putOf stopped-file new-trie (bytes "d") 4 0 2 .answer ≡ PutRefused CutFile
-  kept-stale : putOf split-file new-trie (bytes "d") 4 0 2 .answer ≡ PutRefused stale-trie
-  kept-good : putOf full-file new-trie (bytes "c") 3 0 2 .answer ≡ Added
-  recovers : recoverOf stopped-file 1 ≡ record { answer = Freed 1; file = full-file }
-  inner-bad : checkFile (storeBytes (version-1 2) 0 free stopped-file) ≡ is-bad
+  stopped-0 : put-of full-file new-trie (bytes "c") 3 0 0 ≡ record { answer = PutStopped 0; file = full-file; trie = new-trie }
+  stopped-1 : put-of full-file new-trie (bytes "c") 3 0 1 ≡ record { answer = PutStopped 1; file = stopped-file; trie = new-trie }
+  made-2 : put-of full-file new-trie (bytes "c") 3 0 2 ≡ record { answer = Added; file = split-file; trie = of-cells (a-cell "b" 0 (slot 0) (slot 1) ∷ []) }
+  kept-cut : put-of stopped-file new-trie (bytes "d") 4 0 2 .answer ≡ PutRefused CutFile
+  kept-stale : put-of split-file new-trie (bytes "d") 4 0 2 .answer ≡ PutRefused stale-trie
+  kept-good : put-of full-file new-trie (bytes "c") 3 0 2 .answer ≡ Added
+  recovers : recover-of stopped-file 1 ≡ record { answer = Freed 1; file = full-file }
+  inner-bad : check-file (store-bytes (version-1 2) 0 free stopped-file) ≡ is-bad
   last-name : split-of 4 (place-of (version-1 4)) five ≡ bytes "r"
   neighbour : split-string (4 / 2) (4 / 2 + 1) five ≡ bytes "ra "
-  rates-read : readFile (fileBytes (version-1 2) rates-slots) ≡ some (version-1 2, rates-slots)
-  rz-read : readFile (fileBytes (version-1 2) rz-slots) ≡ some (version-1 2, rz-slots)
-  without-beginnings : isAgreeing rates-slots bare-cells ≡ false
-  one-leaf : isAgreeing rz-slots one-turned ≡ false
+  rates-read : read-file (file-bytes (version-1 2) rates-slots) ≡ some (version-1 2, rates-slots)
+  rz-read : read-file (file-bytes (version-1 2) rz-slots) ≡ some (version-1 2, rz-slots)
+  without-beginnings : is-agreeing rates-slots bare-cells ≡ false
+  one-leaf : is-agreeing rz-slots one-turned ≡ false
 
 computed : Computed
 unfolding
     bytes entries names
     le? str? low?
-    areDigits legalName filled legalFilled legalBound notGreater within atMost smaller splitFrom
-    splitString
+    are-digits is-legal-name filled is-legal-filled is-legal-bound not-greater within is-at-most smaller split-tried
+    split-beginning
     chosen not? find insert keep
     first low-same? starts? order-from string-count
-    holds? free? stores-if put-in remove-in call
-    isAbove legalLow sameStr sameLow isRow isWell allWell isUsed isChain isIn isListed isSound sameEntries oneMore
-    isCopied isTwin hasTwin isCutBy cutBelow check
-    joinTrees readTree sameSide areZeroCells times eachOnce areNumbers sameStrs slotsBetween isTrieOf isAgreeing
-    isOffered entrySize keptRun contentOf valuePart runPart isOlder putTakes slotSize fileSize legalSizes headerBytes padded littleEndian valueOf entryBytes entriesBytes lowDigits
-    lowOf slotBytes slotsBytes fileBytes entriesOf usedOf readUsed readSlot slotAt joined readSlots rightHeader layoutOf headerOf
-    laidOut readBy readFile checkRead checkFile storeBytes
-    createOf recoverBy recoverOf rebuildBy rebuildOf walkRun walkOf slotAnswer arrivedAnswer headedAnswer lookUpOf lookedBy
-    lookedOf storesBytes place-of trieAfter refusalOf putMade putLooked putOf removeMade removeLooked removeOf entriesIn between
-    listEntries listLooked listOf
+    holds? free? closes? left-of right-of merged-or removal trie-removed stores-if put-in remove-in call
+    is-above is-legal-low same-str same-low is-row is-well-formed all-well is-used-slot is-chain is-in is-listed is-sound-file are-same-entries has-one-more
+    is-copied is-twin has-twin is-cut-by cut-among check
+    join-trees read-tree same-side are-zero-cells times is-each-once are-numbers same-strs slots-between is-trie-of is-agreeing
+    is-offered entry-length kept-run content-from value-of-content run-of-content is-older put-takes slot-size file-size are-legal-sizes header-bytes padded little-endian value-of bytes-of-entry bytes-of-entries digits-of-low
+    low-of bytes-of-slot slots-bytes file-bytes read-entries used-of read-used-slot read-slot bytes-at-slot joined read-slots is-right-header layout-of header-of
+    laid-out read-by read-file check-read check-file store-bytes
+    create-of recover-by recover-of rebuild-by rebuild-of walk-run walk-of slot-answer arrived-answer headed-answer look-up-of looked-at-by
+    looked-of stores-bytes place-of trie-after-put refusal-of put-by-stores put-on-looked put-of remove-by-stores remove-on-looked remove-of entries-in between
+    list-entries list-on-looked list-of
     now after-put after-remove after-recover after-rebuild put-by remove-by step after differing
     make make-looked make-put absent-instead both exchanged ends? free-outer inner-kept
     decLe decLt ℕ-discrete
@@ -253,26 +253,26 @@ not-all C (by-list f) D =
 true-one : {xs : List ℕ} {t : Trie} (L : LeadsRight xs t) (n : Str) {x y : LookUpAnswer} → Truthful (L .file .slots) n x → Truthful (L .file .slots) n y → x ≡ y
 true-one {t = t} L n {x} {y} p q = go (held p) (held q)
   where
-    held : {x : LookUpAnswer} → Truthful (L .file .slots) n x → x ≡ heldAnswer (find n (entries-of (slot-at (L .file .slots) (walk-trie t n))))
+    held : {x : LookUpAnswer} → Truthful (L .file .slots) n x → x ≡ held-answer (find n (entries-of (slot-at (L .file .slots) (walk-trie t n))))
     held (true-entry B i e) = rw (← L .alone n B i, e)
     held (truly-absent B i e) = rw (← L .alone n B i, e)
 
-    go : x ≡ heldAnswer (find n (entries-of (slot-at (L .file .slots) (walk-trie t n)))) → y ≡ heldAnswer (find n (entries-of (slot-at (L .file .slots) (walk-trie t n)))) → x ≡ y
+    go : x ≡ held-answer (find n (entries-of (slot-at (L .file .slots) (walk-trie t n)))) → y ≡ held-answer (find n (entries-of (slot-at (L .file .slots) (walk-trie t n)))) → x ≡ y
     go e f = e ∙ sym f
 
 new-leads : LeadsRight new-file new-trie
 new-leads = rw (computed .created-file, computed .created-trie) at (demand-2 .created buffer 1 2 2 (computed .create-given))
 
 abbrev a-put : PutDone
-a-put = putOf new-file new-trie (bytes "a") 1 0 2
+a-put = put-of new-file new-trie (bytes "a") 1 0 2
 
 put-leads : LeadsRight (a-put .file) (a-put .trie)
 put-leads =
     let made : Made (a-put .answer) = rw (computed .put-added) tt in
-    demand-2 .grown new-file new-trie (bytes "a") 1 0 2 (created-left (version-1 2) 2 (legalSizes-sizes (version-1 2) 2 (computed .new-sizes)) .bytes) (omega arith) (omega arith) made
+    demand-2 .grown new-file new-trie (bytes "a") 1 0 2 (created-left (version-1 2) 2 (are-legal-sizes-sizes (version-1 2) 2 (computed .new-sizes)) .bytes) (omega arith) (omega arith) made
 
 module _ (C : Calls) (D : Demand2 C) where
-  as-ours : {xs : List ℕ} {t : Trie} → LeadsRight xs t → (name : List ℕ) → LegalName name → C .look-up xs t name ≡ lookUpOf xs t name
+  as-ours : {xs : List ℕ} {t : Trie} → LeadsRight xs t → (name : List ℕ) → LegalName name → C .look-up xs t name ≡ look-up-of xs t name
   as-ours {xs} {t} L name g = true-one L (filled name) (D .led xs t name L g) (demand-2 .led xs t name L g)
 
   absent-first : C .look-up new-file new-trie (bytes "a") ≡ NotFound
@@ -293,9 +293,9 @@ not-lookups C f D =
     clash cc
 
 -- A trie that does not agree with the file's slots does not lead right.
-misleads : {xs : List ℕ} {t : Trie} {y : Layout} {fs : List Slot} → LeadsRight xs t → readFile xs ≡ some (y, fs) → isAgreeing fs t ≡ false → ⊥
+misleads : {xs : List ℕ} {t : Trie} {y : Layout} {fs : List Slot} → LeadsRight xs t → read-file xs ≡ some (y, fs) → is-agreeing fs t ≡ false → ⊥
 misleads {xs} {t} {y} {fs} L e n =
-    never-both (isAgreeing fs t) (rw (same-slots e (L .file)) at (agrees-isAgreeing (L .file .layout .b) (L .file .sound) (L .agrees))) n
+    never-both (is-agreeing fs t) (rw (same-slots e (L .file)) at (agrees-is-agreeing (L .file .layout .b) (L .file .sound) (L .agrees))) n
 
 -- What demand 3 says of a recovery, by what the recovery says.
 module _ (C : Calls) {xs ys : List ℕ} {m : Map} {limit : ℕ} {x : RecoverAnswer} (R : Recovers C xs m limit x ys) where
@@ -324,18 +324,18 @@ module _ (C : Calls) {xs ys : List ℕ} {m : Map} {limit : ℕ} {x : RecoverAnsw
       go (stopped-at-0 z) e = clash cc
 
 -- A wrong put with our stores is ours.
-ours-but-for : (xs : List ℕ) (t : Trie) (name : List ℕ) (v run limit : ℕ) → make-put take (λ made. made) (λ ss. ss) xs t name v run limit ≡ putOf xs t name v run limit
-unfolding make make-looked make-put putMade putLooked putOf
-ours-but-for xs t name v run limit = rw (looked (lookedOf xs t))
+ours-but-for : (xs : List ℕ) (t : Trie) (name : List ℕ) (v run limit : ℕ) → make-put take (λ made. made) (λ ss. ss) xs t name v run limit ≡ put-of xs t name v run limit
+unfolding make make-looked make-put put-by-stores put-on-looked put-of
+ours-but-for xs t name v run limit = rw (looked (looked-of xs t))
   where
     made : (y : Layout) (fs : List Slot) (c : ℕ) (r : Result)
-        → make take (λ made. made) (λ ss. ss) xs t y fs (filled name) c limit r ≡ putMade xs t y fs (filled name) c limit r
+        → make take (λ made. made) (λ ss. ss) xs t y fs (filled name) c limit r ≡ put-by-stores xs t y fs (filled name) c limit r
     made y fs c (refuse r) = refl
     made y fs c (stores ss) = refl
 
-    looked : (l : Looked) → make-looked take (λ made. made) (λ ss. ss) xs t (filled name) v run limit l ≡ putLooked xs t (filled name) v run limit l
+    looked : (l : Looked) → make-looked take (λ made. made) (λ ss. ss) xs t (filled name) v run limit l ≡ put-on-looked xs t (filled name) v run limit l
     looked (refusing c) = refl
-    looked (fine y fs) = let c = contentOf v (keptRun y run) in made y fs c (putTakes y fs (filled name) c (keptRun y run))
+    looked (fine y fs) = let c = content-from v (kept-run y run) in made y fs c (put-takes y fs (filled name) c (kept-run y run))
 
 not-nothing : ¬ Demand3 stores-nothing
 not-nothing D =
@@ -389,38 +389,38 @@ module _ (xs : List ℕ) (t : Trie) (name : List ℕ) (v run limit made : ℕ) w
 
   -- What the put asks to be stored.
   abbrev content : Layout → ℕ
-  content y = contentOf v (keptRun y run)
+  content y = content-from v (kept-run y run)
 
   abbrev After : PutDone → Type 0
   After d = d .answer ≡ PutStopped made → StoppedAfter xs name v run made (d .file)
 
-  after-made : (y : Layout) (fs : List Slot) → Passed xs t y fs → {r : Result} → call (y .b) (place-of y) fs (put n (content y)) ≡ r → Answered (y .b) (place-of y) fs (put n (content y)) r → After (putMade xs t y fs n (content y) limit r)
-  unfolding putMade
+  after-made : (y : Layout) (fs : List Slot) → Passed xs t y fs → {r : Result} → call (y .b) (place-of y) fs (put n (content y)) ≡ r → Answered (y .b) (place-of y) fs (put n (content y)) r → After (put-by-stores xs t y fs n (content y) limit r)
+  unfolding put-by-stores
   after-made y fs p k (is-denied d) e = clash cc
   after-made y fs p k (is-made {ss = ss} c) e = go (ltb limit (length ss)) refl (held fs n) e
     where
       go : (s : Bool) → ltb limit (length ss) ≡ s → (o : Option ℕ)
-          → After (cond s (record { answer = PutStopped limit; file = storesBytes y (take limit ss) xs; trie = t }) (record { answer = putAnswer o; file = storesBytes y ss xs; trie = trieAfter (y .b) (place-of y) fs n (content y) ss t }))
+          → After (cond s (record { answer = PutStopped limit; file = stores-bytes y (take limit ss) xs; trie = t }) (record { answer = put-answer o; file = stores-bytes y ss xs; trie = trie-after-put (y .b) (place-of y) fs n (content y) ss t }))
       go true h o e =
           let q : limit ≡ made = cc in
           record { layout = y; slots = fs; is = p .is; needed = ss; takes = k; short = rw q at (ltb-true limit (length ss) h); left = rw q }
       go false h nothing e = clash cc
       go false h (some old) e = clash cc
 
-  after-looked : (l : Looked) → lookedOf xs t ≡ l → legalName name ≡ true → After (putLooked xs t n v run limit l)
-  unfolding putLooked putMade
+  after-looked : (l : Looked) → looked-of xs t ≡ l → is-legal-name name ≡ true → After (put-on-looked xs t n v run limit l)
+  unfolding put-on-looked put-by-stores
   after-looked (refusing c) e g q = clash cc
-  after-looked (fine y fs) e g q = let p = looked-passed xs t y fs e in put-taken (λ (r : Result). After (putMade xs t y fs n (content y) limit r)) y fs n (content y) (keptRun y run) (λ e q. clash cc) (λ e. after-made y fs p refl (put-right (y .b) (place-of y) fs (p .sound) n (content y) (legalName-legal name g))) q
+  after-looked (fine y fs) e g q = let p = looked-passed xs t y fs e in put-taken (λ (r : Result). After (put-by-stores xs t y fs n (content y) limit r)) y fs n (content y) (kept-run y run) (λ e q. clash cc) (λ e. after-made y fs p refl (put-right (y .b) (place-of y) fs (p .sound) n (content y) (is-legal-name-legal name g))) q
 
-  first-stores : After (putOf xs t name v run limit)
-  unfolding putOf
-  first-stores = go (ltb 2 limit) (legalName name) refl
+  first-stores : After (put-of xs t name v run limit)
+  unfolding put-of
+  first-stores = go (ltb 2 limit) (is-legal-name name) refl
     where
-      go : (l g : Bool) → legalName name ≡ g
-          → After (cond l (record { answer = PutRefused WrongSize; file = xs; trie = t }) (cond g (putLooked xs t n v run limit (lookedOf xs t)) (record { answer = PutRefused IllegalName; file = xs; trie = t })))
+      go : (l g : Bool) → is-legal-name name ≡ g
+          → After (cond l (record { answer = PutRefused WrongSize; file = xs; trie = t }) (cond g (put-on-looked xs t n v run limit (looked-of xs t)) (record { answer = PutRefused IllegalName; file = xs; trie = t })))
       go true g e q = clash cc
       go false false e q = clash cc
-      go false true e q = after-looked (lookedOf xs t) refl e q
+      go false true e q = after-looked (looked-of xs t) refl e q
 
 pub strength : Strength
 strength = record {

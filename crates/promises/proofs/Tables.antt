@@ -2,7 +2,7 @@
 use Rattle.model.proofs.Prelude.{[], _∙_, _∷_, _≡_, _⊎_, ap, inl, inr, refl, sym, ℕ}
 use Rattle.model.specs.declared.Cause.{Cause}
 use Rattle.model.specs.declared.Cause.the-variants.{StaleTrie}
-use Rattle.promises.specs.Demand1.{Exactly, First, Gives, Holds, Reason, Table, because, off-at}
+use Rattle.promises.specs.Demand1.{Exactly, FirstHolding, Gives, Holds, Reason, Table, because, off-at}
 
 -- No cause of the table holds.
 abbrev pub None : Table → Type 0
@@ -14,15 +14,15 @@ given-holds : (r : Reason) (c : Cause) → Gives r c → Holds r
 given-holds (because d P) c g = g .1
 given-holds (off-at P) c g = (g .0, g .2)
 
-first-none : (rs : Table) (c : Cause) → First c rs → None rs → ⊥
+first-none : (rs : Table) (c : Cause) → FirstHolding c rs → None rs → ⊥
 first-none [] c f n = absurd f
 first-none (r ∷ rs) c (inl g) n = n .0 (given-holds r c g)
 first-none (r ∷ rs) c (inr p) n = first-none rs c (p .1) (n .1)
 
 -- This cause is the first, and no other is.
 pub record Only (c : Cause) (rs : Table) : Type 0 where
-  pub first : First c rs
-  pub one : (d : Cause) → First d rs → c ≡ d
+  pub first : FirstHolding c rs
+  pub one : (d : Cause) → FirstHolding d rs → c ≡ d
 
 -- What a call leaves refuses with the first cause that holds, and is kept then; or it is no refusal and none holds.
 pub data Verdict {A D : Type 0} (Refused : Cause → A) (answer : D → A) (Kept : D → Type 0) (rs : Table) (d : D) : Type 0 where
@@ -32,21 +32,21 @@ pub data Verdict {A D : Type 0} (Refused : Cause → A) (answer : D → A) (Kept
 only-because : (rs : Table) (c : Cause) {P : Type 0} → P → Only c (because c P ∷ rs)
 only-because rs c {P} h = record { first = inl (refl, h); one = one }
   where
-    one : (d : Cause) → First d (because c P ∷ rs) → c ≡ d
+    one : (d : Cause) → FirstHolding d (because c P ∷ rs) → c ≡ d
     one d (inl g) = g .0
     one d (inr p) = absurd (p .0 h)
 
 only-off : (rs : Table) (k : ℕ) {P : ℕ → Type 0} → P k → ((j : ℕ) → P j → k ≡ j) → Only (StaleTrie k) (off-at P ∷ rs)
 only-off rs k {P} h f = record { first = inl (k, refl, h); one = one }
   where
-    one : (d : Cause) → First d (off-at P ∷ rs) → StaleTrie k ≡ d
+    one : (d : Cause) → FirstHolding d (off-at P ∷ rs) → StaleTrie k ≡ d
     one d (inl g) = ap StaleTrie (f (g .0) (g .2)) ∙ g .1
     one d (inr p) = absurd (p .0 (k, h))
 
 only-skip : (r : Reason) (rs : Table) (c : Cause) → ¬ Holds r → Only c rs → Only c (r ∷ rs)
 only-skip r rs c n o = record { first = inr (n, o .first); one = one }
   where
-    one : (d : Cause) → First d (r ∷ rs) → c ≡ d
+    one : (d : Cause) → FirstHolding d (r ∷ rs) → c ≡ d
     one d (inl g) = absurd (n (given-holds r d g))
     one d (inr p) = o .one d (p .1)
 

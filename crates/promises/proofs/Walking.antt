@@ -5,10 +5,10 @@ use Rattle.model.specs.declared.Side.{Side}
 use Rattle.model.specs.declared.Side.the-variants.{Cell as further, Slot as slot}
 use Rattle.model.specs.declared.Trie.{Trie}
 use Rattle.model.specs.Order.{Str}
-use Rattle.model.specs.Names.{atMost, within}
-use Rattle.model.specs.Tries.{Spot, at-cell, cell, left, right, walkRun}
+use Rattle.model.specs.Names.{is-at-most, within}
+use Rattle.model.specs.Tries.{Spot, at-cell, cell, left, right, walk-run}
 use Rattle.model.specs.Calls.{landed}
-use Rattle.model.proofs.Names.{both-true, never-both, within-atMost}
+use Rattle.model.proofs.Names.{both-true, never-both, within-is-at-most}
 use Rattle.model.proofs.Tries.{cell-length}
 use Rattle.promises.specs.Demand1.{Arrives, Strays}
 use Rattle.promises.specs.Demand1 as D
@@ -31,15 +31,15 @@ module _ (slots : ℕ) (t : Trie) (n : Str) (whole : length n ≡ 24) where
       (ltb-true m (t .count) (y .0), leb-true (the-cell m .number) (length p) (y .1), leb-true (the-cell m .number) 23 (x .1))
 
   -- A cell's string has at most 24 digits, so a name is within it exactly where it is not above it.
-  not-above : (m : ℕ) (p : Str) (b : Bool) → the-cell m .number ≤ length p → the-cell m .number ≤ 23 → within n (string m p) ≡ b → atMost n (string m p) ≡ b
-  not-above m p b i j e = sym (within-atMost n (string m p) (omega (arith, whole, j, cell-length (the-cell m .digit) (the-cell m .number) p i))) ∙ e
+  not-above : (m : ℕ) (p : Str) (b : Bool) → the-cell m .number ≤ length p → the-cell m .number ≤ 23 → within n (string m p) ≡ b → is-at-most n (string m p) ≡ b
+  not-above m p b i j e = sym (within-is-at-most n (string m p) (omega (arith, whole, j, cell-length (the-cell m .digit) (the-cell m .number) p i))) ∙ e
 
   abbrev pub walked : ℕ → Str → Spot → Side → Option ℕ
-  walked f p k a = landed slots (walkRun f (t .count) (t .cells) n p k a)
+  walked f p k a = landed slots (walk-run f (t .count) (t .cells) n p k a)
 
   -- Arriving,
   pub arrives-walked : {f k : ℕ} {p : Str} {a : Side} → Arrives slots t n f p a k → (by : Spot) → walked f p by a ≡ some k
-  unfolding walkRun
+  unfolding walk-run
   arrives-walked (D.here {f = zero} {s = s} h) by = rw (lt-ltb s slots h)
   arrives-walked (D.here {f = suc f} {s = s} h) by = rw (lt-ltb s slots h)
   arrives-walked (Arrives.left-of {m = m} {p = p} h i j w r) by =
@@ -49,7 +49,7 @@ module _ (slots : ℕ) (t : Trie) (n : Str) (whole : length n ≡ 24) where
 
   -- straying,
   untested : (f m : ℕ) (p : Str) (by : Spot) → ((m < t .count) × (the-cell m .number ≤ length p) × (the-cell m .number ≤ 23) → ⊥) → walked f p by (further m) ≡ nothing
-  unfolding walkRun
+  unfolding walk-run
   untested zero m p by never = refl
   untested (suc f) m p by never = go (test m p) refl _
     where
@@ -58,15 +58,15 @@ module _ (slots : ℕ) (t : Trie) (n : Str) (whole : length n ≡ 24) where
       go false e w = refl
 
   tried : (m : ℕ) (p : Str) (b : Bool) → within n (string m p) ≡ b → (l r : Option (Str × Spot × ℕ)) → landed slots (cond b l r) ≡ nothing
-      → landed slots (cond (test m p) (cond (atMost n (string m p)) l r) nothing) ≡ nothing
+      → landed slots (cond (test m p) (cond (is-at-most n (string m p)) l r) nothing) ≡ nothing
   tried m p b w l r e = go (test m p) refl
     where
-      go : (c : Bool) → test m p ≡ c → landed slots (cond c (cond (atMost n (string m p)) l r) nothing) ≡ nothing
+      go : (c : Bool) → test m p ≡ c → landed slots (cond c (cond (is-at-most n (string m p)) l r) nothing) ≡ nothing
       go true x = let g = tested m p x in rw (not-above m p b (g .1) (g .2) w) e
       go false x = refl
 
   pub strays-walked : {f : ℕ} {p : Str} {a : Side} → Strays slots t n f p a → (by : Spot) → walked f p by a ≡ nothing
-  unfolding walkRun
+  unfolding walk-run
   strays-walked (D.no-cell {f = f} {m = m} {p = p} h) by = untested f m p by (λ g. absurd (omega (arith, g .0, h)))
   strays-walked D.more-cells by = refl
   strays-walked (D.past-path {f = f} {m = m} {p = p} h) by = untested f m p by (λ g. absurd (omega (arith, g .1, h)))
@@ -88,12 +88,12 @@ module _ (slots : ℕ) (t : Trie) (n : Str) (whole : length n ≡ 24) where
   ]
 
   pub walked-right : (f : ℕ) (p : Str) (by : Spot) (a : Side) → Walked f p a (walked f p by a)
-  unfolding walkRun
+  unfolding walk-run
   walked-right zero p by (slot s) = by-slot zero s p
   walked-right zero p by (further m) = D.more-cells
   walked-right (suc f) p by (slot s) = by-slot (suc f) s p
   walked-right (suc f) p by (further m) =
-      go (test m p) (within n (string m p)) refl refl (walkRun f (t .count) (t .cells) n (string m p) (left m) (the-cell m .left)) (walkRun f (t .count) (t .cells) n p (right m) (the-cell m .right))
+      go (test m p) (within n (string m p)) refl refl (walk-run f (t .count) (t .cells) n (string m p) (left m) (the-cell m .left)) (walk-run f (t .count) (t .cells) n p (right m) (the-cell m .right))
       (walked-right f (string m p) (left m) (the-cell m .left)) (walked-right f p (right m) (the-cell m .right))
     where
       lost : Dec (m < t .count) → Dec (the-cell m .number ≤ length p) → Dec (the-cell m .number ≤ 23) → test m p ≡ false → Strays slots t n (suc f) p (further m)
@@ -113,7 +113,7 @@ module _ (slots : ℕ) (t : Trie) (n : Str) (whole : length n ≡ 24) where
       to-right e d (some k) x = let g = tested m p e in Arrives.right-of (g .0) (g .1) (g .2) d x
 
       go : (c w : Bool) → test m p ≡ c → within n (string m p) ≡ w → (l r : Option (Str × Spot × ℕ)) → Walked f (string m p) (the-cell m .left) (landed slots l)
-          → Walked f p (the-cell m .right) (landed slots r) → Walked (suc f) p (further m) (landed slots (cond c (cond (atMost n (string m p)) l r) nothing))
+          → Walked f p (the-cell m .right) (landed slots r) → Walked (suc f) p (further m) (landed slots (cond c (cond (is-at-most n (string m p)) l r) nothing))
       go true true e d l r x y = let g = tested m p e in rw (not-above m p true (g .1) (g .2) d) (to-left e d (landed slots l) x)
       go true false e d l r x y = let g = tested m p e in rw (not-above m p false (g .1) (g .2) d) (to-right e d (landed slots r) y)
       go false w e d l r x y =

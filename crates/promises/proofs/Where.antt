@@ -4,13 +4,13 @@ use Rattle.model.specs.declared.Cause.{Cause}
 use Rattle.model.specs.declared.Cause.the-variants.{StaleTrie}
 use Rattle.model.specs.declared.LookUpAnswer.the-variants.{Refused as LookUpRefused}
 use Rattle.model.specs.declared.Trie.{Trie}
-use Rattle.model.specs.Names.{filled, legalName}
+use Rattle.model.specs.Names.{filled, is-legal-name}
 use Rattle.model.specs.Files.{Slot, free, used}
 use Rattle.model.specs.Tries.{root}
-use Rattle.model.specs.Format.{layoutOf, readSlot, rightHeader, slotAt}
+use Rattle.model.specs.Format.{bytes-at-slot, is-right-header, layout-of, read-slot}
 use Rattle.model.proofs.Names.{length-filled, never-both}
 use Rattle.promises.specs.Calls.{Calls, our-calls}
-use Rattle.promises.specs.Demand1.{Demand1, Ends, First, IsMalformed, IsZero, Lacks, LegalName, Lost, RightHeader, Table, because, create-table, list-table, look-up-table, off-at, put-table, rebuild-table, recover-table, remove-table, slots-of}
+use Rattle.promises.specs.Demand1.{Demand1, Ends, FirstHolding, IsMalformed, IsZero, Lacks, LegalName, Lost, RightHeader, Table, because, create-table, list-table, look-up-table, off-at, put-table, rebuild-table, recover-table, remove-table, slots-of}
 use Rattle.promises.specs.Where.{LeftRange, Where}
 use Rattle.promises.proofs.Differing.{breaks-fits, one-bound, one-number}
 use Rattle.promises.proofs.Demand1.{at-end, demand-1, ended, header-right, illegal, legal-name, right-header, zero-free}
@@ -22,7 +22,7 @@ Bare Q [] = Unit {0}
 Bare Q (because c P ∷ rs) = ((k : ℕ) → c ≡ StaleTrie k → Q k) × Bare Q rs
 Bare Q (off-at P ∷ rs) = ⊥
 
-bare-first : (Q : ℕ → Type 0) (rs : Table) → Bare Q rs → (k : ℕ) → First (StaleTrie k) rs → Q k
+bare-first : (Q : ℕ → Type 0) (rs : Table) → Bare Q rs → (k : ℕ) → FirstHolding (StaleTrie k) rs → Q k
 bare-first Q [] b k f = absurd f
 bare-first Q (because c P ∷ rs) b k (inl g) = b .0 k (g .0)
 bare-first Q (because c P ∷ rs) b k (inr p) = bare-first Q rs (b .1) k (p .1)
@@ -37,20 +37,20 @@ carries k e = cc
 -- Look up's first cause, where it is a stale trie.
 module _ (xs : List ℕ) (t : Trie) (name : List ℕ) where
   surely-legal : ¬ (¬ LegalName name) → LegalName name
-  surely-legal n = go (legalName name) refl
+  surely-legal n = go (is-legal-name name) refl
     where
-      go : (c : Bool) → legalName name ≡ c → LegalName name
+      go : (c : Bool) → is-legal-name name ≡ c → LegalName name
       go true e = legal-name name e
       go false e = absurd (n (illegal name e))
 
   surely-headed : ¬ (¬ RightHeader xs) → RightHeader xs
-  surely-headed n = go (rightHeader (layoutOf xs) (slots-of xs) xs) refl
+  surely-headed n = go (is-right-header (layout-of xs) (slots-of xs) xs) refl
     where
-      go : (c : Bool) → rightHeader (layoutOf xs) (slots-of xs) xs ≡ c → RightHeader xs
+      go : (c : Bool) → is-right-header (layout-of xs) (slots-of xs) xs ≡ c → RightHeader xs
       go true e = right-header xs e
-      go false e = absurd (n (λ R. never-both (rightHeader (layoutOf xs) (slots-of xs) xs) (header-right R) e))
+      go false e = absurd (n (λ R. never-both (is-right-header (layout-of xs) (slots-of xs) xs) (header-right R) e))
 
-  first-left : (k : ℕ) → First (StaleTrie k) (look-up-table xs t name) → (k ≡ 255) ⊎ LeftRange xs t name k
+  first-left : (k : ℕ) → FirstHolding (StaleTrie k) (look-up-table xs t name) → (k ≡ 255) ⊎ LeftRange xs t name k
   first-left k (inl g) = let z = g .0 in clash cc
   first-left k (inr (a, inl g)) = let z = g .0 in clash cc
   first-left k (inr (a, inr (b, inl g))) = inl (carries k (g .0))
@@ -64,7 +64,7 @@ module _ (xs : List ℕ) (t : Trie) (name : List ℕ) where
       absurd-few n = omega arith
   first-left k (inr (a, inr (b, inr (c, inr (d, inr (e, inr f)))))) = absurd (f .1)
 
-  left-first : (k : ℕ) → LeftRange xs t name k → First (StaleTrie k) (look-up-table xs t name)
+  left-first : (k : ℕ) → LeftRange xs t name k → FirstHolding (StaleTrie k) (look-up-table xs t name)
   left-first k L =
       inr (λ n. n (L .legal), inr (λ n. n (L .header), inr (found, inr (taken, inr (formed, inl (k, refl, L .ends))))))
     where
@@ -77,17 +77,17 @@ module _ (xs : List ℕ) (t : Trie) (name : List ℕ) where
           let o : _≡_ {A = Option ℕ} nothing (some (L .ends .k)) = sym (strays-walked (slots-of xs) t (filled name) (length-filled name) w root) ∙ arrived in
           clash cc
 
-      taken : Ends xs t (filled name) (IsZero (layoutOf xs)) → ⊥
+      taken : Ends xs t (filled name) (IsZero (layout-of xs)) → ⊥
       taken E =
-          let f : readSlot (layoutOf xs) (slotAt (layoutOf xs) (L .ends .k) xs) ≡ some free = zero-free xs t name (layoutOf xs) _ (at-end xs t name arrived E) in
+          let f : read-slot (layout-of xs) (bytes-at-slot (layout-of xs) (L .ends .k) xs) ≡ some free = zero-free xs t name (layout-of xs) _ (at-end xs t name arrived E) in
           let g = L .ends .so .is in
           clash cc
 
-      formed : Ends xs t (filled name) (IsMalformed (layoutOf xs)) → ⊥
+      formed : Ends xs t (filled name) (IsMalformed (layout-of xs)) → ⊥
       formed E = at-end xs t name arrived E _ (L .ends .so .is) (L .ends .so .well)
 
   left-fits : (k : ℕ) → LeftRange xs t name k → k ≤ 24
-  left-fits k L = breaks-fits (layoutOf xs .b) (L .ends .so .well) (L .ends .so .breaks)
+  left-fits k L = breaks-fits (layout-of xs .b) (L .ends .so .well) (L .ends .so .breaks)
 
 -- Calls that meet demand 1 say where.
 pub says-where : (C : Calls) → Demand1 C → Where C

@@ -4,16 +4,16 @@ use Prim.Native.Nat.{ℕ}
 use Rattle.model.specs.declared.LookUpAnswer.{LookUpAnswer}
 use Rattle.model.specs.declared.Trie.{Trie}
 use Rattle.model.specs.Checks.{Kind}
-use Rattle.model.specs.Format.{checkFile}
-use Rattle.model.specs.Calls.{Created, ListDone, PutDone, Rebuilt, Recovered, RemoveDone, createOf, listOf, lookUpOf, putOf, rebuildOf, recoverOf, removeOf}
+use Rattle.model.specs.Format.{check-file}
+use Rattle.model.specs.Calls.{CreateDone, ListDone, PutDone, RebuildDone, RecoverDone, RemoveDone, create-of, list-of, look-up-of, put-of, rebuild-of, recover-of, remove-of}
 
 -- The calls of section 9. Each takes what it is lent and gives the answer, the trie that it gives and the lent bytes
 -- that it may change.
 pub record Calls : Type 0 where
-  pub create : List ℕ → ℕ → ℕ → ℕ → Created
+  pub create : List ℕ → ℕ → ℕ → ℕ → CreateDone
   pub check : List ℕ → Kind
-  pub recover : List ℕ → ℕ → Recovered
-  pub rebuild : List ℕ → Rebuilt
+  pub recover : List ℕ → ℕ → RecoverDone
+  pub rebuild : List ℕ → RebuildDone
   pub look-up : List ℕ → Trie → List ℕ → LookUpAnswer
   pub put : List ℕ → Trie → List ℕ → ℕ → ℕ → ℕ → PutDone
   pub remove : List ℕ → Trie → List ℕ → ℕ → RemoveDone
@@ -22,12 +22,12 @@ pub record Calls : Type 0 where
 -- Ours: what the contracts of the code equate with what the code does.
 abbrev pub our-calls : Calls
 our-calls = record {
-  create = createOf;
-  check = checkFile;
-  recover = recoverOf;
-  rebuild = rebuildOf;
-  look-up = lookUpOf;
-  put = putOf;
-  remove = removeOf;
-  list = listOf;
+  create = create-of;
+  check = check-file;
+  recover = recover-of;
+  rebuild = rebuild-of;
+  look-up = look-up-of;
+  put = put-of;
+  remove = remove-of;
+  list = list-of;
 }

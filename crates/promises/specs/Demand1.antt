@@ -20,13 +20,13 @@ use Rattle.model.specs.declared.Side.the-variants.{Cell as further, Slot as slo
 use Rattle.model.specs.declared.Trie.{Trie}
 use Rattle.model.specs.declared.TrieAnswer.the-variants.{Refused as TrieRefused}
 use Rattle.model.specs.Order.{Low, Str, _≺_, _⊑_, at, none}
-use Rattle.model.specs.Names.{Digits, filled, firstOf, lastOf, within}
-use Rattle.model.specs.Entries.{Entry, Row, contentOf, find, runPart}
+use Rattle.model.specs.Names.{Digits, filled, first-digit, last-of, within}
+use Rattle.model.specs.Entries.{Entry, Row, content-from, find, run-of-content}
 use Rattle.model.specs.Files.{In, Slot, Well, entries-of, head, slot-at, string-count, used}
 use Rattle.model.specs.Tries.{Agrees, at-cell, cell, root-side}
 use Rattle.model.specs.Changes.{Denied, put}
 use Rattle.model.specs.Places.{place-of}
-use Rattle.model.specs.Format.{BadFile, CutFile, Sizes, SoundFile, entrySize, fileSize, headerBytes, keptRun, layoutOf, readSlot, slotAt, slotSize}
+use Rattle.model.specs.Format.{BadFile, CutFile, Sizes, SoundFile, bytes-at-slot, entry-length, file-size, header-bytes, kept-run, layout-of, read-slot, slot-size}
 use Rattle.model.specs.Answers.{number, stale-trie}
 use Rattle.model.specs.Calls.{new-trie}
 use Rattle.promises.specs.Calls.{Calls}
@@ -52,14 +52,14 @@ abbrev pub Table : Type 1
 Table = List Reason
 
 -- R10.9: the first cause that holds, in the order given.
-abbrev pub First : Cause → Table → Type 0
-First c [] = ⊥
-First c (r ∷ rs) = Gives r c ⊎ ((¬ Holds r) × First c rs)
+abbrev pub FirstHolding : Cause → Table → Type 0
+FirstHolding c [] = ⊥
+FirstHolding c (r ∷ rs) = Gives r c ⊎ ((¬ Holds r) × FirstHolding c rs)
 
 -- R10.9 and R10.10: the answer is a refusal with the first cause that holds where some cause holds, and no refusal
 -- where none does.
 abbrev pub Exactly : {A : Type 0} → (Cause → A) → A → Table → Type 0
-Exactly Refused a table = (c : Cause) → (a ≡ Refused c → First c table) × (First c table → a ≡ Refused c)
+Exactly Refused a table = (c : Cause) → (a ≡ Refused c → FirstHolding c table) × (FirstHolding c table → a ≡ Refused c)
 
 -- The numbers of a table, in its order.
 abbrev pub number-in : Reason → ℕ
@@ -75,8 +75,8 @@ pub record LegalName (name : List ℕ) : Type 0 where
   pub least : 1 ≤ length name
   pub most : length name ≤ 24
   pub digits : Digits 0x20 name
-  pub first : ¬ (firstOf name ≡ 0x20)
-  pub last : ¬ (lastOf name ≡ 0x20)
+  pub first : ¬ (first-digit name ≡ 0x20)
+  pub last : ¬ (last-of name ≡ 0x20)
 
 -- 3, cut file.
 abbrev pub IsCut : List ℕ → Type 0
@@ -90,7 +90,7 @@ pub record Stale (xs : List ℕ) (t : Trie) : Type 0 where
 -- R10.5 and R10.6.
 pub record PutDenied (xs name : List ℕ) (v run why : ℕ) : Type 0 where
   pub file : SoundFile xs
-  pub denied : Denied (file .layout .b) (place-of (file .layout)) (file .slots) (put (filled name) (contentOf v (keptRun (file .layout) run))) why
+  pub denied : Denied (file .layout .b) (place-of (file .layout)) (file .slots) (put (filled name) (content-from v (kept-run (file .layout) run))) why
 
 -- R10.14: the bucket whose range holds the name holds the name with a higher run.
 pub record HeldHigher (xs name : List ℕ) (run : ℕ) : Type 0 where
@@ -99,7 +99,7 @@ pub record HeldHigher (xs name : List ℕ) (run : ℕ) : Type 0 where
   pub in-range : In (head (slot-at (file .slots) bucket)) (filled name)
   pub content : ℕ
   pub found : find (filled name) (entries-of (slot-at (file .slots) bucket)) ≡ some content
-  pub higher : keptRun (file .layout) run < runPart content
+  pub higher : kept-run (file .layout) run < run-of-content content
 
 -- 6 of rebuild: the strings as they are exceed 256.
 pub record Many (xs : List ℕ) : Type 0 where
@@ -116,21 +116,21 @@ pub record Short (xs low high out : List ℕ) : Type 0 where
   pub file : SoundFile xs
   pub listed : List Entry
   pub listing : Listing (file .slots) (filled low) (filled high) listed
-  pub short : length out < entrySize (file .layout) * length listed
+  pub short : length out < entry-length (file .layout) * length listed
 
 -- R10.8, of create.
 pub record Creatable (xs : List ℕ) (y : Layout) (slots : ℕ) : Type 0 where
   pub sizes : Sizes y slots
-  pub whole : length xs ≡ fileSize y slots
+  pub whole : length xs ≡ file-size y slots
 
 -- Look up's own. R11.2: the length or the header is wrong. The layout is the header's bytes 3 to 5, slots its byte 6.
 abbrev pub slots-of : List ℕ → ℕ
 slots-of xs = getD xs 6 0
 
 pub record RightHeader (xs : List ℕ) : Type 0 where
-  pub sizes : Sizes (layoutOf xs) (slots-of xs)
-  pub whole : length xs ≡ fileSize (layoutOf xs) (slots-of xs)
-  pub header : take 16 xs ≡ headerBytes (layoutOf xs) (slots-of xs)
+  pub sizes : Sizes (layout-of xs) (slots-of xs)
+  pub whole : length xs ≡ file-size (layout-of xs) (slots-of xs)
+  pub header : take 16 xs ≡ header-bytes (layout-of xs) (slots-of xs)
 
 -- The digit number of a trie's cell, and its string at a path.
 abbrev pub number-of : Trie → ℕ → ℕ
@@ -172,14 +172,14 @@ Lost xs t n = (256 < t .count) ⊎ Strays (slots-of xs) t n (t .count) [] (root-
 pub record Ends (xs : List ℕ) (t : Trie) (n : Str) (P : List ℕ → Type 0) : Type 0 where
   pub k : ℕ
   pub arrives : Arrives (slots-of xs) t n (t .count) [] (root-side (t .count) (t .first)) k
-  pub so : P (slotAt (layoutOf xs) k xs)
+  pub so : P (bytes-at-slot (layout-of xs) k xs)
 
 -- R11.8, R11.9 and R11.10, of the slot's bytes.
 abbrev pub IsZero : Layout → List ℕ → Type 0
-IsZero y ys = ys ≡ replicate (slotSize y) 0
+IsZero y ys = ys ≡ replicate (slot-size y) 0
 
 abbrev pub IsMalformed : Layout → List ℕ → Type 0
-IsMalformed y ys = (s : Slot) → readSlot y ys ≡ some s → ¬ Well (y .b) s
+IsMalformed y ys = (s : Slot) → read-slot y ys ≡ some s → ¬ Well (y .b) s
 
 -- R1.9: a name and a bound agree before this digit number, and there they differ, unless the bound ends.
 pub record Differs (n p : Str) (k : ℕ) : Type 0 where
@@ -197,7 +197,7 @@ pub record Lacks (y : Layout) (n : Str) (k : ℕ) (ys : List ℕ) : Type 0 where
   pub low : Low
   pub high : Str
   pub entries : List Entry
-  pub is : readSlot y ys ≡ some (used low high entries)
+  pub is : read-slot y ys ≡ some (used low high entries)
   pub well : Well (y .b) (used low high entries)
   pub breaks : Breaks n low high k
 
@@ -214,8 +214,8 @@ rebuild-table xs = because bad-file (BadFile xs) ∷ because cut-file (IsCut xs)
 abbrev pub look-up-table : List ℕ → Trie → List ℕ → Table
 look-up-table xs t name =
     because illegal-name (¬ LegalName name) ∷ because bad-file (¬ RightHeader xs) ∷ because stale-trie (Lost xs t (filled name))
-    ∷ because stale-trie (Ends xs t (filled name) (IsZero (layoutOf xs))) ∷ because bad-file (Ends xs t (filled name) (IsMalformed (layoutOf xs)))
-    ∷ off-at (λ k. Ends xs t (filled name) (Lacks (layoutOf xs) (filled name) k)) ∷ []
+    ∷ because stale-trie (Ends xs t (filled name) (IsZero (layout-of xs))) ∷ because bad-file (Ends xs t (filled name) (IsMalformed (layout-of xs)))
+    ∷ off-at (λ k. Ends xs t (filled name) (Lacks (layout-of xs) (filled name) k)) ∷ []
 
 abbrev pub put-table : List ℕ → Trie → List ℕ → ℕ → ℕ → ℕ → Table
 put-table xs t name v run limit =
@@ -234,7 +234,7 @@ list-table xs t low high out =
     ∷ because short-output (Short xs low high out) ∷ []
 
 -- Demand 1 of the calls. Check refuses nothing. What a call may only read it cannot change: the file of check, rebuild, look
--- up and list, and the trie of look up, remove and list.
+-- up and list, and the trie of look up and list.
 pub record Demand1 (C : Calls) : Type 0 where
   pub create : (xs : List ℕ) (v b slots : ℕ) → Exactly TrieRefused (C .create xs v b slots .answer) (create-table xs v b slots)
   pub recover : (xs : List ℕ) (limit : ℕ) → Exactly RecoverRefused (C .recover xs limit .answer) (recover-table xs limit)

@@ -12,16 +12,16 @@ use Rattle.model.specs.declared.Trie.{Trie}
 use Rattle.model.specs.declared.TrieAnswer.the-variants.{Given}
 use Rattle.model.specs.Order.{Str}
 use Rattle.model.specs.Names.{filled}
-use Rattle.model.specs.Entries.{find, runPart, valuePart}
+use Rattle.model.specs.Entries.{find, run-of-content, value-of-content}
 use Rattle.model.specs.Files.{In, Slot, entries-of, head, slot-at}
 use Rattle.model.specs.Tries.{Agrees, walk-trie}
-use Rattle.model.specs.Format.{Bytes, SoundFile}
+use Rattle.model.specs.Format.{AreBytes, SoundFile}
 use Rattle.promises.specs.Calls.{Calls}
 use Rattle.promises.specs.Demand1.{LegalName}
 
 -- R13.2: the true entry, or absent and truly so: what the bucket holds whose range holds the name.
 pub data Truthful (fs : List Slot) (n : Str) : LookUpAnswer → Type 0 where
-  true-entry : (B : ℕ) {v : ℕ} → In (head (slot-at fs B)) n → find n (entries-of (slot-at fs B)) ≡ some v → Truthful fs n (Found (valuePart v) (runPart v))
+  true-entry : (B : ℕ) {v : ℕ} → In (head (slot-at fs B)) n → find n (entries-of (slot-at fs B)) ≡ some v → Truthful fs n (Found (value-of-content v) (run-of-content v))
   truly-absent : (B : ℕ) → In (head (slot-at fs B)) n → find n (entries-of (slot-at fs B)) ≡ nothing → Truthful fs n Absent
 
 -- Or it is refused as stale.
@@ -52,7 +52,7 @@ pub record Demand2 (C : Calls) : Type 0 where
   -- and the value has 64 bits a caller knows by their types.
   pub created : (xs : List ℕ) (v b slots : ℕ) → C .create xs v b slots .answer ≡ Given
       → LeadsRight (C .create xs v b slots .file) (C .create xs v b slots .trie)
-  pub grown : (xs : List ℕ) (t : Trie) (name : List ℕ) (v run limit : ℕ) → Bytes xs → v < 2 ^ 64 → run < 2 ^ 64 → Made (C .put xs t name v run limit .answer)
+  pub grown : (xs : List ℕ) (t : Trie) (name : List ℕ) (v run limit : ℕ) → AreBytes xs → v < 2 ^ 64 → run < 2 ^ 64 → Made (C .put xs t name v run limit .answer)
       → LeadsRight (C .put xs t name v run limit .file) (C .put xs t name v run limit .trie)
   -- The trie that rebuild makes from the bounds alone.
   pub rebuilt : (xs : List ℕ) → C .rebuild xs .answer ≡ Given → LeadsRight xs (C .rebuild xs .trie)

@@ -16,10 +16,10 @@ use Rattle.model.specs.declared.TrieAnswer.{TrieAnswer}
 use Rattle.model.specs.declared.TrieAnswer.the-variants.{Given, Refused as TrieRefused}
 use Rattle.model.specs.Order.{Str}
 use Rattle.model.specs.Names.{filled}
-use Rattle.model.specs.Entries.{chosen, contentOf}
+use Rattle.model.specs.Entries.{chosen, content-from}
 use Rattle.model.specs.Changes.{Map, Means, meant, put as to-put, remove as to-remove}
-use Rattle.model.specs.Format.{keptRun, layoutOf, slotAt}
-use Rattle.model.specs.Calls.{Created, heldAnswer}
+use Rattle.model.specs.Format.{bytes-at-slot, kept-run, layout-of}
+use Rattle.model.specs.Calls.{CreateDone, held-answer}
 use Rattle.model.specs.Deciding.{str?}
 use Rattle.promises.specs.Calls.{Calls}
 use Rattle.promises.specs.Demand1.{LegalName, slots-of}
@@ -68,7 +68,8 @@ after-put s n v (PutRefused c) xs t = now xs s
 unfoldable pub after-remove : State → Str → RemoveAnswer → List ℕ → Trie → State
 after-remove s n Removed xs t = running xs t (meant (to-remove n) (said s))
 after-remove s n Absent xs t = running xs t (meant (to-remove n) (said s))
-after-remove s n (RemoveStopped made) xs t = down xs (said s)
+after-remove s n (RemoveStopped zero) xs t = down xs (said s)
+after-remove s n (RemoveStopped (suc made)) xs t = down xs (meant (to-remove n) (said s))
 after-remove s n (RemoveRefused c) xs t = now xs s
 
 unfoldable pub after-recover : State → RecoverAnswer → List ℕ → State
@@ -85,7 +86,7 @@ module _ (C : Calls) where
   unfoldable pub put-by : State → Trie → List ℕ → ℕ → ℕ → ℕ → State
   put-by s t name v run limit =
       let d = C .put (file-of s) t name v run limit in
-      after-put s (filled name) (contentOf v (keptRun (layoutOf (file-of s)) run)) (d .answer) (d .file) (d .trie)
+      after-put s (filled name) (content-from v (kept-run (layout-of (file-of s)) run)) (d .answer) (d .file) (d .trie)
 
   unfoldable pub remove-by : State → Trie → List ℕ → ℕ → State
   remove-by s t name limit =
@@ -113,16 +114,16 @@ module _ (C : Calls) where
   after (e ∷ es) s = after es (step e s)
 
 -- R13.3: at first, what create gave, and no name said.
-abbrev pub start : Created → State
+abbrev pub start : CreateDone → State
 start c = running (c .file) (c .trie) (λ k. nothing)
 
 -- How many slots two files' bytes differ in, of as many as the first one's header says.
 unfoldable pub differing : ℕ → Layout → List ℕ → List ℕ → ℕ
 differing zero y xs ys = 0
-differing (suc k) y xs ys = chosen (str? (slotAt y k xs) (slotAt y k ys)) 0 1 + differing k y xs ys
+differing (suc k) y xs ys = chosen (str? (bytes-at-slot y k xs) (bytes-at-slot y k ys)) 0 1 + differing k y xs ys
 
 abbrev pub replaced : List ℕ → List ℕ → ℕ
-replaced xs ys = differing (slots-of xs) (layoutOf xs) xs ys
+replaced xs ys = differing (slots-of xs) (layout-of xs) xs ys
 
 -- R7.12: a call that is stopped says its limit, and as many slots are others than before.
 pub record StoppedAt (limit made : ℕ) (xs ys : List ℕ) : Type 0 where
@@ -136,7 +137,7 @@ module _ (C : Calls) where
     pub leads : LeadsRight xs t
     pub means : Means (leads .file .slots) m
     -- R13.3: every legal name looks up as the history says.
-    pub looks-up : (name : List ℕ) → LegalName name → C .look-up xs t name ≡ heldAnswer (m (filled name))
+    pub looks-up : (name : List ℕ) → LegalName name → C .look-up xs t name ≡ held-answer (m (filled name))
 
   abbrev pub InHand : State → Type 0
   InHand (running xs t m) = Kept xs t m

@@ -11,7 +11,7 @@ use Rattle.model.specs.Files.{Slot}
 use Rattle.model.specs.Tries.{zero-cell}
 use Rattle.model.specs.Changes.{Result, call, put, refuse, stored, stores}
 use Rattle.model.specs.Places.{place-of}
-use Rattle.model.specs.Calls.{trieAfter}
+use Rattle.model.specs.Calls.{trie-after-put}
 use Rattle.promises.specs.Texts.{name}
 
 -- These cells, and zero cells behind them; there is at least one.
@@ -24,7 +24,7 @@ Held = List Slot × Trie
 
 unfoldable pub after-put : Layout → Held → Str → ℕ → Result → Held
 after-put y h n v (refuse r) = h
-after-put y h n v (stores ss) = (stored ss (h .0), trieAfter (y .b) (place-of y) (h .0) n v ss (h .1))
+after-put y h n v (stores ss) = (stored ss (h .0), trie-after-put (y .b) (place-of y) (h .0) n v ss (h .1))
 
 -- These texts as names, each with its value, the first one first.
 unfoldable pub puts : Layout → List (String × ℕ) → Held → Held

@@ -7,22 +7,22 @@ use Rattle.model.specs.declared.Layout.{Layout}
 use Rattle.model.specs.declared.Trie.{Trie}
 use Rattle.model.specs.Files.{Slot}
 use Rattle.model.specs.Changes.{Store}
-use Rattle.model.specs.Format.{layoutOf, storeBytes}
-use Rattle.model.specs.Calls.{storesBytes}
+use Rattle.model.specs.Format.{layout-of, store-bytes}
+use Rattle.model.specs.Calls.{stores-bytes}
 use Rattle.promises.specs.Calls.{Calls}
 
 -- From the file xs to the file ys there is at most one store, of a whole slot (R7.1).
 pub data Further (y : Layout) (xs ys : List ℕ) : Type 0 where
   no-store : ys ≡ xs → Further y xs ys
-  one-store : (k : ℕ) (s : Slot) → ys ≡ storeBytes y k s xs → Further y xs ys
+  one-store : (k : ℕ) (s : Slot) → ys ≡ store-bytes y k s xs → Further y xs ys
 
 -- R7.12, of a call on the file xs, and of what it leaves by its limit. Its stores are the same for every limit, and a limit
 -- cuts them off. So limit j + 1 leaves what limit j leaves with at most one further store. In which order one call makes two
 -- stores is not said here.
 pub record InOrder (xs : List ℕ) (left : ℕ → List ℕ) : Type 0 where
   pub stores : List Store
-  pub left-by : (limit : ℕ) → limit ≤ 2 → left limit ≡ storesBytes (layoutOf xs) (take limit stores) xs
-  pub passes : (j : ℕ) → j < 2 → Further (layoutOf xs) (left j) (left (suc j))
+  pub left-by : (limit : ℕ) → limit ≤ 2 → left limit ≡ stores-bytes (layout-of xs) (take limit stores) xs
+  pub passes : (j : ℕ) → j < 2 → Further (layout-of xs) (left j) (left (suc j))
 
 -- A call that is refused makes no store, whatever its limit.
 pub record Limits (C : Calls) : Type 0 where

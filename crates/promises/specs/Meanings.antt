@@ -12,23 +12,23 @@ use Rattle.model.specs.declared.ListAnswer.the-variants.{Listed}
 use Rattle.model.specs.declared.RecoverAnswer.the-variants.{Freed, Nothing}
 use Rattle.model.specs.declared.Trie.{Trie}
 use Rattle.model.specs.Order.{Low, Str, _⊑_, _◁_}
-use Rattle.model.specs.Names.{Legal, atMost, filled, legalFilled, legalName}
+use Rattle.model.specs.Names.{Legal, filled, is-at-most, is-legal-filled, is-legal-name}
 use Rattle.model.specs.Entries.{Entry, insert}
 use Rattle.model.specs.Files.{Bad, Cut, IsString, Slot, Sound, Well, free, slot-at, string-count, used}
 use Rattle.model.specs.Tries.{Agrees}
 use Rattle.model.specs.Changes.{Lowest, halves, stored}
 use Rattle.model.specs.Places.{place-of}
-use Rattle.model.specs.Checks.{check, is-bad, is-cut, is-sound, isAbove, isWell, sameStr}
-use Rattle.model.specs.Agreeing.{isAgreeing}
-use Rattle.model.specs.Format.{BadFile, Bytes, CutFile, SoundFile, entriesBytes, entrySize, layoutOf, readFile, slotSize}
-use Rattle.model.specs.Calls.{fine, lookedOf}
+use Rattle.model.specs.Checks.{check, is-above, is-bad, is-cut, is-sound, is-well-formed, same-str}
+use Rattle.model.specs.Agreeing.{is-agreeing}
+use Rattle.model.specs.Format.{AreBytes, BadFile, CutFile, SoundFile, bytes-of-entries, entry-length, layout-of, read-file, slot-size}
+use Rattle.model.specs.Calls.{fine, looked-of}
 use Rattle.promises.specs.Calls.{Calls}
 use Rattle.promises.specs.Demand1.{LegalName, Listing, slots-of}
 
 -- R9.3: slot N is all zero then, and every other byte is as it was.
 pub record OneFreed (xs : List ℕ) (N : ℕ) (ys : List ℕ) : Type 0 where
   pub inside : N < slots-of xs
-  pub is : ys ≡ take (16 + N * slotSize (layoutOf xs)) xs ++ replicate (slotSize (layoutOf xs)) 0 ++ drop (16 + N * slotSize (layoutOf xs) + slotSize (layoutOf xs)) xs
+  pub is : ys ≡ take (16 + N * slot-size (layout-of xs)) xs ++ replicate (slot-size (layout-of xs)) 0 ++ drop (16 + N * slot-size (layout-of xs) + slot-size (layout-of xs)) xs
 
 -- R9.8: the entries between the two names, both included, in ascending order, with nothing written behind them, and
 -- their number.
@@ -37,8 +37,8 @@ pub record Wrote (xs low high out : List ℕ) (count : ℕ) (ys : List ℕ) : Ty
   pub listed : List Entry
   pub listing : Listing (file .slots) (filled low) (filled high) listed
   pub number : count ≡ length listed
-  pub fits : entrySize (file .layout) * count ≤ length out
-  pub written : ys ≡ entriesBytes (entrySize (file .layout)) listed ++ drop (entrySize (file .layout) * count) out
+  pub fits : entry-length (file .layout) * count ≤ length out
+  pub written : ys ≡ bytes-of-entries (entry-length (file .layout)) listed ++ drop (entry-length (file .layout) * count) out
 
 -- R5.7: the file's strings, each once.
 abbrev pub Distinct : List Str → Type 0
@@ -59,8 +59,8 @@ pub record Meanings (C : Calls) : Type 0 where
   -- R9.3: of a cut file recover frees slot N and says which it is.
   pub says-freed : (xs : List ℕ) (limit N : ℕ) → (C .recover xs limit .answer ≡ Freed N) ↔ ((1 ≤ limit) × (limit ≤ 2) × CutFile xs N)
   pub frees : (xs : List ℕ) (limit N : ℕ) → C .recover xs limit .answer ≡ Freed N → OneFreed xs N (C .recover xs limit .file)
-  pub frees-slot : (xs : List ℕ) (limit N : ℕ) → Bytes xs → C .recover xs limit .answer ≡ Freed N → (K : CutFile xs N)
-      → readFile (C .recover xs limit .file) ≡ some (K .layout, set (K .slots) N free)
+  pub frees-slot : (xs : List ℕ) (limit N : ℕ) → AreBytes xs → C .recover xs limit .answer ≡ Freed N → (K : CutFile xs N)
+      → read-file (C .recover xs limit .file) ≡ some (K .layout, set (K .slots) N free)
   -- Of a sound file it says that there is nothing to do.
   pub says-nothing : (xs : List ℕ) (limit : ℕ) → (C .recover xs limit .answer ≡ Nothing) ↔ ((limit ≤ 2) × SoundFile xs)
   pub leaves : (xs : List ℕ) (limit : ℕ) → C .recover xs limit .answer ≡ Nothing → C .recover xs limit .file ≡ xs
@@ -71,22 +71,22 @@ pub record Meanings (C : Calls) : Type 0 where
 -- What the definitions' tests mean.
 pub record Tests : Type 0 where
   -- Names and strings.
-  pub legal : (name : List ℕ) → (legalName name ≡ true) ↔ LegalName name
-  pub legal-filled : (n : Str) → (legalFilled n ≡ true) ↔ Legal n
+  pub legal : (name : List ℕ) → (is-legal-name name ≡ true) ↔ LegalName name
+  pub legal-filled : (n : Str) → (is-legal-filled n ≡ true) ↔ Legal n
   pub one-name : (m n : List ℕ) → LegalName m → LegalName n → filled m ≡ filled n → m ≡ n
-  pub at-most : (x y : Str) → (atMost x y ≡ true) ↔ (x ⊑ y)
-  pub above : (l : Low) (x : Str) → (isAbove l x ≡ true) ↔ (l ◁ x)
-  pub same : (x y : Str) → (sameStr x y ≡ true) ↔ (x ≡ y)
+  pub at-most : (x y : Str) → (is-at-most x y ≡ true) ↔ (x ⊑ y)
+  pub above : (l : Low) (x : Str) → (is-above l x ≡ true) ↔ (l ◁ x)
+  pub same : (x y : Str) → (same-str x y ≡ true) ↔ (x ≡ y)
   -- Slots and files.
-  pub well : (b : ℕ) (x : Slot) → (isWell b x ≡ true) ↔ Well b x
+  pub well : (b : ℕ) (x : Slot) → (is-well-formed b x ≡ true) ↔ Well b x
   pub sound : (b : ℕ) (fs : List Slot) → (check b fs ≡ is-sound) ↔ Sound b fs
   pub cut : (b : ℕ) (fs : List Slot) (N : ℕ) → (check b fs ≡ is-cut N) ↔ Cut b fs N
   pub bad : (b : ℕ) (fs : List Slot) → (check b fs ≡ is-bad) ↔ Bad b fs
   -- Tries.
-  pub agreeing : (b : ℕ) (fs : List Slot) (t : Trie) → Sound b fs → (isAgreeing fs t ≡ true) ↔ Agrees fs t
+  pub agreeing : (b : ℕ) (fs : List Slot) (t : Trie) → Sound b fs → (is-agreeing fs t ≡ true) ↔ Agrees fs t
   -- R9.10: put, remove and list look at the whole file and at the whole trie.
   pub passes : (xs : List ℕ) (t : Trie) (y : Layout) (fs : List Slot)
-      → (lookedOf xs t ≡ fine y fs) ↔ ((readFile xs ≡ some (y, fs)) × Sound (y .b) fs × Agrees fs t)
+      → (looked-of xs t ≡ fine y fs) ↔ ((read-file xs ≡ some (y, fs)) × Sound (y .b) fs × Agrees fs t)
   -- R10.6: a sound file's strings can be listed, and what is counted is how many there are, however they are listed.
   -- The file after a split, whose strings put counts, is sound.
   pub listable : (b : ℕ) (fs : List Slot) → Sound b fs → (ss : List Str) × AllStrings fs ss

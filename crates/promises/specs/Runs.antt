@@ -9,7 +9,7 @@ use Rattle.model.specs.declared.PutAnswer.the-variants.{Refused as PutRefused, 
 use Rattle.model.specs.declared.RemoveAnswer.the-variants.{Removed}
 use Rattle.model.specs.declared.Trie.{Trie}
 use Rattle.model.specs.Tries.{Agrees}
-use Rattle.model.specs.Format.{Bytes, SoundFile, entrySize, fileSize, keptRun, layoutOf, version-1, version-2, version-3}
+use Rattle.model.specs.Format.{AreBytes, SoundFile, entry-length, file-size, kept-run, layout-of, version-1, version-2, version-3}
 use Rattle.promises.specs.Calls.{Calls}
 use Rattle.promises.specs.Demand1.{HeldHigher, LegalName}
 
@@ -22,22 +22,22 @@ pub record Reached (xs : List ℕ) (t : Trie) (name : List ℕ) (limit : ℕ) : 
 
 pub record Runs (C : Calls) : Type 0 where
   -- Entries of 40 bytes in version 3, of 32 before; the largest file.
-  pub sizes : (b : ℕ) → (entrySize (version-3 b) ≡ 40) × (entrySize (version-2 b) ≡ 32) × (entrySize (version-1 b) ≡ 32)
-  pub largest : fileSize (version-3 16) 64 ≡ 45072
+  pub sizes : (b : ℕ) → (entry-length (version-3 b) ≡ 40) × (entry-length (version-2 b) ≡ 32) × (entry-length (version-1 b) ≡ 32)
+  pub largest : file-size (version-3 16) 64 ≡ 45072
   -- Refused 12 exactly where a held name has a higher run, whatever the limit: before any stop.
   pub refused : (xs : List ℕ) (t : Trie) (name : List ℕ) (v run limit : ℕ) → Reached xs t name limit
       → (C .put xs t name v run limit .answer ≡ PutRefused OlderRun) ↔ HeldHigher xs name run
   -- An equal run replaces.
   pub equal : (xs : List ℕ) (t : Trie) (name : List ℕ) (v run limit old : ℕ) → Reached xs t name limit → 1 ≤ limit
-      → C .look-up xs t name ≡ Found old (keptRun (layoutOf xs) run)
-      → C .put xs t name v run limit .answer ≡ Replaced old (keptRun (layoutOf xs) run)
+      → C .look-up xs t name ≡ Found old (kept-run (layout-of xs) run)
+      → C .put xs t name v run limit .answer ≡ Replaced old (kept-run (layout-of xs) run)
   -- Versions 1 and 2 ignore the run given, and give 0.
-  pub ignored : (xs : List ℕ) (t : Trie) (name : List ℕ) (v run other limit : ℕ) → layoutOf xs .version ≢ 3
+  pub ignored : (xs : List ℕ) (t : Trie) (name : List ℕ) (v run other limit : ℕ) → layout-of xs .version ≢ 3
       → C .put xs t name v run limit ≡ C .put xs t name v other limit
-  pub found-0 : (xs : List ℕ) (t : Trie) (name : List ℕ) (v run : ℕ) → Bytes xs → layoutOf xs .version ≢ 3
+  pub found-0 : (xs : List ℕ) (t : Trie) (name : List ℕ) (v run : ℕ) → AreBytes xs → layout-of xs .version ≢ 3
       → C .look-up xs t name ≡ Found v run → run ≡ 0
-  pub replaced-0 : (xs : List ℕ) (t : Trie) (name : List ℕ) (v run limit old old-run : ℕ) → Bytes xs → layoutOf xs .version ≢ 3
+  pub replaced-0 : (xs : List ℕ) (t : Trie) (name : List ℕ) (v run limit old old-run : ℕ) → AreBytes xs → layout-of xs .version ≢ 3
       → C .put xs t name v run limit .answer ≡ Replaced old old-run → old-run ≡ 0
   -- Removal forgets the run: after it no put of the name is refused 12.
-  pub forgotten : (xs : List ℕ) (t u : Trie) (name : List ℕ) (v run limit again : ℕ) → Bytes xs → C .remove xs t name limit .answer ≡ Removed
+  pub forgotten : (xs : List ℕ) (t u : Trie) (name : List ℕ) (v run limit again : ℕ) → AreBytes xs → C .remove xs t name limit .answer ≡ Removed
       → C .put (C .remove xs t name limit .file) u name v run again .answer ≢ PutRefused OlderRun

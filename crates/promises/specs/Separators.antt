@@ -14,8 +14,8 @@ use Rattle.model.specs.Files.{Cut, Slot, Sound, free, string-count}
 use Rattle.model.specs.Tries.{Agrees}
 use Rattle.model.specs.Changes.{Map, Means, Store, call, meant, put, split-of, split-string, stored, stores}
 use Rattle.model.specs.Places.{Wins, digits-at, place-of, positions}
-use Rattle.model.specs.Format.{isOffered, version-1, version-2, version-3}
-use Rattle.model.specs.Calls.{trieAfter}
+use Rattle.model.specs.Format.{is-offered, version-1, version-2, version-3}
+use Rattle.model.specs.Calls.{trie-after-put}
 
 -- What the stores of a put leave, by a rule that takes any position from 1 to b.
 pub record PutLeaves (b : ℕ) (place : List Entry → ℕ) (fs : List Slot) (m : Map) (n : Str) (v : ℕ) (ss : List Store) : Type 0 where
@@ -27,11 +27,11 @@ pub record PutLeaves (b : ℕ) (place : List Entry → ℕ) (fs : List Slot) (m 
   pub stopped : (k : ℕ) → k < length ss
       → (stored (take k ss) fs ≡ fs) ⊎ ((N : ℕ) × Cut b (stored (take k ss) fs) N × (set (stored (take k ss) fs) N free ≡ fs))
   -- Growth: a trie that agreed with the file before is changed into one that agrees with the file after.
-  pub agrees : (t : Trie) → Agrees fs t → Agrees (stored ss fs) (trieAfter b place fs n v ss t)
+  pub agrees : (t : Trie) → Agrees fs t → Agrees (stored ss fs) (trie-after-put b place fs n v ss t)
 
 pub record Separators : Type 0 where
   -- R2.3: versions 1, 2 and 3 are offered, and no other.
-  pub versions : (v : ℕ) → (isOffered v ≡ true) ↔ ((v ≡ 1) ⊎ (v ≡ 2) ⊎ (v ≡ 3))
+  pub versions : (v : ℕ) → (is-offered v ≡ true) ↔ ((v ≡ 1) ⊎ (v ≡ 2) ⊎ (v ≡ 3))
   -- R7.3: version 1 has the split key at position b/2 + 1, as before.
   pub as-before : (b : ℕ) (ws : List Entry) → split-of b (place-of (version-1 b)) ws ≡ split-string (b / 2) b ws
   -- Version 2 chooses from m, m − 1 and m + 1, those from 1 to b only: for b = 2 these are two.

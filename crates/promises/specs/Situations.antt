@@ -13,20 +13,20 @@ use Rattle.model.specs.declared.Side.{Side}
 use Rattle.model.specs.declared.Side.the-variants.{Cell as further, Slot as slot}
 use Rattle.model.specs.declared.Trie.{Trie}
 use Rattle.model.specs.Order.{Str, at, none}
-use Rattle.model.specs.Names.{broken, legalName, within}
+use Rattle.model.specs.Names.{broken, is-legal-name, within}
 use Rattle.model.specs.Entries.{Entry, find}
 use Rattle.model.specs.Files.{Slot, created, entries-of, free, slot-at, used}
 use Rattle.model.specs.Tries.{Agrees, walk-trie}
 use Rattle.model.specs.Rebuilding.{rebuilt-trie}
-use Rattle.model.specs.Format.{fileBytes, version-1, version-2}
+use Rattle.model.specs.Format.{file-bytes, version-1, version-2}
 use Rattle.model.specs.Changes.{call, put, split-of, stores}
 use Rattle.model.specs.Places.{place-of}
-use Rattle.model.specs.Checks.{check, is-cut, is-sound, isSound}
-use Rattle.model.specs.Agreeing.{isAgreeing}
+use Rattle.model.specs.Checks.{check, is-cut, is-sound, is-sound-file}
+use Rattle.model.specs.Agreeing.{is-agreeing}
 use Rattle.promises.specs.Texts.{bytes, name}
-use Rattle.model.specs.Calls.{lookUpOf, new-trie}
+use Rattle.model.specs.Calls.{look-up-of, new-trie}
 use Rattle.promises.specs.Growing.{Held, of-cells, puts}
-use Rattle.promises.specs.Histories.{Act, World, ask, down, ready, recover, run}
+use Rattle.promises.specs.Histories.{Action, World, ask, down, ready, recover, run}
 
 -- A cell, its digit as a text.
 abbrev pub a-cell : String → ℕ → Side → Side → Cell
@@ -48,19 +48,19 @@ looked-up w h = find (name w) (entries-of (slot-at (h .0) (walk-trie (h .1) (nam
 
 pub record Legals : Type 0 where
   -- R14.1: 24 bytes are legal,
-  pub longest : legalName (replicate 24 0x61) ≡ true
+  pub longest : is-legal-name (replicate 24 0x61) ≡ true
   -- 0 and 25 are not.
-  pub empty : legalName [] ≡ false
-  pub too-long : legalName (replicate 25 0x61) ≡ false
+  pub empty : is-legal-name [] ≡ false
+  pub too-long : is-legal-name (replicate 25 0x61) ≡ false
   -- R14.2: 0x7D is legal,
-  pub highest : legalName (0x7D ∷ []) ≡ true
+  pub highest : is-legal-name (0x7D ∷ []) ≡ true
   -- 0x7E is not. 0x20 is legal inside a name,
-  pub too-high : legalName (0x7E ∷ []) ≡ false
-  pub blank-inside : legalName (bytes "a b") ≡ true
+  pub too-high : is-legal-name (0x7E ∷ []) ≡ false
+  pub blank-inside : is-legal-name (bytes "a b") ≡ true
   -- and neither first nor last.
-  pub blank : legalName (0x20 ∷ []) ≡ false
-  pub blank-first : legalName (bytes " a") ≡ false
-  pub blank-last : legalName (bytes "a ") ≡ false
+  pub blank : is-legal-name (0x20 ∷ []) ≡ false
+  pub blank-first : is-legal-name (bytes " a") ≡ false
+  pub blank-last : is-legal-name (bytes "a ") ≡ false
 
 pub record Withins : Type 0 where
   -- R14.3: "i" is within "i ",
@@ -129,7 +129,7 @@ with-razz = puts (version-1 2) (("razz", 4) ∷ []) (rates-slots, five-cells)
 abbrev pub with-rz : Held
 with-rz = puts (version-1 2) (("rz", 5) ∷ []) (razz-slots, five-cells)
 
-pub record Rates : Type 0 where
+pub record RateSituations : Type 0 where
   -- R14.7: five cells.
   pub rates-file : rates .0 ≡ rates-slots
   pub rates-trie : rates .1 ≡ five-cells
@@ -147,23 +147,23 @@ pub record Rates : Type 0 where
   pub rz-found : looked-up "rz" with-rz ≡ some 5
   pub razz-found : looked-up "razz" with-rz ≡ some 4
   -- Each of these files is sound, and its trie agrees with it; the tests say so.
-  pub rates-sound : isSound 2 (rates .0) ≡ true
-  pub razz-sound : isSound 2 (with-razz .0) ≡ true
-  pub rz-sound : isSound 2 (with-rz .0) ≡ true
-  pub rates-tested : isAgreeing (rates .0) (rates .1) ≡ true
-  pub razz-tested : isAgreeing (with-razz .0) (with-razz .1) ≡ true
-  pub rz-tested : isAgreeing (with-rz .0) (with-rz .1) ≡ true
+  pub rates-sound : is-sound-file 2 (rates .0) ≡ true
+  pub razz-sound : is-sound-file 2 (with-razz .0) ≡ true
+  pub rz-sound : is-sound-file 2 (with-rz .0) ≡ true
+  pub rates-tested : is-agreeing (rates .0) (rates .1) ≡ true
+  pub razz-tested : is-agreeing (with-razz .0) (with-razz .1) ≡ true
+  pub rz-tested : is-agreeing (with-rz .0) (with-rz .1) ≡ true
   pub rates-agree : Agrees (rates .0) (rates .1)
   pub razz-agrees : Agrees (with-razz .0) (with-razz .1)
   pub rz-agrees : Agrees (with-rz .0) (with-rz .1)
 
 -- The same puts as a history, the latest first, and the last one stopped after one store.
-abbrev pub before-rz : List Act
+abbrev pub before-rz : List Action
 before-rz =
     ask (put (name "razz") 4) 2 ∷ ask (put (name "rate3") 3) 2 ∷ ask (put (name "rate2") 2) 2
     ∷ ask (put (name "rate1") 1) 2 ∷ []
 
-abbrev pub stopped-rz : List Act
+abbrev pub stopped-rz : List Action
 stopped-rz = ask (put (name "rz") 5) 1 ∷ before-rz
 
 abbrev pub file-of : World → List Slot
@@ -218,22 +218,22 @@ abbrev pub rebuilt-cells : Trie
 rebuilt-cells =
     of-cells (a-cell "i" 0 (further 1) (further 2) ∷ a-cell " " 1 (slot 0) (slot 3) ∷ a-cell "o" 0 (slot 2) (slot 1) ∷ [])
 
-pub record Words : Type 0 where
+pub record WordSituations : Type 0 where
   -- R14.10: the file of the nine words,
   pub words-file : words .0 ≡ words-slots
   pub words-trie : words .1 ≡ words-cells
   -- and its trie, rebuilt.
   pub words-rebuilt : rebuilt-trie (words .0) ≡ rebuilt-cells
   -- The file is sound, and both tries agree with it; the tests say so.
-  pub words-sound : isSound 4 (words .0) ≡ true
-  pub words-tested : isAgreeing (words .0) (words .1) ≡ true
-  pub rebuilt-tested : isAgreeing (words .0) (rebuilt-trie (words .0)) ≡ true
+  pub words-sound : is-sound-file 4 (words .0) ≡ true
+  pub words-tested : is-agreeing (words .0) (words .1) ≡ true
+  pub rebuilt-tested : is-agreeing (words .0) (rebuilt-trie (words .0)) ≡ true
   pub words-agree : Agrees (words .0) (words .1)
   pub rebuilt-agrees : Agrees (words .0) (rebuilt-trie (words .0))
 
 -- A file of one slot: the bucket from "i " to "i".
 abbrev pub i-file : List ℕ
-i-file = fileBytes (version-1 2) (used (at (bytes "i ")) (bytes "i") [] ∷ [])
+i-file = file-bytes (version-1 2) (used (at (bytes "i ")) (bytes "i") [] ∷ [])
 
 -- A name of 24 digits.
 abbrev pub long-name : String
@@ -241,9 +241,9 @@ long-name = "abcdefghijklmnopqrstuvwx"
 
 pub record Lefts : Type 0 where
   -- R14.13: "in" is in the range; "i" agrees with all of the lower bound; "jo" differs from the upper at digit 0.
-  pub in-absent : lookUpOf i-file new-trie (bytes "in") ≡ NotFound
-  pub i-left : lookUpOf i-file new-trie (bytes "i") ≡ LookUpRefused (StaleTrie 2)
-  pub jo-left : lookUpOf i-file new-trie (bytes "jo") ≡ LookUpRefused (StaleTrie 0)
+  pub in-absent : look-up-of i-file new-trie (bytes "in") ≡ NotFound
+  pub i-left : look-up-of i-file new-trie (bytes "i") ≡ LookUpRefused (StaleTrie 2)
+  pub jo-left : look-up-of i-file new-trie (bytes "jo") ≡ LookUpRefused (StaleTrie 0)
   -- A name equal to a lower bound of 24 digits.
   pub long-left : broken (at (bytes long-name)) [] (name long-name) ≡ 24
 
@@ -272,8 +272,8 @@ pub record Shorter : Type 0 where
   -- R14.15: the file of the nine words and its trie.
   pub shorter-file : shorter .0 ≡ shorter-slots
   pub shorter-trie : shorter .1 ≡ shorter-cells
-  pub shorter-sound : isSound 4 (shorter .0) ≡ true
-  pub shorter-tested : isAgreeing (shorter .0) (shorter .1) ≡ true
+  pub shorter-sound : is-sound-file 4 (shorter .0) ≡ true
+  pub shorter-tested : is-agreeing (shorter .0) (shorter .1) ≡ true
   pub shorter-agrees : Agrees (shorter .0) (shorter .1)
 
 -- All situations of the rules' section 14 that are marked proved.
@@ -281,8 +281,8 @@ pub record Situations : Type 0 where
   pub legals : Legals
   pub withins : Withins
   pub splits : Splits
-  pub rate-puts : Rates
+  pub rate-puts : RateSituations
   pub stopped-put : Stopped
-  pub nine-words : Words
+  pub nine-words : WordSituations
   pub left-ranges : Lefts
   pub shorter-words : Shorter

@@ -13,14 +13,14 @@ use Rattle.model.specs.declared.Side.the-variants.{Cell as further, Slot as slo
 use Rattle.model.specs.declared.Trie.{Trie}
 use Rattle.model.specs.Order.{at, none}
 use Rattle.model.specs.Names.{filled}
-use Rattle.model.specs.Entries.{Entry, contentOf}
+use Rattle.model.specs.Entries.{Entry, content-from}
 use Rattle.model.specs.Files.{Slot, free, used}
 use Rattle.model.specs.Changes.{Store, call, put, split-of, split-string, stores}
 use Rattle.model.specs.Places.{place-of}
 use Rattle.model.specs.Checks.{is-bad}
-use Rattle.model.specs.Format.{checkFile, fileBytes, keptRun, readFile, storeBytes, version-1}
+use Rattle.model.specs.Format.{check-file, file-bytes, kept-run, read-file, store-bytes, version-1}
 use Rattle.model.specs.Answers.{stale-trie}
-use Rattle.model.specs.Calls.{new-trie, putOf, recoverOf, storesBytes}
+use Rattle.model.specs.Calls.{new-trie, put-of, recover-of, stores-bytes}
 use Rattle.promises.specs.Texts.{bytes}
 use Rattle.promises.specs.Growing.{of-cells}
 use Rattle.promises.specs.Situations.{a-cell, entries, i-file, names, rates-slots, rz-slots}
@@ -41,24 +41,24 @@ abbrev pub c-slot : Slot
 c-slot = used (at (bytes "b")) [] (entries (("c", 3) ∷ []))
 
 abbrev pub full-file : List ℕ
-full-file = fileBytes (version-1 2) (full-slot ∷ free ∷ [])
+full-file = file-bytes (version-1 2) (full-slot ∷ free ∷ [])
 
 abbrev pub stopped-file : List ℕ
-stopped-file = fileBytes (version-1 2) (full-slot ∷ c-slot ∷ [])
+stopped-file = file-bytes (version-1 2) (full-slot ∷ c-slot ∷ [])
 
 abbrev pub split-file : List ℕ
-split-file = fileBytes (version-1 2) (cut-down ∷ c-slot ∷ [])
+split-file = file-bytes (version-1 2) (cut-down ∷ c-slot ∷ [])
 
 -- R15.5, a wrong number of stores made: a stopped put has made as many stores as it says, the first ones of those that
 -- it takes, and each replaces one slot.
 pub record StoppedAfter (xs name : List ℕ) (v run made : ℕ) (ys : List ℕ) : Type 0 where
   pub layout : Layout
   pub slots : List Slot
-  pub is : readFile xs ≡ some (layout, slots)
+  pub is : read-file xs ≡ some (layout, slots)
   pub needed : List Store
-  pub takes : call (layout .b) (place-of layout) slots (put (filled name) (contentOf v (keptRun layout run))) ≡ stores needed
+  pub takes : call (layout .b) (place-of layout) slots (put (filled name) (content-from v (kept-run layout run))) ≡ stores needed
   pub short : made < length needed
-  pub left : ys ≡ storesBytes layout (take made needed) xs
+  pub left : ys ≡ stores-bytes layout (take made needed) xs
 
 -- R15.7, the split key compared with the next name: b = 4, and the key is ra.
 abbrev pub five : List Entry
@@ -87,7 +87,7 @@ pub record Strength : Type 0 where
   pub one-result : (C : Calls) → OneResult C → ¬ Demand2 C
   -- The wrong puts are ours but for the stores that they make: with our stores, such a put is ours.
   pub ours-but-for : (xs : List ℕ) (t : Trie) (name : List ℕ) (v run limit : ℕ)
-      → make-put take (λ made. made) (λ ss. ss) xs t name v run limit ≡ putOf xs t name v run limit
+      → make-put take (λ made. made) (λ ss. ss) xs t name v run limit ≡ put-of xs t name v run limit
   -- R15.3, against demand 3.
   pub not-nothing : ¬ Demand3 stores-nothing
   pub not-absent : ¬ Demand3 removes-nothing
@@ -102,20 +102,20 @@ pub record Strength : Type 0 where
   pub not-inner : ¬ Demand3 keeps-inner
   -- A put that says stopped made the first of its stores, as many as it says.
   pub stopped-after : (xs : List ℕ) (t : Trie) (name : List ℕ) (v run limit made : ℕ)
-      → putOf xs t name v run limit .answer ≡ PutStopped made → StoppedAfter xs name v run made (putOf xs t name v run limit .file)
+      → put-of xs t name v run limit .answer ≡ PutStopped made → StoppedAfter xs name v run made (put-of xs t name v run limit .file)
   -- In numbers: of a put of c that needs two stores, none, one and two were made.
-  pub stopped-0 : putOf full-file new-trie (bytes "c") 3 0 0 ≡ record { answer = PutStopped 0; file = full-file; trie = new-trie }
-  pub stopped-1 : putOf full-file new-trie (bytes "c") 3 0 1 ≡ record { answer = PutStopped 1; file = stopped-file; trie = new-trie }
-  pub made-2 : putOf full-file new-trie (bytes "c") 3 0 2 ≡ record { answer = Added; file = split-file; trie = of-cells (a-cell "b" 0 (slot 0) (slot 1) ∷ []) }
+  pub stopped-0 : put-of full-file new-trie (bytes "c") 3 0 0 ≡ record { answer = PutStopped 0; file = full-file; trie = new-trie }
+  pub stopped-1 : put-of full-file new-trie (bytes "c") 3 0 1 ≡ record { answer = PutStopped 1; file = stopped-file; trie = new-trie }
+  pub made-2 : put-of full-file new-trie (bytes "c") 3 0 2 ≡ record { answer = Added; file = split-file; trie = of-cells (a-cell "b" 0 (slot 0) (slot 1) ∷ []) }
   -- A trie that is kept after a stop: refused 3 while the file is cut, refused 4 once another trie has split the bucket, and as
   -- good as new if no store was made.
-  pub kept-cut : putOf stopped-file new-trie (bytes "d") 4 0 2 .answer ≡ PutRefused CutFile
-  pub kept-stale : putOf split-file new-trie (bytes "d") 4 0 2 .answer ≡ PutRefused stale-trie
-  pub kept-good : putOf full-file new-trie (bytes "c") 3 0 2 .answer ≡ Added
-  pub recovers : recoverOf stopped-file 1 ≡ record { answer = Freed 1; file = full-file }
-  pub inner-bad : checkFile (storeBytes (version-1 2) 0 free stopped-file) ≡ is-bad
+  pub kept-cut : put-of stopped-file new-trie (bytes "d") 4 0 2 .answer ≡ PutRefused CutFile
+  pub kept-stale : put-of split-file new-trie (bytes "d") 4 0 2 .answer ≡ PutRefused stale-trie
+  pub kept-good : put-of full-file new-trie (bytes "c") 3 0 2 .answer ≡ Added
+  pub recovers : recover-of stopped-file 1 ≡ record { answer = Freed 1; file = full-file }
+  pub inner-bad : check-file (store-bytes (version-1 2) 0 free stopped-file) ≡ is-bad
   pub last-name : split-of 4 (place-of (version-1 4)) five ≡ bytes "r"
   pub neighbour : split-string (4 / 2) (4 / 2 + 1) five ≡ bytes "ra "
   -- A rebuilding that gives the first of these tries, and a put that gives the second, fail demand 2.
-  pub without-beginnings : ¬ LeadsRight (fileBytes (version-1 2) rates-slots) bare-cells
-  pub one-leaf : ¬ LeadsRight (fileBytes (version-1 2) rz-slots) one-turned
+  pub without-beginnings : ¬ LeadsRight (file-bytes (version-1 2) rates-slots) bare-cells
+  pub one-leaf : ¬ LeadsRight (file-bytes (version-1 2) rz-slots) one-turned

@@ -15,7 +15,7 @@ use Rattle.model.specs.Order.{Str, _⊑_, at}
 use Rattle.model.specs.Names.{filled}
 use Rattle.model.specs.Entries.{Entry}
 use Rattle.model.specs.Files.{Well, used}
-use Rattle.model.specs.Format.{layoutOf}
+use Rattle.model.specs.Format.{layout-of}
 use Rattle.promises.specs.Calls.{Calls}
 use Rattle.promises.specs.Demand1.{Differs, Ends, Lacks, LegalName, RightHeader}
 
@@ -24,7 +24,7 @@ pub record LeftRange (xs : List ℕ) (t : Trie) (name : List ℕ) (k : ℕ) : Ty
   pub legal : LegalName name
   pub header : RightHeader xs
   pub few : t .count ≤ 256
-  pub ends : Ends xs t (filled name) (Lacks (layoutOf xs) (filled name) k)
+  pub ends : Ends xs t (filled name) (Lacks (layout-of xs) (filled name) k)
 
 pub record Where (C : Calls) : Type 0 where
   -- A lookup's refusal 4 carries a digit number exactly there,

@@ -19,13 +19,13 @@ use Rattle.model.specs.declared.RemoveAnswer.the-variants.{Absent as NotHeld, R
 use Rattle.model.specs.declared.Trie.{Trie}
 use Rattle.model.specs.declared.TrieAnswer.the-variants.{Refused as TrieRefused}
 use Rattle.model.specs.Order.{Str}
-use Rattle.model.specs.Names.{filled, legalName}
-use Rattle.model.specs.Entries.{contentOf}
+use Rattle.model.specs.Names.{filled, is-legal-name}
+use Rattle.model.specs.Entries.{content-from}
 use Rattle.model.specs.Files.{IsUsed, Slot, first, free, head, slot-at, upper-of, used}
 use Rattle.model.specs.Changes.{Result, Store, refuse, stores}
 use Rattle.model.specs.Places.{place-of}
-use Rattle.model.specs.Format.{checkFile, keptRun, layoutOf, readFile, storeBytes}
-use Rattle.model.specs.Calls.{Looked, PutDone, Recovered, RemoveDone, createOf, fine, held, listOf, lookUpOf, lookedOf, putAnswer, putOf, putTakes, rebuildOf, recoverOf, refusalOf, refusing, removeOf, storesBytes, trieAfter}
+use Rattle.model.specs.Format.{check-file, kept-run, layout-of, read-file, store-bytes}
+use Rattle.model.specs.Calls.{Looked, PutDone, RecoverDone, RemoveDone, create-of, fine, held, list-of, look-up-of, looked-of, put-answer, put-of, put-takes, rebuild-of, recover-of, refusal-of, refusing, remove-of, stores-bytes, trie-after-put}
 use Rattle.model.specs.Deciding.{str?}
 use Rattle.promises.specs.Calls.{Calls}
 use Rattle.promises.specs.Demand3.{put, remove}
@@ -51,57 +51,57 @@ OneResult C = (xs ys : List ℕ) (t u : Trie) (m n : List ℕ) → C .look-up xs
 -- made where it is not stopped.
 module _ (stopped : ℕ → List Store → List Store) (says : ℕ → ℕ) (whole : List Store → List Store) where
   unfoldable pub make : List ℕ → Trie → Layout → List Slot → Str → ℕ → ℕ → Result → PutDone
-  make xs t y fs n v limit (refuse r) = record { answer = PutRefused (refusalOf r); file = xs; trie = t }
+  make xs t y fs n v limit (refuse r) = record { answer = PutRefused (refusal-of r); file = xs; trie = t }
   make xs t y fs n v limit (stores ss) =
       cond (ltb limit (length ss))
-      (record { answer = PutStopped (says limit); file = storesBytes y (stopped limit ss) xs; trie = t })
+      (record { answer = PutStopped (says limit); file = stores-bytes y (stopped limit ss) xs; trie = t })
       (record {
-        answer = putAnswer (held fs n);
-        file = storesBytes y (whole ss) xs;
-        trie = trieAfter (y .b) (place-of y) fs n v ss t;
+        answer = put-answer (held fs n);
+        file = stores-bytes y (whole ss) xs;
+        trie = trie-after-put (y .b) (place-of y) fs n v ss t;
       })
 
   unfoldable pub make-looked : List ℕ → Trie → Str → ℕ → ℕ → ℕ → Looked → PutDone
   make-looked xs t n v run limit (refusing c) = record { answer = PutRefused c; file = xs; trie = t }
   make-looked xs t n v run limit (fine y fs) =
-      let c = contentOf v (keptRun y run) in
-      make xs t y fs n c limit (putTakes y fs n c (keptRun y run))
+      let c = content-from v (kept-run y run) in
+      make xs t y fs n c limit (put-takes y fs n c (kept-run y run))
 
   unfoldable pub make-put : List ℕ → Trie → List ℕ → ℕ → ℕ → ℕ → PutDone
   make-put xs t name v run limit =
-      let d = make-looked xs t (filled name) v run limit (lookedOf xs t) in
+      let d = make-looked xs t (filled name) v run limit (looked-of xs t) in
       cond (ltb 2 limit) (record { answer = PutRefused WrongSize; file = xs; trie = t })
-      (cond (legalName name) d (record { answer = PutRefused IllegalName; file = xs; trie = t }))
+      (cond (is-legal-name name) d (record { answer = PutRefused IllegalName; file = xs; trie = t }))
 
 -- Our calls, with another recover, put and remove.
-abbrev pub instead : (List ℕ → ℕ → Recovered) → (List ℕ → Trie → List ℕ → ℕ → ℕ → ℕ → PutDone) → (List ℕ → Trie → List ℕ → ℕ → RemoveDone) → Calls
+abbrev pub instead : (List ℕ → ℕ → RecoverDone) → (List ℕ → Trie → List ℕ → ℕ → ℕ → ℕ → PutDone) → (List ℕ → Trie → List ℕ → ℕ → RemoveDone) → Calls
 instead f g h = record {
-  create = createOf;
-  check = checkFile;
+  create = create-of;
+  check = check-file;
   recover = f;
-  rebuild = rebuildOf;
-  look-up = lookUpOf;
+  rebuild = rebuild-of;
+  look-up = look-up-of;
   put = g;
   remove = h;
-  list = listOf;
+  list = list-of;
 }
 
 abbrev pub with-put : (List ℕ → Trie → List ℕ → ℕ → ℕ → ℕ → PutDone) → Calls
-with-put g = instead recoverOf g removeOf
+with-put g = instead recover-of g remove-of
 
 -- R15.3: a put that stores nothing and yet says that it is done.
 abbrev pub stores-nothing : Calls
 stores-nothing = with-put (make-put take (λ made. made) (λ ss. []))
 
 -- The same of remove: it stores nothing, and says of every name that it is absent.
-unfoldable pub absent-instead : List ℕ → RemoveAnswer → RemoveDone
-absent-instead xs Removed = record { answer = NotHeld; file = xs }
-absent-instead xs NotHeld = record { answer = NotHeld; file = xs }
-absent-instead xs (RemoveStopped made) = record { answer = RemoveStopped made; file = xs }
-absent-instead xs (RemoveRefused c) = record { answer = RemoveRefused c; file = xs }
+unfoldable pub absent-instead : List ℕ → Trie → RemoveAnswer → RemoveDone
+absent-instead xs t Removed = record { answer = NotHeld; file = xs; trie = t }
+absent-instead xs t NotHeld = record { answer = NotHeld; file = xs; trie = t }
+absent-instead xs t (RemoveStopped made) = record { answer = RemoveStopped made; file = xs; trie = t }
+absent-instead xs t (RemoveRefused c) = record { answer = RemoveRefused c; file = xs; trie = t }
 
 abbrev pub removes-nothing : Calls
-removes-nothing = instead recoverOf putOf (λ xs t name limit. absent-instead xs (removeOf xs t name limit .answer))
+removes-nothing = instead recover-of put-of (λ xs t name limit. absent-instead xs t (remove-of xs t name limit .answer))
 
 -- R15.4: a split that replaces two slots in its first store.
 unfoldable pub both : ℕ → List Store → List Store
@@ -135,16 +135,16 @@ ends? u (used l w es) = elim (str? w u) [ yes e ↦ yes (tt, e) | no n ↦ no (�
 abbrev pub outer : List Slot → ℕ → ℕ
 outer fs N = first (ends? (upper-of (head (slot-at fs N)))) (set fs N free)
 
-unfoldable pub free-outer : List ℕ → Recovered → RecoverAnswer → Option (Layout × List Slot) → Recovered
+unfoldable pub free-outer : List ℕ → RecoverDone → RecoverAnswer → Option (Layout × List Slot) → RecoverDone
 free-outer xs d (Freed N) nothing = d
 free-outer xs d (Freed N) (some f) =
-    record { answer = Freed (outer (f .1) N); file = storeBytes (layoutOf xs) (outer (f .1) N) free xs }
+    record { answer = Freed (outer (f .1) N); file = store-bytes (layout-of xs) (outer (f .1) N) free xs }
 free-outer xs d Nothing f = d
 free-outer xs d (RecoverStopped made) f = d
 free-outer xs d (RecoverRefused c) f = d
 
-unfoldable pub inner-kept : List ℕ → ℕ → Recovered
-inner-kept xs limit = let d = recoverOf xs limit in free-outer xs d (d .answer) (readFile xs)
+unfoldable pub inner-kept : List ℕ → ℕ → RecoverDone
+inner-kept xs limit = let d = recover-of xs limit in free-outer xs d (d .answer) (read-file xs)
 
 abbrev pub keeps-inner : Calls
-keeps-inner = instead inner-kept putOf removeOf
+keeps-inner = instead inner-kept put-of remove-of

@@ -6,15 +6,15 @@ use Rattle.model.specs.declared.LookUpAnswer.{LookUpAnswer}
 use Rattle.model.specs.declared.LookUpAnswer.the-variants.{Absent as NotFound, Found, Refused}
 use Rattle.model.specs.declared.Trie.{Trie}
 use Rattle.model.specs.Order.{Str}
-use Rattle.model.specs.Names.{Legal, atMost, broken, filled, legalName}
+use Rattle.model.specs.Names.{Legal, broken, filled, is-at-most, is-legal-name}
 use Rattle.model.specs.Entries.{find}
 use Rattle.model.specs.Files.{Slot, free, used}
-use Rattle.model.specs.Tries.{Spot, walkOf}
-use Rattle.model.specs.Format.{headerOf, readSlot, slotAt, slotSize}
-use Rattle.model.specs.Checks.{isAbove}
+use Rattle.model.specs.Tries.{Spot, walk-of}
+use Rattle.model.specs.Format.{bytes-at-slot, header-of, read-slot, slot-size}
+use Rattle.model.specs.Checks.{is-above}
 use Rattle.model.specs.Answers.{stale-trie}
-use Rattle.model.specs.Calls.{arrivedAnswer, headedAnswer, heldAnswer, landed, lookUpOf, slotAnswer}
-use Rattle.digits.specs.Keys.{isZero, keyValue, value}
+use Rattle.model.specs.Calls.{arrived-answer, headed-answer, held-answer, landed, look-up-of, slot-answer}
+use Rattle.digits.specs.Keys.{is-all-zero, key-value, value}
 use Rattle.bucket.specs.declared.Bucket.{Bucket}
 use Rattle.bucket.specs.declared.Form.{Form}
 use Rattle.bucket.specs.declared.Form.the-variants.{Ill, Well}
@@ -23,19 +23,19 @@ use Rattle.entries.specs.declared.Held.the-variants.{Absent, Holds}
 use Rattle.entries.specs.declared.Content.{Content}
 use Rattle.bucket.specs.declared.Range.the-variants.{Holds as InRange, Lacks}
 use Rattle.bucket.specs.Forms.{Formed, WellRead, ranged}
-use Rattle.bucket.specs.Slots.{lowerAt, upperAt}
-use Rattle.entries.specs.Rows.{Valued, heldNumber}
+use Rattle.bucket.specs.Slots.{lower-bytes, upper-bytes}
+use Rattle.entries.specs.Rows.{Valued, held-number}
 use Rattle.entries.proofs.Contents.{run-is, value-is}
 use Rattle.bucket.proofs.Slots.{free-zero, ill-read, range-told, read-used, zero-free}
 use Rattle.slots.specs.Spots.{HeldTold}
 use Rattle.digits.specs.declared.Key.{Key}
-use Rattle.model.proofs.Checks.{isWell-well}
+use Rattle.model.proofs.Checks.{is-well-formed-well}
 use Rattle.model.proofs.Names.{legal-length}
 use Rattle.trie.specs.declared.Place.{Place}
 use Rattle.trie.specs.declared.Place.the-variants.{Cell as before-cell, Slot as at-slot, Stale as stale}
 use Rattle.trie.specs.declared.Walk.{Walk}
 use Rattle.trie.specs.Walks.{Walks}
-use Rattle.reading.specs.Walked.{headedFrom, lookUpFrom, slotOf}
+use Rattle.reading.specs.Walked.{headed-from, looked-up-from, slot-of}
 
 -- What the range test says, by the answer that it gave.
 in-told : (c : Bool) (d : ℕ) → InRange ≡ cond c InRange (Lacks d) → c ≡ true
@@ -60,15 +60,15 @@ no-slot (inr e) = absurd (omega arith)
 
 -- R11.8 to R11.11, in this order.
 module _ (y : Layout) (xs : List ℕ) (n : Str) where
-  pub answer-free : length xs ≡ slotSize y → isZero xs ≡ true → Refused stale-trie ≡ slotAnswer (y .b) n (readSlot y xs)
-  unfolding slotAnswer
+  pub answer-free : length xs ≡ slot-size y → is-all-zero xs ≡ true → Refused stale-trie ≡ slot-answer (y .b) n (read-slot y xs)
+  unfolding slot-answer
   answer-free h e = rw (zero-free y xs h e)
 
-  pub answer-ill : length xs ≡ slotSize y → isZero xs ≡ false → Formed y xs Ill → Refused BadFile ≡ slotAnswer (y .b) n (readSlot y xs)
-  unfolding slotAnswer
-  answer-ill h e f = go (readSlot y xs) refl
+  pub answer-ill : length xs ≡ slot-size y → is-all-zero xs ≡ false → Formed y xs Ill → Refused BadFile ≡ slot-answer (y .b) n (read-slot y xs)
+  unfolding slot-answer
+  answer-ill h e f = go (read-slot y xs) refl
     where
-      go : (o : Option Slot) → readSlot y xs ≡ o → Refused BadFile ≡ slotAnswer (y .b) n o
+      go : (o : Option Slot) → read-slot y xs ≡ o → Refused BadFile ≡ slot-answer (y .b) n o
       go nothing r = refl
       go (some free) r =
           let z : true ≡ false = sym (free-zero y xs r) ∙ e in
@@ -77,88 +77,88 @@ module _ (y : Layout) (xs : List ℕ) (n : Str) where
 
   module _ {k : Bucket} (W : WellRead y xs k) (g : Legal n) where
     abbrev inside : Bool
-    inside = isAbove (W .lower) n && atMost n (W .upper)
+    inside = is-above (W .lower) n && is-at-most n (W .upper)
 
-    pub answer-lacks : {d : ℕ} → Lacks d ≡ ranged (lowerAt xs) (upperAt xs) n → Refused (StaleTrie d) ≡ slotAnswer (y .b) n (readSlot y xs)
-    unfolding slotAnswer
+    pub answer-lacks : {d : ℕ} → Lacks d ≡ ranged (lower-bytes xs) (upper-bytes xs) n → Refused (StaleTrie d) ≡ slot-answer (y .b) n (read-slot y xs)
+    unfolding slot-answer
     answer-lacks {d} q =
         let p = lacks-told inside (broken (W .lower) (W .upper) n) d (q ∙ range-told W n (legal-length g)) in
         rw (read-used y xs (W .is), W .well, p .0, p .1)
 
-    module _ (q : InRange ≡ ranged (lowerAt xs) (upperAt xs) n) (name : Key) (e : keyValue name ≡ value n) (h : Held) (H : HeldTold h y xs name) where
+    module _ (q : InRange ≡ ranged (lower-bytes xs) (upper-bytes xs) n) (name : Key) (e : key-value name ≡ value n) (h : Held) (H : HeldTold h y xs name) where
       in-range : inside ≡ true
       in-range = in-told inside (broken (W .lower) (W .upper) n) (q ∙ range-told W n (legal-length g))
 
-      found-is : heldNumber h ≡ find n (W .entries)
-      found-is = H (W .lower) (W .upper) (W .entries) (W .is, isWell-well (y .b) (used (W .lower) (W .upper) (W .entries)) (W .well)) n g e
+      found-is : held-number h ≡ find n (W .entries)
+      found-is = H (W .lower) (W .upper) (W .entries) (W .is, is-well-formed-well (y .b) (used (W .lower) (W .upper) (W .entries)) (W .well)) n g e
 
-      answer-is : slotAnswer (y .b) n (readSlot y xs) ≡ heldAnswer (heldNumber h)
-      unfolding slotAnswer
-      answer-is = rw (read-used y xs (W .is), W .well, in-range) (ap heldAnswer (sym found-is))
+      answer-is : slot-answer (y .b) n (read-slot y xs) ≡ held-answer (held-number h)
+      unfolding slot-answer
+      answer-is = rw (read-used y xs (W .is), W .well, in-range) (ap held-answer (sym found-is))
 
-      pub answer-absent : h ≡ Absent → NotFound ≡ slotAnswer (y .b) n (readSlot y xs)
+      pub answer-absent : h ≡ Absent → NotFound ≡ slot-answer (y .b) n (read-slot y xs)
       answer-absent q = sym (answer-is ∙ rw q)
 
-      pub answer-found : {c : Content} → Valued h → h ≡ Holds c → Found (c .value) (c .run) ≡ slotAnswer (y .b) n (readSlot y xs)
+      pub answer-found : {c : Content} → Valued h → h ≡ Holds c → Found (c .value) (c .run) ≡ slot-answer (y .b) n (read-slot y xs)
       answer-found {c} valued q = let small : c .value < 2 ^ 64 = rw q at valued in sym (answer-is ∙ rw (q, value-is c small, run-is c small))
 
 -- R11.1 to R11.7: then what the slot answers.
 module _ (xs : List ℕ) (p : Place) (name : List ℕ) where
-  pub illegal-looked : legalName name ≡ false → Refused IllegalName ≡ lookUpFrom xs p name
-  unfolding lookUpFrom
+  pub illegal-looked : is-legal-name name ≡ false → Refused IllegalName ≡ looked-up-from xs p name
+  unfolding looked-up-from
   illegal-looked e = rw e
 
-  pub headless-looked : legalName name ≡ true → headerOf xs ≡ nothing → Refused BadFile ≡ lookUpFrom xs p name
-  unfolding lookUpFrom headedFrom
+  pub headless-looked : is-legal-name name ≡ true → header-of xs ≡ nothing → Refused BadFile ≡ looked-up-from xs p name
+  unfolding looked-up-from headed-from
   headless-looked e h = rw (e, h)
 
-  module _ {y : Layout} {slots : ℕ} (e : legalName name ≡ true) (h : headerOf xs ≡ some (y, slots)) where
-    pub stray-looked : ((s : ℕ) → p ≡ at-slot s → ⊥) → Refused stale-trie ≡ lookUpFrom xs p name
-    unfolding lookUpFrom headedFrom slotOf arrivedAnswer
+  module _ {y : Layout} {slots : ℕ} (e : is-legal-name name ≡ true) (h : header-of xs ≡ some (y, slots)) where
+    pub stray-looked : ((s : ℕ) → p ≡ at-slot s → ⊥) → Refused stale-trie ≡ looked-up-from xs p name
+    unfolding looked-up-from headed-from slot-of arrived-answer
     stray-looked apart = rw (e, h) (go p apart)
       where
-        go : (q : Place) → ((s : ℕ) → q ≡ at-slot s → ⊥) → Refused stale-trie ≡ arrivedAnswer xs y (filled name) (slotOf q slots)
+        go : (q : Place) → ((s : ℕ) → q ≡ at-slot s → ⊥) → Refused stale-trie ≡ arrived-answer xs y (filled name) (slot-of q slots)
         go (before-cell i) apart = refl
         go (at-slot s) apart = absurd (apart s refl)
         go stale apart = refl
 
-    pub past-looked : {s : ℕ} → p ≡ at-slot s → slots ≤ s → Refused stale-trie ≡ lookUpFrom xs p name
-    unfolding lookUpFrom headedFrom slotOf arrivedAnswer
+    pub past-looked : {s : ℕ} → p ≡ at-slot s → slots ≤ s → Refused stale-trie ≡ looked-up-from xs p name
+    unfolding looked-up-from headed-from slot-of arrived-answer
     past-looked {s} q i = rw (e, h, q, le-ltb s slots i)
 
     pub arrived-looked : {s k : ℕ} {ys : List ℕ} (r : LookUpAnswer) → p ≡ at-slot s → k ≡ s → k < slots
-        → ys ≡ slotAt y k xs → r ≡ slotAnswer (y .b) (filled name) (readSlot y ys) → r ≡ lookUpFrom xs p name
-    unfolding lookUpFrom headedFrom slotOf arrivedAnswer
+        → ys ≡ bytes-at-slot y k xs → r ≡ slot-answer (y .b) (filled name) (read-slot y ys) → r ≡ looked-up-from xs p name
+    unfolding looked-up-from headed-from slot-of arrived-answer
     arrived-looked {s} {k} r q l i f a = a ∙ rw (f, l, e, h, q, lt-ltb s slots (omega arith))
 
 -- Where the walk is that of a trie, the answer is look up's own.
 module _ (xs : List ℕ) (t : Trie) (name : List ℕ) where
-  landed-looked : {y : Layout} {slots : ℕ} → legalName name ≡ true → headerOf xs ≡ some (y, slots)
-      → lookUpOf xs t name ≡ arrivedAnswer xs y (filled name) (landed slots (walkOf t (filled name)))
-  unfolding lookUpOf headedAnswer
+  landed-looked : {y : Layout} {slots : ℕ} → is-legal-name name ≡ true → header-of xs ≡ some (y, slots)
+      → look-up-of xs t name ≡ arrived-answer xs y (filled name) (landed slots (walk-of t (filled name)))
+  unfolding look-up-of headed-answer
   landed-looked {y} {slots} e h = rw (e, h)
 
-  slot-landed : (w : Walk) (slots : ℕ) (o : Option (Str × Spot × ℕ)) → Walks w o → slotOf (w .place) slots ≡ landed slots o
-  unfolding slotOf
+  slot-landed : (w : Walk) (slots : ℕ) (o : Option (Str × Spot × ℕ)) → Walks w o → slot-of (w .place) slots ≡ landed slots o
+  unfolding slot-of
   slot-landed w slots nothing W = rw W
   slot-landed w slots (some (p, k, s)) W = rw (W .place)
 
-  headless : legalName name ≡ true → headerOf xs ≡ nothing → lookUpOf xs t name ≡ Refused BadFile
-  unfolding lookUpOf headedAnswer
+  headless : is-legal-name name ≡ true → header-of xs ≡ nothing → look-up-of xs t name ≡ Refused BadFile
+  unfolding look-up-of headed-answer
   headless e h = rw (e, h)
 
-  illegal : legalName name ≡ false → lookUpOf xs t name ≡ Refused IllegalName
-  unfolding lookUpOf
+  illegal : is-legal-name name ≡ false → look-up-of xs t name ≡ Refused IllegalName
+  unfolding look-up-of
   illegal e = rw e
 
-  pub walked-looked : (w : Walk) → Walks w (walkOf t (filled name)) → lookUpFrom xs (w .place) name ≡ lookUpOf xs t name
-  unfolding lookUpFrom headedFrom
-  walked-looked w W = named (legalName name) refl
+  pub walked-looked : (w : Walk) → Walks w (walk-of t (filled name)) → looked-up-from xs (w .place) name ≡ look-up-of xs t name
+  unfolding looked-up-from headed-from
+  walked-looked w W = named (is-legal-name name) refl
     where
-      headed : (h : Option (Layout × ℕ)) → headerOf xs ≡ h → legalName name ≡ true → lookUpFrom xs (w .place) name ≡ lookUpOf xs t name
+      headed : (h : Option (Layout × ℕ)) → header-of xs ≡ h → is-legal-name name ≡ true → looked-up-from xs (w .place) name ≡ look-up-of xs t name
       headed nothing h e = rw (e, h) (sym (headless e h))
-      headed (some (y, slots)) h e = rw (e, h, slot-landed w slots (walkOf t (filled name)) W) (sym (landed-looked e h))
+      headed (some (y, slots)) h e = rw (e, h, slot-landed w slots (walk-of t (filled name)) W) (sym (landed-looked e h))
 
-      named : (g : Bool) → legalName name ≡ g → lookUpFrom xs (w .place) name ≡ lookUpOf xs t name
-      named true e = headed (headerOf xs) refl e
+      named : (g : Bool) → is-legal-name name ≡ g → looked-up-from xs (w .place) name ≡ look-up-of xs t name
+      named true e = headed (header-of xs) refl e
       named false e = rw e (sym (illegal e))

@@ -1,8 +1,8 @@
 -- The parts that list counts and writes, one after another.
 use Rattle.model.proofs.Prelude.{List, [], _++_, _+_, _-_, _<_, _∙_, _≡_, _≤_, ap, append-assoc, arith, drop, drop-append-seam, drop-at, drop-drop, getD, length, length-append, length-drop, length-take, paste, refl, suc, sym, take, take-add, take-append-seam, take-at, take-length, ℕ}
 use Rattle.model.specs.declared.Layout.{Layout}
-use Rattle.model.specs.Format.{slotAt}
-use Rattle.slots.specs.Parts.{partOf}
+use Rattle.model.specs.Format.{bytes-at-slot}
+use Rattle.slots.specs.Parts.{part-of}
 use Rattle.reading.specs.Listings.{Written, parts}
 
 module _ (xs : List ℕ) (y : Layout) (order : List ℕ) (v w : ℕ) where
@@ -14,17 +14,17 @@ module _ (xs : List ℕ) (y : Layout) (order : List ℕ) (v w : ℕ) where
   unfolding parts
   rest-none to j h = let e : to + 1 - j ≡ 0 = omega arith in rw e
 
-  pub rest-step : (to j k : ℕ) (ys p : List ℕ) → j ≤ to → k ≡ getD order j 0 → ys ≡ slotAt y k xs
-      → p ≡ partOf y ys v w → rest to j ≡ p ++ rest to (j + 1)
+  pub rest-step : (to j k : ℕ) (ys p : List ℕ) → j ≤ to → k ≡ getD order j 0 → ys ≡ bytes-at-slot y k xs
+      → p ≡ part-of y ys v w → rest to j ≡ p ++ rest to (j + 1)
   unfolding parts
   rest-step to j k ys p h e f g =
       let i : to + 1 - j ≡ suc (to + 1 - (j + 1)) = omega arith in
       let n : j + 1 ≡ suc j = omega arith in
-      let q : p ≡ partOf y (slotAt y (getD order j 0) xs) v w = g ∙ rw (f, e) in
+      let q : p ≡ part-of y (bytes-at-slot y (getD order j 0) xs) v w = g ∙ rw (f, e) in
       rw (i, n, q)
 
-  pub rest-length : (to j k : ℕ) (ys p : List ℕ) → j ≤ to → k ≡ getD order j 0 → ys ≡ slotAt y k xs
-      → p ≡ partOf y ys v w → length (rest to j) ≡ length p + length (rest to (j + 1))
+  pub rest-length : (to j k : ℕ) (ys p : List ℕ) → j ≤ to → k ≡ getD order j 0 → ys ≡ bytes-at-slot y k xs
+      → p ≡ part-of y ys v w → length (rest to j) ≡ length p + length (rest to (j + 1))
   rest-length to j k ys p h e f g = ap length (rest-step to j k ys p h e f g) ∙ length-append p (rest to (j + 1))
 
 -- The output with the first of all bytes written, and what is still to be written.

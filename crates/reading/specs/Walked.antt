@@ -9,23 +9,23 @@ use Rattle.model.specs.declared.Layout.{Layout}
 use Rattle.model.specs.declared.LookUpAnswer.{LookUpAnswer}
 use Rattle.model.specs.declared.LookUpAnswer.the-variants.{Refused}
 use Rattle.model.specs.Order.{Str}
-use Rattle.model.specs.Names.{filled, legalName}
-use Rattle.model.specs.Format.{headerOf}
-use Rattle.model.specs.Calls.{arrivedAnswer}
+use Rattle.model.specs.Names.{filled, is-legal-name}
+use Rattle.model.specs.Format.{header-of}
+use Rattle.model.specs.Calls.{arrived-answer}
 use Rattle.trie.specs.declared.Place.{Place}
 use Rattle.trie.specs.declared.Place.the-variants.{Cell as before-cell, Slot as at-slot, Stale as stale}
 
 -- A walk that has not ended has reached no slot.
-unfoldable pub slotOf : Place → ℕ → Option ℕ
-slotOf (before-cell i) slots = nothing
-slotOf (at-slot s) slots = cond (ltb s slots) (some s) nothing
-slotOf stale slots = nothing
+unfoldable pub slot-of : Place → ℕ → Option ℕ
+slot-of (before-cell i) slots = nothing
+slot-of (at-slot s) slots = cond (ltb s slots) (some s) nothing
+slot-of stale slots = nothing
 
-unfoldable pub headedFrom : List ℕ → Place → Str → Option (Layout × ℕ) → LookUpAnswer
-headedFrom xs p n nothing = Refused BadFile
-headedFrom xs p n (some h) = arrivedAnswer xs (h .0) n (slotOf p (h .1))
+unfoldable pub headed-from : List ℕ → Place → Str → Option (Layout × ℕ) → LookUpAnswer
+headed-from xs p n nothing = Refused BadFile
+headed-from xs p n (some h) = arrived-answer xs (h .0) n (slot-of p (h .1))
 
-unfoldable pub lookUpFrom : List ℕ → Place → List ℕ → LookUpAnswer
-lookUpFrom xs p name =
-    let a = headedFrom xs p (filled name) (headerOf xs) in
-    cond (legalName name) a (Refused IllegalName)
+unfoldable pub looked-up-from : List ℕ → Place → List ℕ → LookUpAnswer
+looked-up-from xs p name =
+    let a = headed-from xs p (filled name) (header-of xs) in
+    cond (is-legal-name name) a (Refused IllegalName)

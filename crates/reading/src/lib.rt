@@ -5,15 +5,15 @@ ghost use Prim.Native.Nat.{_≤_, _<_, _+_, _-_};
 ghost use lib.ListN.{length};
 ghost use Rattle.model.specs.Order.{Str};
 ghost use Rattle.model.specs.Names.{Legal, filled};
-ghost use Rattle.model.specs.Format.{entrySize, readSlot};
+ghost use Rattle.model.specs.Format.{entry-length, read-slot};
 ghost use Rattle.model.specs.Files.{order-of};
-ghost use Rattle.model.specs.Calls.{between, entriesIn, listEntries, listOf, lookUpOf, slotAnswer};
-ghost use Rattle.digits.specs.Keys.{keyValue, value};
+ghost use Rattle.model.specs.Calls.{between, entries-in, list-entries, list-of, look-up-of, slot-answer};
+ghost use Rattle.digits.specs.Keys.{key-value, value};
 ghost use Rattle.file.specs.Sizes.{Sized, Below};
 ghost use Rattle.checking.specs.Ready.{Ready};
 ghost use Rattle.reading.specs.Outcomes.{listed};
 ghost use Rattle.reading.specs.Listings.{Written, parts};
-ghost use Rattle.reading.specs.Walked.{lookUpFrom};
+ghost use Rattle.reading.specs.Walked.{looked-up-from};
 ghost use Rattle.bucket.specs.Slots.{OfSize};
 use bucket::Form;
 use bucket::Range;
@@ -39,7 +39,7 @@ use trie::Walk;
 // What one slot answers to a name.
 fn answer_of(slot: &[u8], layout: Layout, name: &[u8; 24]) -> LookUpAnswer
     requires { ⌜ OfSize (now slot) layout ⌝ }
-    ensures { λ r. ⌜ (Legal (now (name .entry)) → r ≡ slotAnswer (layout .b) (now (name .entry)) (readSlot layout (now (slot .entry)))) ⌝ }
+    ensures { λ r. ⌜ (Legal (now (name .entry)) → r ≡ slot-answer (layout .b) (now (name .entry)) (read-slot layout (now (slot .entry)))) ⌝ }
 {
     let Vacancy::Taken = bucket::vacancy_of(slot) else {
         return LookUpAnswer::Refused(Cause::StaleTrie(NO_DIGIT));
@@ -63,7 +63,7 @@ fn answer_of(slot: &[u8], layout: Layout, name: &[u8; 24]) -> LookUpAnswer
 // Look up where the walk of the filled name is known: it reads one bucket, and goes through section 11 of the rules from the
 // top.
 pub fn look_up_from(file: &[u8], walk: Walk, name: &[u8]) -> LookUpAnswer
-    ensures { λ r. ⌜ r ≡ lookUpFrom (now (file .entry)) (walk .place) (now (name .entry)) ⌝ }
+    ensures { λ r. ⌜ r ≡ looked-up-from (now (file .entry)) (walk .place) (now (name .entry)) ⌝ }
 {
     let Naming::Legal = digits::named(name) else {
         return LookUpAnswer::Refused(Cause::IllegalName);
@@ -85,7 +85,7 @@ pub fn look_up_from(file: &[u8], walk: Walk, name: &[u8]) -> LookUpAnswer
 
 // Looks up a name. Whatever the name is, it can be walked with.
 pub fn look_up(file: &[u8], trie: Trie, name: &[u8]) -> LookUpAnswer
-    ensures { λ r. ⌜ r ≡ lookUpOf (now (file .entry)) trie (now (name .entry)) ⌝ }
+    ensures { λ r. ⌜ r ≡ look-up-of (now (file .entry)) trie (now (name .entry)) ⌝ }
 {
     let filled = digits::filled(name);
     look_up_from(file, trie::walk_of(trie, &filled), name)
@@ -103,7 +103,7 @@ fn bytes_between(
 ) -> usize
     requires { ⌜ (Sized (length (now file)) size) × (Below (now order) (size .slots)) × (to < 64) ⌝ }
     ensures { λ r. ⌜ (r ≤ 40960)
-        × (r ≡ length (parts (to + 1 - from) (now (file .entry)) (size .layout) (now (order .entry)) (keyValue first) (keyValue second) from)) ⌝ }
+        × (r ≡ length (parts (to + 1 - from) (now (file .entry)) (size .layout) (now (order .entry)) (key-value first) (key-value second) from)) ⌝ }
 {
     let mut bytes = 0usize;
     let mut j = from;
@@ -128,9 +128,9 @@ fn write_between(
     output: &mut [u8],
 )
     requires { ⌜ (Sized (length (now file)) size) × (Below (now order) (size .slots)) × (to < 64)
-        × (length (parts (to + 1 - from) (now file) (size .layout) (now order) (keyValue first) (keyValue second) from) ≤ length (now output))
-        × (length (parts (to + 1 - from) (now file) (size .layout) (now order) (keyValue first) (keyValue second) from) ≤ 40960) ⌝ }
-    ensures { λ _. ⌜ Written (parts (to + 1 - from) (now (file .entry)) (size .layout) (now (order .entry)) (keyValue first) (keyValue second) from)
+        × (length (parts (to + 1 - from) (now file) (size .layout) (now order) (key-value first) (key-value second) from) ≤ length (now output))
+        × (length (parts (to + 1 - from) (now file) (size .layout) (now order) (key-value first) (key-value second) from) ≤ 40960) ⌝ }
+    ensures { λ _. ⌜ Written (parts (to + 1 - from) (now (file .entry)) (size .layout) (now (order .entry)) (key-value first) (key-value second) from)
         (now (output .entry)) (now (output .exit)) ⌝ }
 {
     let mut at = 0usize;
@@ -154,8 +154,8 @@ fn list_checked(
 ) -> ListAnswer
     requires { ⌜ Ready checked (now file) ⌝ }
     ensures { λ r. ⌜ ((R : Ready checked (now (file .entry))) → Legal (now (first .entry)) → Legal (now (second .entry))
-        → listed r (now (output .exit)) ≡ listEntries (entrySize (checked .size .layout))
-        (between (now (first .entry)) (now (second .entry)) (entriesIn (R .slots) (order-of (R .slots)))) (now (output .entry))) ⌝ }
+        → listed r (now (output .exit)) ≡ list-entries (entry-length (checked .size .layout))
+        (between (now (first .entry)) (now (second .entry)) (entries-in (R .slots) (order-of (R .slots)))) (now (output .entry))) ⌝ }
 {
     let size = checked.size;
     let survey = checked.survey;
@@ -175,7 +175,7 @@ fn list_checked(
 // R9.8: writes the entries from the first name to the second, ascending, and leaves what is behind them.
 pub fn list(file: &[u8], trie: Trie, first: &[u8], second: &[u8], output: &mut [u8]) -> ListAnswer
     ensures { λ r.
-        ⌜ listed r (now (output .exit)) ≡ listOf (now (file .entry)) trie (now (first .entry)) (now (second .entry)) (now (output .entry)) ⌝ }
+        ⌜ listed r (now (output .exit)) ≡ list-of (now (file .entry)) trie (now (first .entry)) (now (second .entry)) (now (output .entry)) ⌝ }
 {
     let Naming::Legal = digits::named(first) else {
         return ListAnswer::Refused(Cause::IllegalName);

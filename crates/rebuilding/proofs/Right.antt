@@ -5,7 +5,7 @@ use Rattle.model.specs.Order.{Low, Str, at, none}
 use Rattle.model.specs.Files.{Slot, Sound, order-of, ranges, strings-of}
 use Rattle.model.specs.Tries.{leaf}
 use Rattle.model.specs.Rebuilding.{build, label, laid, last-digit, pick, rebuilt-trie}
-use Rattle.model.specs.Agreeing.{slotsBetween}
+use Rattle.model.specs.Agreeing.{slots-between}
 use Rattle.model.proofs.Strings.{mem-at}
 use Rattle.model.proofs.Files.{strings-only}
 use Rattle.model.proofs.Rebuilding.{pick-fits}
@@ -99,20 +99,20 @@ module _ (lens digits slots : List ℕ) (lab : Low → ℕ) where
           let k : to - from ≡ length ss = omega arith in
           rw (k, part-lengths ss from (R .len-at), pick-middle x xs (R .short 0 (omega arith))) (middle-add from (map length ss))
 
-between-first : (fs : List Slot) (l : Low) (ss : List Str) → getD (slotsBetween fs l ss) 0 0 ≡ label (ranges fs) (order-of fs) l
-unfolding slotsBetween
+between-first : (fs : List Slot) (l : Low) (ss : List Str) → getD (slots-between fs l ss) 0 0 ≡ label (ranges fs) (order-of fs) l
+unfolding slots-between
 between-first fs l [] = refl
 between-first fs l (x ∷ xs) = refl
 
 between-at : (fs : List Slot) (l : Low) (ss : List Str) (i : ℕ) → i < length ss
-    → getD (slotsBetween fs l ss) (suc i) 0 ≡ label (ranges fs) (order-of fs) (at (getD ss i []))
-unfolding slotsBetween
+    → getD (slots-between fs l ss) (suc i) 0 ≡ label (ranges fs) (order-of fs) (at (getD ss i []))
+unfolding slots-between
 between-at fs l [] i h = absurd (omega arith)
 between-at fs l (x ∷ xs) zero h = between-first fs (at x) xs
 between-at fs l (x ∷ xs) (suc i) h = between-at fs (at x) xs i (omega arith)
 
 pub rebuilt-right : {b : ℕ} {fs : List Slot} → Sound b fs → (s : Strings)
-    → Holds s (strings-of fs) (slotsBetween fs none (strings-of fs)) → length (strings-of fs) ≤ 256
+    → Holds s (strings-of fs) (slots-between fs none (strings-of fs)) → length (strings-of fs) ≤ 256
     → rebuilt-of (s .lens) (s .digits) (s .slots) (s .count) ≡ rebuilt-trie fs
 unfolding rebuilt-of
 rebuilt-right {b} {fs} S s H few =
@@ -130,7 +130,7 @@ rebuilt-right {b} {fs} S s H few =
     place : (i : ℕ) → 0 + i ≡ i
     place i = omega arith
 
-    slots-at : (i : ℕ) → i < suc n → getD (s .slots) i 0 ≡ getD (slotsBetween fs none ss) i 0
+    slots-at : (i : ℕ) → i < suc n → getD (s .slots) i 0 ≡ getD (slots-between fs none ss) i 0
     slots-at i h = sym (getD-take (suc n) (s .slots) i 0 h) ∙ ap (λ (xs : List ℕ). getD xs i 0) (H .slots-are)
 
     row : Row (s .lens) (s .digits) (s .slots) lab 0 none ss

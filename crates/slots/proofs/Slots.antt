@@ -2,30 +2,30 @@
 use Rattle.model.proofs.Prelude.{List, [], _*_, _++_, _+_, _-_, _∙_, _∷_, _≡_, _≤_, ap, append-assoc, arith, length, length-append, length-take-le, paste, refl, replicate, set, sym, take, take-all, ℕ}
 use Rattle.model.specs.Entries.{Entry}
 use Rattle.model.specs.Files.{used}
-use Rattle.model.specs.Format.{Bytes, entriesBytes, entriesOf, entrySize, lowDigits, padded, slotBytes, slotSize}
+use Rattle.model.specs.Format.{AreBytes, bytes-of-entries, bytes-of-slot, digits-of-low, entry-length, padded, read-entries, slot-size}
 use Rattle.model.specs.Order.{Low, Str}
 use Rattle.model.specs.declared.Layout.{Layout}
 use Rattle.model.proofs.Format.{entry-size, length-padded, padded-short}
 use Rattle.model.proofs.Lists.{take-past}
-use Rattle.model.proofs.Names.{legalBound-bound}
+use Rattle.model.proofs.Names.{is-legal-bound-bound}
 use Rattle.digits.proofs.Bounds.{low-legal}
-use Rattle.entries.proofs.Lists.{entriesOf-take, length-entriesOf, read-bytes}
+use Rattle.entries.proofs.Lists.{length-read-entries, read-bytes, read-entries-take}
 use Rattle.entries.proofs.Products.{room-most}
-use Rattle.bucket.specs.Slots.{lowerAt, upperAt}
-use Rattle.bucket.proofs.Layouts.{lowerAt-slot, upperAt-slot}
+use Rattle.bucket.specs.Slots.{lower-bytes, upper-bytes}
+use Rattle.bucket.proofs.Layouts.{lower-bytes-slot, upper-bytes-slot}
 use Rattle.bucket.proofs.Slots.{Reads}
 use Rattle.slots.specs.Spots.{Begins}
-use Rattle.slots.specs.Written.{entriesRoom, writtenBytes}
+use Rattle.slots.specs.Written.{entries-room, written-bytes}
 use Rattle.entries.proofs.Padding.{copied, padded-append, padded-padded, padded-zeros, take-padded}
 
 pub written-copies : (lower upper entries m₁ m₂ m₃ : List ℕ) (count a b c : ℕ)
-    → length lower ≤ 24 → length upper ≤ 24 → length entries ≤ entriesRoom
+    → length lower ≤ 24 → length upper ≤ 24 → length entries ≤ entries-room
     → a ≡ count → b ≡ length lower → c ≡ length upper
     → m₁ ≡ paste (set (set (set (set (replicate 704 0) 0 1) 1 a) 2 b) 3 c) 8 lower (length lower)
     → m₂ ≡ paste m₁ 32 upper (length upper)
     → m₃ ≡ paste m₂ 64 entries (length entries)
-    → m₃ ≡ writtenBytes lower upper count entries
-unfolding writtenBytes
+    → m₃ ≡ written-bytes lower upper count entries
+unfolding written-bytes
 written-copies lower upper entries m₁ m₂ m₃ count a b c hl hu he i j k q₁ q₂ q₃ =
     let p₀ : List ℕ = 1 ∷ a ∷ b ∷ c ∷ [] in
     let p₁ : List ℕ = p₀ ++ replicate 4 0 in
@@ -39,26 +39,26 @@ written-copies lower upper entries m₁ m₂ m₃ count a b c hl hu he i j k q�
     let e₁ : m₁ ≡ padded 704 p₂ = copied 8 p₁ lower lower e₀ refl refl (omega arith) q₁ ∙ sym (padded-padded 704 24 p₁ lower hl) in
     let e₂ : m₂ ≡ padded 704 p₄ = copied 32 p₂ upper upper e₁ l₂ refl (omega arith) q₂ ∙ sym (padded-zeros 704 8 p₃ ∙ padded-padded 704 24 p₂ upper hu) in
     let e₃ : m₃ ≡ padded 704 (p₄ ++ entries) = copied 64 p₄ entries entries e₂ l₄ refl (omega arith) q₃ in
-    e₃ ∙ padded-append 704 entriesRoom p₄ entries (omega arith) ∙ joined p₁ (padded 24 lower) (padded 24 upper) (replicate 8 0) (padded entriesRoom entries) ∙ rw (i, j, k)
+    e₃ ∙ padded-append 704 entries-room p₄ entries (omega arith) ∙ joined p₁ (padded 24 lower) (padded 24 upper) (replicate 8 0) (padded entries-room entries) ∙ rw (i, j, k)
   where
     joined : (u x y z w : List ℕ) → u ++ x ++ y ++ z ++ w ≡ u ++ (x ++ (y ++ (z ++ w)))
     joined u x y z w = simp append-assoc
 
 -- A slot that is written whole is the slot's bytes, as far as its entries reach.
 pub written-slot : (y : Layout) (l : Low) (u : Str) (es : List Entry) → y .b ≤ 16
-    → take (slotSize y) (writtenBytes (lowDigits l) u (length es) (entriesBytes (entrySize y) es)) ≡ slotBytes y (used l u es)
-unfolding writtenBytes slotBytes slotSize
+    → take (slot-size y) (written-bytes (digits-of-low l) u (length es) (bytes-of-entries (entry-length y) es)) ≡ bytes-of-slot y (used l u es)
+unfolding written-bytes bytes-of-slot slot-size
 written-slot y l u es h =
-    let e = entrySize y in
+    let e = entry-length y in
     let n = e * y .b in
-    let x = padded 24 (lowDigits l) in
+    let x = padded 24 (digits-of-low l) in
     let w = padded 24 u in
-    let z = padded entriesRoom (entriesBytes e es) in
-    let q : List ℕ = 1 ∷ length es ∷ length (lowDigits l) ∷ length u ∷ replicate 4 0 in
-    let lx : length x ≡ 24 = length-padded 24 (lowDigits l) in
+    let z = padded entries-room (bytes-of-entries e es) in
+    let q : List ℕ = 1 ∷ length es ∷ length (digits-of-low l) ∷ length u ∷ replicate 4 0 in
+    let lx : length x ≡ 24 = length-padded 24 (digits-of-low l) in
     let lw : length w ≡ 24 = length-padded 24 u in
-    let f : n ≤ entriesRoom = room-most e (y .b) (entry-size y .most) h in
-    let t : take n z ≡ padded n (entriesBytes e es) = take-padded n entriesRoom (entriesBytes e es) f in
+    let f : n ≤ entries-room = room-most e (y .b) (entry-size y .most) h in
+    let t : take n z ≡ padded n (bytes-of-entries e es) = take-padded n entries-room (bytes-of-entries e es) f in
     take-past q (x ++ (w ++ (replicate 8 0 ++ z))) (64 + n) (56 + n) (omega arith)
     ∙ ap (λ (r : List ℕ). q ++ r) (take-past x (w ++ (replicate 8 0 ++ z)) (56 + n) (32 + n) (omega arith)
     ∙ ap (λ (r : List ℕ). x ++ r) (take-past w (replicate 8 0 ++ z) (32 + n) (8 + n) (omega arith)
@@ -66,31 +66,31 @@ written-slot y l u es h =
 
 -- A slot that is written of its two bounds and of the bytes of its entries.
 pub slot-written : (y : Layout) (l : Low) (u : Str) (es : List Entry) (lower upper part : List ℕ) (count : ℕ) (r : List ℕ) → y .b ≤ 16
-    → lower ≡ lowDigits l → upper ≡ u → length part ≡ entrySize y * count → Bytes part → entriesOf (entrySize y) count part ≡ es
-    → r ≡ writtenBytes lower upper count part → Begins r y (used l u es)
+    → lower ≡ digits-of-low l → upper ≡ u → length part ≡ entry-length y * count → AreBytes part → read-entries (entry-length y) count part ≡ es
+    → r ≡ written-bytes lower upper count part → Begins r y (used l u es)
 slot-written y l u es lower upper part count r h p q k g i j =
-    let e = entrySize y in
+    let e = entry-length y in
     let least : 24 ≤ e = omega (arith, entry-size y .least) in
-    let n : count ≡ length es = sym (length-entriesOf e count part) ∙ ap length i in
-    let w : part ≡ entriesBytes e es = sym (take-all (e * count) part (omega arith)) ∙ read-bytes e count part es least (omega arith) g i in
-    ap (take (slotSize y)) (j ∙ rw (p, q, n, w)) ∙ written-slot y l u es h
+    let n : count ≡ length es = sym (length-read-entries e count part) ∙ ap length i in
+    let w : part ≡ bytes-of-entries e es = sym (take-all (e * count) part (omega arith)) ∙ read-bytes e count part es least (omega arith) g i in
+    ap (take (slot-size y)) (j ∙ rw (p, q, n, w)) ∙ written-slot y l u es h
 
 -- The bounds of a slot that is read.
 module _ (y : Layout) (xs : List ℕ) {l : Low} {u : Str} {es : List Entry} (R : Reads y xs l u es) where
-  pub lower-is : lowerAt xs ≡ lowDigits l
-  lower-is = ap lowerAt (R .is) ∙ lowerAt-slot y l u es (legalBound-bound (lowDigits l) (low-legal l (R .low)) .fits)
+  pub lower-is : lower-bytes xs ≡ digits-of-low l
+  lower-is = ap lower-bytes (R .is) ∙ lower-bytes-slot y l u es (is-legal-bound-bound (digits-of-low l) (low-legal l (R .low)) .fits)
 
-  pub upper-is : upperAt xs ≡ u
-  upper-is = ap upperAt (R .is) ∙ upperAt-slot y l u es (legalBound-bound u (R .high) .fits)
+  pub upper-is : upper-bytes xs ≡ u
+  upper-is = ap upper-bytes (R .is) ∙ upper-bytes-slot y l u es (is-legal-bound-bound u (R .high) .fits)
 
 -- The same with the bounds of a slot that is read, and other entries: the first of a row, as the code cuts them.
 pub slot-rewritten : (y : Layout) (xs : List ℕ) {l : Low} {u : Str} {es : List Entry} (ws : List Entry) (row : List ℕ) (count end : ℕ) (r : List ℕ) → y .b ≤ 16
-    → Reads y xs l u es → end ≡ entrySize y * count → end ≤ length row → Bytes (take (end - 0) row) → entriesOf (entrySize y) count row ≡ ws
-    → r ≡ writtenBytes (lowerAt xs) (upperAt xs) count (take (end - 0) row) → Begins r y (used l u ws)
+    → Reads y xs l u es → end ≡ entry-length y * count → end ≤ length row → AreBytes (take (end - 0) row) → read-entries (entry-length y) count row ≡ ws
+    → r ≡ written-bytes (lower-bytes xs) (upper-bytes xs) count (take (end - 0) row) → Begins r y (used l u ws)
 slot-rewritten y xs {l} {u} {es} ws row count end r h R q k g i j =
-    let e = entrySize y in
+    let e = entry-length y in
     let least : 24 ≤ e = omega (arith, entry-size y .least) in
     let z : end - 0 ≡ e * count = omega arith in
     let m : length (take (e * count) row) ≡ e * count = length-take-le (e * count) row (omega arith) in
-    slot-written y l u ws (lowerAt xs) (upperAt xs) (take (end - 0) row) count r h (lower-is y xs R) (upper-is y xs R)
-    (ap (λ (n : ℕ). length (take n row)) z ∙ m) g (ap (λ (n : ℕ). entriesOf e count (take n row)) z ∙ entriesOf-take e count row least (omega arith) ∙ i) j
+    slot-written y l u ws (lower-bytes xs) (upper-bytes xs) (take (end - 0) row) count r h (lower-is y xs R) (upper-is y xs R)
+    (ap (λ (n : ℕ). length (take n row)) z ∙ m) g (ap (λ (n : ℕ). read-entries e count (take n row)) z ∙ read-entries-take e count row least (omega arith) ∙ i) j

@@ -4,48 +4,48 @@ use Rattle.model.specs.declared.Layout.{Layout}
 use Rattle.model.specs.Order.{Low, Str}
 use Rattle.model.specs.Calls.{between}
 use Rattle.model.specs.Entries.{Entry, Row, find, insert, without}
-use Rattle.model.specs.Format.{Bytes, entriesBytes, entriesOf, entryBytes, entrySize, padded, valueOf}
+use Rattle.model.specs.Format.{AreBytes, bytes-of-entries, bytes-of-entry, entry-length, padded, read-entries, value-of}
 use Rattle.model.specs.Names.{Legal}
-use Rattle.model.proofs.Format.{Contents, bytes-drop, contents-readSlot, entry-size}
+use Rattle.model.proofs.Format.{Contents, bytes-drop, contents-read-slot, entry-size}
 use Rattle.model.proofs.Names.{both-true}
 use Rattle.digits.specs.Keys.{value}
-use Rattle.entries.specs.Rows.{below, heldAt, heldUnder, isAt, place, room, splicedBytes, values}
-use Rattle.entries.proofs.Lists.{content-there, held-find, length-entriesOf, part-between, rank-place, spliced-held, spliced-new, spliced-without}
+use Rattle.entries.specs.Rows.{below, held-at, held-under, is-at, place, room, spliced-bytes, values}
+use Rattle.entries.proofs.Lists.{content-there, held-find, length-read-entries, part-between, rank-place, spliced-held, spliced-new, spliced-without}
 use Rattle.entries.proofs.Products.{room-most}
 use Rattle.entries.proofs.Places.{place-found}
 use Rattle.bucket.specs.Forms.{ReadAs}
-use Rattle.bucket.specs.Slots.{OfSize, countAt}
+use Rattle.bucket.specs.Slots.{OfSize, count-at}
 use Rattle.bucket.proofs.Slots.{Reads, count-is, entries-fit, read-used, reads, row-read}
-use Rattle.slots.specs.Parts.{partOf}
-use Rattle.slots.specs.Spots.{RowOf, SpotIn, isSome}
+use Rattle.slots.specs.Parts.{part-of}
+use Rattle.slots.specs.Spots.{RowOf, SpotIn, is-some-value}
 use Rattle.slots.specs.declared.Spot.{Spot}
 
 -- A name that is held at a place is one of the entries.
-pub held-inside : (e : ℕ) (xs : List ℕ) (count i v : ℕ) → isAt e xs count i v ≡ true → i < count
-unfolding isAt
+pub held-inside : (e : ℕ) (xs : List ℕ) (count i v : ℕ) → is-at e xs count i v ≡ true → i < count
+unfolding is-at
 held-inside e xs count i v h = ltb-true i count (both-true (ltb i count) (eqb (value (take 24 (drop (e * i) xs))) v) h .0)
 
 -- Held or not is whether something is held.
-some-held : (e : ℕ) (xs : List ℕ) (count i v : ℕ) → isAt e xs count i v ≡ isSome (heldAt e i xs count v)
-unfolding isAt heldAt isSome
+some-held : (e : ℕ) (xs : List ℕ) (count i v : ℕ) → is-at e xs count i v ≡ is-some-value (held-at e i xs count v)
+unfolding is-at held-at is-some-value
 some-held e xs count i v = go (ltb i count && eqb (value (take 24 (drop (e * i) xs))) v)
   where
-    go : (t : Bool) → t ≡ isSome (cond t (some (valueOf (take (e - 24) (drop (e * i + 24) xs)))) nothing)
+    go : (t : Bool) → t ≡ is-some-value (cond t (some (value-of (take (e - 24) (drop (e * i + 24) xs)))) nothing)
     go true = refl
     go false = refl
 
 -- Entries read at the beginning of a row are as many as are read.
-pub row-of : (y : Layout) {ws : List Entry} (n : ℕ) (row : List ℕ) → entriesOf (entrySize y) n row ≡ ws → RowOf y row ws × (length ws ≡ n)
+pub row-of : (y : Layout) {ws : List Entry} (n : ℕ) (row : List ℕ) → read-entries (entry-length y) n row ≡ ws → RowOf y row ws × (length ws ≡ n)
 row-of y n row q =
-    let k = sym (ap length q) ∙ length-entriesOf (entrySize y) n row in
-    (ap (λ (m : ℕ). entriesOf (entrySize y) m row) k ∙ q, k)
+    let k = sym (ap length q) ∙ length-read-entries (entry-length y) n row in
+    (ap (λ (m : ℕ). read-entries (entry-length y) m row) k ∙ q, k)
 
-module _ (y : Layout) (xs : List ℕ) (size : OfSize xs y) (bytes : Bytes xs) {l : Low} {u : Str} {es : List Entry} (r : ReadAs y xs l u es) where
+module _ (y : Layout) (xs : List ℕ) (size : OfSize xs y) (bytes : AreBytes xs) {l : Low} {u : Str} {es : List Entry} (r : ReadAs y xs l u es) where
   abbrev e : ℕ
-  e = entrySize y
+  e = entry-length y
 
   abbrev count : ℕ
-  count = countAt (y .b) xs
+  count = count-at (y .b) xs
 
   abbrev behind : List ℕ
   behind = drop 64 xs
@@ -54,37 +54,37 @@ module _ (y : Layout) (xs : List ℕ) (size : OfSize xs y) (bytes : Bytes xs) {l
   slot-reads = reads y xs (r .0) (r .1)
 
   pub slot-contents : Contents e es
-  slot-contents = contents-readSlot y xs bytes (read-used y xs (r .0))
+  slot-contents = contents-read-slot y xs bytes (read-used y xs (r .0))
 
   pub slot-count : count ≡ length es
   slot-count = count-is slot-reads
 
-  pub slot-row : entriesOf e count behind ≡ es
+  pub slot-row : read-entries e count behind ≡ es
   slot-row = row-read slot-reads slot-contents
 
   pub slot-fits : e * count ≤ length behind
   slot-fits = entries-fit xs (size .0) slot-reads
 
-  pub slot-is-row : Row l (entriesOf e count behind) u
+  pub slot-is-row : Row l (read-entries e count behind) u
   slot-is-row = rw slot-row (slot-reads .row)
 
   module _ (n : Str) (g : Legal n) (v : ℕ) (q : v ≡ value n) where
     ranked : below v (values e count behind) ≡ place n es
     ranked = rank-place e count behind n v slot-is-row g q ∙ ap (place n) slot-row
 
-    pub held-found : heldUnder e behind count v ≡ find n es
+    pub held-found : held-under e behind count v ≡ find n es
     held-found = held-find e count behind n v slot-is-row g q ∙ ap (find n) slot-row
 
     -- The spot as the code finds it.
-    pub spot-is : (s : Spot) → s .count ≡ count → s .place ≡ below v (values e count behind) → s .held ≡ isAt e behind count (s .place) v → SpotIn s n es
+    pub spot-is : (s : Spot) → s .count ≡ count → s .place ≡ below v (values e count behind) → s .held ≡ is-at e behind count (s .place) v → SpotIn s n es
     spot-is s a b c = record {
       counted = a ∙ slot-count;
       placed = b ∙ ranked;
-      held-is = c ∙ ap (λ (i : ℕ). isAt e behind count i v) b ∙ some-held e behind count (below v (values e count behind)) v ∙ ap isSome held-found;
+      held-is = c ∙ ap (λ (i : ℕ). is-at e behind count i v) b ∙ some-held e behind count (below v (values e count behind)) v ∙ ap is-some-value held-found;
     }
 
   -- The content at the spot of a name that is held.
-  pub content-held : (s : Spot) (n : Str) → SpotIn s n es → (w : ℕ) → find n es ≡ some w → valueOf (take (e - 24) (drop (e * s .place + 24) behind)) ≡ w
+  pub content-held : (s : Spot) (n : Str) → SpotIn s n es → (w : ℕ) → find n es ≡ some w → value-of (take (e - 24) (drop (e * s .place + 24) behind)) ≡ w
   content-held s n S w f =
       let p = place-found n w (slot-reads .row) f in
       sym (content-there e (s .place) count behind (omega (arith, p .0, S .placed, slot-count)))
@@ -95,10 +95,10 @@ module _ (y : Layout) (xs : List ℕ) (size : OfSize xs y) (bytes : Bytes xs) {l
     counted : s .count ≡ count
     counted = S .counted ∙ sym slot-count
 
-    placed : s .place ≡ place n (entriesOf e count behind)
+    placed : s .place ≡ place n (read-entries e count behind)
     placed = S .placed ∙ sym (ap (place n) slot-row)
 
-    found : {o : Option ℕ} → find n es ≡ o → find n (entriesOf e count behind) ≡ o
+    found : {o : Option ℕ} → find n es ≡ o → find n (read-entries e count behind) ≡ o
     found f = ap (find n) slot-row ∙ f
 
     least : 24 ≤ e
@@ -108,23 +108,23 @@ module _ (y : Layout) (xs : List ℕ) (size : OfSize xs y) (bytes : Bytes xs) {l
     slot-most = room-most e count (entry-size y .most) (omega (arith, slot-count, slot-reads .most, size .1))
 
     pub entry-replaced : (c w : ℕ) → Legal n → c < 256 ^ (e - 24) → find n es ≡ some w
-        → entriesOf e (s .count) (padded room (splicedBytes e behind (s .count) (s .place) 1 (entryBytes e (n, c)))) ≡ insert n c es
+        → read-entries e (s .count) (padded room (spliced-bytes e behind (s .count) (s .place) 1 (bytes-of-entry e (n, c)))) ≡ insert n c es
     entry-replaced c w g h f =
         rw (counted, placed) (spliced-held e count behind least (entry-size y .most) slot-fits slot-most slot-is-row n w (found f) c g h ∙ ap (insert n c) slot-row)
 
     pub entry-added : (c : ℕ) → Legal n → c < 256 ^ (e - 24) → find n es ≡ nothing
-        → entriesOf e (s .count + 1) (padded room (splicedBytes e behind (s .count) (s .place) 0 (entryBytes e (n, c)))) ≡ insert n c es
+        → read-entries e (s .count + 1) (padded room (spliced-bytes e behind (s .count) (s .place) 0 (bytes-of-entry e (n, c)))) ≡ insert n c es
     entry-added c g h f =
         let a : s .count + 1 ≡ suc count = omega (arith, counted) in
         rw (a, counted, placed) (spliced-new e count behind least (entry-size y .most) slot-fits slot-most slot-is-row n c g h (found f) ∙ ap (insert n c) slot-row)
 
-    pub entry-gone : (w : ℕ) → find n es ≡ some w → entriesOf e (s .count - 1) (padded room (splicedBytes e behind (s .count) (s .place) 1 [])) ≡ without n es
+    pub entry-gone : (w : ℕ) → find n es ≡ some w → read-entries e (s .count - 1) (padded room (spliced-bytes e behind (s .count) (s .place) 1 [])) ≡ without n es
     entry-gone w f =
         rw (counted, placed) (spliced-without e count behind least (entry-size y .most) slot-fits slot-most slot-is-row n w (found f) ∙ ap (without n) slot-row)
 
   -- The bytes from one name to another are those of the entries between them.
-  pub part-listed : (n m : Str) (v w : ℕ) → Legal n → Legal m → v ≡ value n → w ≡ value m → partOf y xs v w ≡ entriesBytes e (between n m es)
-  unfolding partOf
+  pub part-listed : (n m : Str) (v w : ℕ) → Legal n → Legal m → v ≡ value n → w ≡ value m → part-of y xs v w ≡ bytes-of-entries e (between n m es)
+  unfolding part-of
   part-listed n m v w f g p q =
       part-between e count behind n m v w (omega (arith, entry-size y .least)) slot-fits (bytes-drop 64 xs bytes) slot-is-row f g p q
-      ∙ ap (λ (x : List Entry). entriesBytes e (between n m x)) slot-row
+      ∙ ap (λ (x : List Entry). bytes-of-entries e (between n m x)) slot-row

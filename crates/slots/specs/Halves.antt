@@ -9,7 +9,7 @@ use Rattle.model.specs.Names.{Bound}
 use Rattle.model.specs.Entries.{Entry, Row, name-at, stay}
 use Rattle.model.specs.Files.{used}
 use Rattle.digits.specs.declared.Key.{Key}
-use Rattle.digits.specs.Keys.{continued, keyValue, value}
+use Rattle.digits.specs.Keys.{continued, key-value, value}
 use Rattle.bucket.specs.Forms.{ReadAs}
 use Rattle.slots.specs.Spots.{Begins, RowOf}
 
@@ -21,7 +21,7 @@ pub record StayTold (r : ℕ) (y : Layout) (row : List ℕ) (string : Key) : Typ
   pub least : 1 ≤ r
   pub most : r ≤ y .b
   pub is : (l : Low) (u : Str) (ws : List Entry) → RowOf y row ws → length ws ≡ y .b + 1 → Row l ws u
-      → (s : Str) → Bound s → keyValue string ≡ value (continued s) → name-at ws 0 ⊑ s → s ≺ name-at ws (y .b) → r ≡ length (stay s ws)
+      → (s : Str) → Bound s → key-value string ≡ value (continued s) → name-at ws 0 ⊑ s → s ≺ name-at ws (y .b) → r ≡ length (stay s ws)
 
 abbrev pub UpperTold : List ℕ → Layout → List ℕ → List ℕ → Str → ℕ → Type 0
 UpperTold r y xs row s k =

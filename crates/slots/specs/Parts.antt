@@ -3,9 +3,9 @@ use mathlib.Core.List.{List}
 use Prim.Native.Nat.{ℕ}
 use lib.ListN.{drop}
 use Rattle.model.specs.declared.Layout.{Layout}
-use Rattle.model.specs.Format.{entrySize}
-use Rattle.entries.specs.Rows.{partBetween}
-use Rattle.bucket.specs.Slots.{countAt}
+use Rattle.model.specs.Format.{entry-length}
+use Rattle.entries.specs.Rows.{part-in-between}
+use Rattle.bucket.specs.Slots.{count-at}
 
-unfoldable pub partOf : Layout → List ℕ → ℕ → ℕ → List ℕ
-partOf y xs v w = partBetween (entrySize y) (drop 64 xs) (countAt (y .b) xs) v w
+unfoldable pub part-of : Layout → List ℕ → ℕ → ℕ → List ℕ
+part-of y xs v w = part-in-between (entry-length y) (drop 64 xs) (count-at (y .b) xs) v w

@@ -10,12 +10,12 @@ use Rattle.model.specs.Order.{Low, Str}
 use Rattle.model.specs.Names.{Legal}
 use Rattle.model.specs.Entries.{Entry, find, insert, without}
 use Rattle.model.specs.Files.{Slot, used}
-use Rattle.model.specs.Format.{entriesOf, entrySize, slotBytes, slotSize}
+use Rattle.model.specs.Format.{bytes-of-slot, entry-length, read-entries, slot-size}
 use Rattle.digits.specs.declared.Key.{Key}
-use Rattle.digits.specs.Keys.{keyValue, value}
+use Rattle.digits.specs.Keys.{key-value, value}
 use Rattle.entries.specs.declared.Content.{Content}
 use Rattle.entries.specs.declared.Held.{Held}
-use Rattle.entries.specs.Rows.{contentNumber, heldNumber, place}
+use Rattle.entries.specs.Rows.{content-number, held-number, place}
 use Rattle.bucket.specs.Forms.{ReadAs}
 use Rattle.slots.specs.declared.Spot.{Spot}
 
@@ -25,46 +25,46 @@ pub record Spotted (s : Spot) (y : Layout) : Type 0 where
   pub place-most : s .place ≤ s .count
   pub held-there : s .held ≡ true → s .place < s .count
 
-unfoldable pub isSome : Option ℕ → Bool
-isSome nothing = false
-isSome (some c) = true
+unfoldable pub is-some-value : Option ℕ → Bool
+is-some-value nothing = false
+is-some-value (some c) = true
 
 -- The spot of the name n among the entries es.
 pub record SpotIn (s : Spot) (n : Str) (es : List Entry) : Type 0 where
   pub counted : s .count ≡ length es
   pub placed : s .place ≡ place n es
-  pub held-is : s .held ≡ isSome (find n es)
+  pub held-is : s .held ≡ is-some-value (find n es)
 
 abbrev pub SpotTold : Spot → Layout → List ℕ → Key → Type 0
 SpotTold r y xs name =
-    (l : Low) (u : Str) (es : List Entry) → ReadAs y xs l u es → (n : Str) → Legal n → keyValue name ≡ value n → SpotIn r n es
+    (l : Low) (u : Str) (es : List Entry) → ReadAs y xs l u es → (n : Str) → Legal n → key-value name ≡ value n → SpotIn r n es
 
 abbrev pub HeldTold : Held → Layout → List ℕ → Key → Type 0
 HeldTold r y xs name =
-    (l : Low) (u : Str) (es : List Entry) → ReadAs y xs l u es → (n : Str) → Legal n → keyValue name ≡ value n → heldNumber r ≡ find n es
+    (l : Low) (u : Str) (es : List Entry) → ReadAs y xs l u es → (n : Str) → Legal n → key-value name ≡ value n → held-number r ≡ find n es
 
 abbrev pub ContentTold : Content → Layout → List ℕ → Spot → Type 0
 ContentTold r y xs s =
     (l : Low) (u : Str) (es : List Entry) → ReadAs y xs l u es → (n : Str) → Legal n → SpotIn s n es
-    → (w : ℕ) → find n es ≡ some w → contentNumber r ≡ w
+    → (w : ℕ) → find n es ≡ some w → content-number r ≡ w
 
 -- An array that begins with the bytes of a slot.
 abbrev pub Begins : List ℕ → Layout → Slot → Type 0
-Begins r y s = take (slotSize y) r ≡ slotBytes y s
+Begins r y s = take (slot-size y) r ≡ bytes-of-slot y s
 
 -- A content that has room behind a name.
 abbrev pub Fits : Layout → Content → Type 0
-Fits y c = contentNumber c < 256 ^ (entrySize y - 24)
+Fits y c = content-number c < 256 ^ (entry-length y - 24)
 
 abbrev pub ReplacedTold : List ℕ → Layout → List ℕ → Spot → Str → Content → Type 0
 ReplacedTold r y xs s n c =
     (l : Low) (u : Str) (es : List Entry) → ReadAs y xs l u es → Legal n → SpotIn s n es → (w : ℕ) → find n es ≡ some w
-    → Fits y c → Begins r y (used l u (insert n (contentNumber c) es))
+    → Fits y c → Begins r y (used l u (insert n (content-number c) es))
 
 abbrev pub AddedTold : List ℕ → Layout → List ℕ → Spot → Str → Content → Type 0
 AddedTold r y xs s n c =
     (l : Low) (u : Str) (es : List Entry) → ReadAs y xs l u es → Legal n → SpotIn s n es → find n es ≡ nothing
-    → Fits y c → Begins r y (used l u (insert n (contentNumber c) es))
+    → Fits y c → Begins r y (used l u (insert n (content-number c) es))
 
 abbrev pub LessenedTold : List ℕ → Layout → List ℕ → Spot → Type 0
 LessenedTold r y xs s =
@@ -73,9 +73,9 @@ LessenedTold r y xs s =
 
 -- The entries that are read at the beginning of a row.
 abbrev pub RowOf : Layout → List ℕ → List Entry → Type 0
-RowOf y row ws = entriesOf (entrySize y) (length ws) row ≡ ws
+RowOf y row ws = read-entries (entry-length y) (length ws) row ≡ ws
 
 abbrev pub OverfullTold : List ℕ → Layout → List ℕ → Spot → Str → Content → Type 0
 OverfullTold r y xs s n c =
     (l : Low) (u : Str) (es : List Entry) → ReadAs y xs l u es → Legal n → SpotIn s n es → find n es ≡ nothing
-    → Fits y c → (RowOf y r (insert n (contentNumber c) es)) × (length (insert n (contentNumber c) es) ≡ s .count + 1)
+    → Fits y c → (RowOf y r (insert n (content-number c) es)) × (length (insert n (content-number c) es) ≡ s .count + 1)

@@ -5,11 +5,11 @@ use lib.ListN.{length, replicate}
 use Rattle.model.specs.Format.{padded}
 
 -- The most bytes that the entries of one bucket have: 16 of 40.
-abbrev pub entriesRoom : ℕ
-entriesRoom = 640
+abbrev pub entries-room : ℕ
+entries-room = 640
 
 -- Section 3 of the rules: a used slot's bytes, with room for as many entries as the largest slot has.
-unfoldable pub writtenBytes : List ℕ → List ℕ → ℕ → List ℕ → List ℕ
-writtenBytes lower upper count entries =
+unfoldable pub written-bytes : List ℕ → List ℕ → ℕ → List ℕ → List ℕ
+written-bytes lower upper count entries =
     1 ∷ count ∷ length lower ∷ length upper ∷ (replicate 4 0
-    ++ (padded 24 lower ++ (padded 24 upper ++ (replicate 8 0 ++ padded entriesRoom entries))))
+    ++ (padded 24 lower ++ (padded 24 upper ++ (replicate 8 0 ++ padded entries-room entries))))

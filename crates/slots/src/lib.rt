@@ -3,14 +3,14 @@
 ghost use mathlib.Core.Path.{_≡_};
 ghost use Prim.Native.Nat.{_*_, _/_, _<_, _^_, _≤_};
 ghost use lib.ListN.{drop, length, take};
-ghost use Rattle.model.specs.Format.{Bytes, entrySize};
-ghost use Rattle.digits.specs.Keys.{keyValue};
+ghost use Rattle.model.specs.Format.{AreBytes, entry-length};
+ghost use Rattle.digits.specs.Keys.{key-value};
 ghost use Rattle.entries.specs.Rows.{Valued};
-ghost use Rattle.bucket.specs.Slots.{OfSize, lowerAt, upperAt};
-ghost use Rattle.slots.specs.Parts.{partOf};
+ghost use Rattle.bucket.specs.Slots.{OfSize, lower-bytes, upper-bytes};
+ghost use Rattle.slots.specs.Parts.{part-of};
 ghost use Rattle.slots.specs.Halves.{LowerTold, NameTold, StayTold, UpperTold};
 ghost use Rattle.slots.specs.Spots.{AddedTold, ContentTold, HeldTold, LessenedTold, OverfullTold, ReplacedTold, SpotTold, Spotted};
-ghost use Rattle.slots.specs.Written.{entriesRoom, writtenBytes};
+ghost use Rattle.slots.specs.Written.{entries-room, written-bytes};
 use bucket::SLOT;
 use digits::Key;
 use digits::u8_of_usize;
@@ -72,7 +72,7 @@ pub fn content_of(slot: &[u8], layout: Layout, spot: Spot) -> Content
 // The name of entry i, filled.
 pub fn name_in(slot: &[u8], layout: Layout, i: usize) -> &[u8]
     requires { ⌜ (OfSize (now slot) layout) × (i < layout .b) ⌝ }
-    ensures { λ r. ⌜ (length (now r) ≡ 24) × (now r ≡ take 24 (drop (entrySize layout * i) (drop 64 (now (slot .entry))))) ⌝ }
+    ensures { λ r. ⌜ (length (now r) ≡ 24) × (now r ≡ take 24 (drop (entry-length layout * i) (drop 64 (now (slot .entry))))) ⌝ }
 {
     let entries = bucket::entries_of(slot, layout);
     let at = entries::whole_at(bucket::entry_size(layout), i, layout.b);
@@ -213,9 +213,9 @@ pub fn lower_half(
 
 // The slot with the same bounds and other entries, so many.
 fn rewritten(slot: &[u8], count: usize, entries: &[u8]) -> [u8; SLOT]
-    requires { ⌜ (64 ≤ length (now slot)) × (count ≤ 16) × (length (now entries) ≤ entriesRoom) ⌝ }
+    requires { ⌜ (64 ≤ length (now slot)) × (count ≤ 16) × (length (now entries) ≤ entries-room) ⌝ }
     ensures { λ r.
-        ⌜ (r ≡ writtenBytes (lowerAt (now (slot .entry))) (upperAt (now (slot .entry))) count (now (entries .entry))) × Bytes (now (entries .entry)) ⌝ }
+        ⌜ (r ≡ written-bytes (lower-bytes (now (slot .entry))) (upper-bytes (now (slot .entry))) count (now (entries .entry))) × AreBytes (now (entries .entry)) ⌝ }
 {
     written(
         bucket::lower_bound(slot),
@@ -227,9 +227,9 @@ fn rewritten(slot: &[u8], count: usize, entries: &[u8]) -> [u8; SLOT]
 
 // A used slot written whole: its bounds and its entries, and zero elsewhere.
 fn written(lower: &[u8], upper: &[u8], count: usize, entries: &[u8]) -> [u8; SLOT]
-    requires { ⌜ (length (now lower) ≤ 24) × (length (now upper) ≤ 24) × (count ≤ 16) × (length (now entries) ≤ entriesRoom) ⌝ }
+    requires { ⌜ (length (now lower) ≤ 24) × (length (now upper) ≤ 24) × (count ≤ 16) × (length (now entries) ≤ entries-room) ⌝ }
     ensures { λ r.
-        ⌜ (r ≡ writtenBytes (now (lower .entry)) (now (upper .entry)) count (now (entries .entry))) × Bytes (now (entries .entry)) ⌝ }
+        ⌜ (r ≡ written-bytes (now (lower .entry)) (now (upper .entry)) count (now (entries .entry))) × AreBytes (now (entries .entry)) ⌝ }
 {
     let mut slot = [0u8; SLOT];
     slot[0] = 1;
@@ -245,7 +245,7 @@ fn written(lower: &[u8], upper: &[u8], count: usize, entries: &[u8]) -> [u8; SLO
 // The bytes of the entries from the first name to the second, both included (R9.8).
 pub fn part_between(slot: &[u8], layout: Layout, first: Key, second: Key) -> &[u8]
     requires { ⌜ OfSize (now slot) layout ⌝ }
-    ensures { λ r. ⌜ (length (now r) ≤ entriesRoom) × (now r ≡ partOf layout (now (slot .entry)) (keyValue first) (keyValue second)) ⌝ }
+    ensures { λ r. ⌜ (length (now r) ≤ entries-room) × (now r ≡ part-of layout (now (slot .entry)) (key-value first) (key-value second)) ⌝ }
 {
     entries::part_between(
         bucket::entries_of(slot, layout),
@@ -258,7 +258,7 @@ pub fn part_between(slot: &[u8], layout: Layout, first: Key, second: Key) -> &[u
 
 // How many entries so many bytes are.
 pub fn entries_in(bytes: usize, layout: Layout) -> usize
-    ensures { λ r. ⌜ r ≡ bytes / entrySize layout ⌝ }
+    ensures { λ r. ⌜ r ≡ bytes / entry-length layout ⌝ }
 {
     bytes / bucket::entry_size(layout)
 }

@@ -8,7 +8,7 @@ use Rattle.model.specs.declared.Trie.{Trie}
 use Rattle.model.specs.Order.{Low, Str, _⊑_, _◁_, diff}
 use Rattle.model.specs.Names.{Legal}
 use Rattle.model.specs.Entries.{Entry, insert, name-at}
-use Rattle.model.specs.Files.{Ranges, Slot, Sound, all, bounds, slot-at, string-count, used}
+use Rattle.model.specs.Files.{RangeTable, Slot, Sound, all, bounds, slot-at, string-count, used}
 use Rattle.model.specs.Tries.{Agrees, at-cell, cell, root, root-side}
 use Rattle.model.specs.Rebuilding.{lay, side-of}
 use Rattle.model.specs.Growth.{cell-of, changed, turn, turn-cell, turn-cells}
@@ -32,7 +32,7 @@ turned-length f (suc fuel) p (further m) cs =
     let q : Str = cell (c .digit) (c .number) p in
     turned-length f fuel p (c .right) (turn-cells f fuel q (c .left) ds) ∙ turned-length f fuel q (c .left) ds ∙ length-set cs m (turn-cell f p c)
 
-cells-length : {F : Ranges} {Bs : List ℕ} {cs : List Cell} {a : Side} → CellsAgree F Bs cs a → length (all (bounds F Bs)) ≡ length cs
+cells-length : {F : RangeTable} {Bs : List ℕ} {cs : List Cell} {a : Side} → CellsAgree F Bs cs a → length (all (bounds F Bs)) ≡ length cs
 cells-length A = sym (cells-count (A .trie)) ∙ sym (reads-size (A .reads)) ∙ visits-count (A .reads) (A .each)
 
 module _ (cs : List Cell) (a : Side) (c s : Str) (A N : ℕ) where

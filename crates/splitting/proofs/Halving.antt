@@ -6,19 +6,19 @@ use Rattle.model.specs.Order.{Low, Str, _≺_, _⊑_, at, diff, diff-at}
 use Rattle.model.specs.Names.{Bound}
 use Rattle.model.specs.Entries.{Entry, Row, entry, keep, move, name-at, no-entries, stay}
 use Rattle.model.specs.Changes.{new-half, old-half, split-of, split-string}
-use Rattle.model.specs.Format.{padded, slotBytes}
+use Rattle.model.specs.Format.{bytes-of-slot, padded}
 use Rattle.model.specs.Files.{used}
 use Rattle.model.specs.Places.{place-of}
 use Rattle.model.specs.Deciding.{le?, not?, over}
-use Rattle.model.specs.Tries.{walkOf}
+use Rattle.model.specs.Tries.{walk-of}
 use Rattle.model.proofs.Entries.{chosen-no, chosen-yes, keep-all, keep-parts, row-at, row-lt, split-bound, split-key, split-last, split-take}
 use Rattle.model.proofs.Format.{padded-short}
 use Rattle.model.proofs.Order.{diff-lt-left, le-refl, le-trans, lt-le}
-use Rattle.model.proofs.Names.{bound-legalBound, legal-length}
+use Rattle.model.proofs.Names.{bound-is-legal-bound, legal-length}
 use Rattle.model.proofs.Places.{place-lt, split-digits}
 use Rattle.digits.specs.declared.Key.{Key}
-use Rattle.digits.specs.Keys.{continued, isZero, keyValue, value}
-use Rattle.entries.specs.Rows.{notAbove}
+use Rattle.digits.specs.Keys.{continued, is-all-zero, key-value, value}
+use Rattle.entries.specs.Rows.{is-not-above}
 use Rattle.entries.proofs.Copies.{moved}
 use Rattle.entries.proofs.Padding.{copied, take-padded-whole, zeros-padded}
 use Rattle.entries.proofs.Places.{numbers}
@@ -125,24 +125,24 @@ module _ {l : Low} {u : Str} {ws : List Entry} (R : Row l ws u) (b i : ℕ) (i-l
   pub string-front : take (length s) (padded 24 s) ≡ s
   string-front = take-padded-whole (length s) 24 s refl s-short
 
-  string-zeros : isZero (take (24 - length s) (drop (length s) (padded 24 s))) ≡ true
+  string-zeros : is-all-zero (take (24 - length s) (drop (length s) (padded 24 s))) ≡ true
   string-zeros =
       let n = 24 - length s in
       let d : drop (length s) (padded 24 s) ≡ replicate n 0 = ap (drop (length s)) (padded-short 24 s s-short) ∙ drop-at s (replicate n 0) (length s) refl in
       let t : take n (drop (length s) (padded 24 s)) ≡ replicate n 0 = ap (take n) d ∙ take-all n (replicate n 0) (omega (arith, length-replicate {A = ℕ} n 0)) in
-      ap isZero t ∙ are-zeros n
+      ap is-all-zero t ∙ are-zeros n
 
   -- The string as it is compared.
   key-found : {len : ℕ} {string : List ℕ} (k : Key) → len ≡ length s → string ≡ padded 24 s
-      → (len ≤ 24 → isZero (take (24 - len) (drop (0 + len) string)) ≡ true → keyValue k ≡ value (continued (take len (drop 0 string))))
-      → keyValue k ≡ value (continued s)
+      → (len ≤ 24 → is-all-zero (take (24 - len) (drop (0 + len) string)) ≡ true → key-value k ≡ value (continued (take len (drop 0 string))))
+      → key-value k ≡ value (continued s)
   key-found {len} {string} k p q f =
       let o : 0 + len ≡ length s = omega arith in
       let t : take len string ≡ s = rw (p, q) string-front in
       f (omega (arith, s-short)) (rw (o, p, q) string-zeros) ∙ ap (λ (x : Str). value (continued x)) t
 
   -- How many stay, where the code counts them.
-  stay-found : (y : Layout) → y .b ≡ b → (row : List ℕ) (k : Key) (st : ℕ) → keyValue k ≡ value (continued s) → StayTold st y row k → RowOf y row ws
+  stay-found : (y : Layout) → y .b ≡ b → (row : List ℕ) (k : Key) (st : ℕ) → key-value k ≡ value (continued s) → StayTold st y row k → RowOf y row ws
       → st ≡ length (stay s ws)
   stay-found y e row k st q S r =
       S .is l u ws r (rw e size) R s s-bound q (le-trans (first-least R i i-in) (split-key R i b i-lt last-in)) (rw e (split-last R i b i-lt last-in))
@@ -153,8 +153,8 @@ module _ {l : Low} {u : Str} {ws : List Entry} (R : Row l ws u) (b i : ℕ) (i-l
 
   pub moves-are : drop (length (stay s ws)) ws ≡ move s ws
   moves-are =
-      let m = moved s (bound-legalBound s-bound) R in
-      let n : length (stay s ws) ≡ notAbove (value (continued s)) (numbers ws) = omega (arith, m .1, keep-parts (λ k. le? k s) ws) in
+      let m = moved s (bound-is-legal-bound s-bound) R in
+      let n : length (stay s ws) ≡ is-not-above (value (continued s)) (numbers ws) = omega (arith, m .1, keep-parts (λ k. le? k s) ws) in
       ap (λ (k : ℕ). drop k ws) n ∙ m .0
 
 -- All of it, with the walk of the split key.
@@ -173,9 +173,9 @@ module _ {l : Low} {u : Str} {ws : List Entry} (R : Row l ws u) (y : Layout) (tw
 
   pub divides : (t : Trie) (w : Walk) (k : Key) (row : List ℕ) {key string : List ℕ} {len st shared : ℕ} → RowOf y row ws → key ≡ name-at ws i
       → len ≡ length string-of-split → string ≡ padded 24 (take len key)
-      → (len ≤ 24 → isZero (take (24 - len) (drop (0 + len) string)) ≡ true → keyValue k ≡ value (continued (take len (drop 0 string))))
+      → (len ≤ 24 → is-all-zero (take (24 - len) (drop (0 + len) string)) ≡ true → key-value k ≡ value (continued (take len (drop 0 string))))
       → StayTold st y row k
-      → Walks w (walkOf t key) → shared ≡ diff (take (len - 0) (drop 0 string)) (take (w .len) (w .path))
+      → Walks w (walk-of t key) → shared ≡ diff (take (len - 0) (drop 0 string)) (take (w .len) (w .path))
       → Divides (record { string = string; len = len; stay = st; walk = w; shared = shared }) y t ws
   divides t w k row {key} {string} {len} {st} r p len-is m f S g h =
       let string-is : string ≡ padded 24 string-of-split = string-found R b i i-lt size p len-is m in
@@ -184,7 +184,7 @@ module _ {l : Low} {u : Str} {ws : List Entry} (R : Row l ws u) (y : Layout) (tw
         string-is = string-is;
         len-is = len-is;
         stay-is = stay-found R b i i-lt size y refl row k st (key-found R b i i-lt size k len-is string-is f) S r;
-        walked = subst (λ (x : Str). Walks w (walkOf t x)) p g;
+        walked = subst (λ (x : Str). Walks w (walk-of t x)) p g;
         shares = h ∙ ap (λ (x : Str). diff x (take (w .len) (w .path))) (front len string ∙ o);
       }
 
@@ -202,7 +202,7 @@ module _ {l : Low} {u : Str} {ws : List Entry} (R : Row l ws u) (y : Layout) (tw
     -- The two slots, of which A is read from the bytes xs.
     module _ (xs row : List ℕ) {m : Low} {v : Str} {es : List Entry} (A : ReadAs y xs m v es) (W : RowOf y row ws) (r : List ℕ) where
       pub new-slot-is : UpperTold r y xs row (take (s .len) (s .string)) (s .stay) → Begins r y (new-half b (place-of y) ws v)
-      new-slot-is f = f m v es ws A W size ∙ ap₂ (λ (x : Str) (es : List Entry). slotBytes y (used (at x) v es)) split-is split-moves
+      new-slot-is f = f m v es ws A W size ∙ ap₂ (λ (x : Str) (es : List Entry). bytes-of-slot y (used (at x) v es)) split-is split-moves
 
       pub old-slot-is : LowerTold r y xs row (take (s .len) (s .string)) (s .stay) → Begins r y (old-half b (place-of y) ws m)
-      old-slot-is f = f m v es ws A W size ∙ ap₂ (λ (x : Str) (es : List Entry). slotBytes y (used m x es)) split-is split-stays
+      old-slot-is f = f m v es ws A W size ∙ ap₂ (λ (x : Str) (es : List Entry). bytes-of-slot y (used m x es)) split-is split-stays

@@ -10,7 +10,7 @@ use Rattle.model.specs.Order.{Low, Str, diff}
 use Rattle.model.specs.Entries.{Entry, Row, name-at, stay}
 use Rattle.model.specs.Changes.{split-of, split-string}
 use Rattle.model.specs.Format.{padded}
-use Rattle.model.specs.Tries.{walkOf}
+use Rattle.model.specs.Tries.{walk-of}
 use Rattle.slots.specs.Spots.{RowOf}
 use Rattle.trie.specs.Walks.{Walks}
 use Rattle.splitting.specs.declared.Split.{Split}
@@ -36,7 +36,7 @@ pub record Divides (s : Split) (y : Layout) (t : Trie) (ws : List Entry) : Type 
   pub string-is : s .string ≡ padded 24 (split-of (y .b) (place-of y) ws)
   pub len-is : s .len ≡ length (split-of (y .b) (place-of y) ws)
   pub stay-is : s .stay ≡ length (stay (split-of (y .b) (place-of y) ws) ws)
-  pub walked : Walks (s .walk) (walkOf t (name-at ws (place-of y ws)))
+  pub walked : Walks (s .walk) (walk-of t (name-at ws (place-of y ws)))
   pub shares : s .shared ≡ diff (split-of (y .b) (place-of y) ws) (take (s .walk .len) (s .walk .path))
 
 -- It is the split of the entries whose bytes these are.

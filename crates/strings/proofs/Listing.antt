@@ -2,20 +2,20 @@
 use Rattle.model.proofs.Prelude.{List, [], _++_, _+_, _-_, _<_, _∙_, _∷_, _≡_, _≤_, add-one, ap, append-assoc, append-nil, arith, drop, drop-cons, drop-of-length-le, false, getD, le-leb, length, length-append, lt-leb, refl, set, some, suc, sym, take, take-suc-set, true, zero-add, ℕ}
 use Rattle.model.specs.declared.Layout.{Layout}
 use Rattle.model.specs.Order.{Low, Str, _≺_, at, diff, none}
-use Rattle.model.specs.Files.{Chain, IsUsed, Ranges, Slot, Sound, Well, all, bounds, free, fresh, head, last, next, order-of, ranges, slot-at, strings-of, upper-of, used, well-used}
+use Rattle.model.specs.Files.{Chain, IsUsed, RangeTable, Slot, Sound, Well, all, bounds, free, fresh, head, last, next, order-of, ranges, slot-at, strings-of, upper-of, used, well-used}
 use Rattle.model.specs.Rebuilding.{label}
-use Rattle.model.specs.Agreeing.{slotsBetween}
-use Rattle.model.specs.Format.{readSlots, slotAt, slotBytes}
+use Rattle.model.specs.Agreeing.{slots-between}
+use Rattle.model.specs.Format.{bytes-at-slot, bytes-of-slot, read-slots}
 use Rattle.model.proofs.Lists.{at-taken}
 use Rattle.model.proofs.Order.{diff-lt-left}
 use Rattle.model.proofs.Strings.{mem-at}
 use Rattle.model.proofs.Ranges.{chain-length, chain-some, chain-used}
 use Rattle.model.proofs.Files.{chain-right}
-use Rattle.model.proofs.Format.{readSlots-each, slotBytes-readSlot}
+use Rattle.model.proofs.Format.{bytes-of-slot-read-slot, read-slots-each}
 use Rattle.model.proofs.Agreement.{coming, expect-cursor, expect-slots, follow, labels, to-slots, to-slots-append}
 use Rattle.model.proofs.Surveys.{chain-rises}
-use Rattle.bucket.specs.Slots.{upperAt}
-use Rattle.bucket.proofs.Layouts.{upperAt-slot}
+use Rattle.bucket.specs.Slots.{upper-bytes}
+use Rattle.bucket.proofs.Layouts.{upper-bytes-slot}
 use Rattle.file.specs.declared.Size.{Size}
 use Rattle.file.specs.Sizes.{Below}
 use Rattle.trie.specs.declared.Strings.{Strings}
@@ -23,7 +23,7 @@ use Rattle.trie.specs.Strung.{Holds, last-digits, lengths}
 use Rattle.strings.specs.Arrays.{Added, Listed, beyond, lefts}
 use Rattle.strings.proofs.Adding.{last-digits-append, length-beyond, lengths-append}
 
-module _ (F : Ranges) where
+module _ (F : RangeTable) where
   -- The strings that come with the upper of B and with the bounds after it,
   abbrev pub rest : ℕ → List ℕ → List Str
   rest B [] = []
@@ -67,26 +67,26 @@ module _ (F : Ranges) where
       let lab : Low → ℕ = label F (B ∷ Bs) in
       rw e (sym (expect-slots lab none (all (bounds F (B ∷ Bs)))) ∙ ap (to-slots lab) (expect-cursor F B Bs c) ∙ coming-slots lab Bs B c)
 
-between-labels : (fs : List Slot) (l : Low) (ss : List Str) → slotsBetween fs l ss ≡ labels (label (ranges fs) (order-of fs)) l ss
-unfolding slotsBetween
+between-labels : (fs : List Slot) (l : Low) (ss : List Str) → slots-between fs l ss ≡ labels (label (ranges fs) (order-of fs)) l ss
+unfolding slots-between
 between-labels fs l [] = refl
 between-labels fs l (x ∷ xs) = ap (λ (ns : List ℕ). label (ranges fs) (order-of fs) l ∷ ns) (between-labels fs (at x) xs)
 
 module _ (y : Layout) {fs : List Slot} (S : Sound (y .b) fs) where
   -- The upper of a bucket in the order, as it is read from the file's bytes.
-  pub upper-read : (slots : ℕ) (file : List ℕ) → readSlots y slots 0 file ≡ some fs → (i : ℕ) → i < length (order-of fs)
-      → getD (order-of fs) i 0 < slots → upperAt (slotAt y (getD (order-of fs) i 0) file) ≡ ranges fs .upper (getD (order-of fs) i 0)
+  pub upper-read : (slots : ℕ) (file : List ℕ) → read-slots y slots 0 file ≡ some fs → (i : ℕ) → i < length (order-of fs)
+      → getD (order-of fs) i 0 < slots → upper-bytes (bytes-at-slot y (getD (order-of fs) i 0) file) ≡ ranges fs .upper (getD (order-of fs) i 0)
   upper-read slots file e i h k = rw bytes (go (slot-at fs B) (S .well B) (chain-used (ranges fs) (chain-right (y .b) S) B (mem-at 0 (order-of fs) i h)))
     where
       B : ℕ
       B = getD (order-of fs) i 0
 
-      bytes : slotAt y B file ≡ slotBytes y (slot-at fs B)
-      bytes = slotBytes-readSlot y (slotAt y B file) (rw zero-add at (readSlots-each y slots 0 B file k e))
+      bytes : bytes-at-slot y B file ≡ bytes-of-slot y (slot-at fs B)
+      bytes = bytes-of-slot-read-slot y (bytes-at-slot y B file) (rw zero-add at (read-slots-each y slots 0 B file k e))
 
-      go : (x : Slot) → Well (y .b) x → IsUsed (head x) → upperAt (slotBytes y x) ≡ upper-of (head x)
+      go : (x : Slot) → Well (y .b) x → IsUsed (head x) → upper-bytes (bytes-of-slot y x) ≡ upper-of (head x)
       go free w u = absurd u
-      go (used l u es) (well-used g f a r m) v = upperAt-slot y l u es (f .fits)
+      go (used l u es) (well-used g f a r m) v = upper-bytes-slot y l u es (f .fits)
 
 -- So far the arrays have the strings that come before the upper of the bucket before place j.
 pub record Going (fs : List Slot) (lens digits slots : List ℕ) (n j : ℕ) : Type 0 where
@@ -96,7 +96,7 @@ pub record Going (fs : List Slot) (lens digits slots : List ℕ) (n j : ℕ) : T
   pub strings-are : done ++ rest (ranges fs) (getD (order-of fs) (j - 1) 0) (drop j (order-of fs)) ≡ strings-of fs
   pub lens-are : take n lens ≡ lengths done
   pub digits-are : take n digits ≡ last-digits done
-  pub slots-are : take n slots ++ leaves-from (ranges fs) (getD (order-of fs) (j - 1) 0) (drop j (order-of fs)) ≡ slotsBetween fs none (strings-of fs)
+  pub slots-are : take n slots ++ leaves-from (ranges fs) (getD (order-of fs) (j - 1) 0) (drop j (order-of fs)) ≡ slots-between fs none (strings-of fs)
 
 pub going-start : {b : ℕ} {fs : List Slot} → Sound b fs → (lens digits slots : List ℕ) → Going fs lens digits slots 0 1
 going-start {b} {fs} S lens digits slots = go (order-of fs) refl (chain-right b S)
@@ -134,7 +134,7 @@ module _ (fs : List Slot) where
     slots-are = rw (place, add-one j, A .slots-are) (append-assoc (take n slots) (lefts B C ss) (leaves-from F D Ds) ∙ rw (fresh-is, eB, eC) (rw comes at (G .slots-are)));
   }
     where
-      F : Ranges
+      F : RangeTable
       F = ranges fs
 
       Bs : List ℕ
@@ -172,7 +172,7 @@ module _ (fs : List Slot) where
   -- Behind the last bound the leaf of the last bucket is left.
   pub going-end : (lens digits slots : List ℕ) (n j v : ℕ) → length (order-of fs) ≤ j → v ≡ getD (order-of fs) (length (order-of fs) - 1) 0
       → n < length slots → Going fs lens digits slots n j → (s : Strings) → (s .count ≡ n) × (s .lens ≡ lens) × (s .digits ≡ digits) × (s .slots ≡ set slots n v)
-      → Holds s (strings-of fs) (slotsBetween fs none (strings-of fs))
+      → Holds s (strings-of fs) (slots-between fs none (strings-of fs))
   going-end lens digits slots n j v h ev k G s e = record {
     count-is = e .0 ∙ count;
     lens-are = rw (e .1, ← count) (G .lens-are ∙ ap lengths whole);
@@ -196,14 +196,14 @@ module _ (fs : List Slot) where
 module _ (file order : List ℕ) (size : Size) (count : ℕ) where
   abbrev Given : List Slot → Type 0
   Given fs =
-      (readSlots (size .layout) (size .slots) 0 file ≡ some fs) × Sound (size .layout .b) fs × (count ≡ length (order-of fs)) × (take count order ≡ order-of fs)
+      (read-slots (size .layout) (size .slots) 0 file ≡ some fs) × Sound (size .layout .b) fs × (count ≡ length (order-of fs)) × (take count order ≡ order-of fs)
 
   abbrev pub Goes : (lens digits slots : List ℕ) (n j : ℕ) → Type 0
   Goes lens digits slots n j = (fs : List Slot) → Given fs → Going fs lens digits slots n j
 
   -- The upper that stands in the bytes of slot B.
   abbrev pub upper-in : ℕ → Str
-  upper-in B = upperAt (slotAt (size .layout) B file)
+  upper-in B = upper-bytes (bytes-at-slot (size .layout) B file)
 
   order-at : (fs : List Slot) → Given fs → (i : ℕ) → i < count → getD order i 0 ≡ getD (order-of fs) i 0
   order-at fs g i h = at-taken count order i (g .3) h

@@ -6,8 +6,8 @@ use Prim.Native.Nat.{_+_, _≤_, ℕ}
 use lib.ListN.{drop, length, take}
 use Rattle.model.specs.Order.{Str, none}
 use Rattle.model.specs.Files.{Slot, Sound, longer, order-of, strings-of}
-use Rattle.model.specs.Agreeing.{slotsBetween}
-use Rattle.model.specs.Format.{readSlots}
+use Rattle.model.specs.Agreeing.{slots-between}
+use Rattle.model.specs.Format.{read-slots}
 use Rattle.file.specs.declared.Size.{Size}
 use Rattle.trie.specs.declared.Strings.{Strings}
 use Rattle.trie.specs.Strung.{Strung, last-digits, lengths}
@@ -38,5 +38,5 @@ pub record Added (ss : List Str) (slot next count n : ℕ) (lens lens′ digits 
 -- The strings that are given: of a sound file whose buckets stand in range order, they are the file's.
 pub record Listed (s : Strings) (file : List ℕ) (size : Size) (order : List ℕ) (count : ℕ) : Type 0 where
   pub count-most : s .count ≤ 256
-  pub strung : (fs : List Slot) → readSlots (size .layout) (size .slots) 0 file ≡ some fs → Sound (size .layout .b) fs
-      → count ≡ length (order-of fs) → take count order ≡ order-of fs → Strung s (strings-of fs) (slotsBetween fs none (strings-of fs))
+  pub strung : (fs : List Slot) → read-slots (size .layout) (size .slots) 0 file ≡ some fs → Sound (size .layout .b) fs
+      → count ≡ length (order-of fs) → take count order ≡ order-of fs → Strung s (strings-of fs) (slots-between fs none (strings-of fs))

@@ -10,15 +10,15 @@ use Rattle.model.specs.declared.Cell.{Cell}
 use Rattle.model.specs.declared.Side.{Side}
 use Rattle.model.specs.declared.Side.the-variants.{Cell as further, Slot as slot}
 use Rattle.model.specs.Order.{Str}
-use Rattle.model.specs.Tries.{Spot, at-cell, cell, left, right, root, walkRun}
+use Rattle.model.specs.Tries.{Spot, at-cell, cell, left, right, root, walk-run}
 use Rattle.trie.specs.declared.Place.{Place}
 use Rattle.trie.specs.declared.Place.the-variants.{Cell as before-cell, Slot as at-slot, Stale as stale}
 use Rattle.trie.specs.declared.Walk.{Walk}
 
 -- A side leads on to a cell below the count while cells may be met.
-unfoldable pub placeOf : Side → ℕ → ℕ → Place
-placeOf (slot s) count more = at-slot s
-placeOf (further i) count more = cond (eqb more 0) stale (cond (leb count i) stale (before-cell i))
+unfoldable pub place-ahead : Side → ℕ → ℕ → Place
+place-ahead (slot s) count more = at-slot s
+place-ahead (further i) count more = cond (eqb more 0) stale (cond (leb count i) stale (before-cell i))
 
 -- The walk came by this side. At the root there was none.
 abbrev pub By : Spot → Walk → Type 0
@@ -29,7 +29,7 @@ By (right m) w = (w .cell ≡ m) × (w .left ≡ false)
 -- What is ahead of a walk at a place, to which it came by the side k: it will end as `o`.
 abbrev pub Ahead : Place → Option (Str × Spot × ℕ) → List Cell → Str → Walk → Spot → Type 0
 Ahead (before-cell i) o cs n w k =
-    (0 < w .more) × (i < w .count) × (w .count ≤ 256) × (o ≡ walkRun (w .more) (w .count) cs n (take (w .len) (w .path)) k (further i))
+    (0 < w .more) × (i < w .count) × (w .count ≤ 256) × (o ≡ walk-run (w .more) (w .count) cs n (take (w .len) (w .path)) k (further i))
 Ahead (at-slot s) o cs n w k = o ≡ some (take (w .len) (w .path), k, s)
 Ahead stale o cs n w k = o ≡ nothing
 

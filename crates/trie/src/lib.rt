@@ -7,8 +7,8 @@ ghost use lib.ListN.{take};
 ghost use Rattle.model.specs.Names as names;
 ghost use mathlib.Core.List.{[]};
 ghost use Rattle.model.specs.Order.{Str};
-ghost use Rattle.model.specs.Tries.{root-side, trie-of, walkOf};
-ghost use Rattle.trie.specs.Walks.{Steps, Strayed, Underway, Walks, placeOf};
+ghost use Rattle.model.specs.Tries.{root-side, trie-of, walk-of};
+ghost use Rattle.trie.specs.Walks.{Steps, Strayed, Underway, Walks, place-ahead};
 use digits::usize_of_u8;
 use digits::usize_of_u16;
 use model::Cell;
@@ -64,7 +64,7 @@ pub fn without_cells(first: u16) -> Trie
 // Whether the name is within the string of the first digits, so not above it.
 fn goes_left(name: &[u8; 24], string: &[u8; 24], len: usize) -> bool
     requires { ⌜ len ≤ 24 ⌝ }
-    ensures { λ r. ⌜ r ≡ names.atMost (now (name .entry)) (take len (now (string .entry))) ⌝ }
+    ensures { λ r. ⌜ r ≡ names.is-at-most (now (name .entry)) (take len (now (string .entry))) ⌝ }
 {
     let whole = &string[..];
     let compared = digits::compared(name, &whole[0..len]);
@@ -73,7 +73,7 @@ fn goes_left(name: &[u8; 24], string: &[u8; 24], len: usize) -> bool
 
 // A side leads on to a cell below the count while cells may be met.
 fn place_of(side: Side, count: u16, more: u16) -> Place
-    ensures { λ r. ⌜ r ≡ placeOf side count more ⌝ }
+    ensures { λ r. ⌜ r ≡ place-ahead side count more ⌝ }
 {
     match side {
         Side::Slot(s) => Place::Slot(s),
@@ -91,7 +91,7 @@ fn place_of(side: Side, count: u16, more: u16) -> Place
 
 // R5.1: cell 0 is the root; R5.6: with count 0 the walk ends at the first leaf.
 fn root(count: u16, first: u16) -> Place
-    ensures { λ r. ⌜ r ≡ cond (leb count 256) (placeOf (root-side count first) count count) Place.Stale ⌝ }
+    ensures { λ r. ⌜ r ≡ cond (leb count 256) (place-ahead (root-side count first) count count) Place.Stale ⌝ }
 {
     if 256 < count {
         return Place::Stale;
@@ -120,7 +120,7 @@ fn strayed() -> Walk
 impl Walk {
     // The path begins empty. No more cells may be met than the count.
     pub fn begin(count: u16, first: u16) -> Walk
-        ensures { λ r. ⌜ ((t : Trie) → t .count ≡ count → t .first ≡ first → (n : Str) → Underway (walkOf t n) (t .cells) n r) ⌝ }
+        ensures { λ r. ⌜ ((t : Trie) → t .count ≡ count → t .first ≡ first → (n : Str) → Underway (walk-of t n) (t .cells) n r) ⌝ }
     {
         Walk {
             path: [0u8; 24],
@@ -177,7 +177,7 @@ impl Walk {
 
 // The walk of a filled name over any trie at all, damaged ones too. It meets no more cells than the count.
 pub fn walk_of(trie: Trie, name: &[u8; 24]) -> Walk
-    ensures { λ r. ⌜ (r .len ≤ 24) × Walks r (walkOf trie (now (name .entry))) ⌝ }
+    ensures { λ r. ⌜ (r .len ≤ 24) × Walks r (walk-of trie (now (name .entry))) ⌝ }
 {
     let mut walk = Walk::begin(trie.count, trie.first);
     loop {

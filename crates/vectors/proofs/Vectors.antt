@@ -1,37 +1,37 @@
 -- Every case holds: both sides compute to the same.
 use Rattle.model.proofs.Prelude.{decLe, decLt, refl, ℕ-discrete}
-use Rattle.model.specs.Names.{areDigits, atMost, broken, filled, legalBound, legalFilled, legalName, notGreater, smaller, splitFrom, splitString, within}
+use Rattle.model.specs.Names.{are-digits, broken, filled, is-at-most, is-legal-bound, is-legal-filled, is-legal-name, not-greater, smaller, split-beginning, split-tried, within}
 use Rattle.model.specs.Entries.{chosen, find, insert, keep}
 use Rattle.model.specs.Files.{first, order-from, starts?, string-count}
-use Rattle.model.specs.Changes.{call, free?, holds?, put-in, remove-in, stores-if}
+use Rattle.model.specs.Changes.{call, closes?, free?, holds?, left-of, merged-or, put-in, removal, remove-in, right-of, stores-if, trie-removed}
 use Rattle.model.specs.Places.{only-from, place-of, positions, shortest, winner}
-use Rattle.model.specs.Checks.{allWell, check, cutBelow, hasTwin, isAbove, isChain, isCopied, isCutBy, isIn, isListed, isRow, isSound, isTwin, isUsed, isWell, legalLow, oneMore, sameEntries, sameLow, sameStr}
-use Rattle.model.specs.Agreeing.{areNumbers, areZeroCells, eachOnce, isAgreeing, isTrieOf, joinTrees, readTree, sameSide, sameStrs, slotsBetween, times}
-use Rattle.model.specs.Format.{checkFile, checkRead, entriesBytes, entriesOf, entryBytes, entrySize, fileBytes, fileSize, headerBytes, headerOf, isOffered, joined, laidOut, layoutOf, legalSizes, littleEndian, lowDigits, lowOf, padded, readBy, readFile, readSlot, readSlots, readUsed, rightHeader, slotAt, slotBytes, slotSize, slotsBytes, storeBytes, usedOf, valueOf}
-use Rattle.model.specs.Calls.{arrivedAnswer, between, createOf, entriesIn, headedAnswer, listEntries, listLooked, listOf, lookUpOf, lookedBy, lookedOf, putLooked, putMade, putOf, rebuildBy, rebuildOf, recoverBy, recoverOf, refusalOf, removeLooked, removeMade, removeOf, slotAnswer, storesBytes, trieAfter}
-use Rattle.model.specs.Tries.{walkOf, walkRun}
+use Rattle.model.specs.Checks.{all-well, are-same-entries, check, cut-among, has-one-more, has-twin, is-above, is-chain, is-copied, is-cut-by, is-in, is-legal-low, is-listed, is-row, is-sound-file, is-twin, is-used-slot, is-well-formed, same-low, same-str}
+use Rattle.model.specs.Agreeing.{are-numbers, are-zero-cells, is-agreeing, is-each-once, is-trie-of, join-trees, read-tree, same-side, same-strs, slots-between, times}
+use Rattle.model.specs.Format.{are-legal-sizes, bytes-at-slot, bytes-of-entries, bytes-of-entry, bytes-of-slot, check-file, check-read, digits-of-low, entry-length, file-bytes, file-size, header-bytes, header-of, is-offered, is-right-header, joined, laid-out, layout-of, little-endian, low-of, padded, read-by, read-entries, read-file, read-slot, read-slots, read-used-slot, slot-size, slots-bytes, store-bytes, used-of, value-of}
+use Rattle.model.specs.Calls.{arrived-answer, between, create-of, entries-in, headed-answer, list-entries, list-of, list-on-looked, look-up-of, looked-at-by, looked-of, put-by-stores, put-of, put-on-looked, rebuild-by, rebuild-of, recover-by, recover-of, refusal-of, remove-by-stores, remove-of, remove-on-looked, slot-answer, stores-bytes, trie-after-put}
+use Rattle.model.specs.Tries.{walk-of, walk-run}
 use Rattle.model.specs.Deciding.{le?, low-same?, low?, not?, str?}
-use Rattle.vectors.specs.Vectors.{agreesWith, allBytes, allHold, bytes, codes, holds, isArranged, partBytes, putAll, sameBool, sameCells, sameSaid, sameTrie}
+use Rattle.vectors.specs.Vectors.{agrees-with, all-bytes, are-same-cells, bytes, bytes-of-part, cases-hold, codes, holds, is-arranged, put-all, same-bool, same-said, same-trie}
 use Rattle.vectors.specs.Statement.{EveryCase}
 
 pub every-case : EveryCase
 unfolding
-    codes partBytes bytes allBytes sameBool sameSaid sameCells sameTrie isArranged agreesWith putAll holds allHold
+    codes bytes-of-part bytes all-bytes same-bool same-said are-same-cells same-trie is-arranged agrees-with put-all holds cases-hold
     le? str? low?
-    areDigits legalName filled legalFilled legalBound notGreater within atMost broken smaller splitFrom
-    splitString
+    are-digits is-legal-name filled is-legal-filled is-legal-bound not-greater within is-at-most broken smaller split-tried
+    split-beginning
     chosen not? find insert keep
     first low-same? starts? order-from string-count
-    holds? free? stores-if put-in remove-in call
-    isAbove legalLow sameStr sameLow isRow isWell allWell isUsed isChain isIn isListed isSound sameEntries oneMore
-    isCopied isTwin hasTwin isCutBy cutBelow check
-    joinTrees readTree sameSide areZeroCells times eachOnce areNumbers sameStrs slotsBetween isTrieOf isAgreeing
-    isOffered entrySize slotSize fileSize legalSizes headerBytes padded littleEndian valueOf entryBytes entriesBytes lowDigits
-    lowOf slotBytes slotsBytes fileBytes entriesOf usedOf readUsed readSlot slotAt joined readSlots rightHeader layoutOf headerOf
-    laidOut readBy readFile checkRead checkFile storeBytes
-    createOf recoverBy recoverOf rebuildBy rebuildOf walkRun walkOf slotAnswer arrivedAnswer headedAnswer lookUpOf lookedBy
-    lookedOf storesBytes place-of winner shortest positions only-from trieAfter refusalOf putMade putLooked putOf removeMade removeLooked removeOf entriesIn between
-    listEntries listLooked listOf
+    holds? free? closes? left-of right-of merged-or removal trie-removed stores-if put-in remove-in call
+    is-above is-legal-low same-str same-low is-row is-well-formed all-well is-used-slot is-chain is-in is-listed is-sound-file are-same-entries has-one-more
+    is-copied is-twin has-twin is-cut-by cut-among check
+    join-trees read-tree same-side are-zero-cells times is-each-once are-numbers same-strs slots-between is-trie-of is-agreeing
+    is-offered entry-length slot-size file-size are-legal-sizes header-bytes padded little-endian value-of bytes-of-entry bytes-of-entries digits-of-low
+    low-of bytes-of-slot slots-bytes file-bytes read-entries used-of read-used-slot read-slot bytes-at-slot joined read-slots is-right-header layout-of header-of
+    laid-out read-by read-file check-read check-file store-bytes
+    create-of recover-by recover-of rebuild-by rebuild-of walk-run walk-of slot-answer arrived-answer headed-answer look-up-of looked-at-by
+    looked-of stores-bytes place-of winner shortest positions only-from trie-after-put refusal-of put-by-stores put-on-looked put-of remove-by-stores remove-on-looked remove-of entries-in between
+    list-entries list-on-looked list-of
     decLe decLt ℕ-discrete
 every-case = record {
   legals-hold = refl;

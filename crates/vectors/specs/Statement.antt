@@ -1,25 +1,25 @@
 -- Every case holds: one equation for each list of cases.
 use mathlib.Core.Path.{_≡_}
 use mathlib.Core.Bool.{true}
-use Rattle.vectors.specs.Vectors.{allHold}
+use Rattle.vectors.specs.Vectors.{cases-hold}
 use Rattle.vectors.specs.Cases.{agreements, arrangements, checkings, creatings, fullest, insides, legals, listings, lookings, orders, puttings, rebuildings, recoverings, removings, strings, words, worked, wrongs}
 
 pub record EveryCase : Type 0 where
-  pub legals-hold : allHold legals ≡ true
-  pub insides-hold : allHold insides ≡ true
-  pub orders-hold : allHold orders ≡ true
-  pub strings-hold : allHold strings ≡ true
-  pub arrangements-hold : allHold arrangements ≡ true
-  pub agreements-hold : allHold agreements ≡ true
-  pub checkings-hold : allHold checkings ≡ true
-  pub creatings-hold : allHold creatings ≡ true
-  pub recoverings-hold : allHold recoverings ≡ true
-  pub rebuildings-hold : allHold rebuildings ≡ true
-  pub lookings-hold : allHold lookings ≡ true
-  pub wrongs-hold : allHold wrongs ≡ true
-  pub puttings-hold : allHold puttings ≡ true
-  pub removings-hold : allHold removings ≡ true
-  pub listings-hold : allHold listings ≡ true
-  pub worked-hold : allHold worked ≡ true
-  pub words-hold : allHold words ≡ true
-  pub fullest-hold : allHold fullest ≡ true
+  pub legals-hold : cases-hold legals ≡ true
+  pub insides-hold : cases-hold insides ≡ true
+  pub orders-hold : cases-hold orders ≡ true
+  pub strings-hold : cases-hold strings ≡ true
+  pub arrangements-hold : cases-hold arrangements ≡ true
+  pub agreements-hold : cases-hold agreements ≡ true
+  pub checkings-hold : cases-hold checkings ≡ true
+  pub creatings-hold : cases-hold creatings ≡ true
+  pub recoverings-hold : cases-hold recoverings ≡ true
+  pub rebuildings-hold : cases-hold rebuildings ≡ true
+  pub lookings-hold : cases-hold lookings ≡ true
+  pub wrongs-hold : cases-hold wrongs ≡ true
+  pub puttings-hold : cases-hold puttings ≡ true
+  pub removings-hold : cases-hold removings ≡ true
+  pub listings-hold : cases-hold listings ≡ true
+  pub worked-hold : cases-hold worked ≡ true
+  pub words-hold : cases-hold words ≡ true
+  pub fullest-hold : cases-hold fullest ≡ true

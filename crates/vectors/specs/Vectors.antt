@@ -13,14 +13,14 @@ use Rattle.model.specs.declared.Cell.{Cell}
 use Rattle.model.specs.declared.Side.{Side}
 use Rattle.model.specs.declared.Trie.{Trie}
 use Rattle.model.specs.Order.{Str}
-use Rattle.model.specs.Names.{atMost, filled, legalName, splitString, within}
+use Rattle.model.specs.Names.{filled, is-at-most, is-legal-name, split-beginning, within}
 use Rattle.model.specs.Files.{Slot, order-of, strings-of}
 use Rattle.model.specs.Tries.{zero-cell}
-use Rattle.model.specs.Checks.{sameStr}
-use Rattle.model.specs.Agreeing.{isAgreeing, sameSide, sameStrs}
-use Rattle.model.specs.Format.{checkFile, readFile}
-use Rattle.model.specs.Answers.{Said, checkSays, createSays, listSays, lookUpSays, putSays, rebuildSays, recoverSays, removeSays}
-use Rattle.model.specs.Calls.{createOf, listOf, lookUpOf, putOf, rebuildOf, recoverOf, removeOf}
+use Rattle.model.specs.Checks.{same-str}
+use Rattle.model.specs.Agreeing.{is-agreeing, same-side, same-strs}
+use Rattle.model.specs.Format.{check-file, read-file}
+use Rattle.model.specs.Answers.{Saying, said-by-check, said-by-create, said-by-list, said-by-look-up, said-by-put, said-by-rebuild, said-by-recover, said-by-remove}
+use Rattle.model.specs.Calls.{create-of, list-of, look-up-of, put-of, rebuild-of, recover-of, remove-of}
 
 -- Bytes, written in parts: a text, so many zeros, so many blanks, or one byte.
 pub data Part : Type 0 where
@@ -34,19 +34,19 @@ unfoldable pub codes : String → List ℕ
 codes S.[] = []
 codes (S._∷_ c cs) = code c ∷ codes cs
 
-unfoldable pub partBytes : Part → List ℕ
-partBytes (text t) = codes t
-partBytes (zeros n) = replicate n 0
-partBytes (blanks n) = replicate n 0x20
-partBytes (byte x) = x ∷ []
+unfoldable pub bytes-of-part : Part → List ℕ
+bytes-of-part (text t) = codes t
+bytes-of-part (zeros n) = replicate n 0
+bytes-of-part (blanks n) = replicate n 0x20
+bytes-of-part (byte x) = x ∷ []
 
 unfoldable pub bytes : Parts → List ℕ
 bytes [] = []
-bytes (p ∷ ps) = partBytes p ++ bytes ps
+bytes (p ∷ ps) = bytes-of-part p ++ bytes ps
 
-unfoldable pub allBytes : List Parts → List (List ℕ)
-allBytes [] = []
-allBytes (p ∷ ps) = bytes p ∷ allBytes ps
+unfoldable pub all-bytes : List Parts → List (List ℕ)
+all-bytes [] = []
+all-bytes (p ∷ ps) = bytes p ∷ all-bytes ps
 
 -- A cell, and a trie of these first cells, whose other cells are zero.
 abbrev pub cell : ℕ → ℕ → Side → Side → Cell
@@ -71,82 +71,82 @@ pub data Case : Type 0 where
   -- A trie agrees with a sound file, or not.
   agrees : (file : Parts) (t : Trie) → Bool → Case
   -- The eight calls.
-  checks : (file : Parts) → Said → Case
-  creates : (file : Parts) (version b slots : ℕ) → Said → (after : Parts) → Trie → Case
-  recovers : (file : Parts) (limit : ℕ) → Said → (after : Parts) → Case
-  rebuilds : (file : Parts) → Said → Trie → Case
-  looks-up : (file : Parts) (t : Trie) (name : Parts) → Said → Case
-  puts : (file : Parts) (t : Trie) (name : Parts) (value limit : ℕ) → Said → (after : Parts) → Trie → Case
-  removes : (file : Parts) (t : Trie) (name : Parts) (limit : ℕ) → Said → (after : Parts) → Case
-  lists : (file : Parts) (t : Trie) (low high output : Parts) → Said → (after : Parts) → Case
+  checks : (file : Parts) → Saying → Case
+  creates : (file : Parts) (version b slots : ℕ) → Saying → (after : Parts) → Trie → Case
+  recovers : (file : Parts) (limit : ℕ) → Saying → (after : Parts) → Case
+  rebuilds : (file : Parts) → Saying → Trie → Case
+  looks-up : (file : Parts) (t : Trie) (name : Parts) → Saying → Case
+  puts : (file : Parts) (t : Trie) (name : Parts) (value limit : ℕ) → Saying → (after : Parts) → Trie → Case
+  removes : (file : Parts) (t : Trie) (name : Parts) (limit : ℕ) → Saying → (after : Parts) → Case
+  lists : (file : Parts) (t : Trie) (low high output : Parts) → Saying → (after : Parts) → Case
   -- Create, then a put of each of these names, with the values 1, 2 and so on.
   grows : (file : Parts) (b slots : ℕ) (names : List Parts) (after : Parts) → Trie → Case
 
-unfoldable pub sameBool : Bool → Bool → Bool
-sameBool true b = b
-sameBool false true = false
-sameBool false false = true
+unfoldable pub same-bool : Bool → Bool → Bool
+same-bool true b = b
+same-bool false true = false
+same-bool false false = true
 
-unfoldable pub sameSaid : Said → Said → Bool
-sameSaid s r = eqb (s .0) (r .0) && sameStr (s .1) (r .1)
+unfoldable pub same-said : Saying → Saying → Bool
+same-said s r = eqb (s .0) (r .0) && same-str (s .1) (r .1)
 
-unfoldable pub sameCells : List Cell → List Cell → Bool
-sameCells [] [] = true
-sameCells [] (d ∷ ds) = false
-sameCells (c ∷ cs) [] = false
-sameCells (c ∷ cs) (d ∷ ds) =
-    eqb (c .digit) (d .digit) && eqb (c .number) (d .number) && sameSide (c .left) (d .left)
-    && sameSide (c .right) (d .right) && sameCells cs ds
+unfoldable pub are-same-cells : List Cell → List Cell → Bool
+are-same-cells [] [] = true
+are-same-cells [] (d ∷ ds) = false
+are-same-cells (c ∷ cs) [] = false
+are-same-cells (c ∷ cs) (d ∷ ds) =
+    eqb (c .digit) (d .digit) && eqb (c .number) (d .number) && same-side (c .left) (d .left)
+    && same-side (c .right) (d .right) && are-same-cells cs ds
 
-unfoldable pub sameTrie : Trie → Trie → Bool
-sameTrie t u = eqb (t .count) (u .count) && eqb (t .first) (u .first) && sameCells (t .cells) (u .cells)
+unfoldable pub same-trie : Trie → Trie → Bool
+same-trie t u = eqb (t .count) (u .count) && eqb (t .first) (u .first) && are-same-cells (t .cells) (u .cells)
 
-unfoldable pub isArranged : List ℕ → List Str → Option (Layout × List Slot) → Bool
-isArranged order xs nothing = false
-isArranged order xs (some f) = sameStr (order-of (f .1)) order && sameStrs (strings-of (f .1)) xs
+unfoldable pub is-arranged : List ℕ → List Str → Option (Layout × List Slot) → Bool
+is-arranged order xs nothing = false
+is-arranged order xs (some f) = same-str (order-of (f .1)) order && same-strs (strings-of (f .1)) xs
 
-unfoldable pub agreesWith : Trie → Option (Layout × List Slot) → Bool
-agreesWith t nothing = false
-agreesWith t (some f) = isAgreeing (f .1) t
+unfoldable pub agrees-with : Trie → Option (Layout × List Slot) → Bool
+agrees-with t nothing = false
+agrees-with t (some f) = is-agreeing (f .1) t
 
 -- Puts one after the other, the values counted from i on.
-unfoldable pub putAll : ℕ → List Parts → List ℕ → Trie → List ℕ × Trie
-putAll i [] xs t = (xs, t)
-putAll i (n ∷ ns) xs t = let d = putOf xs t (bytes n) i 2 in putAll (suc i) ns (d .file) (d .trie)
+unfoldable pub put-all : ℕ → List Parts → List ℕ → Trie → List ℕ × Trie
+put-all i [] xs t = (xs, t)
+put-all i (n ∷ ns) xs t = let d = put-of xs t (bytes n) i 2 in put-all (suc i) ns (d .file) (d .trie)
 
 -- The test.
 unfoldable pub holds : Case → Bool
-holds (legal n r) = sameBool (legalName (bytes n)) r
-holds (inside n p r) = sameBool (within (filled (bytes n)) (bytes p)) r
-holds (ordered p q r) = sameBool (atMost (bytes p) (bytes q)) r
-holds (splits c z s) = sameStr (splitString (filled (bytes c)) (filled (bytes z))) (bytes s)
-holds (arranged f order xs) = isArranged order (allBytes xs) (readFile (bytes f))
-holds (agrees f t r) = sameBool (agreesWith t (readFile (bytes f))) r
-holds (checks f s) = sameSaid (checkSays (checkFile (bytes f))) s
+holds (legal n r) = same-bool (is-legal-name (bytes n)) r
+holds (inside n p r) = same-bool (within (filled (bytes n)) (bytes p)) r
+holds (ordered p q r) = same-bool (is-at-most (bytes p) (bytes q)) r
+holds (splits c z s) = same-str (split-beginning (filled (bytes c)) (filled (bytes z))) (bytes s)
+holds (arranged f order xs) = is-arranged order (all-bytes xs) (read-file (bytes f))
+holds (agrees f t r) = same-bool (agrees-with t (read-file (bytes f))) r
+holds (checks f s) = same-said (said-by-check (check-file (bytes f))) s
 holds (creates f v b n s g u) =
-    let d = createOf (bytes f) v b n in
-    sameSaid (createSays (d .answer)) s && sameStr (d .file) (bytes g) && sameTrie (d .trie) u
+    let d = create-of (bytes f) v b n in
+    same-said (said-by-create (d .answer)) s && same-str (d .file) (bytes g) && same-trie (d .trie) u
 holds (recovers f j s g) =
-    let d = recoverOf (bytes f) j in
-    sameSaid (recoverSays (d .answer)) s && sameStr (d .file) (bytes g)
+    let d = recover-of (bytes f) j in
+    same-said (said-by-recover (d .answer)) s && same-str (d .file) (bytes g)
 holds (rebuilds f s u) =
-    let d = rebuildOf (bytes f) in
-    sameSaid (rebuildSays (d .answer)) s && sameTrie (d .trie) u
-holds (looks-up f t n s) = sameSaid (lookUpSays (lookUpOf (bytes f) t (bytes n))) s
+    let d = rebuild-of (bytes f) in
+    same-said (said-by-rebuild (d .answer)) s && same-trie (d .trie) u
+holds (looks-up f t n s) = same-said (said-by-look-up (look-up-of (bytes f) t (bytes n))) s
 holds (puts f t n v j s g u) =
-    let d = putOf (bytes f) t (bytes n) v j in
-    sameSaid (putSays (d .answer)) s && sameStr (d .file) (bytes g) && sameTrie (d .trie) u
+    let d = put-of (bytes f) t (bytes n) v j in
+    same-said (said-by-put (d .answer)) s && same-str (d .file) (bytes g) && same-trie (d .trie) u
 holds (removes f t n j s g) =
-    let d = removeOf (bytes f) t (bytes n) j in
-    sameSaid (removeSays (d .answer)) s && sameStr (d .file) (bytes g)
+    let d = remove-of (bytes f) t (bytes n) j in
+    same-said (said-by-remove (d .answer)) s && same-str (d .file) (bytes g)
 holds (lists f t m n o s g) =
-    let d = listOf (bytes f) t (bytes m) (bytes n) (bytes o) in
-    sameSaid (listSays (d .answer)) s && sameStr (d .output) (bytes g)
+    let d = list-of (bytes f) t (bytes m) (bytes n) (bytes o) in
+    same-said (said-by-list (d .answer)) s && same-str (d .output) (bytes g)
 holds (grows f b n ws g u) =
-    let c = createOf (bytes f) 1 b n in
-    let d = putAll 1 ws (c .file) (c .trie) in
-    sameStr (d .0) (bytes g) && sameTrie (d .1) u
+    let c = create-of (bytes f) 1 b n in
+    let d = put-all 1 ws (c .file) (c .trie) in
+    same-str (d .0) (bytes g) && same-trie (d .1) u
 
-unfoldable pub allHold : List Case → Bool
-allHold [] = true
-allHold (c ∷ cs) = holds c && allHold cs
+unfoldable pub cases-hold : List Case → Bool
+cases-hold [] = true
+cases-hold (c ∷ cs) = holds c && cases-hold cs

@@ -5,9 +5,9 @@ use Rattle.model.specs.declared.Layout.{Layout}
 use Rattle.model.specs.declared.TrieAnswer.the-variants.{Given, Refused as TrieRefused}
 use Rattle.model.specs.declared.TrieGiven.{TrieGiven}
 use Rattle.model.specs.Files.{created as new-file}
-use Rattle.model.specs.Format.{Sizes, fileBytes, fileSize, legalSizes}
-use Rattle.model.specs.Calls.{createOf, new-trie}
-use Rattle.model.proofs.Format.{legalSizes-sizes, offered-small, sizes-legalSizes}
+use Rattle.model.specs.Format.{Sizes, are-legal-sizes, file-bytes, file-size}
+use Rattle.model.specs.Calls.{create-of, new-trie}
+use Rattle.model.proofs.Format.{are-legal-sizes-sizes, offered-small, sizes-are-legal-sizes}
 use Rattle.file.specs.declared.Header.{Header}
 use Rattle.file.specs.declared.Header.the-variants.{Right, Wrong}
 use Rattle.file.specs.declared.Size.{Size}
@@ -19,7 +19,7 @@ use Rattle.whole.specs.Small.{Small}
 pub fitting-right : {h : Header} {s : Size} {n : ℕ} {y : Layout} {slots : ℕ} → h ≡ Right s → Fitting h n y slots → Sized n s × (s .layout ≡ y) × (s .slots ≡ slots)
 fitting-right {h} {s} {n} {y} {slots} e t = subst (λ (x : Header). Fitting x n y slots) e t
 
-pub fitting-wrong : {h : Header} (n : ℕ) (y : Layout) (slots : ℕ) → h ≡ Wrong → Fitting h n y slots → (legalSizes y slots && eqb n (fileSize y slots)) ≡ false
+pub fitting-wrong : {h : Header} (n : ℕ) (y : Layout) (slots : ℕ) → h ≡ Wrong → Fitting h n y slots → (are-legal-sizes y slots && eqb n (file-size y slots)) ≡ false
 fitting-wrong {h} n y slots e t = subst (λ (x : Header). Fitting x n y slots) e t
 
 -- A version, a capacity and slots as they are asked for and as they are taken. Numbers above 255 are no sizes.
@@ -32,14 +32,14 @@ module _ (xs : List ℕ) (v b slots : ℕ) {w c n : ℕ} (p : Small w v) (q : Sm
 
   -- What is refused.
   pub sizes-refused : (r : TrieGiven) → (r .answer ≡ TrieRefused WrongSize) × (r .trie ≡ new-trie)
-      → (legalSizes taken n && eqb (length xs) (fileSize taken n)) ≡ false → created r xs ≡ createOf xs v b slots
-  unfolding createOf
-  sizes-refused r h e = rw (go (legalSizes asked slots) refl, h .0, h .1)
+      → (are-legal-sizes taken n && eqb (length xs) (file-size taken n)) ≡ false → created r xs ≡ create-of xs v b slots
+  unfolding create-of
+  sizes-refused r h e = rw (go (are-legal-sizes asked slots) refl, h .0, h .1)
     where
-      go : (t : Bool) → legalSizes asked slots ≡ t → (t && eqb (length xs) (fileSize asked slots)) ≡ false
+      go : (t : Bool) → are-legal-sizes asked slots ≡ t → (t && eqb (length xs) (file-size asked slots)) ≡ false
       go false f = refl
       go true f =
-          let g = legalSizes-sizes asked slots f in
+          let g = are-legal-sizes-sizes asked slots f in
           let i : w ≡ v = p .same (omega (arith, offered-small v (g .offered))) in
           let j : c ≡ b = q .same (omega (arith, g .b-most)) in
           let k : n ≡ slots = u .same (omega (arith, g .slots-most)) in
@@ -50,8 +50,8 @@ module _ (xs : List ℕ) (v b slots : ℕ) {w c n : ℕ} (p : Small w v) (q : Sm
 
   -- What is created.
   pub create-given : (ys : List ℕ) (s : Size) (r : TrieGiven) → Sized (length xs) s → s .layout ≡ taken → s .slots ≡ n
-      → ys ≡ fileBytes (s .layout) (new-file (s .slots)) → r .answer ≡ Given → r .trie ≡ new-trie → created r ys ≡ createOf xs v b slots
-  unfolding createOf fileSize
+      → ys ≡ file-bytes (s .layout) (new-file (s .slots)) → r .answer ≡ Given → r .trie ≡ new-trie → created r ys ≡ create-of xs v b slots
+  unfolding create-of file-size
   create-given ys s r z f g d a t =
       let l : Sizes taken n = rw (f, g) at (z .legal) in
       let i : w ≡ v = small-same p (offered-small w (l .offered)) in
@@ -59,6 +59,6 @@ module _ (xs : List ℕ) (v b slots : ℕ) {w c n : ℕ} (p : Small w v) (q : Sm
       let k : n ≡ slots = small-same u (omega (arith, l .slots-most)) in
       let y : s .layout ≡ asked = f ∙ ap₂ (λ (x z : ℕ). record { version = x; b = z }) i j in
       let m : s .slots ≡ slots = g ∙ k in
-      let o : legalSizes asked slots ≡ true = sizes-legalSizes (rw (y, m) at (z .legal)) in
-      let e : eqb (length xs) (fileSize asked slots) ≡ true = eq-eqb (length xs) (fileSize asked slots) (rw (y, m) at (z .whole)) in
+      let o : are-legal-sizes asked slots ≡ true = sizes-are-legal-sizes (rw (y, m) at (z .legal)) in
+      let e : eqb (length xs) (file-size asked slots) ≡ true = eq-eqb (length xs) (file-size asked slots) (rw (y, m) at (z .whole)) in
       rw (o, e, d, y, m, a, t)

@@ -3,12 +3,12 @@ use mathlib.Core.List.{List}
 use Prim.Native.Nat.{ℕ}
 use Rattle.model.specs.declared.RecoverAnswer.{RecoverAnswer}
 use Rattle.model.specs.declared.TrieGiven.{TrieGiven}
-use Rattle.model.specs.Calls.{Created, Rebuilt, Recovered}
+use Rattle.model.specs.Calls.{CreateDone, RebuildDone, RecoverDone}
 use Rattle.model.specs.Checks.{Kind, is-bad, is-cut, is-sound}
 use Rattle.file.specs.declared.survey.Kind.{Kind as Found}
 use Rattle.file.specs.declared.survey.Kind.the-variants.{Bad, Cut, Sound}
 
-abbrev pub created : TrieGiven → List ℕ → Created
+abbrev pub created : TrieGiven → List ℕ → CreateDone
 created r xs = record { answer = r .answer; file = xs; trie = r .trie }
 
 -- R9.2: sound, cut or bad.
@@ -17,8 +17,8 @@ found is-sound = Sound
 found (is-cut N) = Cut
 found is-bad = Bad
 
-abbrev pub recovered : RecoverAnswer → List ℕ → Recovered
+abbrev pub recovered : RecoverAnswer → List ℕ → RecoverDone
 recovered r xs = record { answer = r; file = xs }
 
-abbrev pub rebuilt : TrieGiven → Rebuilt
+abbrev pub rebuilt : TrieGiven → RebuildDone
 rebuilt r = record { answer = r .answer; trie = r .trie }

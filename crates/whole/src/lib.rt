@@ -2,8 +2,8 @@
 // order of refusals R10.9.
 ghost use mathlib.Core.Path.{_≡_};
 ghost use Prim.Native.Nat.{_<_};
-ghost use Rattle.model.specs.Calls.{createOf, new-trie, rebuildOf, recoverOf};
-ghost use Rattle.model.specs.Format.{checkFile};
+ghost use Rattle.model.specs.Calls.{create-of, new-trie, rebuild-of, recover-of};
+ghost use Rattle.model.specs.Format.{check-file};
 ghost use Rattle.whole.specs.Outcomes.{created, found, rebuilt, recovered};
 ghost use Rattle.whole.specs.Small.{Small};
 use file::Header;
@@ -35,7 +35,7 @@ fn small(x: u64) -> usize
 
 // Writes the whole buffer: a file with one empty bucket without limits, in slot 0.
 pub fn create(file: &mut [u8], version: u64, b: u64, slots: u64) -> TrieGiven
-    ensures { λ r. ⌜ created r (now (file .exit)) ≡ createOf (now (file .entry)) version b slots ⌝ }
+    ensures { λ r. ⌜ created r (now (file .exit)) ≡ create-of (now (file .entry)) version b slots ⌝ }
 {
     let layout = Layout {
         version: small(version),
@@ -53,7 +53,7 @@ pub fn create(file: &mut [u8], version: u64, b: u64, slots: u64) -> TrieGiven
 
 // Whether a file is sound, cut or bad.
 pub fn check(file: &[u8]) -> Kind
-    ensures { λ r. ⌜ r ≡ found (checkFile (now (file .entry))) ⌝ }
+    ensures { λ r. ⌜ r ≡ found (check-file (now (file .entry))) ⌝ }
 {
     let Header::Right(size) = file::header_of(file) else {
         return Kind::Bad;
@@ -65,7 +65,7 @@ pub fn check(file: &[u8]) -> Kind
 
 // R9.3: frees N in one store, and names it.
 pub fn recover(file: &mut [u8], limit: u64) -> RecoverAnswer
-    ensures { λ r. ⌜ recovered r (now (file .exit)) ≡ recoverOf (now (file .entry)) limit ⌝ }
+    ensures { λ r. ⌜ recovered r (now (file .exit)) ≡ recover-of (now (file .entry)) limit ⌝ }
 {
     if 2 < limit {
         return RecoverAnswer::Refused(Cause::WrongSize);
@@ -90,7 +90,7 @@ pub fn recover(file: &mut [u8], limit: u64) -> RecoverAnswer
 
 // The trie of the bucket headers alone.
 pub fn rebuild(file: &[u8]) -> TrieGiven
-    ensures { λ r. ⌜ rebuilt r ≡ rebuildOf (now (file .entry)) ⌝ }
+    ensures { λ r. ⌜ rebuilt r ≡ rebuild-of (now (file .entry)) ⌝ }
 {
     let Header::Right(size) = file::header_of(file) else {
         return refused(Cause::BadFile);

@@ -1,11 +1,11 @@
 -- `is_clear_past` is the model's test: of the cells not passed yet it says what it says of all from the count on.
 use Rattle.model.proofs.Prelude.{_-_, _∙_, _≡_, _≤_, arith, drop, length, length-map, needs, refl, sym}
-use Rattle.model.specs.Agreeing.{areZeroCells}
+use Rattle.model.specs.Agreeing.{are-zero-cells}
 use Rattle.agreement.proofs.Clear.{clear-end, clear-not, clear-on}
 use Rattle.agreement.proofs.is_clear_past.Tie as tie
 
 abbrev Inv-loop : tie.InvT-loop
-Inv-loop count trie i₀ i = (i ≤ 256) × (areZeroCells (drop count (trie .cells)) ≡ areZeroCells (drop i (trie .cells)))
+Inv-loop count trie i₀ i = (i ≤ 256) × (are-zero-cells (drop count (trie .cells)) ≡ are-zero-cells (drop i (trie .cells)))
 
 abbrev μ-loop : tie.MeasureT-loop
 μ-loop count trie i₀ i = 256 - i

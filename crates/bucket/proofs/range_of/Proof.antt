@@ -1,11 +1,11 @@
 -- `bucket::range_of` meets its contract.
 use Rattle.model.proofs.Prelude.{Bool, List, _&&_, _≡_, and-false, arith, false, le-ltb, length, lt-ltb, ltb, needs, not-false, not-true, ℕ, ⊎-elim}
 use Rattle.model.specs.Names.{within}
-use Rattle.bucket.specs.Slots.{lowerAt}
+use Rattle.bucket.specs.Slots.{lower-bytes}
 use Rattle.bucket.proofs.range_of.Tie as tie
 
 abbrev broken-lower : List ℕ → List ℕ → Bool
-broken-lower xs n = ltb 0 (length (lowerAt xs)) && within n (lowerAt xs)
+broken-lower xs n = ltb 0 (length (lower-bytes xs)) && within n (lower-bytes xs)
 
 -- Where no bound is broken yet, there is no lower limit, or the name is not within it.
 above-lower : (c : tie.Joined1) → broken-lower (c .before .before .before .before .args .slot .now) (c .before .before .before .before .args .name .now) ≡ false

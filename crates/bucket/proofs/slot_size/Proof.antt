@@ -1,10 +1,10 @@
 -- `bucket::slot_size` meets its contract.
 use Rattle.model.proofs.Prelude.{_*_, _+_, _∙_, _≡_, ap, ap₂, arith, needs, ℕ}
-use Rattle.model.specs.Format.{slotSize}
+use Rattle.model.specs.Format.{slot-size}
 use Rattle.bucket.proofs.slot_size.Tie as tie
 
 returns : tie.Need-returns
-unfolding slotSize
+unfolding slot-size
 returns c =
     let e = c .before .entry-size in let o = c .entry-at in let y = c .before .before .args .layout in
     (ap (λ (n : ℕ). 64 + n) (o .ensures .is ∙ ap (λ (n : ℕ). n * y .b) (e .ensures .0)), omega arith, omega (arith, o .ensures .inside, o .ensures .each))

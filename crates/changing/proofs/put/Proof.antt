@@ -1,7 +1,7 @@
 -- `put` meets its contract: what is refused, and what is left of a plan that is committed.
 use Rattle.model.proofs.Prelude.{_∙_, arith, needs, subst, sym}
 use Rattle.model.specs.Order.{Str}
-use Rattle.model.proofs.Names.{legalName-legal}
+use Rattle.model.proofs.Names.{is-legal-name-legal}
 use Rattle.changing.specs.Splits.{PutTold}
 use Rattle.checking.proofs.Laws.{fine-agreed, naming-illegal, naming-legal, refused-looked}
 use Rattle.changing.proofs.Putting.{file-refused, limit-refused, name-refused, put-fine, put-made, put-stopped}
@@ -33,7 +33,7 @@ returns-3 c =
     let l = naming-legal _ (sym (at-checks-of .before .before .enum-told .given .1) ∙ at-checks-of .before .before .before .before .named .ensures) in
     let p = at-commit .before .before .before .put-plan .result in
     let h = subst (λ (n : Str). PutTold p (a .file .now) (a .trie) (at-checks-of .checks-of .result .size) n (a .value) (a .run)) (at-filled .filled .ensures) (at-commit .before .before .before .put-plan .ensures .1) in
-    let q = h (A .ready .slots) (A .ready .is) (legalName-legal (a .name .now) l) in
+    let q = h (A .ready .slots) (A .ready .is) (is-legal-name-legal (a .name .now) l) in
     put-fine (a .file .now) (a .trie) (a .name .now) (a .value) (a .run) (a .limit) (c .given .result) _ (at-checks-of .checks-of .result .size .layout) (A .ready .slots) (omega (arith, at-checks-of .before .before .before .before .before .if1 .left)) l (A .looked)
     (put-stopped (a .file .now) _ (a .trie) _ (A .ready .slots) _ _ (a .limit) p (at-commit .commit .result) (at-commit .commit .ensures) (c .given .result) _ q (c .before .if2 .taken) (c .given .ensures))
 
@@ -51,7 +51,7 @@ returns-5 c =
     let l = naming-legal _ (sym (at-checks-of .before .before .enum-told .given .1) ∙ at-checks-of .before .before .before .before .named .ensures) in
     let p = at-commit .before .before .before .put-plan .result in
     let h = subst (λ (n : Str). PutTold p (a .file .now) (a .trie) (at-checks-of .checks-of .result .size) n (a .value) (a .run)) (at-filled .filled .ensures) (at-commit .before .before .before .put-plan .ensures .1) in
-    let q = h (A .ready .slots) (A .ready .is) (legalName-legal (a .name .now) l) in
+    let q = h (A .ready .slots) (A .ready .is) (is-legal-name-legal (a .name .now) l) in
     put-fine (a .file .now) (a .trie) (a .name .now) (a .value) (a .run) (a .limit) (c .given2 .result) _ (at-checks-of .checks-of .result .size .layout) (A .ready .slots) (omega (arith, at-checks-of .before .before .before .before .before .if1 .left)) l (A .looked)
     (put-made (a .file .now) _ (a .trie) _ (A .ready .slots) _ _ (a .limit) p (at-commit .commit .result) (at-commit .commit .ensures) (c .given2 .result) _ q (c .before .if2 .left) (c .given2 .ensures))
 

@@ -1,9 +1,9 @@
 -- `put_plan` meets its contract: a held name is replaced, a new one added, with a split where its bucket is full.
 use Rattle.model.proofs.Prelude.{List, _≡_, arith, length, needs, not-false, not-true, refl, subst, sym, ℕ}
 use Rattle.model.specs.Places.{place-of}
-use Rattle.digits.specs.Keys.{keyValue}
+use Rattle.digits.specs.Keys.{key-value}
 use Rattle.bucket.specs.Forms.{ReadAs}
-use Rattle.entries.specs.Rows.{contentNumber}
+use Rattle.entries.specs.Rows.{content-number}
 use Rattle.changing.specs.Splits.{PutAsked}
 use Rattle.checking.proofs.Laws.{key-whole}
 use Rattle.changing.proofs.Homes.{ready-sound, slot-read, spot-held, spot-lost, value-fits}
@@ -20,7 +20,7 @@ returns c =
     let n = a .name .now in let y = a .checked .size .layout in (
       c .replace .ensures .0,
       (λ fs e g.
-          let q = key-whole n (keyValue (key .result)) g (key .ensures) in
+          let q = key-whole n (key-value (key .result)) g (key .ensures) in
           let S = ready-sound (s .pre .ready) e in
           let H = home .ensures .right fs e g in
           let R = subst (λ (z : List ℕ). ReadAs y z (H .0) (H .1) (H .2)) (sym (slot .ensures .0)) (slot-read (a .file .now) e S (home .result) (H .3 .is)) in
@@ -41,7 +41,7 @@ returns-2 c =
     let n = a .name .now in let y = a .checked .size .layout in (
       c .add .ensures .0,
       (λ fs e g.
-          let q = key-whole n (keyValue (key .result)) g (key .ensures) in
+          let q = key-whole n (key-value (key .result)) g (key .ensures) in
           let S = ready-sound (s .pre .ready) e in
           let H = home .ensures .right fs e g in
           let R = subst (λ (z : List ℕ). ReadAs y z (H .0) (H .1) (H .2)) (sym (slot .ensures .0)) (slot-read (a .file .now) e S (home .result) (H .3 .is)) in
@@ -57,7 +57,7 @@ returns-3 c =
     let row = c .before .before .overfull in let n = a .name .now in let y = a .checked .size .layout in (
       c .split .ensures .0,
       (λ fs e g.
-          let q = key-whole n (keyValue (key .result)) g (key .ensures) in
+          let q = key-whole n (key-value (key .result)) g (key .ensures) in
           let S = ready-sound (s .pre .ready) e in
           let H = home .ensures .right fs e g in
           let R = subst (λ (z : List ℕ). ReadAs y z (H .0) (H .1) (H .2)) (sym (slot .ensures .0)) (slot-read (a .file .now) e S (home .result) (H .3 .is)) in

@@ -1,6 +1,6 @@
 -- `remove` meets its contract: what is refused, and what is left of a plan that is committed.
 use Rattle.model.proofs.Prelude.{_∙_, arith, needs, sym}
-use Rattle.model.proofs.Names.{legalName-legal}
+use Rattle.model.proofs.Names.{is-legal-name-legal}
 use Rattle.checking.proofs.Laws.{fine-agreed, naming-illegal, naming-legal, refused-looked}
 use Rattle.changing.proofs.Removing.{file-refused, limit-refused, name-refused, remove-fine, remove-none, remove-some, remove-stopped}
 use Rattle.changing.proofs.remove.Tie as tie
@@ -28,7 +28,7 @@ returns-3 c =
     let at-commit = c .before .before .before in let at-filled = at-commit .before .before .before .before .before in let at-checks-of = at-filled .before .before .before in let a = at-checks-of .before .before .before .before .before .before .before .before .args in
     let A = fine-agreed (at-checks-of .checks-of .result) (at-filled .before .enum-told3 .given .1) (at-checks-of .checks-of .ensures) in
     let l = naming-legal _ (sym (at-checks-of .before .before .enum-told .given .1) ∙ at-checks-of .before .before .before .before .named .ensures) in
-    let p = rw (at-filled .filled .ensures) at (at-commit .before .before .remove-plan .ensures .1) (A .ready .slots) (A .ready .is) (legalName-legal (a .name .now) l) in
+    let p = rw (at-filled .filled .ensures) at (at-commit .before .before .remove-plan .ensures .1) (A .ready .slots) (A .ready .is) (is-legal-name-legal (a .name .now) l) in
     remove-fine (a .file .now) (a .trie) (a .name .now) (a .limit) _ _ (at-checks-of .checks-of .result .size .layout) (A .ready .slots) (omega (arith, at-checks-of .before .before .before .before .before .if1 .left)) l (A .looked)
     (remove-stopped (a .file .now) _ _ (a .limit) (at-commit .before .before .remove-plan .result) (at-commit .commit .result) (at-commit .commit .ensures) _ p (c .if2 .taken))
 
@@ -37,7 +37,7 @@ returns-4 c =
     let at-commit = c .before .before .before .before .before in let at-filled = at-commit .before .before .before .before .before in let at-checks-of = at-filled .before .before .before in let a = at-checks-of .before .before .before .before .before .before .before .before .args in
     let A = fine-agreed (at-checks-of .checks-of .result) (at-filled .before .enum-told3 .given .1) (at-checks-of .checks-of .ensures) in
     let l = naming-legal _ (sym (at-checks-of .before .before .enum-told .given .1) ∙ at-checks-of .before .before .before .before .named .ensures) in
-    let p = rw (at-filled .filled .ensures) at (at-commit .before .before .remove-plan .ensures .1) (A .ready .slots) (A .ready .is) (legalName-legal (a .name .now) l) in
+    let p = rw (at-filled .filled .ensures) at (at-commit .before .before .remove-plan .ensures .1) (A .ready .slots) (A .ready .is) (is-legal-name-legal (a .name .now) l) in
     remove-fine (a .file .now) (a .trie) (a .name .now) (a .limit) _ _ (at-checks-of .checks-of .result .size .layout) (A .ready .slots) (omega (arith, at-checks-of .before .before .before .before .before .if1 .left)) l (A .looked)
     (remove-none (a .file .now) _ _ (a .limit) (at-commit .before .before .remove-plan .result) (at-commit .commit .result) (at-commit .commit .ensures) _ p (c .before .before .if2 .left) (c .if3 .taken))
 
@@ -52,7 +52,7 @@ returns-6 c =
     let at-commit = c .before .before .before .before .before in let at-filled = at-commit .before .before .before .before .before in let at-checks-of = at-filled .before .before .before in let a = at-checks-of .before .before .before .before .before .before .before .before .args in
     let A = fine-agreed (at-checks-of .checks-of .result) (at-filled .before .enum-told3 .given .1) (at-checks-of .checks-of .ensures) in
     let l = naming-legal _ (sym (at-checks-of .before .before .enum-told .given .1) ∙ at-checks-of .before .before .before .before .named .ensures) in
-    let p = rw (at-filled .filled .ensures) at (at-commit .before .before .remove-plan .ensures .1) (A .ready .slots) (A .ready .is) (legalName-legal (a .name .now) l) in
+    let p = rw (at-filled .filled .ensures) at (at-commit .before .before .remove-plan .ensures .1) (A .ready .slots) (A .ready .is) (is-legal-name-legal (a .name .now) l) in
     remove-fine (a .file .now) (a .trie) (a .name .now) (a .limit) _ _ (at-checks-of .checks-of .result .size .layout) (A .ready .slots) (omega (arith, at-checks-of .before .before .before .before .before .if1 .left)) l (A .looked)
     (remove-some (a .file .now) _ _ (a .limit) (at-commit .before .before .remove-plan .result) (at-commit .commit .result) (at-commit .commit .ensures) _ p (c .before .before .if2 .left) (omega (arith, c .if3 .left)))
 

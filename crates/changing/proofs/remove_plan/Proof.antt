@@ -1,6 +1,6 @@
 -- `remove_plan` meets its contract: one store, of the slot without the name; none where it is absent.
 use Rattle.model.proofs.Prelude.{List, needs, not-false, not-true, refl, subst, sym, ℕ}
-use Rattle.digits.specs.Keys.{keyValue}
+use Rattle.digits.specs.Keys.{key-value}
 use Rattle.bucket.specs.Forms.{ReadAs}
 use Rattle.checking.proofs.Laws.{key-whole}
 use Rattle.changing.proofs.Homes.{fits-none, fits-one, ready-sound, slot-read, spot-held, spot-lost}
@@ -13,7 +13,7 @@ returns c =
     let y = a .checked .size .layout in (
       fits-none (c .no-store .result) (c .no-store .result) (a .checked .size) refl (c .no-store .ensures) (s .pre .said .sized .legal),
       (λ fs e g.
-          let q = key-whole n (keyValue (key .result)) g (key .ensures) in
+          let q = key-whole n (key-value (key .result)) g (key .ensures) in
           let H = home .ensures .right fs e g in
           let R = subst (λ (z : List ℕ). ReadAs y z (H .0) (H .1) (H .2)) (sym (slot .ensures .0)) (slot-read (a .file .now) e (ready-sound (s .pre) e) (home .result) (H .3 .is)) in
           let P = spot .ensures .1 (H .0) (H .1) (H .2) R n g q in
@@ -31,7 +31,7 @@ returns-2 c =
     let new = c .before .before .lessened in let o = c .one-store in let y = a .checked .size .layout in (
       fits-one (o .result) (o .result) (home .result) (new .result) (a .checked .size) refl (o .ensures) (home .ensures .inside) (s .pre .said .sized .legal),
       (λ fs e g.
-          let q = key-whole n (keyValue (key .result)) g (key .ensures) in
+          let q = key-whole n (key-value (key .result)) g (key .ensures) in
           let H = home .ensures .right fs e g in
           let R = subst (λ (z : List ℕ). ReadAs y z (H .0) (H .1) (H .2)) (sym (slot .ensures .0)) (slot-read (a .file .now) e (ready-sound (s .pre) e) (home .result) (H .3 .is)) in
           let P = spot .ensures .1 (H .0) (H .1) (H .2) R n g q in

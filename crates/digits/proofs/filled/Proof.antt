@@ -1,16 +1,16 @@
 -- `digits::filled` meets its contract.
 use Rattle.model.proofs.Prelude.{_-_, _∙_, _≡_, _≤_, arith, length, needs, refl}
-use Rattle.digits.proofs.Laws.{filled-all, filled-full, filled-next, filledTo}
+use Rattle.digits.proofs.Laws.{filled-all, filled-full, filled-next, filled-to}
 use Rattle.digits.proofs.filled.Tie as tie
 
 abbrev Inv-loop : tie.InvT-loop
-Inv-loop name digits₀ i₀ digits i = (i ≤ 24) × (i ≤ length name) × (digits ≡ filledTo name i)
+Inv-loop name digits₀ i₀ digits i = (i ≤ 24) × (i ≤ length name) × (digits ≡ filled-to name i)
 
 abbrev μ-loop : tie.MeasureT-loop
 μ-loop name digits₀ i₀ digits i = length name - i
 
 loop-holds : tie.Need-loop-holds Inv-loop μ-loop
-unfolding filledTo
+unfolding filled-to
 loop-holds c = (search needs, search needs, refl)
 
 returns : tie.Need-returns Inv-loop μ-loop

@@ -1,6 +1,6 @@
 -- `digits::is_bound` meets its contract.
 use Rattle.model.proofs.Prelude.{_-_, _∙_, ap, arith, drop, le-leb, length, length-drop, lt-leb, needs, not-false, not-true, sub-zero, take-all}
-use Rattle.digits.specs.Keys.{isZero}
+use Rattle.digits.specs.Keys.{is-all-zero}
 use Rattle.digits.proofs.Laws.{legal-part}
 use Rattle.digits.proofs.is_bound.Tie as tie
 
@@ -21,7 +21,7 @@ returns-3 c =
     let len = c .before .before .before .before .before .before .before .args .len in
     let e = simp sub-zero at (c .before .before .before .are-digits .ensures) in
     rw (le-leb len 24 (omega arith), legal-part len s (omega arith), ← e, not-false (c .before .before .before .are-digits .result) (c .before .before .if2 .left))
-    (c .is-zero .ensures ∙ ap isZero (take-all (length s - len) (drop len s) (omega (arith, length-drop len s))))
+    (c .is-zero .ensures ∙ ap is-all-zero (take-all (length s - len) (drop len s) (omega (arith, length-drop len s))))
 
 pub is-bound-spec : {M : Type 1} → Rattle.digits.proofs.is_bound.Statement.statement M
 is-bound-spec =

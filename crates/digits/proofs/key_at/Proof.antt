@@ -1,11 +1,11 @@
 -- `digits::key_at` meets its contract.
 use Rattle.model.proofs.Prelude.{arith, needs, sym}
-use Rattle.digits.specs.Keys.{keyValue}
+use Rattle.digits.specs.Keys.{key-value}
 use Rattle.digits.proofs.Keys.{value-words}
 use Rattle.digits.proofs.key_at.Tie as tie
 
 returns : tie.Need-returns
-unfolding keyValue
+unfolding key-value
 returns c =
     let s = c .before .before .before .before .args .s .now in let at = c .before .before .before .before .args .at in
     rw (c .word3 .ensures, c .before .word2 .ensures, c .before .before .word .ensures) (sym (value-words s at (omega arith)))

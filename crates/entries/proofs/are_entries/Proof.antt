@@ -6,16 +6,16 @@ use native.Mathlib.Omega.{arith}
 use lib.Dec.{ltb}
 use lib.ListN.{drop, take}
 use borrow.Author.Tests.{not-false, not-true}
-use Rattle.model.specs.Names.{legalFilled}
-use Rattle.digits.specs.Keys.{keyValue, value}
-use Rattle.entries.specs.Rows.{areEntries}
+use Rattle.model.specs.Names.{is-legal-filled}
+use Rattle.digits.specs.Keys.{key-value, value}
+use Rattle.entries.specs.Rows.{are-entries}
 use Rattle.entries.proofs.Searches.{entries-end, entries-illegal, entries-low, entries-start, entries-step}
 use borrow.Author.Needs.{needs}
 use Rattle.entries.proofs.are_entries.Statement.{statement}
 use Rattle.entries.proofs.are_entries.Tie as tie
 
 abbrev Inv-loop : tie.InvT-loop
-Inv-loop entries e count high last₀ i₀ last i = (i ≤ count) × (areEntries e count entries (keyValue last₀) (keyValue high) ≡ areEntries e (count - i) (drop (e * i) entries) (keyValue last) (keyValue high))
+Inv-loop entries e count high last₀ i₀ last i = (i ≤ count) × (are-entries e count entries (key-value last₀) (key-value high) ≡ are-entries e (count - i) (drop (e * i) entries) (key-value last) (key-value high))
 
 abbrev μ-loop : tie.MeasureT-loop
 μ-loop entries e count high last₀ i₀ last i = count - i
@@ -23,7 +23,7 @@ abbrev μ-loop : tie.MeasureT-loop
 loop-holds : tie.Need-loop-holds Inv-loop μ-loop
 loop-holds c =
     let a = c .before .args in
-    (omega arith, entries-start (a .e) (a .count) (a .entries .now) (keyValue (a .low)) (keyValue (a .high)))
+    (omega arith, entries-start (a .e) (a .count) (a .entries .now) (key-value (a .low)) (key-value (a .high)))
 
 whole-at-requires : tie.Need-whole-at-requires Inv-loop μ-loop
 whole-at-requires c κs = search needs
@@ -52,8 +52,8 @@ returns c =
     let at = c .before .before .before .whole-at .result in
     let s : at ≡ a .e * i = c .before .before .before .whole-at .ensures .is in
     let n : at + 24 - at ≡ 24 = omega arith in
-    let g : legalFilled (take 24 (drop (a .e * i) xs)) ≡ false = ap₂ (λ (m n : ℕ). legalFilled (take m (drop n xs))) (sym n) (sym s) ∙ sym (c .before .is-filled-name .ensures) ∙ not-true (c .before .is-filled-name .result) (c .if1 .taken) in
-    sym (l .loop .inv .1 ∙ entries-illegal (a .e) (a .count) i xs (omega arith) (keyValue (l .loop .last)) (keyValue (a .high)) g)
+    let g : is-legal-filled (take 24 (drop (a .e * i) xs)) ≡ false = ap₂ (λ (m n : ℕ). is-legal-filled (take m (drop n xs))) (sym n) (sym s) ∙ sym (c .before .is-filled-name .ensures) ∙ not-true (c .before .is-filled-name .result) (c .if1 .taken) in
+    sym (l .loop .inv .1 ∙ entries-illegal (a .e) (a .count) i xs (omega arith) (key-value (l .loop .last)) (key-value (a .high)) g)
 
 key-at-requires : tie.Need-key-at-requires Inv-loop μ-loop
 key-at-requires c κs = search needs
@@ -70,10 +70,10 @@ returns-2 c =
     let at = c .before .before .before .before .before .before .whole-at .result in
     let s : at ≡ a .e * i = c .before .before .before .before .before .before .whole-at .ensures .is in
     let n : at + 24 - at ≡ 24 = omega arith in
-    let g : legalFilled (take 24 (drop (a .e * i) xs)) ≡ true = ap₂ (λ (m n : ℕ). legalFilled (take m (drop n xs))) (sym n) (sym s) ∙ sym (c .before .before .before .before .is-filled-name .ensures) ∙ not-false (c .before .before .before .before .is-filled-name .result) (c .before .before .before .if1 .left) in
-    let k : keyValue (c .before .before .key-at .result) ≡ value (take 24 (drop (a .e * i) xs)) = rw s at (c .before .before .key-at .ensures) in
-    let t : ltb (keyValue (l .loop .last)) (value (take 24 (drop (a .e * i) xs))) ≡ false = ap (λ (w : ℕ). ltb (keyValue (l .loop .last)) w) (sym k) ∙ sym (c .before .is-below .ensures) ∙ not-true (c .before .is-below .result) (c .if2 .taken) in
-    sym (l .loop .inv .1 ∙ entries-low (a .e) (a .count) i xs (omega arith) (keyValue (l .loop .last)) (keyValue (a .high)) g t)
+    let g : is-legal-filled (take 24 (drop (a .e * i) xs)) ≡ true = ap₂ (λ (m n : ℕ). is-legal-filled (take m (drop n xs))) (sym n) (sym s) ∙ sym (c .before .before .before .before .is-filled-name .ensures) ∙ not-false (c .before .before .before .before .is-filled-name .result) (c .before .before .before .if1 .left) in
+    let k : key-value (c .before .before .key-at .result) ≡ value (take 24 (drop (a .e * i) xs)) = rw s at (c .before .before .key-at .ensures) in
+    let t : ltb (key-value (l .loop .last)) (value (take 24 (drop (a .e * i) xs))) ≡ false = ap (λ (w : ℕ). ltb (key-value (l .loop .last)) w) (sym k) ∙ sym (c .before .is-below .ensures) ∙ not-true (c .before .is-below .result) (c .if2 .taken) in
+    sym (l .loop .inv .1 ∙ entries-low (a .e) (a .count) i xs (omega arith) (key-value (l .loop .last)) (key-value (a .high)) g t)
 
 add-i : tie.Need-add-i Inv-loop μ-loop
 add-i c = search needs
@@ -90,10 +90,10 @@ loop-again c =
     let at = c .before .before .before .before .before .before .whole-at .result in
     let s : at ≡ a .e * i = c .before .before .before .before .before .before .whole-at .ensures .is in
     let n : at + 24 - at ≡ 24 = omega arith in
-    let g : legalFilled (take 24 (drop (a .e * i) xs)) ≡ true = ap₂ (λ (m n : ℕ). legalFilled (take m (drop n xs))) (sym n) (sym s) ∙ sym (c .before .before .before .before .is-filled-name .ensures) ∙ not-false (c .before .before .before .before .is-filled-name .result) (c .before .before .before .if1 .left) in
-    let k : keyValue (c .before .before .key-at .result) ≡ value (take 24 (drop (a .e * i) xs)) = rw s at (c .before .before .key-at .ensures) in
-    let t : ltb (keyValue (l .loop .last)) (value (take 24 (drop (a .e * i) xs))) ≡ true = ap (λ (w : ℕ). ltb (keyValue (l .loop .last)) w) (sym k) ∙ sym (c .before .is-below .ensures) ∙ not-false (c .before .is-below .result) (c .if2 .left) in
-    (omega arith, l .loop .inv .1 ∙ entries-step (a .e) (a .count) i xs (omega arith) (keyValue (l .loop .last)) (keyValue (a .high)) (keyValue (c .before .before .key-at .result)) k g t)
+    let g : is-legal-filled (take 24 (drop (a .e * i) xs)) ≡ true = ap₂ (λ (m n : ℕ). is-legal-filled (take m (drop n xs))) (sym n) (sym s) ∙ sym (c .before .before .before .before .is-filled-name .ensures) ∙ not-false (c .before .before .before .before .is-filled-name .result) (c .before .before .before .if1 .left) in
+    let k : key-value (c .before .before .key-at .result) ≡ value (take 24 (drop (a .e * i) xs)) = rw s at (c .before .before .key-at .ensures) in
+    let t : ltb (key-value (l .loop .last)) (value (take 24 (drop (a .e * i) xs))) ≡ true = ap (λ (w : ℕ). ltb (key-value (l .loop .last)) w) (sym k) ∙ sym (c .before .is-below .ensures) ∙ not-false (c .before .is-below .result) (c .if2 .left) in
+    (omega arith, l .loop .inv .1 ∙ entries-step (a .e) (a .count) i xs (omega arith) (key-value (l .loop .last)) (key-value (a .high)) (key-value (c .before .before .key-at .result)) k g t)
 
 is-below-requires-2 : tie.Need-is-below-requires-2 Inv-loop μ-loop
 is-below-requires-2 c κs = search needs
@@ -103,7 +103,7 @@ returns-3 c =
     let l = c .before .before in
     let a = l .before .before .args in
     let i = l .loop .i in
-    sym (l .loop .inv .1 ∙ entries-end (a .e) (a .count) i (drop (a .e * i) (a .entries .now)) (keyValue (l .loop .last)) (keyValue (a .high)) (omega arith) ∙ ap not (sym (c .is-below2 .ensures)))
+    sym (l .loop .inv .1 ∙ entries-end (a .e) (a .count) i (drop (a .e * i) (a .entries .now)) (key-value (l .loop .last)) (key-value (a .high)) (omega arith) ∙ ap not (sym (c .is-below2 .ensures)))
 
 pub are-entries-spec : {M : Type 1} → statement M
 are-entries-spec =

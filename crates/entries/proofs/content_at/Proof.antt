@@ -1,7 +1,7 @@
 -- `entries::content_at` meets its contract.
 use native.Mathlib.Omega.{arith}
-use Rattle.model.specs.Entries.{contentOf}
-use Rattle.entries.specs.Rows.{contentNumber}
+use Rattle.model.specs.Entries.{content-from}
+use Rattle.entries.specs.Rows.{content-number}
 use Rattle.entries.proofs.Contents.{content-long, content-short}
 use borrow.Author.Needs.{needs}
 use Rattle.entries.proofs.content_at.Statement.{statement}
@@ -17,7 +17,7 @@ little-endian-requires : tie.Need-little-endian-requires
 little-endian-requires c κs = search needs
 
 returns : tie.Need-returns
-unfolding contentNumber contentOf
+unfolding content-number content-from
 returns c =
     let w = c .before .before in
     let a = w .before .before .args in
@@ -30,7 +30,7 @@ little-endian-requires-2 : tie.Need-little-endian-requires-2
 little-endian-requires-2 c κs = search needs
 
 returns-2 : tie.Need-returns-2
-unfolding contentNumber contentOf
+unfolding content-number content-from
 returns-2 c =
     let w = c .before .before .before in
     let a = w .before .before .args in

@@ -2,8 +2,8 @@
 use mathlib.Core.Path.{_≡_}
 use native.Mathlib.Omega.{arith}
 use lib.ListN.{length}
-use Rattle.model.specs.Entries.{contentOf}
-use Rattle.entries.specs.Rows.{contentNumber}
+use Rattle.model.specs.Entries.{content-from}
+use Rattle.entries.specs.Rows.{content-number}
 use Rattle.entries.proofs.Contents.{long-copies, short-copies}
 use borrow.Author.Needs.{needs}
 use Rattle.entries.proofs.entry_of.Statement.{statement}
@@ -28,7 +28,7 @@ copy-requires-2 : tie.Need-copy-requires-2
 copy-requires-2 c κs = search needs
 
 returns : tie.Need-returns
-unfolding contentNumber contentOf
+unfolding content-number content-from
 returns c =
     let m₂ = c .before .before in
     let w = m₂ .before .before in
@@ -53,7 +53,7 @@ copy-requires-3 : tie.Need-copy-requires-3
 copy-requires-3 c κs = search needs
 
 returns-2 : tie.Need-returns-2
-unfolding contentNumber contentOf
+unfolding content-number content-from
 returns-2 c =
     let m₃ = c .before in
     let x = m₃ .before .before in

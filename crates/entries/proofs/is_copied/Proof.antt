@@ -1,13 +1,13 @@
 -- `entries::is_copied` meets its contract.
 use Rattle.model.proofs.Prelude.{List, _*_, _-_, _∙_, _≡_, _≤_, ap₂, arith, drop, eq-eqb, ne-eqb, needs, ℕ}
-use Rattle.entries.specs.Rows.{areAmong, pieces}
+use Rattle.entries.specs.Rows.{are-among, pieces}
 use Rattle.entries.proofs.Among.{among-end, among-step, pieces-start}
 use Rattle.entries.proofs.is_copied.Tie as tie
 
 abbrev Inv-loop : tie.InvT-loop
 Inv-loop first m second n e i₀ j₀ i j =
     (i ≤ j) × (j ≤ n) × (i ≤ m)
-    × (areAmong (pieces e n second) (pieces e m first) ≡ areAmong (pieces e (n - j) (drop (e * j) second)) (pieces e (m - i) (drop (e * i) first)))
+    × (are-among (pieces e n second) (pieces e m first) ≡ are-among (pieces e (n - j) (drop (e * j) second)) (pieces e (m - i) (drop (e * i) first)))
 
 abbrev μ-loop : tie.MeasureT-loop
 μ-loop first m second n e i₀ j₀ i j = n - j
@@ -15,7 +15,7 @@ abbrev μ-loop : tie.MeasureT-loop
 loop-holds : tie.Need-loop-holds Inv-loop μ-loop
 loop-holds c =
     let a = c .before .before .args in
-    (omega arith, omega arith, omega arith, ap₂ (λ (x y : List (List ℕ)). areAmong x y) (pieces-start (a .e) (a .second .now) (a .n)) (pieces-start (a .e) (a .first .now) (a .m)))
+    (omega arith, omega arith, omega arith, ap₂ (λ (x y : List (List ℕ)). are-among x y) (pieces-start (a .e) (a .second .now) (a .n)) (pieces-start (a .e) (a .first .now) (a .m)))
 
 loop-again : tie.Need-loop-again Inv-loop μ-loop
 loop-again c =

@@ -5,7 +5,7 @@ use Prim.Native.Nat.{_*_, _-_, _≤_, ℕ}
 use native.Mathlib.Omega.{arith}
 use lib.Dec.{ltb}
 use lib.ListN.{drop, take}
-use Rattle.digits.specs.Keys.{keyValue, value}
+use Rattle.digits.specs.Keys.{key-value, value}
 use Rattle.entries.specs.Rows.{below, values}
 use Rattle.entries.proofs.Searches.{below-found, below-less, below-none}
 use borrow.Author.Needs.{needs}
@@ -13,7 +13,7 @@ use Rattle.entries.proofs.rank.Statement.{statement}
 use Rattle.entries.proofs.rank.Tie as tie
 
 abbrev Inv-loop : tie.InvT-loop
-Inv-loop entries e count name i₀ i = (i ≤ count) × (below (keyValue name) (values e count entries) ≡ below (keyValue name) (values e i entries))
+Inv-loop entries e count name i₀ i = (i ≤ count) × (below (key-value name) (values e count entries) ≡ below (key-value name) (values e i entries))
 
 abbrev μ-loop : tie.MeasureT-loop
 μ-loop entries e count name i₀ i = i
@@ -38,8 +38,8 @@ returns c =
     let l = c .before .before .before .before .before in
     let a = l .before .before .args in
     let xs = a .entries .now in
-    let v = keyValue (a .name) in
-    let k : keyValue (c .before .before .key-at .result) ≡ value (take 24 (drop (a .e * (l .loop .i - 1)) xs)) = rw (c .before .before .before .whole-at .ensures .is) at (c .before .before .key-at .ensures) in
+    let v = key-value (a .name) in
+    let k : key-value (c .before .before .key-at .result) ≡ value (take 24 (drop (a .e * (l .loop .i - 1)) xs)) = rw (c .before .before .before .whole-at .ensures .is) at (c .before .before .key-at .ensures) in
     let t : ltb (value (take 24 (drop (a .e * (l .loop .i - 1)) xs))) v ≡ true = ap (λ (w : ℕ). ltb w v) (sym k) ∙ sym (c .before .is-below .ensures) ∙ c .if1 .taken in
     (omega arith, sym (l .loop .inv .1 ∙ below-found (a .e) (l .loop .i) (l .loop .i - 1) xs v (omega arith) t))
 
@@ -54,8 +54,8 @@ loop-again c =
     let l = c .before .before .before .before .before in
     let a = l .before .before .args in
     let xs = a .entries .now in
-    let v = keyValue (a .name) in
-    let k : keyValue (c .before .before .key-at .result) ≡ value (take 24 (drop (a .e * (l .loop .i - 1)) xs)) = rw (c .before .before .before .whole-at .ensures .is) at (c .before .before .key-at .ensures) in
+    let v = key-value (a .name) in
+    let k : key-value (c .before .before .key-at .result) ≡ value (take 24 (drop (a .e * (l .loop .i - 1)) xs)) = rw (c .before .before .before .whole-at .ensures .is) at (c .before .before .key-at .ensures) in
     let t : ltb (value (take 24 (drop (a .e * (l .loop .i - 1)) xs))) v ≡ false = ap (λ (w : ℕ). ltb w v) (sym k) ∙ sym (c .before .is-below .ensures) ∙ c .if1 .left in
     (omega arith, l .loop .inv .1 ∙ below-less (a .e) (l .loop .i) (l .loop .i - 1) xs v (omega arith) t)
 
@@ -63,7 +63,7 @@ returns-2 : tie.Need-returns-2 Inv-loop μ-loop
 returns-2 c =
     let l = c .before in
     let a = l .before .before .args in
-    (omega arith, sym (l .loop .inv .1 ∙ below-none (a .e) (l .loop .i) (a .entries .now) (keyValue (a .name)) (omega arith)))
+    (omega arith, sym (l .loop .inv .1 ∙ below-none (a .e) (l .loop .i) (a .entries .now) (key-value (a .name)) (omega arith)))
 
 pub rank-spec : {M : Type 1} → statement M
 rank-spec =

@@ -1,6 +1,6 @@
 -- `entries::step` meets its contract.
 use Rattle.model.proofs.Prelude.{_*_, _≡_, arith, drop, le-ltb, lt-ltb, needs, not-false, not-true, take}
-use Rattle.model.specs.Checks.{sameStr}
+use Rattle.model.specs.Checks.{same-str}
 use Rattle.entries.proofs.step.Tie as tie
 
 returns : tie.Need-returns
@@ -11,14 +11,14 @@ returns c =
 returns-2 : tie.Need-returns-2
 returns-2 c =
     let s = c .before .is-same-entry in let a = c .before .before .before .before .before .before .before .args in
-    let q : s .result ≡ sameStr (take (a .e) (drop (a .e * a .i) (a .first .now))) (take (a .e) (drop (a .e * a .j) (a .second .now))) =
+    let q : s .result ≡ same-str (take (a .e) (drop (a .e * a .i) (a .first .now))) (take (a .e) (drop (a .e * a .j) (a .second .now))) =
     rw (c .before .before .before .whole-at .ensures .is, c .before .before .whole-at2 .ensures .is) at (s .ensures) in
     (omega arith, omega arith, rw (lt-ltb (a .i) (a .m) (omega arith), ← q, not-true (s .result) (c .if2 .taken)))
 
 returns-3 : tie.Need-returns-3
 returns-3 c =
     let s = c .before .is-same-entry in let a = c .before .before .before .before .before .before .before .args in
-    let q : s .result ≡ sameStr (take (a .e) (drop (a .e * a .i) (a .first .now))) (take (a .e) (drop (a .e * a .j) (a .second .now))) =
+    let q : s .result ≡ same-str (take (a .e) (drop (a .e * a .i) (a .first .now))) (take (a .e) (drop (a .e * a .j) (a .second .now))) =
     rw (c .before .before .before .whole-at .ensures .is, c .before .before .whole-at2 .ensures .is) at (s .ensures) in
     (omega arith, omega arith, rw (lt-ltb (a .i) (a .m) (omega arith), ← q, not-false (s .result) (c .if2 .left)))
 

@@ -3,7 +3,7 @@ use mathlib.Core.Path.{_∙_, ap}
 use mathlib.Core.List.{List}
 use Prim.Native.Nat.{ℕ}
 use Rattle.model.specs.Format.{padded}
-use Rattle.entries.specs.Rows.{contentNumber, room, splicedBytes}
+use Rattle.entries.specs.Rows.{content-number, room, spliced-bytes}
 use Rattle.entries.proofs.Contents.{entry-part}
 use borrow.Author.Needs.{needs}
 use Rattle.entries.proofs.with_entry.Statement.{statement}
@@ -28,8 +28,8 @@ returns : tie.Need-returns
 returns c =
     let a = c .before .before .before .before .before .args in
     let i = c .before .before .before .entry-of in
-    let p = entry-part (a .e) (a .name .now, contentNumber (a .content)) (i .result) (c .before .before .before .before .before .pre .2) (i .ensures .1) (i .ensures .0) in
-    c .spliced .ensures ∙ ap (λ (m : List ℕ). padded room (splicedBytes (a .e) (a .entries .now) (a .count) (a .i) (a .taken) m)) p
+    let p = entry-part (a .e) (a .name .now, content-number (a .content)) (i .result) (c .before .before .before .before .before .pre .2) (i .ensures .1) (i .ensures .0) in
+    c .spliced .ensures ∙ ap (λ (m : List ℕ). padded room (spliced-bytes (a .e) (a .entries .now) (a .count) (a .i) (a .taken) m)) p
 
 pub with-entry-spec : {M : Type 1} → statement M
 with-entry-spec =

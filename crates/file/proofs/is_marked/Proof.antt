@@ -1,19 +1,19 @@
 -- `is_marked` meets its contract.
 use Rattle.model.proofs.Prelude.{_∙_, arith, needs, refl, sym}
-use Rattle.model.specs.Format.{headerBytes}
+use Rattle.model.specs.Format.{header-bytes}
 use Rattle.file.proofs.Headers.{marked-last, not-marked}
 use Rattle.file.proofs.is_marked.Tie as tie
 
 returns : tie.Need-returns
-unfolding headerBytes
+unfolding header-bytes
 returns c = sym (not-marked (c .before .before .before .args .file .now) 0 _ _ (omega arith) refl (c .if1 .taken))
 
 returns-2 : tie.Need-returns-2
-unfolding headerBytes
+unfolding header-bytes
 returns-2 c = sym (not-marked (c .before .before .before .before .before .args .file .now) 1 _ _ (omega arith) refl (c .if2 .taken))
 
 returns-3 : tie.Need-returns-3
-unfolding headerBytes
+unfolding header-bytes
 returns-3 c = sym (not-marked (c .before .before .before .before .before .before .before .args .file .now) 2 _ _ (omega arith) refl (c .if3 .taken))
 
 returns-4 : tie.Need-returns-4

@@ -1,10 +1,10 @@
 -- `layout_of` meets its contract.
 use Rattle.model.proofs.Prelude.{needs}
-use Rattle.model.specs.Format.{layoutOf}
+use Rattle.model.specs.Format.{layout-of}
 use Rattle.file.proofs.layout_of.Tie as tie
 
 returns : tie.Need-returns
-unfolding layoutOf
+unfolding layout-of
 returns c =
     rw (c .before .before .before .before .usize-of-u8 .ensures .0, c .before .before .usize-of-u82 .ensures .0, c .usize-of-u83 .ensures .0)
 

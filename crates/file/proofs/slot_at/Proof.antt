@@ -1,6 +1,6 @@
 -- `slot_at` meets its contract: slot k lies within the file.
 use Rattle.model.proofs.Prelude.{_*_, _+_, _∙_, arith, needs}
-use Rattle.model.specs.Format.{slotAt, slotSize}
+use Rattle.model.specs.Format.{bytes-at-slot, slot-size}
 use Rattle.file.proofs.Laws.{part-is, part-length, room}
 use Rattle.file.proofs.slot_at.Tie as tie
 
@@ -29,7 +29,7 @@ part-result-end c =
     omega arith
 
 returns : tie.Need-returns
-unfolding slotAt slotSize
+unfolding bytes-at-slot slot-size
 returns c =
     let s = c .before .before .before in let n = c .before .slot-size .result in let e = c .before .slot-size .ensures in
     let h = room _ (s .args .k) n (s .args .size) (s .pre .0) (s .pre .1) e in

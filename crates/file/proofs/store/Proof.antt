@@ -1,6 +1,6 @@
 -- `store` meets its contract: slot k is pasted over, and nothing else changes.
 use Rattle.model.proofs.Prelude.{_∙_, arith, needs}
-use Rattle.model.specs.Format.{slotSize}
+use Rattle.model.specs.Format.{slot-size}
 use Rattle.file.proofs.Laws.{first-length, first-pasted, room}
 use Rattle.file.proofs.store.Tie as tie
 
@@ -27,7 +27,7 @@ returns : tie.Need-returns
 returns c =
     let s = c .before .before .before .before .before .before .before .before in
     let at-slot-size = c .before .before .before .before .before in
-    (search needs, c .before .before .copy .ensures ∙ first-pasted (s .args .file .now) (s .args .slot .now) (s .args .k) (at-slot-size .slot-size .result) (slotSize (s .args .size .layout)) (at-slot-size .slot-size .ensures .0) (search needs))
+    (search needs, c .before .before .copy .ensures ∙ first-pasted (s .args .file .now) (s .args .slot .now) (s .args .k) (at-slot-size .slot-size .result) (slot-size (s .args .size .layout)) (at-slot-size .slot-size .ensures .0) (search needs))
 
 pub store-spec : {M : Type 1} → Rattle.file.proofs.store.Statement.statement M
 store-spec =

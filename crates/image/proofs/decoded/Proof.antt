@@ -1,10 +1,10 @@
 -- `decoded` reads the image: after i cells it has the trie of the first i.
 use Rattle.model.proofs.Prelude.{_-_, _≡_, _≤_, arith, needs}
-use Rattle.image.proofs.Coding.{read-all, read-first, read-next, readTo}
+use Rattle.image.proofs.Coding.{read-all, read-first, read-next, read-to}
 use Rattle.image.proofs.decoded.Tie as tie
 
 abbrev Inv-loop : tie.InvT-loop
-Inv-loop image trie₀ i₀ trie i = (i ≤ 256) × (trie ≡ readTo i image)
+Inv-loop image trie₀ i₀ trie i = (i ≤ 256) × (trie ≡ read-to i image)
 
 abbrev μ-loop : tie.MeasureT-loop
 μ-loop image trie₀ i₀ trie i = 256 - i

@@ -1,11 +1,11 @@
 -- `encode` writes the image: after i cells the first 4 + 6 × i bytes are right.
 use Rattle.model.proofs.Prelude.{_*_, _+_, _-_, _≡_, _≤_, arith, length, length-set, needs, take}
-use Rattle.image.specs.Images.{imageSize}
+use Rattle.image.specs.Images.{image-length}
 use Rattle.image.proofs.Coding.{written, written-all, written-first, written-next, written-size}
 use Rattle.image.proofs.encode.Tie as tie
 
 abbrev Inv-loop : tie.InvT-loop
-Inv-loop image₀ trie i₀ image i = (i ≤ 256) × (length image ≡ imageSize) × (take (4 + 6 * i) image ≡ written trie i)
+Inv-loop image₀ trie i₀ image i = (i ≤ 256) × (length image ≡ image-length) × (take (4 + 6 * i) image ≡ written trie i)
 
 abbrev μ-loop : tie.MeasureT-loop
 μ-loop image₀ trie i₀ image i = 256 - i

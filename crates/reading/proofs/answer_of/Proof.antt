@@ -1,19 +1,19 @@
 -- `answer_of` meets its contract: each stage's answer is the model's.
 use Rattle.model.proofs.Prelude.{_∙_, needs, sym}
-use Rattle.model.specs.Format.{slotSize}
+use Rattle.model.specs.Format.{slot-size}
 use Rattle.bucket.proofs.Slots.{vacant-free, vacant-taken}
 use Rattle.checking.proofs.Laws.{key-whole}
 use Rattle.reading.proofs.LookingUp.{answer-absent, answer-found, answer-free, answer-ill, answer-lacks, ill-formed, well-formed}
 use Rattle.reading.proofs.answer_of.Tie as tie
 
 returns : tie.Need-returns
-unfolding slotSize
+unfolding slot-size
 returns c g =
     let s = c .before .before .before .before in
     answer-free (s .args .layout) (s .args .slot .now) (s .args .name .now) (s .pre .0) (vacant-free _ (sym (c .enum-told2 .given .1) ∙ c .before .before .vacancy-of .ensures))
 
 returns-2 : tie.Need-returns-2
-unfolding slotSize
+unfolding slot-size
 returns-2 c g =
     let s = c .before .before .before .before .before .before .before in
     answer-ill (s .args .layout) (s .args .slot .now) (s .args .name .now) (s .pre .0) (vacant-taken _ (sym (c .before .before .before .enum-told .given .1) ∙ c .before .before .before .before .before .vacancy-of .ensures))

@@ -1,6 +1,6 @@
 -- `list` meets its contract: each refusal is the model's, and what passed the checks is listed.
 use Rattle.model.proofs.Prelude.{_∙_, needs, sym}
-use Rattle.model.proofs.Names.{legalName-legal}
+use Rattle.model.proofs.Names.{is-legal-name-legal}
 use Rattle.checking.proofs.Laws.{fine-agreed, naming-illegal, naming-legal, refused-looked}
 use Rattle.reading.proofs.Listing.{first-illegal, list-fine, list-refused, second-illegal}
 use Rattle.reading.proofs.list.Tie as tie
@@ -39,7 +39,7 @@ returns-4 c =
     let f = naming-legal _ (sym (at-checks-of .before .enum-told3 .given .1) ∙ at-checks-of .before .before .before .named2 .ensures) in
     let A = fine-agreed (at-checks-of .checks-of .result) (at-filled2 .before .before .enum-told5 .given .1) (at-checks-of .checks-of .ensures) in
     list-fine (a .file .now) (a .trie) low high (a .output .now) _ _ e f (A .looked)
-    (rw (at-filled2 .before .filled .ensures, at-filled2 .filled2 .ensures) at (c .before .before .list-checked .ensures) (A .ready) (legalName-legal low e) (legalName-legal high f))
+    (rw (at-filled2 .before .filled .ensures, at-filled2 .filled2 .ensures) at (c .before .before .list-checked .ensures) (A .ready) (is-legal-name-legal low e) (is-legal-name-legal high f))
 
 pub list-spec : {M : Type 1} → Rattle.reading.proofs.list.Statement.statement M
 list-spec =

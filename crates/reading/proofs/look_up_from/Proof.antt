@@ -1,6 +1,6 @@
 -- `look_up_from` meets its contract: each refusal is the model's, and the walk ended at one of the file's slots.
 use Rattle.model.proofs.Prelude.{_∙_, arith, needs, sym}
-use Rattle.model.proofs.Names.{legalName-legal}
+use Rattle.model.proofs.Names.{is-legal-name-legal}
 use Rattle.file.proofs.Surveying.{right-said, right-sized, wrong-said}
 use Rattle.checking.proofs.Laws.{naming-illegal, naming-legal}
 use Rattle.reading.proofs.LookingUp.{arrived-looked, headless-looked, illegal-looked, no-slot, past-looked, stray-looked}
@@ -47,7 +47,7 @@ returns-5 c =
     let l = naming-legal _ (sym (at-header-of .before .enum-told .given .1) ∙ at-header-of .before .before .before .named .ensures) in
     let h = right-said (at-place .before .before .before .size .given .1) (at-header-of .header-of .ensures) .header in
     arrived-looked (a .file .now) (a .walk .place) name l h (c .answer-of .result) (at-place .place .given .1) (c .before .before .before .before .before .before .usize-of-u16 .ensures .0) (omega arith)
-    (c .before .before .slot-at .ensures .0) (rw (c .before .before .before .filled .ensures) at (c .answer-of .ensures) (legalName-legal name l))
+    (c .before .before .slot-at .ensures .0) (rw (c .before .before .before .filled .ensures) at (c .answer-of .ensures) (is-legal-name-legal name l))
 
 pub look-up-from-spec : {M : Type 1} → Rattle.reading.proofs.look_up_from.Statement.statement M
 look-up-from-spec =

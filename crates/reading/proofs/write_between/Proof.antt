@@ -1,12 +1,12 @@
 -- `write_between` meets its contract: what is written and what is to come are all that is to be listed.
 use Rattle.model.proofs.Prelude.{_-_, arith, needs}
-use Rattle.digits.specs.Keys.{keyValue}
+use Rattle.digits.specs.Keys.{key-value}
 use Rattle.reading.proofs.Writing.{Writing, rest, rest-length, rest-none, rest-step, writing-end, writing-length, writing-rest, writing-start, writing-step}
 use Rattle.reading.proofs.write_between.Tie as tie
 
 abbrev Inv-loop : tie.InvT-loop
 Inv-loop file size order from to first second output₀ at₀ j₀ output at j =
-    Writing (rest file (size .layout) order (keyValue first) (keyValue second) to from) (rest file (size .layout) order (keyValue first) (keyValue second) to j) output₀ output at
+    Writing (rest file (size .layout) order (key-value first) (key-value second) to from) (rest file (size .layout) order (key-value first) (key-value second) to j) output₀ output at
 
 abbrev μ-loop : tie.MeasureT-loop
 μ-loop file size order from to first second output₀ at₀ j₀ output at j = 64 - j
@@ -20,14 +20,14 @@ copy-requires : tie.Need-copy-requires Inv-loop μ-loop
 copy-requires c κs =
     let a = c .before .before .before .before .before .before .before .before .before .args in
     let l = c .before .before .before .before .before .before .loop in
-    let e = rest-length (a .file .now) (a .size .layout) (a .order .now) (keyValue (a .first)) (keyValue (a .second)) (a .to) (l .j) _ _ _ (omega arith) (c .before .before .before .usize-of-u8 .ensures .0) (c .before .before .slot-at .ensures .0) (c .before .part-between .ensures .1) in
+    let e = rest-length (a .file .now) (a .size .layout) (a .order .now) (key-value (a .first)) (key-value (a .second)) (a .to) (l .j) _ _ _ (omega arith) (c .before .before .before .usize-of-u8 .ensures .0) (c .before .before .slot-at .ensures .0) (c .before .part-between .ensures .1) in
     omega (arith, writing-rest (l .inv), e, writing-length (l .inv), l .inv .room)
 
 add-at : tie.Need-add-at Inv-loop μ-loop
 add-at c =
     let a = c .before .before .before .before .before .before .before .before .before .before .before .before .args in
     let l = c .before .before .before .before .before .before .before .before .before .loop in
-    let e = rest-length (a .file .now) (a .size .layout) (a .order .now) (keyValue (a .first)) (keyValue (a .second)) (a .to) (l .j) _ _ _ (omega arith) (c .before .before .before .before .before .before .usize-of-u8 .ensures .0) (c .before .before .before .before .before .slot-at .ensures .0) (c .before .before .before .before .part-between .ensures .1) in
+    let e = rest-length (a .file .now) (a .size .layout) (a .order .now) (key-value (a .first)) (key-value (a .second)) (a .to) (l .j) _ _ _ (omega arith) (c .before .before .before .before .before .before .usize-of-u8 .ensures .0) (c .before .before .before .before .before .slot-at .ensures .0) (c .before .before .before .before .part-between .ensures .1) in
     omega (arith, writing-rest (l .inv), e, c .before .before .before .before .before .before .before .before .before .before .before .before .pre .4)
 
 loop-again : tie.Need-loop-again Inv-loop μ-loop
@@ -35,13 +35,13 @@ loop-again c =
     let at-part-between = c .before .before .before .before in
     let a = at-part-between .before .before .before .before .before .before .before .before .args in
     let l = at-part-between .before .before .before .before .before .loop in
-    let e = rest-step (a .file .now) (a .size .layout) (a .order .now) (keyValue (a .first)) (keyValue (a .second)) (a .to) (l .j) _ _ _ (omega arith) (at-part-between .before .before .usize-of-u8 .ensures .0) (at-part-between .before .slot-at .ensures .0) (at-part-between .part-between .ensures .1) in
+    let e = rest-step (a .file .now) (a .size .layout) (a .order .now) (key-value (a .first)) (key-value (a .second)) (a .to) (l .j) _ _ _ (omega arith) (at-part-between .before .before .usize-of-u8 .ensures .0) (at-part-between .before .slot-at .ensures .0) (at-part-between .part-between .ensures .1) in
     writing-step (l .inv) (at-part-between .part-between .result .now) _ _ e (c .before .before .copy .ensures)
 
 returns : tie.Need-returns Inv-loop μ-loop
 returns c =
     let a = c .before .before .before .before .args in let l = c .before .loop in
-    writing-end (l .inv) (rest-none (a .file .now) (a .size .layout) (a .order .now) (keyValue (a .first)) (keyValue (a .second)) (a .to) (l .j) (omega arith))
+    writing-end (l .inv) (rest-none (a .file .now) (a .size .layout) (a .order .now) (key-value (a .first)) (key-value (a .second)) (a .to) (l .j) (omega arith))
 
 pub write-between-spec : {M : Type 1} → Rattle.reading.proofs.write_between.Statement.statement M
 write-between-spec =

@@ -1,7 +1,7 @@
 -- `slots::part_between` meets its contract.
 use Rattle.model.proofs.Prelude.{_∙_, arith, needs}
 use Rattle.entries.proofs.Products.{part-fits, room-most}
-use Rattle.slots.specs.Parts.{partOf}
+use Rattle.slots.specs.Parts.{part-of}
 use Rattle.slots.proofs.part_between.Tie as tie
 
 part-between-requires : tie.Need-part-between-requires
@@ -10,7 +10,7 @@ part-between-requires c κs =
     (part-fits _ _ _ _ _ (e .ensures .0) (z .ensures .1) (n .ensures .1), omega (arith, n .ensures .1, c .before .before .before .before .pre .1), omega (arith, e .ensures .1 .least), e .ensures .1 .most)
 
 returns : tie.Need-returns
-unfolding partOf
+unfolding part-of
 returns c =
     let p = c .part-between in let n = c .before .count-of in let e = c .before .before .entry-size in let z = c .before .before .before .entries-of in (
       omega (arith, p .ensures .0, room-most (e .result) (n .result) (e .ensures .1 .most) (omega (arith, n .ensures .1, c .before .before .before .before .before .pre .1))),

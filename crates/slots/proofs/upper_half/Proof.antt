@@ -3,7 +3,7 @@ use Rattle.model.proofs.Prelude.{_+_, _-_, _∙_, arith, needs, refl}
 use Rattle.model.proofs.Format.{bytes-each}
 use Rattle.entries.proofs.Products.{room-most, stands}
 use Rattle.model.specs.Order.{at}
-use Rattle.model.specs.Format.{lowDigits}
+use Rattle.model.specs.Format.{digits-of-low}
 use Rattle.slots.proofs.Halves.{upper-row}
 use Rattle.slots.proofs.Slots.{slot-written, upper-is}
 use Rattle.slots.proofs.Spots.{slot-reads}
@@ -26,7 +26,7 @@ written-requires c κs =
     (p .1, c .upper-bound .ensures .1, omega (arith, p .0 .1, p .2), omega (arith, q .ensures .1, room-most (e .result) n (e .ensures .1 .most) (omega (arith, p .0 .1, p .2))))
 
 returns : tie.Need-returns
-unfolding lowDigits
+unfolding digits-of-low
 returns c l u es ws r m n =
     let v = c .written in let q = c .before .before .part in let e = c .before .before .before .entry-size in let a = c .before .before .before .before .before .before .before .args in let p = c .before .before .before .before .before .before .before .pre in let b = a .layout .b in
     let fits = stands (e .result) 0 (b + 1) (omega arith) (omega (arith, p .0 .1)) (e .ensures .1 .most) .most in

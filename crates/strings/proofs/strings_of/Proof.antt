@@ -1,6 +1,6 @@
 -- `strings_of` meets its contract: at each turn the arrays have the strings that come before a bucket's upper (proofs/Listing.antt).
 use Rattle.model.proofs.Prelude.{_-_, _∙_, _≤_, ap, arith, needs, refl}
-use Rattle.bucket.specs.Slots.{upperAt}
+use Rattle.bucket.specs.Slots.{upper-bytes}
 use Rattle.strings.specs.Arrays.{Whole}
 use Rattle.strings.proofs.Adding.{length-beyond}
 use Rattle.strings.proofs.Listing.{Goes, goes-end, goes-many, goes-none, goes-start, goes-step, upper-in}
@@ -35,8 +35,8 @@ returns c =
     let l = d .before .before .before .before .before .before .before .before .before .before .loop in let f = s .args .file .now in
     let o = s .args .order .now in let z = s .args .size in
     let up = upper-in f o z (s .args .count) in
-    let x-is = d .before .before .before .before .upper-bound .ensures .0 ∙ ap upperAt (d .before .before .before .before .before .slot-at .ensures .0) ∙ ap up (d .before .before .before .before .before .before .usize-of-u8 .ensures .0) in
-    let y-is = d .before .upper-bound2 .ensures .0 ∙ ap upperAt (d .before .before .slot-at2 .ensures .0) ∙ ap up (d .before .before .before .usize-of-u82 .ensures .0) in
+    let x-is = d .before .before .before .before .upper-bound .ensures .0 ∙ ap upper-bytes (d .before .before .before .before .before .slot-at .ensures .0) ∙ ap up (d .before .before .before .before .before .before .usize-of-u8 .ensures .0) in
+    let y-is = d .before .upper-bound2 .ensures .0 ∙ ap upper-bytes (d .before .before .slot-at2 .ensures .0) ∙ ap up (d .before .before .before .usize-of-u82 .ensures .0) in
     goes-many f o z (s .args .count) (s .pre .1) (l .n) (l .j) _ _ (d .shared .result) _ _ (l .inv .1) (d .before .before .before .before .before .before .before .before .before .loop-test .taken)
     refl refl x-is y-is (d .shared .ensures .2) (l .lens) (l .digits) (l .slots) (l .inv .3) _ refl refl (c .if1 .taken)
 
@@ -50,8 +50,8 @@ loop-again c =
     let l = d .before .before .before .before .before .before .before .before .before .before .loop in let f = s .args .file .now in
     let o = s .args .order .now in let z = s .args .size in
     let up = upper-in f o z (s .args .count) in
-    let x-is = d .before .before .before .before .upper-bound .ensures .0 ∙ ap upperAt (d .before .before .before .before .before .slot-at .ensures .0) ∙ ap up (d .before .before .before .before .before .before .usize-of-u8 .ensures .0) in
-    let y-is = d .before .upper-bound2 .ensures .0 ∙ ap upperAt (d .before .before .slot-at2 .ensures .0) ∙ ap up (d .before .before .before .usize-of-u82 .ensures .0) in
+    let x-is = d .before .before .before .before .upper-bound .ensures .0 ∙ ap upper-bytes (d .before .before .before .before .before .slot-at .ensures .0) ∙ ap up (d .before .before .before .before .before .before .usize-of-u8 .ensures .0) in
+    let y-is = d .before .upper-bound2 .ensures .0 ∙ ap upper-bytes (d .before .before .slot-at2 .ensures .0) ∙ ap up (d .before .before .before .usize-of-u82 .ensures .0) in
     let a = c .add .ensures in
     let x = d .before .before .before .before .upper-bound .result .now in (
       omega (arith, a .count-is, length-beyond (d .shared .result) x, c .before .before .before .before .if1 .left),

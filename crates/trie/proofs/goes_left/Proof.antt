@@ -1,6 +1,6 @@
--- `goes_left` is the model's `atMost` on the string's first digits, which are no more than the name's.
+-- `goes_left` is the model's `is-at-most` on the string's first digits, which are no more than the name's.
 use Rattle.model.proofs.Prelude.{_∙_, _≡_, _≤_, arith, length, length-take, needs, sub-zero, take}
-use Rattle.model.proofs.Names.{within-atMost}
+use Rattle.model.proofs.Names.{within-is-at-most}
 use Rattle.trie.proofs.goes_left.Tie as tie
 
 pub goes-left-spec : {M : Type 1} → Rattle.trie.proofs.goes_left.Statement.statement M
@@ -10,4 +10,4 @@ goes-left-spec =
     let a = c .before .before .before .before .args in
     let named : length (a .name .now) ≡ 24 = search needs in
     simp sub-zero at (c .compared .ensures .0)
-    ∙ within-atMost (a .name .now) (take (a .len) (a .string .now)) (omega (arith, named, length-take (a .len) (a .string .now)))))
+    ∙ within-is-at-most (a .name .now) (take (a .len) (a .string .now)) (omega (arith, named, length-take (a .len) (a .string .now)))))

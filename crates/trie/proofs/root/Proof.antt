@@ -1,11 +1,11 @@
 -- `root` is where the model's root side leads.
 use Rattle.model.proofs.Prelude.{arith, lt-leb}
-use Rattle.trie.specs.Walks.{placeOf}
+use Rattle.trie.specs.Walks.{place-ahead}
 use Rattle.trie.proofs.Laws.{root-begins}
 use Rattle.trie.proofs.root.Tie as tie
 
 returns-2 : tie.Need-returns-2
-unfolding placeOf
+unfolding place-ahead
 returns-2 c = rw (c .if2 .taken)
 
 returns-3 : tie.Need-returns-3

@@ -1,12 +1,12 @@
 -- `walk_of` is the definition's walk: whatever the walk under way has met, the rest ends as the whole does.
 use Rattle.model.proofs.Prelude.{ap, arith, needs, refl, sym}
-use Rattle.model.specs.Tries.{at-cell, walkOf}
+use Rattle.model.specs.Tries.{at-cell, walk-of}
 use Rattle.trie.specs.Walks.{Underway}
 use Rattle.trie.proofs.Laws.{before, ends, no-cell}
 use Rattle.trie.proofs.walk_of.Tie as tie
 
 abbrev Inv-loop : tie.InvT-loop
-Inv-loop name trie walk₀ walk = Underway (walkOf trie name) (trie .cells) name walk
+Inv-loop name trie walk₀ walk = Underway (walk-of trie name) (trie .cells) name walk
 
 abbrev μ-loop : tie.MeasureT-loop
 μ-loop name trie walk₀ walk = walk .more

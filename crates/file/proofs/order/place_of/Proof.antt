@@ -1,7 +1,7 @@
 -- `place_of` meets its contract: the halves close in on a place not above the count.
 use Rattle.model.proofs.Prelude.{List, _+_, _-_, _/_, _<_, _∙_, _≡_, _≤_, arith, false, getD, needs, subst, suc, sym, true, ℕ}
 use Rattle.model.specs.Files.{Slot}
-use Rattle.digits.specs.Keys.{keyValue}
+use Rattle.digits.specs.Keys.{key-value}
 use Rattle.file.specs.Orders.{Known, Listed, placed, stands}
 use Rattle.file.proofs.Comparing.{place-read}
 use Rattle.file.proofs.order.place_of.Tie as tie
@@ -10,8 +10,8 @@ abbrev Inv-loop : tie.InvT-loop
 Inv-loop file size order count low high least₀ most₀ least most =
     (least ≤ most) × (most ≤ count)
     × ((fs : List Slot) → Known (size .layout) file fs → Listed fs order count
-    → ((j : ℕ) → suc j ≡ least → stands (keyValue high) (keyValue low) (placed fs order j) ≡ false)
-    × (most < count → stands (keyValue high) (keyValue low) (placed fs order most) ≡ true))
+    → ((j : ℕ) → suc j ≡ least → stands (key-value high) (key-value low) (placed fs order j) ≡ false)
+    × (most < count → stands (key-value high) (key-value low) (placed fs order most) ≡ true))
 
 abbrev μ-loop : tie.MeasureT-loop
 μ-loop file size order count low high least₀ most₀ least most = most - least
@@ -29,7 +29,7 @@ loop-again c =
     let s = c .before .before .before .before .before .before .before .before in let l = c .before .before .before .before .before .before .loop in
     let m = l .least + (l .most - l .least) / 2 in
     let told : (fs : List Slot) → Known (s .args .size .layout) (s .args .file .now) fs → Listed fs (s .args .order .now) (s .args .count)
-    → stands (keyValue (s .args .high)) (keyValue (s .args .low)) (placed fs (s .args .order .now) m) ≡ true =
+    → stands (key-value (s .args .high)) (key-value (s .args .low)) (placed fs (s .args .order .now) m) ≡ true =
     λ fs. λ K. λ L.
     let y = place-read K (s .args .order .now) (s .args .count) L m (omega arith) _ (c .before .before .before .usize-of-u8 .ensures .0) _ (c .before .before .slot-at .ensures .0) in
     sym (c .before .is-before .ensures (s .args .size .layout) (placed fs (s .args .order .now) m) (L m (omega arith)) y (K .well (getD (s .args .order .now) m 0))) ∙ c .if1 .taken in
@@ -40,11 +40,11 @@ loop-again-2 c =
     let s = c .before .before .before .before .before .before .before .before in let l = c .before .before .before .before .before .before .loop in
     let m = l .least + (l .most - l .least) / 2 in
     let told : (fs : List Slot) → Known (s .args .size .layout) (s .args .file .now) fs → Listed fs (s .args .order .now) (s .args .count)
-    → stands (keyValue (s .args .high)) (keyValue (s .args .low)) (placed fs (s .args .order .now) m) ≡ false =
+    → stands (key-value (s .args .high)) (key-value (s .args .low)) (placed fs (s .args .order .now) m) ≡ false =
     λ fs. λ K. λ L.
     let y = place-read K (s .args .order .now) (s .args .count) L m (omega arith) _ (c .before .before .before .usize-of-u8 .ensures .0) _ (c .before .before .slot-at .ensures .0) in
     sym (c .before .is-before .ensures (s .args .size .layout) (placed fs (s .args .order .now) m) (L m (omega arith)) y (K .well (getD (s .args .order .now) m 0))) ∙ c .if1 .left in
-    (omega arith, omega arith, λ fs. λ K. λ L. (λ j. λ e. subst (λ (n : ℕ). stands (keyValue (s .args .high)) (keyValue (s .args .low)) (placed fs (s .args .order .now) n) ≡ false) (omega arith) (told fs K L), l .inv .2 fs K L .1))
+    (omega arith, omega arith, λ fs. λ K. λ L. (λ j. λ e. subst (λ (n : ℕ). stands (key-value (s .args .high)) (key-value (s .args .low)) (placed fs (s .args .order .now) n) ≡ false) (omega arith) (told fs K L), l .inv .2 fs K L .1))
 
 returns : tie.Need-returns Inv-loop μ-loop
 returns c =
@@ -53,7 +53,7 @@ returns c =
       omega arith,
       λ fs. λ K. λ L. record {
         left = l .inv .2 fs K L .0;
-        right = subst (λ (n : ℕ). n < s .args .count → stands (keyValue (s .args .high)) (keyValue (s .args .low)) (placed fs (s .args .order .now) n) ≡ true) (omega arith) (l .inv .2 fs K L .1);
+        right = subst (λ (n : ℕ). n < s .args .count → stands (key-value (s .args .high)) (key-value (s .args .low)) (placed fs (s .args .order .now) n) ≡ true) (omega arith) (l .inv .2 fs K L .1);
       },
     )
 

@@ -1,7 +1,7 @@
 -- `cut_of` meets its contract: the second of the two is the slot to free, where it is a copy and the rest is a chain.
 use Rattle.model.proofs.Prelude.{_-_, _∙_, ap, arith, needs, not-false, not-true, ℕ}
 use Rattle.model.specs.Checks.{is-cut}
-use Rattle.model.specs.Format.{slotAt}
+use Rattle.model.specs.Format.{bytes-at-slot}
 use Rattle.file.specs.declared.survey.Kind.the-variants.{Bad, Cut}
 use Rattle.file.proofs.Verdicts.{laid-known, laid-listed, laid-map, laid-order, rest-listed, said-cut, said-no-chain, said-no-copy, surveyed}
 use Rattle.file.proofs.survey.cut_of.Tie as tie
@@ -23,8 +23,8 @@ returns c =
     let L = s .pre .5 in
     let K = laid-known few L in
     let T = s .pre .6 (L .slots) K (laid-listed few L) in
-    let i = c .before .before .before .before .slot-at .ensures .0 ∙ ap (λ (B : ℕ). slotAt y B xs) (at-usize-of-u82 .before .before .usize-of-u8 .ensures .0) in
-    let j = c .before .before .before .slot-at2 .ensures .0 ∙ ap (λ (B : ℕ). slotAt y B xs) (at-usize-of-u82 .usize-of-u82 .ensures .0) in
+    let i = c .before .before .before .before .slot-at .ensures .0 ∙ ap (λ (B : ℕ). bytes-at-slot y B xs) (at-usize-of-u82 .before .before .usize-of-u8 .ensures .0) in
+    let j = c .before .before .before .slot-at2 .ensures .0 ∙ ap (λ (B : ℕ). bytes-at-slot y B xs) (at-usize-of-u82 .usize-of-u82 .ensures .0) in
     surveyed (c .found .result) _ _ _ o _ Bad (s .args .used) (c .found .ensures) (s .pre .1) few (omega (arith, s .pre .1 place, at-usize-of-u82 .before .before .usize-of-u8 .ensures .0))
     (said-no-copy few L place T (place - 1) (omega arith) (s .pre .3) _ _ i j (c .before .before .is-copy-of .result) (c .before .before .is-copy-of .ensures) (not-true _ (c .before .if1 .taken)))
     (laid-order few L) (laid-map few L)
@@ -42,8 +42,8 @@ returns-2 c =
     let L = s .pre .5 in
     let K = laid-known few L in
     let T = s .pre .6 (L .slots) K (laid-listed few L) in
-    let i = at-is-copy-of .before .before .slot-at .ensures .0 ∙ ap (λ (B : ℕ). slotAt y B xs) (at-usize-of-u82 .before .before .usize-of-u8 .ensures .0) in
-    let j = at-is-copy-of .before .slot-at2 .ensures .0 ∙ ap (λ (B : ℕ). slotAt y B xs) (at-usize-of-u82 .usize-of-u82 .ensures .0) in
+    let i = at-is-copy-of .before .before .slot-at .ensures .0 ∙ ap (λ (B : ℕ). bytes-at-slot y B xs) (at-usize-of-u82 .before .before .usize-of-u8 .ensures .0) in
+    let j = at-is-copy-of .before .slot-at2 .ensures .0 ∙ ap (λ (B : ℕ). bytes-at-slot y B xs) (at-usize-of-u82 .usize-of-u82 .ensures .0) in
     let cs = c .before .before .before .before .leave-out .ensures in
     let I = rest-listed few L place T (place - 1) (omega arith) (s .pre .3) _ (cs .1) (cs .2) in
     let C = c .before .before .is-chain .ensures (L .slots) K I in
@@ -59,8 +59,8 @@ returns-3 c =
     let L = s .pre .5 in
     let K = laid-known few L in
     let T = s .pre .6 (L .slots) K (laid-listed few L) in
-    let i = at-is-copy-of .before .before .slot-at .ensures .0 ∙ ap (λ (B : ℕ). slotAt y B xs) (at-usize-of-u8 .usize-of-u8 .ensures .0) in
-    let j = at-is-copy-of .before .slot-at2 .ensures .0 ∙ ap (λ (B : ℕ). slotAt y B xs) (at-is-copy-of .before .before .before .usize-of-u82 .ensures .0) in
+    let i = at-is-copy-of .before .before .slot-at .ensures .0 ∙ ap (λ (B : ℕ). bytes-at-slot y B xs) (at-usize-of-u8 .usize-of-u8 .ensures .0) in
+    let j = at-is-copy-of .before .slot-at2 .ensures .0 ∙ ap (λ (B : ℕ). bytes-at-slot y B xs) (at-is-copy-of .before .before .before .usize-of-u82 .ensures .0) in
     let cs = c .before .before .before .before .leave-out .ensures in
     let I = rest-listed few L place T (place - 1) (omega arith) (s .pre .3) _ (cs .1) (cs .2) in
     let C = c .before .before .is-chain .ensures (L .slots) K I in

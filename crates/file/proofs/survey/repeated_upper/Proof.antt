@@ -1,7 +1,7 @@
 -- `repeated_upper` meets its contract: the neighbours passed have different upper bounds.
 use Rattle.model.proofs.Prelude.{List, _-_, _<_, _≡_, _≤_, arith, needs, subst, suc, ℕ, ℕ-discrete}
 use Rattle.model.specs.Files.{Slot, head, upper-of}
-use Rattle.digits.specs.Keys.{keyValue}
+use Rattle.digits.specs.Keys.{key-value}
 use Rattle.file.specs.Orders.{Known, Listed, placed}
 use Rattle.file.proofs.Comparing.{place-high}
 use Rattle.file.proofs.Chains.{other-upper, same-upper}
@@ -36,7 +36,7 @@ returns c =
         apart = l .inv .1 fs K L;
         same = λ i e h. subst (λ (k : ℕ). upper-of (head (placed fs o k)) ≡ upper-of (head (placed fs o (l .j)))) (omega arith)
             (same-upper K o n (omega (arith, s .pre .3)) L (l .j - 1) (l .j) (omega arith) (omega arith)
-            (keyValue (at-high-key .high-key .result)) (keyValue (c .before .before .high-key2 .result))
+            (key-value (at-high-key .high-key .result)) (key-value (c .before .before .high-key2 .result))
             (place-high K o n L (l .j - 1) (omega arith) _ (at-slot-at .before .usize-of-u8 .ensures .0) _ (at-slot-at .slot-at .ensures .0) _ (at-high-key .high-key .ensures))
             (place-high K o n L (l .j) (omega arith) _ (at-high-key .before .before .usize-of-u82 .ensures .0) _ (at-high-key .before .slot-at2 .ensures .0) _ (c .before .before .high-key2 .ensures))
             (c .before .is-same .result) (c .before .is-same .ensures) (c .if1 .taken));
@@ -51,7 +51,7 @@ loop-again c =
     let now : (fs : List Slot) → Known (s .args .size .layout) (s .args .file .now) fs → Listed fs o n
     → upper-of (head (placed fs o (l .j - 1))) ≡ upper-of (head (placed fs o (l .j))) → ⊥ =
     λ fs. λ K. λ L. other-upper K o n (omega (arith, s .pre .3)) L (l .j - 1) (l .j) (omega arith) (omega arith)
-    (keyValue (at-high-key .high-key .result)) (keyValue (c .before .before .high-key2 .result))
+    (key-value (at-high-key .high-key .result)) (key-value (c .before .before .high-key2 .result))
     (place-high K o n L (l .j - 1) (omega arith) _ (at-slot-at .before .usize-of-u8 .ensures .0) _ (at-slot-at .slot-at .ensures .0) _ (at-high-key .high-key .ensures))
     (place-high K o n L (l .j) (omega arith) _ (at-high-key .before .before .usize-of-u82 .ensures .0) _ (at-high-key .before .slot-at2 .ensures .0) _ (c .before .before .high-key2 .ensures))
     (c .before .is-same .result) (c .before .is-same .ensures) (c .if1 .left) in (
