@@ -2,9 +2,9 @@
 use Rattle.model.proofs.Prelude.{Bool, List, Option, [], _<_, _∙_, _∷_, _≡_, _≤_, ap, arith, clash, cond, decLe, decLt, false, length, lt-ltb, ltb-true, nothing, refl, some, subst, sym, true, ℕ}
 use Rattle.model.specs.Order.{Low, Str, _⊑_, _◁_, at}
 use Rattle.model.specs.Names.{Legal}
-use Rattle.model.specs.Entries.{Entry, chosen, find, insert, is-older, run-of-content, without}
+use Rattle.model.specs.Entries.{Entry, chosen, find, insert, is-older, run-of-content}
 use Rattle.model.specs.Files.{In, Slot, Sound, entries-of, first, free, head, slot-at, string-count, used}
-use Rattle.model.specs.Changes.{Denied, Lowest, Request, Result, Store, call, free?, halves, holds?, no-room, put, put-in, refuse, remove, remove-in, stored, stores, stores-if, too-many}
+use Rattle.model.specs.Changes.{Denied, Lowest, Request, Result, Store, call, free?, halves, holds?, no-room, put, put-in, refuse, removal, remove, remove-in, stored, stores, stores-if, too-many}
 use Rattle.model.proofs.Entries.{chosen-no, chosen-yes}
 use Rattle.model.proofs.Files.{bucket, first-before, first-passes, first-right, one-range}
 use Rattle.model.specs.declared.Layout.{Layout}

@@ -18,7 +18,7 @@ use Rattle.model.specs.Entries.{Entry, content-from, find, is-older}
 use Rattle.model.specs.Files.{In, Slot, Well, created, entries-of, first, free, head, order-of, slot-at, string-count, used, well-free}
 use Rattle.model.specs.Tries.{Agrees, root, root-side, walk-of, walk-run}
 use Rattle.model.specs.Rebuilding.{rebuilt-trie}
-use Rattle.model.specs.Changes.{Denied, Request, Result, Store, holds?, no-room, put, remove, too-many}
+use Rattle.model.specs.Changes.{Denied, Request, Result, Store, holds?, no-room, put, remove, too-many, trie-removed}
 use Rattle.model.specs.Checks.{Kind, is-above, is-bad, is-cut, is-sound, is-well-formed, same-str}
 use Rattle.model.specs.Agreeing.{is-agreeing}
 use Rattle.model.specs.Format.{BadFile, SoundFile, are-legal-sizes, bytes-at-slot, bytes-of-entries, bytes-of-slot, check-file, entry-length, file-bytes, file-size, header-bytes, header-of, is-right-header, kept-run, layout-of, read-file, read-slot, store-bytes}

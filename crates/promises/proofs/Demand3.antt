@@ -1,32 +1,32 @@
 -- Demand 3: after any events the file says what the history says, and recovery and rebuilding do not refuse.
-use Rattle.model.proofs.Prelude.{Bool, List, Option, [], _&&_, _<_, _^_, _∙_, _∷_, _≡_, _≤_, _⊎_, ap, arith, clash, cond, decLe, eqb, false, inl, inr, le-leb, le-ltb, length, lt-ltb, ltb, ltb-true, nothing, refl, set, some, subst, sym, take, true, ℕ}
+use Rattle.model.proofs.Prelude.{Bool, List, Option, [], _&&_, _<_, _^_, _∙_, _∷_, _≡_, _≤_, _⊎_, ap, arith, clash, cond, decLe, eqb, false, inl, inr, le-leb, le-ltb, length, lt-ltb, ltb, ltb-true, nothing, refl, set, some, subst, suc, sym, take, true, zero, ℕ}
 use Rattle.model.specs.declared.Trie.{Trie}
 use Rattle.model.specs.declared.Layout.{Layout}
 use Rattle.model.specs.declared.Cause.the-variants.{IllegalName, WrongSize}
 use Rattle.model.specs.declared.PutAnswer.the-variants.{Refused as PutRefused, Stopped as PutStopped}
 use Rattle.model.specs.declared.RecoverAnswer.{RecoverAnswer}
 use Rattle.model.specs.declared.RecoverAnswer.the-variants.{Freed, Nothing, Stopped as RecoverStopped}
-use Rattle.model.specs.declared.RemoveAnswer.the-variants.{Refused as RemoveRefused, Removed, Stopped as RemoveStopped}
+use Rattle.model.specs.declared.RemoveAnswer.the-variants.{Refused as RemoveRefused, Stopped as RemoveStopped}
 use Rattle.model.specs.declared.TrieAnswer.the-variants.{Given, Refused as TrieRefused}
 use Rattle.model.specs.Order.{Str}
 use Rattle.model.specs.Names.{Legal, filled, is-legal-name}
 use Rattle.model.specs.Entries.{content-from, find}
 use Rattle.model.specs.Files.{Cut, Slot, Well, created, entries-of, first, free, slot-at, string-count}
 use Rattle.model.specs.Tries.{Agrees, walk-trie}
-use Rattle.model.specs.Changes.{Map, Request, Result, Store, holds?, meant, put as to-put, remove as to-remove, stored}
+use Rattle.model.specs.Changes.{Map, Request, Result, Store, counts, holds?, meant, put as to-put, remove as to-remove, stored, trie-removed}
 use Rattle.model.specs.Format.{CutFile, SoundFile, are-legal-sizes, check-file, entry-length, file-bytes, file-size, kept-run, layout-of, read-file, store-bytes}
 use Rattle.model.specs.Places.{place-of}
-use Rattle.model.specs.Calls.{CreateDone, Looked, PutDone, RecoverDone, RemoveDone, create-of, fine, held, held-answer, looked-of, new-trie, put-answer, put-by-stores, put-of, put-on-looked, put-takes, rebuild-by, rebuild-of, recover-by, recover-of, refusing, remove-by-stores, remove-of, remove-on-looked, stores-bytes, trie-after-put}
+use Rattle.model.specs.Calls.{CreateDone, Looked, PutDone, RecoverDone, RemoveDone, create-of, fine, held, held-answer, looked-of, new-trie, put-answer, put-by-stores, put-of, put-on-looked, put-takes, rebuild-by, rebuild-of, recover-by, recover-of, refusing, remove-answer, remove-by-stores, remove-of, remove-on-looked, stores-bytes, trie-after-put}
 use Rattle.model.proofs.Names.{both-true, is-legal-name-legal}
 use Rattle.model.proofs.Files.{cut-not-sound, cut-well}
 use Rattle.model.proofs.Agreement.{agrees-walk, rebuilt-trie-agrees}
 use Rattle.model.proofs.LookUps.{lookup-agrees}
 use Rattle.model.proofs.Places.{place-lt}
-use Rattle.model.proofs.Changes.{Change, Fine, absent, change-made, change-stopped, removes, trie-after}
+use Rattle.model.proofs.Changes.{Change, Fine, change-made, change-stopped, trie-after}
 use Rattle.model.proofs.Calls.{Answered, is-denied, is-made, put-right, put-taken, remove-right}
 use Rattle.model.proofs.Format.{are-legal-sizes-sizes, contents-read-file, file-bytes-read-file, headed-layout, put-fits, read-file-read}
 use Rattle.model.proofs.CheckedFiles.{check-file-cut, check-file-sound}
-use Rattle.model.proofs.Stores.{Asked, Left, change-legal, left-freed, left-stored, legal-take, trie-after-put-is}
+use Rattle.model.proofs.Stores.{Asked, Left, change-legal, left-freed, left-stored, legal-take, trie-after-put-is, trie-removed-is}
 use Rattle.model.proofs.GrownTries.{change-agrees}
 use Rattle.model.proofs.Created.{created-agrees, created-fine, created-left}
 use Rattle.promises.specs.Calls.{our-calls}
@@ -270,7 +270,7 @@ module _ (s : State) (g : Good s) (t : Trie) where
     Fit y d = Good (after-put s n (content y) (d .answer) (d .file) (d .trie))
 
     put-made : (y : Layout) (fs : List Slot) → Passed xs t y fs → {r : Result} → Answered (y .b) (place-of y) fs (to-put n (content y)) r → Fit y (put-by-stores xs t y fs n (content y) limit r)
-    unfolding put-by-stores after-put
+    unfolding put-by-stores after-put counts
     put-made y fs p (is-denied d) = stays s g
     put-made y fs p (is-made {ss = ss} c) = go (ltb limit (length ss)) refl (held fs n)
       where

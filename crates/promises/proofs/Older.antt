@@ -11,28 +11,30 @@ use Rattle.model.specs.declared.RemoveAnswer.the-variants.{Refused as RemoveRef
 use Rattle.model.specs.declared.Side.{Side}
 use Rattle.model.specs.declared.Trie.{Trie}
 use Rattle.model.specs.declared.TrieAnswer.the-variants.{Given, Refused as TrieRefused}
-use Rattle.model.specs.Order.{Str}
+use Rattle.model.specs.Order.{Low, Str, _⊑_, _◁_, at}
 use Rattle.model.specs.Names.{broken, filled, is-at-most, is-legal-name}
 use Rattle.model.specs.Entries.{Entry, content-from, find, insert, keep, without}
-use Rattle.model.specs.Files.{Slot, Sound, Well, created, entries-of, first, free, slot-at, used, well-used}
+use Rattle.model.specs.Files.{Slot, Sound, Well, created, entries-of, first, free, slot-at, used, well-free, well-used}
 use Rattle.model.specs.Tries.{root, root-side, walk-of, walk-run}
-use Rattle.model.specs.Changes.{Request, Result, Store, holds?, put, remove, stored}
+use Rattle.model.specs.Changes.{Request, Result, Store, holds?, merged, put, remove, stored, trie-removed}
 use Rattle.model.specs.Places.{place-of}
 use Rattle.model.specs.Checks.{Kind, check, is-above, is-bad, is-cut, is-sound, is-well-formed}
 use Rattle.model.specs.Format.{AreBytes, BadFile, CutFile, are-legal-sizes, bytes-at-slot, check-file, check-read, check-read-with, entry-length, file-bytes, file-size, header-of, is-right-header, kept-run, layout-of, read-file, read-slot, store-bytes}
 use Rattle.model.specs.Calls.{CreateDone, Looked, PutDone, RecoverDone, RemoveDone, arrived-answer, create-of, fine, headed-answer, held, held-answer, landed, list-of, list-on-looked, list-with, look-up-of, look-up-with, looked-at-by, looked-of, new-trie, no-rebuilt, put-answer, put-by-stores, put-made-with, put-of, put-on-looked, put-takes, rebuild-by, rebuild-of, recover-by, recover-of, recover-with, refusing, remove-answer, remove-by-stores, remove-made-with, remove-of, remove-on-looked, slot-answer, stores-bytes, trie-after-put}
-use Rattle.model.specs.Deciding.{le?, not?, str?}
+use Rattle.model.specs.Deciding.{le?, not?, over, str?}
 use Rattle.model.proofs.Names.{both-true, is-legal-name-legal, length-filled}
 use Rattle.model.proofs.Entries.{chosen-no, chosen-yes, length-keep, row-insert, row-keep}
-use Rattle.model.proofs.Changes.{Change, absent, at-set, fits, inside-a, new-well, old-well, removes, splits, well-a}
+use Rattle.model.proofs.Changes.{Change, absent, fits, inside-a, new-well, old-well, removes, splits, well-a}
 use Rattle.model.proofs.Calls.{Answered, is-denied, is-made, put-right, put-taken, remove-right}
 use Rattle.model.proofs.Created.{created-left}
 use Rattle.model.proofs.Places.{place-lt}
 use Rattle.model.proofs.Stores.{Asked, change-legal, left-freed, left-stored, legal-take}
 use Rattle.model.proofs.Checks.{well-is-well-formed}
 use Rattle.model.proofs.CheckedFiles.{CheckedFile, check-file-right}
-use Rattle.model.proofs.Files.{cut-well}
+use Rattle.model.proofs.Files.{at-set, cut-well}
 use Rattle.model.proofs.Format.{are-legal-sizes-sizes, contents-read-file, file-bytes-read-file, headed-header-of, headed-layout, headed-slots, put-fits, read-file-read, read-slot-read-file}
+use Rattle.model.proofs.Order.{le-trans, low-at, low-lower, lt-le}
+use Rattle.model.proofs.Merging.{Removal, alone, leftward, removal-is, rightward, row-merged, whole-low}
 use Rattle.promises.specs.Calls.{our-calls}
 use Rattle.promises.specs.Demand1.{Arrives, RightHeader, here, left-of, right-of, slots-of}
 use Rattle.promises.specs.Older.{BlankFile, HoldsBlank, Older, PlainFile, Reads, checked-by-older, is-older-name, kind-of-older, looked-by-older, older-arrived, older-calls, older-headed, older-rebuild, older-slot-answer}
@@ -270,7 +272,7 @@ module _ (xs : List ℕ) (t : Trie) (F : BlankFile xs) where
   refuses-put name v run limit e h = rw (le-ltb 2 limit h, e, bad-looked xs t F)
 
   refuses-remove : (name : List ℕ) (limit : ℕ) → is-older-name name ≡ true → limit ≤ 2
-      → remove-made-with is-older-name looked-by-older xs t name limit ≡ record { answer = RemoveRefused bad-file; file = xs }
+      → remove-made-with is-older-name looked-by-older xs t name limit ≡ record { answer = RemoveRefused bad-file; file = xs; trie = t }
   unfolding remove-on-looked
   refuses-remove name limit e h = rw (le-ltb 2 limit h, e, bad-looked xs t F)
 

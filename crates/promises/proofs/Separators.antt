@@ -4,7 +4,7 @@ use Rattle.model.specs.Order.{Str}
 use Rattle.model.specs.Names.{Legal}
 use Rattle.model.specs.Entries.{Entry}
 use Rattle.model.specs.Files.{Slot, Sound, string-count}
-use Rattle.model.specs.Changes.{Map, Means, Request, Result, Store, call, put, split-of, split-string, stores}
+use Rattle.model.specs.Changes.{Map, Means, Request, Result, Store, call, counts, put, split-of, split-string, stores}
 use Rattle.model.specs.Places.{digits-at, place-of}
 use Rattle.model.specs.Format.{is-offered, version-1, version-2, version-3}
 use Rattle.model.proofs.Names.{both-true}

@@ -1,27 +1,31 @@
 -- A stopped call says its limit, and as many slots are others than before.
-use Rattle.model.proofs.Prelude.{Bool, List, Option, _*_, _+_, _<_, _∙_, _≡_, _≢_, _≤_, ap, arith, clash, cond, false, getD, le-ltb, length, ltb, ltb-true, mul-le-mul-right, nothing, refl, some, suc, suc-mul, sym, take, true, zero, ℕ, ℕ-discrete}
+use Rattle.model.proofs.Prelude.{Bool, List, Option, [], _*_, _++_, _+_, _/_, _<_, _∙_, _∷_, _≡_, _≢_, _≤_, _⊎_, ap, arith, clash, cond, false, getD, getD-set-same, inl, inr, length, length-set, ltb, ltb-true, mul-le-mul-right, nothing, refl, set, some, suc, suc-mul, sym, take, true, zero, ℕ, ℕ-discrete}
 use Rattle.model.specs.declared.Cause.the-variants.{IllegalName, WrongSize}
 use Rattle.model.specs.declared.Layout.{Layout}
 use Rattle.model.specs.declared.PutAnswer.the-variants.{Refused as PutRefused, Stopped as PutStopped}
 use Rattle.model.specs.declared.RecoverAnswer.the-variants.{Freed, Refused as RecoverRefused, Stopped as RecoverStopped}
-use Rattle.model.specs.declared.RemoveAnswer.the-variants.{Refused as RemoveRefused, Removed, Stopped as RemoveStopped}
+use Rattle.model.specs.declared.RemoveAnswer.the-variants.{Refused as RemoveRefused, Stopped as RemoveStopped}
 use Rattle.model.specs.declared.Trie.{Trie}
-use Rattle.model.specs.Order.{Low, Str}
+use Rattle.model.specs.Order.{Low, Str, _⊑_, _◁_, at}
 use Rattle.model.specs.Names.{filled, is-legal-name}
-use Rattle.model.specs.Entries.{Entry, content-from, find}
+use Rattle.model.specs.Entries.{Entry, content-from, find, without}
 use Rattle.model.specs.Files.{Slot, entries-of, first, free, slot-at, used}
-use Rattle.model.specs.Changes.{Result, Store, holds?, put, remove}
+use Rattle.model.specs.Changes.{Result, Store, holds?, merged, put, remove, trie-removed}
 use Rattle.model.specs.Places.{place-of}
 use Rattle.model.specs.Checks.{Kind, is-bad, is-cut, is-sound}
-use Rattle.model.specs.Format.{bytes-at-slot, bytes-of-slot, check-file, file-size, kept-run, layout-of, read-file, slot-size, store-bytes}
-use Rattle.model.specs.Calls.{Looked, PutDone, RecoverDone, RemoveDone, fine, held, looked-of, put-answer, put-by-stores, put-of, put-on-looked, put-takes, recover-by, recover-of, refusing, remove-by-stores, remove-of, remove-on-looked, stores-bytes, trie-after-put}
-use Rattle.model.specs.Deciding.{str?}
+use Rattle.model.specs.Format.{AreBytes, bytes-at-slot, bytes-of-slot, check-file, entry-length, file-size, kept-run, layout-of, read-file, read-slot, slot-size, store-bytes}
+use Rattle.model.specs.Calls.{Looked, PutDone, RecoverDone, RemoveDone, fine, held, looked-of, put-answer, put-by-stores, put-of, put-on-looked, put-takes, recover-by, recover-of, refusing, remove-answer, remove-by-stores, remove-of, remove-on-looked, stores-bytes, trie-after-put}
+use Rattle.model.specs.Deciding.{over, str?}
 use Rattle.model.proofs.Names.{is-legal-name-legal}
 use Rattle.model.proofs.Entries.{chosen-no, chosen-yes}
 use Rattle.model.proofs.Calls.{Answered, is-denied, is-made, put-right, put-taken, remove-right}
-use Rattle.model.proofs.Format.{bytes-at-slot-store-bytes, bytes-of-slot-read-slot, headed-layout, headed-slots, others-store-bytes, read-file-read, read-slot-read-file}
+use Rattle.model.proofs.Format.{bytes-at-slot-store-bytes, bytes-of-slot-read-slot, contents-read-file, headed-layout, headed-slots, others-store-bytes, read-file-read, read-slot-read-file}
 use Rattle.model.proofs.Lists.{at-replicate}
 use Rattle.model.proofs.Changes.{Change, absent, fits, removes, splits}
+use Rattle.model.proofs.Stores.{Legal as LegalStores, change-legal, left-stored, legal-take}
+use Rattle.model.proofs.Order.{le-refl, le-trans, low-at, low-lower, lt-le}
+use Rattle.model.proofs.Merging.{Removal, alone, leftward, merge-cut, removal-is, rightward, well-r}
+use Rattle.model.proofs.Files.{cut-well, used-inside, well-parts}
 use Rattle.promises.specs.Demand3.{StoppedAt, differing, replaced}
 use Rattle.promises.proofs.Leading.{Passed, looked-passed}
 
@@ -101,7 +105,7 @@ module _ (xs : List ℕ) (t : Trie) (name : List ℕ) (v run limit made : ℕ) w
       go : (k : ℕ) {ss : List Store} → Change (y .b) (place-of y) fs (put n (content y)) ss → k < length ss → replaced xs (stores-bytes y (take k ss) xs) ≡ k
       go zero c h = replaced-none xs e
       go (suc k) (fits is g lo up f) h = absurd (omega arith)
-      go (suc zero) (splits {N = N} is g lo up f L few) h = replaced-one xs e N (L .inside) (L .is-free) _ (used-byte y _ _ _)
+      go (suc zero) (splits {N = N} is g lo up f L few) h = replaced-one xs e N (L .inside) _ (L .is-free) (used-byte y _ _ _)
       go (suc (suc k)) (splits is g lo up f L few) h = absurd (omega arith)
 
   stops-made : (y : Layout) (fs : List Slot) → Passed xs t y fs → {r : Result} → Answered (y .b) (place-of y) fs (put n (content y)) r → Stops (put-by-stores xs t y fs n (content y) limit r)

@@ -162,7 +162,7 @@ pub record Refuses (D : Calls) : Type 0 where
   pub put : (xs : List ℕ) (t : Trie) (name : List ℕ) (v run limit : ℕ) → BlankFile xs → is-older-name name ≡ true → limit ≤ 2
       → D .put xs t name v run limit ≡ record { answer = PutRefused bad-file; file = xs; trie = t }
   pub remove : (xs : List ℕ) (t : Trie) (name : List ℕ) (limit : ℕ) → BlankFile xs → is-older-name name ≡ true → limit ≤ 2
-      → D .remove xs t name limit ≡ record { answer = RemoveRefused bad-file; file = xs }
+      → D .remove xs t name limit ≡ record { answer = RemoveRefused bad-file; file = xs; trie = t }
   pub list : (xs : List ℕ) (t : Trie) (low high out : List ℕ) → BlankFile xs → is-older-name low ≡ true → is-older-name high ≡ true
       → D .list xs t low high out ≡ record { answer = ListRefused bad-file; output = out }
 
