@@ -706,6 +706,25 @@ fn worked_puts(sheet: &mut Sheet) {
     look_up(sheet, "worked", &recovered, &trie, b"rz");
 }
 
+/// The nine words with b = 4, and removals that merge: is to the right, then a to the right again, then the to the left, each
+/// also stopped after its first store.
+fn merges(sheet: &mut Sheet) {
+    let (mut file, mut trie) = new_file(1, 4, 4);
+    for (place, word) in NINE.iter().enumerate() {
+        let content = Content::new(place as u64 + 1, 0);
+        assert_eq!(calls::put(&mut file, &mut trie, word.as_bytes(), content, 2), Answer::Added);
+    }
+    for (merging, others) in [("is", &["in", "of"]), ("a", &["and", "that"]), ("the", &["i", "to"])] {
+        let (stopped, _) = remove(sheet, "worked", &file, &trie, merging.as_bytes(), 1);
+        let (after, merged) = remove(sheet, "worked", &file, &trie, merging.as_bytes(), 2);
+        assert!(recover(sheet, "worked", &stopped, 1) == after);
+        (file, trie) = (after, merged);
+        for word in others {
+            assert_eq!(calls::remove(&mut file, &mut trie, word.as_bytes(), 1), Answer::Removed);
+        }
+    }
+}
+
 /// What version 2 splits otherwise: the last of the nine words, and b = 2 with names that are beginnings of each other. Then a
 /// tie, and names of which the key before the middle one would win against its neighbour. Each also with version 1 in the
 /// header.

@@ -225,7 +225,7 @@ pub record RemoveDone : Type 0 where
 -- R7.10: removed, in one store or the two of a merge; R7.11: absent, without a store.
 abbrev pub remove-answer : List Store → RemoveAnswer
 remove-answer [] = NotHeld
-remove-answer (s ∷ ss) = Removed
+remove-answer (s ∷ ss) = Removed (length (s ∷ ss))
 
 unfoldable pub remove-by-stores : List ℕ → Trie → Layout → List Slot → ℕ → Result → RemoveDone
 remove-by-stores xs t y fs limit (refuse r) = record { answer = RemoveRefused BadFile; file = xs; trie = t }
