@@ -30,7 +30,7 @@ use Rattle.model.proofs.Stores.{Left, Legal as LegalStores, change-legal, left-
 use Rattle.model.proofs.GrownTries.{change-agrees}
 use Rattle.promises.specs.Calls.{our-calls}
 use Rattle.promises.specs.Demand2.{LeadsRight}
-use Rattle.promises.specs.Merging.{Alone, LeafIntervals, Merging, NotLeft, NotRight, Rule, left-many, no-left, no-right, right-many}
+use Rattle.promises.specs.Merging.{Alone, NameGone, Merging, NotLeft, NotRight, Rule, left-many, no-left, no-right, right-many}
 use Rattle.promises.proofs.Leading.{Passed, leads, looked-passed}
 
 -- Which stores.
@@ -122,7 +122,7 @@ module _ (xs : List ℕ) (bytes : AreBytes xs) (t : Trie) (n : Str) (y : Layout)
 
 -- One store or more: no string is new, and the name alone is gone.
 change-leaves : (b : ℕ) (place : List Entry → ℕ) {fs : List Slot} {n : Str} {ss : List Store} → Sound b fs → Change b place fs (remove n) ss → 0 < length ss
-    → LeafIntervals n fs (stored ss fs)
+    → NameGone n fs (stored ss fs)
 change-leaves b place S (absent A is lo up e) h = absurd (omega arith)
 change-leaves b place {fs} {n} S (removes A {l = l} {u = u} {es = es} is lo up e) h = record {
   strings = removal-few b S A l u es n is lo up (removal-is b fs n A l u es);
@@ -166,22 +166,22 @@ record Made (xs : List ℕ) (t : Trie) (name : List ℕ) (limit : ℕ) : Type 0 
   change : Change (layout .b) (place-of layout) slots (remove (filled name)) asked
   some-stores : 0 < length asked
   allowed : length asked ≤ limit
-  is : remove-of xs t name limit ≡ record { answer = Removed; file = stores-bytes layout asked xs; trie = trie-removed slots asked t }
+  is : remove-of xs t name limit ≡ record { answer = Removed (length asked); file = stores-bytes layout asked xs; trie = trie-removed slots asked t }
 
 module _ (xs : List ℕ) (t : Trie) (name : List ℕ) where
-  made : (limit : ℕ) → limit ≤ 2 → remove-of xs t name limit .answer ≡ Removed → Made xs t name limit
+  made : (limit : ℕ) {k : ℕ} → limit ≤ 2 → remove-of xs t name limit .answer ≡ Removed k → Made xs t name limit
   unfolding remove-by-stores
-  made limit h e = by (asking xs t name)
+  made limit {k} h e = by (asking xs t name)
     where
       by : Asking xs t name → Made xs t name limit
-      by (refuses f) = let z : Removed ≡ RemoveRefused (f limit h .0) = sym e ∙ ap (λ (d : RemoveDone). d .answer) (f limit h .1) in clash cc
+      by (refuses f) = let z : Removed k ≡ RemoveRefused (f limit h .0) = sym e ∙ ap (λ (d : RemoveDone). d .answer) (f limit h .1) in clash cc
       by (makes y fs p {ss = ss} c f) = go (ltb limit (length ss)) refl ss refl
         where
           go : (b : Bool) → ltb limit (length ss) ≡ b → (rs : List Store) → ss ≡ rs → Made xs t name limit
           go true g rs q =
-              let z : Removed ≡ RemoveStopped limit = sym e ∙ ap (λ (d : RemoveDone). d .answer) (f limit h) ∙ rw g in clash cc
+              let z : Removed k ≡ RemoveStopped limit = sym e ∙ ap (λ (d : RemoveDone). d .answer) (f limit h) ∙ rw g in clash cc
           go false g [] q =
-              let z : Removed ≡ NotHeld = sym e ∙ ap (λ (d : RemoveDone). d .answer) (f limit h) ∙ rw (g, q) in clash cc
+              let z : Removed k ≡ NotHeld = sym e ∙ ap (λ (d : RemoveDone). d .answer) (f limit h) ∙ rw (g, q) in clash cc
           go false g (r ∷ rs) q = record {
             layout = y;
             slots = fs;
@@ -190,30 +190,42 @@ module _ (xs : List ℕ) (t : Trie) (name : List ℕ) where
             change = c;
             some-stores = rw q (omega arith);
             allowed = ltb-false limit (length ss) g;
-            is = f limit h ∙ rw g (rw q refl);
+            is = f limit h ∙ rw (g, q);
           }
 
-  made-leads : (limit : ℕ) → AreBytes xs → limit ≤ 2 → remove-of xs t name limit .answer ≡ Removed → LeadsRight (remove-of xs t name limit .file) (remove-of xs t name limit .trie)
+  made-leads : (limit : ℕ) {k : ℕ} → AreBytes xs → limit ≤ 2 → remove-of xs t name limit .answer ≡ Removed k → LeadsRight (remove-of xs t name limit .file) (remove-of xs t name limit .trie)
   made-leads limit bytes h e = let M = made limit h e in
       rw (M .is) (whole-leads xs bytes t (filled name) (M .layout) (M .slots) (M .passed) (M .change))
 
-  made-leaves : (limit : ℕ) → AreBytes xs → limit ≤ 2 → remove-of xs t name limit .answer ≡ Removed
-      → (S : SoundFile xs) (T : SoundFile (remove-of xs t name limit .file)) → LeafIntervals (filled name) (S .slots) (T .slots)
+  made-leaves : (limit : ℕ) {k : ℕ} → AreBytes xs → limit ≤ 2 → remove-of xs t name limit .answer ≡ Removed k
+      → (S : SoundFile xs) (T : SoundFile (remove-of xs t name limit .file)) → NameGone (filled name) (S .slots) (T .slots)
   made-leaves limit bytes h e S T = let M = made limit h e in
       let L = whole xs bytes t (filled name) (M .layout) (M .slots) (M .passed) (M .change) in
       let s : S .slots ≡ M .slots = one-reading xs (S .is) (M .passed .is) in
       let r : T .slots ≡ stored (M .asked) (M .slots) = one-reading (remove-of xs t name limit .file) {z = M .layout} (T .is) (rw (M .is) (L .is)) in
       rw (s, r) (change-leaves (M .layout .b) (place-of (M .layout)) (M .passed .sound) (M .change) (M .some-stores))
 
-  made-alone : remove-of xs t name 1 .answer ≡ Removed → Alone xs t (filled name) (remove-of xs t name 1)
+  -- As many stores as it says.
+  made-count : (limit : ℕ) {k : ℕ} → (M : Made xs t name limit) → remove-of xs t name limit .answer ≡ Removed k → length (M .asked) ≡ k
+  made-count limit {k} M e = let z : Removed (length (M .asked)) ≡ Removed k = sym (ap (λ (d : RemoveDone). d .answer) (M .is)) ∙ e in cc
+
+  made-rebuilds : (limit : ℕ) → AreBytes xs → limit ≤ 2 → remove-of xs t name limit .answer ≡ Removed 2
+      → (rebuild-of (remove-of xs t name limit .file) .answer ≡ Given) × (rebuild-of (remove-of xs t name limit .file) .trie ≡ remove-of xs t name limit .trie)
+  made-rebuilds limit bytes h e =
+      let M = made limit h e in
+      let n : length (M .asked) ≡ 2 = made-count limit M e in
+      let built = whole-rebuilt xs bytes t (filled name) (M .layout) (M .slots) (M .passed) (M .change) in
+      rw (M .is) (built .0, built .1 ∙ sym (trie-two (M .slots) (M .asked) t (omega (arith, n))))
+
+  made-alone : (limit : ℕ) → limit ≤ 2 → remove-of xs t name limit .answer ≡ Removed 1 → Alone xs t (filled name) (remove-of xs t name limit)
   unfolding stores-bytes trie-removed
-  made-alone e = by (made 1 (omega arith) e)
+  made-alone limit b e = by (made limit b e)
     where
-      by : Made xs t name 1 → Alone xs t (filled name) (remove-of xs t name 1)
-      by M = rw (M .is) (go (M .change) (M .some-stores) (M .allowed))
+      by : Made xs t name limit → Alone xs t (filled name) (remove-of xs t name limit)
+      by M = rw (M .is) (go (M .change) (M .some-stores) (omega (arith, made-count limit M e)))
         where
           Left-by : List Store → Type 0
-          Left-by ss = Alone xs t (filled name) (record { answer = Removed; file = stores-bytes (M .layout) ss xs; trie = trie-removed (M .slots) ss t })
+          Left-by ss = Alone xs t (filled name) (record { answer = Removed (length (M .asked)); file = stores-bytes (M .layout) ss xs; trie = trie-removed (M .slots) ss t })
 
           go : {ss : List Store} → Change (M .layout .b) (place-of (M .layout)) (M .slots) (remove (filled name)) ss → 0 < length ss → length ss ≤ 1 → Left-by ss
           go (absent A is lo up q) h k = absurd (omega arith)
@@ -255,7 +267,7 @@ module _ (xs : List ℕ) (t : Trie) (name : List ℕ) where
           go false h [] q =
               let z : RemoveStopped reached ≡ NotHeld = sym e ∙ ap (λ (d : RemoveDone). d .answer) (f 1 (omega arith)) ∙ rw (h, q) in clash cc
           go false h (r ∷ rs) q =
-              let z : RemoveStopped reached ≡ Removed = sym e ∙ ap (λ (d : RemoveDone). d .answer) (f 1 (omega arith)) ∙ rw (h, q) in clash cc
+              let z : RemoveStopped reached ≡ Removed (length (r ∷ rs)) = sym e ∙ ap (λ (d : RemoveDone). d .answer) (f 1 (omega arith)) ∙ rw (h, q) in clash cc
           go true h rs q =
               let more : 1 < length ss = ltb-true 1 (length ss) h in
               let most : length ss ≤ 2 = change-length (y .b) (place-of y) (place-lt y (file-bytes-read-file xs (p .is) .1 .b-least)) c in
@@ -268,8 +280,9 @@ module _ (xs : List ℕ) (t : Trie) (name : List ℕ) where
 pub merging : Merging our-calls
 merging = record {
   rule = rule;
-  leads = λ xs t name limit bytes h e. made-leads xs t name limit bytes h e;
-  leaves = λ xs t name limit bytes h e. made-leaves xs t name limit bytes h e;
+  leads = λ xs t name limit k bytes h e. made-leads xs t name limit bytes h e;
+  leaves = λ xs t name limit k bytes h e. made-leaves xs t name limit bytes h e;
   as-before = made-alone;
+  rebuilds = made-rebuilds;
   recovers = made-recovers;
 }

@@ -66,7 +66,7 @@ after-put s n v (PutStopped made) xs t = down xs (said s)
 after-put s n v (PutRefused c) xs t = now xs s
 
 unfoldable pub after-remove : State → Str → RemoveAnswer → List ℕ → Trie → State
-after-remove s n Removed xs t = running xs t (meant (to-remove n) (said s))
+after-remove s n (Removed stores) xs t = running xs t (meant (to-remove n) (said s))
 after-remove s n Absent xs t = running xs t (meant (to-remove n) (said s))
 after-remove s n (RemoveStopped zero) xs t = down xs (said s)
 after-remove s n (RemoveStopped (suc made)) xs t = down xs (meant (to-remove n) (said s))

@@ -56,7 +56,7 @@ pub record Alone (xs : List ℕ) (t : Trie) (n : Str) (d : RemoveDone) : Type 0 
   pub trie : d .trie ≡ t
 
 -- A removal that was made, with a merge or without: no string is new, and of all entries, in order, the name alone is gone.
-pub record LeafIntervals (n : Str) (fs gs : List Slot) : Type 0 where
+pub record NameGone (n : Str) (fs gs : List Slot) : Type 0 where
   pub strings : string-count gs ≤ string-count fs
   pub entries : entries-in gs (order-of gs) ≡ without n (entries-in fs (order-of fs))
 
@@ -64,12 +64,15 @@ pub record Merging (C : Calls) : Type 0 where
   pub rule : (b : ℕ) (place : List Entry → ℕ) (fs : List Slot) → Sound b fs → (n : Str) (A : ℕ) (l : Low) (u : Str) (es : List Entry) (w : ℕ)
       → slot-at fs A ≡ used l u es → l ◁ n → n ⊑ u → find n es ≡ some w → Rule b place fs n A l u es
   -- What a removal that was made leaves is sound, and its trie leads every name right;
-  pub leads : (xs : List ℕ) (t : Trie) (name : List ℕ) (limit : ℕ) → AreBytes xs → limit ≤ 2 → C .remove xs t name limit .answer ≡ Removed
+  pub leads : (xs : List ℕ) (t : Trie) (name : List ℕ) (limit stores : ℕ) → AreBytes xs → limit ≤ 2 → C .remove xs t name limit .answer ≡ Removed stores
       → LeadsRight (C .remove xs t name limit .file) (C .remove xs t name limit .trie)
-  pub leaves : (xs : List ℕ) (t : Trie) (name : List ℕ) (limit : ℕ) → AreBytes xs → limit ≤ 2 → C .remove xs t name limit .answer ≡ Removed
-      → (S : SoundFile xs) (T : SoundFile (C .remove xs t name limit .file)) → LeafIntervals (filled name) (S .slots) (T .slots)
-  -- One that needs one store is as before.
-  pub as-before : (xs : List ℕ) (t : Trie) (name : List ℕ) → C .remove xs t name 1 .answer ≡ Removed → Alone xs t (filled name) (C .remove xs t name 1)
+  pub leaves : (xs : List ℕ) (t : Trie) (name : List ℕ) (limit stores : ℕ) → AreBytes xs → limit ≤ 2 → C .remove xs t name limit .answer ≡ Removed stores
+      → (S : SoundFile xs) (T : SoundFile (C .remove xs t name limit .file)) → NameGone (filled name) (S .slots) (T .slots)
+  -- One in one store is as before; one in two has merged, and its trie is the rebuilt one.
+  pub as-before : (xs : List ℕ) (t : Trie) (name : List ℕ) (limit : ℕ) → limit ≤ 2 → C .remove xs t name limit .answer ≡ Removed 1
+      → Alone xs t (filled name) (C .remove xs t name limit)
+  pub rebuilds : (xs : List ℕ) (t : Trie) (name : List ℕ) (limit : ℕ) → AreBytes xs → limit ≤ 2 → C .remove xs t name limit .answer ≡ Removed 2
+      → (C .rebuild (C .remove xs t name limit .file) .answer ≡ Given) × (C .rebuild (C .remove xs t name limit .file) .trie ≡ C .remove xs t name limit .trie)
   -- One that is stopped after its first store is recovered to exactly what the whole call leaves, file and trie.
   pub recovers : (xs : List ℕ) (t : Trie) (name : List ℕ) (made : ℕ) → AreBytes xs → C .remove xs t name 1 .answer ≡ RemoveStopped made
       → (limit : ℕ) → 0 < limit → limit ≤ 2

@@ -95,7 +95,7 @@ stores-nothing = with-put (make-put take (λ made. made) (λ ss. []))
 
 -- The same of remove: it stores nothing, and says of every name that it is absent.
 unfoldable pub absent-instead : List ℕ → Trie → RemoveAnswer → RemoveDone
-absent-instead xs t Removed = record { answer = NotHeld; file = xs; trie = t }
+absent-instead xs t (Removed made) = record { answer = NotHeld; file = xs; trie = t }
 absent-instead xs t NotHeld = record { answer = NotHeld; file = xs; trie = t }
 absent-instead xs t (RemoveStopped made) = record { answer = RemoveStopped made; file = xs; trie = t }
 absent-instead xs t (RemoveRefused c) = record { answer = RemoveRefused c; file = xs; trie = t }
