@@ -1,11 +1,8 @@
 -- Little-endian numbers, one after the other, are the sum; the content of an entry as value and run; and an entry as the code writes it.
-use Rattle.model.proofs.Prelude.{List, Option, [], _%_, _*_, _++_, _+_, _-_, _/_, _<_, _^_, _∙_, _∷_, _≡_, _≤_, _⊎_, ap, append-assoc, arith, clash, decLt, drop, inl, inr, length, length-append, mul-assoc, paste, pow-succ', pow-zero, refl, replicate, some, suc, sym, take, zero, ℕ}
-use Rattle.model.specs.Order.{Str}
-use Rattle.model.specs.Entries.{Entry, content-from, find, run-of-content, value-of-content}
+use Rattle.model.proofs.Prelude.{List, [], _%_, _*_, _++_, _+_, _-_, _/_, _<_, _^_, _∙_, _∷_, _≡_, _≤_, ap, append-assoc, arith, drop, length, length-append, mul-assoc, paste, pow-succ', pow-zero, refl, replicate, suc, sym, take, zero, ℕ}
+use Rattle.model.specs.Entries.{Entry, run-of-content, value-of-content}
 use Rattle.model.specs.Format.{bytes-of-entry, little-endian, padded, value-of}
-use Rattle.model.specs.Deciding.{str?}
-use Rattle.model.proofs.Entries.{chosen-no, chosen-yes}
-use Rattle.model.proofs.Format.{Contents, EntrySize, both-below, length-bytes-of-entry, length-little-endian, run-part, value-part}
+use Rattle.model.proofs.Format.{EntrySize, length-bytes-of-entry, length-little-endian, run-part, value-part}
 use Rattle.digits.proofs.Bytes.{value-of-split}
 use Rattle.entries.specs.Rows.{content-number}
 use Rattle.entries.specs.declared.Content.{Content}
@@ -51,10 +48,6 @@ eight-bytes v =
     let g : v / 281474976710656 / 256 ≡ v / 72057594037927936 = omega arith in
     rw (b, c, d, e, f, g)
 
--- The two sizes.
-pub sizes : {e : ℕ} → EntrySize e → (e ≡ 32) ⊎ (e ≡ 40)
-sizes {e} s = elim (decLt e 40) [ yes h ↦ inl (omega arith) | no h ↦ inr (omega arith) ]
-
 -- Value and run of a content, and back.
 pub value-is : (c : Content) → c .value < 2 ^ 64 → value-of-content (content-number c) ≡ c .value
 unfolding content-number
@@ -63,19 +56,6 @@ value-is c h = value-part (c .value) (c .run) h
 pub run-is : (c : Content) → c .value < 2 ^ 64 → run-of-content (content-number c) ≡ c .run
 unfolding content-number
 run-is c h = run-part (c .value) (c .run) h
-
--- A content of 32 bytes has the run 0.
-pub run-none : (n : ℕ) → n < 256 ^ (32 - 24) → (run-of-content n ≡ 0) × (value-of-content n ≡ n)
-unfolding value-of-content run-of-content
-run-none n h = omega arith
-
-pub content-fits : (e : ℕ) (c : Content) → EntrySize e → c .value < 2 ^ 64 → c .run < 2 ^ 64 → (e ≡ 32 → c .run ≡ 0) → content-number c < 256 ^ (e - 24)
-unfolding content-number content-from
-content-fits e c s h k f = go (sizes s)
-  where
-    go : (e ≡ 32) ⊎ (e ≡ 40) → c .value + 2 ^ 64 * c .run < 256 ^ (e - 24)
-    go (inl q) = rw (q, f q) (omega arith)
-    go (inr q) = let z : 256 ^ 16 ≡ 2 ^ 64 * 2 ^ 64 = refl in rw (q, z) (both-below (2 ^ 64) (2 ^ 64) (c .value) (c .run) h k)
 
 -- The content as the code reads it.
 module _ (e at : ℕ) (xs : List ℕ) (s : EntrySize e) (h : at + e ≤ length xs) where
@@ -124,14 +104,3 @@ pub entry-part : (e : ℕ) (x : Entry) (ys : List ℕ) → EntrySize e → lengt
 entry-part e x ys s h q =
     let z : e - 0 ≡ e = omega arith in
     rw (z, q) (take-padded-whole e 40 (bytes-of-entry e x) (length-bytes-of-entry e (omega arith) x h) (omega arith))
-
--- What is found under a name has room behind it.
-pub contents-find : (e : ℕ) (n : Str) (es : List Entry) (w : ℕ) → Contents e es → find n es ≡ some w → w < 256 ^ (e - 24)
-unfolding find
-contents-find e n [] w c h = clash cc
-contents-find e n (x ∷ es) w c h = elim (str? n (x .0)) [
-  | yes p ↦ let z : _≡_ {A = Option ℕ} (some (x .1)) (some w) = sym (chosen-yes (str? n (x .0)) p _ _) ∙ h in
-      let q : x .1 ≡ w = cc in
-      rw (← q) (c .0)
-  | no p ↦ contents-find e n es w (c .1) (sym (chosen-no (str? n (x .0)) p _ _) ∙ h)
-]

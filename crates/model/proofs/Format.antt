@@ -3,10 +3,12 @@ use Rattle.model.proofs.Prelude.{Bool, List, List·getD-eq-default, Opt
 use Rattle.model.specs.declared.Layout.{Layout}
 use Rattle.model.specs.Order.{Low, Str, _◁_, above, at, least, top}
 use Rattle.model.specs.Names.{BoundLow, Digits, Legal, filled, limit, unlimited}
-use Rattle.model.specs.Entries.{Entry, Row, content-from, entry, no-entries, run-of-content, value-of-content}
+use Rattle.model.specs.Deciding.{str?}
+use Rattle.model.specs.Entries.{Entry, Row, content-from, entry, find, no-entries, run-of-content, value-of-content}
 use Rattle.model.specs.Files.{Slot, Well, entries-of, free, slot-at, used, well-used}
 use Rattle.model.specs.Checks.{same-str}
 use Rattle.model.specs.Format.{AreBytes, Sizes, are-legal-sizes, bytes-at-slot, bytes-of-entries, bytes-of-entry, bytes-of-slot, digits-of-low, entry-length, file-bytes, file-size, header-bytes, header-of, is-offered, is-right-header, joined, kept-run, laid-out, layout-of, little-endian, low-of, padded, read-by, read-entries, read-file, read-slot, read-slots, read-used-slot, slot-size, slots-bytes, store-bytes, used-of, value-of}
+use Rattle.model.proofs.Entries.{chosen-no, chosen-yes}
 use Rattle.model.proofs.Lists.{at-taken, drop-past, drop-take, length-made, made-short, take-past}
 use Rattle.model.proofs.Names.{both-true, legal-length}
 use Rattle.model.proofs.Checks.{same-str-equal, same-str-self}
@@ -25,7 +27,7 @@ entry-size y = go (eqb (y .version) 3)
     go true = record { least = omega arith; most = omega arith; eights = refl }
     go false = record { least = omega arith; most = omega arith; eights = refl }
 
-pub both-below : (a b v r : ℕ) → v < a → r < b → v + a * r < a * b
+both-below : (a b v r : ℕ) → v < a → r < b → v + a * r < a * b
 both-below a b v r h k = let l : suc r ≤ b = k in omega (arith, mul-le-mul-left a l)
 
 -- The content of a put fits every entry: a value and a run of eight bytes each, of which versions 1 and 2 keep the value alone.
@@ -55,6 +57,17 @@ no-run y c e h = let k : c < 256 ^ (32 - 24) = rw e at h in omega arith
 abbrev pub Contents : ℕ → List Entry → Type 0
 Contents e [] = Unit {0}
 Contents e (x ∷ es) = (x .1 < 256 ^ (e - 24)) × Contents e es
+
+-- What is found under a name has room behind it.
+pub contents-find : (e : ℕ) (n : Str) (es : List Entry) (w : ℕ) → Contents e es → find n es ≡ some w → w < 256 ^ (e - 24)
+unfolding find
+contents-find e n [] w c h = clash cc
+contents-find e n (x ∷ es) w c h = elim (str? n (x .0)) [
+  | yes p ↦ let z : _≡_ {A = Option ℕ} (some (x .1)) (some w) = sym (chosen-yes (str? n (x .0)) p _ _) ∙ h in
+      let q : x .1 ≡ w = cc in
+      rw (← q) (c .0)
+  | no p ↦ contents-find e n es w (c .1) (sym (chosen-no (str? n (x .0)) p _ _) ∙ h)
+]
 
 pub value-of-little-endian : (n v : ℕ) → v < 256 ^ n → value-of (little-endian n v) ≡ v
 unfolding value-of little-endian

@@ -15,7 +15,7 @@ use Rattle.model.proofs.Files.{one-range}
 use Rattle.model.specs.Order.{Str}
 use Rattle.model.specs.Names.{Legal, are-digits, broken, filled, first-digit, is-at-most, is-blank-digit, is-legal-name, last-of}
 use Rattle.model.specs.Entries.{Entry, content-from, find, is-older}
-use Rattle.model.specs.Files.{In, Slot, Well, created, entries-of, first, free, head, order-of, slot-at, string-count, used, well-free}
+use Rattle.model.specs.Files.{In, Slot, Well, created, first, free, head, order-of, slot-at, string-count, used, well-free}
 use Rattle.model.specs.Tries.{Agrees, root, root-side, walk-of, walk-run}
 use Rattle.model.specs.Rebuilding.{rebuilt-trie}
 use Rattle.model.specs.Changes.{Denied, Request, Result, Store, holds?, no-room, put, remove, too-many, trie-removed}

@@ -7,17 +7,17 @@ use Rattle.model.specs.declared.PutAnswer.the-variants.{Refused as PutRefused, 
 use Rattle.model.specs.declared.TrieAnswer.the-variants.{Given, Refused as TrieRefused}
 use Rattle.model.specs.Order.{Str}
 use Rattle.model.specs.Names.{Legal, filled, is-legal-name}
-use Rattle.model.specs.Entries.{content-from, find, insert}
-use Rattle.model.specs.Files.{Slot, Sound, created, entries-of, first, slot-at, string-count}
+use Rattle.model.specs.Entries.{content-from, insert}
+use Rattle.model.specs.Files.{Slot, Sound, created, string-count}
 use Rattle.model.specs.Tries.{Agrees}
 use Rattle.model.specs.Rebuilding.{rebuilt-trie}
-use Rattle.model.specs.Changes.{Result, Store, holds?, put, stored}
+use Rattle.model.specs.Changes.{Result, Store, put, stored}
 use Rattle.model.specs.Checks.{Kind, is-bad, is-cut, is-sound}
 use Rattle.model.specs.Agreeing.{is-agreeing}
 use Rattle.model.specs.Format.{AreBytes, SoundFile, are-legal-sizes, check-file, file-bytes, file-size, kept-run, read-file}
 use Rattle.model.specs.Places.{place-of}
 use Rattle.model.specs.Answers.{stale-trie}
-use Rattle.model.specs.Calls.{CreateDone, Looked, PutDone, create-of, fine, held, looked-at-by, looked-of, new-trie, no-rebuilt, put-answer, put-by-stores, put-of, put-on-looked, put-takes, rebuild-by, rebuild-of, refusing, stores-bytes, trie-after-put}
+use Rattle.model.specs.Calls.{CreateDone, Looked, PutDone, create-of, fine, held, looked-at-by, looked-of, new-trie, no-rebuilt, put-answer, put-by-stores, put-of, put-on-looked, rebuild-by, rebuild-of, refusing, stores-bytes, trie-after-put}
 use Rattle.model.proofs.Names.{both-true, is-legal-name-legal}
 use Rattle.model.proofs.Files.{one-range}
 use Rattle.model.proofs.Agreement.{agrees-walk, rebuilt-trie-agrees}

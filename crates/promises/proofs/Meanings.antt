@@ -186,7 +186,7 @@ meanings = record {
 }
 
 -- The checks of put, remove and list.
-passed-looked : (xs : List ℕ) (t : Trie) (y : Layout) (fs : List Slot) → read-file xs ≡ some (y, fs) → Sound (y .b) fs → Agrees fs t → looked-of xs t ≡ fine y fs
+pub passed-looked : (xs : List ℕ) (t : Trie) (y : Layout) (fs : List Slot) → read-file xs ≡ some (y, fs) → Sound (y .b) fs → Agrees fs t → looked-of xs t ≡ fine y fs
 unfolding looked-of looked-at-by
 passed-looked xs t y fs e S A =
     rw (check-file-sound xs (record { layout = y; slots = fs; is = e; sound = S }), e, agrees-is-agreeing (y .b) S A)

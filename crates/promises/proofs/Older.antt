@@ -14,13 +14,13 @@ use Rattle.model.specs.declared.TrieAnswer.the-variants.{Given, Refused as Trie
 use Rattle.model.specs.Order.{Low, Str, _⊑_, _◁_, at}
 use Rattle.model.specs.Names.{broken, filled, is-at-most, is-legal-name}
 use Rattle.model.specs.Entries.{Entry, content-from, find, insert, keep, without}
-use Rattle.model.specs.Files.{Slot, Sound, Well, created, entries-of, first, free, slot-at, used, well-free, well-used}
+use Rattle.model.specs.Files.{Slot, Sound, Well, created, first, free, slot-at, used, well-free, well-used}
 use Rattle.model.specs.Tries.{root, root-side, walk-of, walk-run}
-use Rattle.model.specs.Changes.{Request, Result, Store, holds?, merged, put, remove, stored, trie-removed}
+use Rattle.model.specs.Changes.{Request, Result, Store, merged, put, remove, stored, trie-removed}
 use Rattle.model.specs.Places.{place-of}
 use Rattle.model.specs.Checks.{Kind, check, is-above, is-bad, is-cut, is-sound, is-well-formed}
 use Rattle.model.specs.Format.{AreBytes, BadFile, CutFile, are-legal-sizes, bytes-at-slot, check-file, check-read, check-read-with, entry-length, file-bytes, file-size, header-of, is-right-header, kept-run, layout-of, read-file, read-slot, store-bytes}
-use Rattle.model.specs.Calls.{CreateDone, Looked, PutDone, RecoverDone, RemoveDone, arrived-answer, create-of, fine, headed-answer, held, held-answer, landed, list-of, list-on-looked, list-with, look-up-of, look-up-with, looked-at-by, looked-of, new-trie, no-rebuilt, put-answer, put-by-stores, put-made-with, put-of, put-on-looked, put-takes, rebuild-by, rebuild-of, recover-by, recover-of, recover-with, refusing, remove-answer, remove-by-stores, remove-made-with, remove-of, remove-on-looked, slot-answer, stores-bytes, trie-after-put}
+use Rattle.model.specs.Calls.{CreateDone, Looked, PutDone, RecoverDone, RemoveDone, arrived-answer, create-of, fine, headed-answer, held, held-answer, landed, list-of, list-on-looked, list-with, look-up-of, look-up-with, looked-at-by, looked-of, new-trie, no-rebuilt, put-answer, put-by-stores, put-made-with, put-of, put-on-looked, rebuild-by, rebuild-of, recover-by, recover-of, recover-with, refusing, remove-answer, remove-by-stores, remove-made-with, remove-of, remove-on-looked, slot-answer, stores-bytes, trie-after-put}
 use Rattle.model.specs.Deciding.{le?, not?, over, str?}
 use Rattle.model.proofs.Names.{both-true, is-legal-name-legal, length-filled}
 use Rattle.model.proofs.Entries.{chosen-no, chosen-yes, length-keep, row-insert, row-keep}

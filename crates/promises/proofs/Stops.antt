@@ -9,12 +9,12 @@ use Rattle.model.specs.declared.Trie.{Trie}
 use Rattle.model.specs.Order.{Low, Str, _⊑_, _◁_, at}
 use Rattle.model.specs.Names.{filled, is-legal-name}
 use Rattle.model.specs.Entries.{Entry, content-from, find, without}
-use Rattle.model.specs.Files.{Slot, entries-of, first, free, slot-at, used}
-use Rattle.model.specs.Changes.{Result, Store, holds?, merged, put, remove, trie-removed}
+use Rattle.model.specs.Files.{Slot, first, free, slot-at, used}
+use Rattle.model.specs.Changes.{Result, Store, merged, put, remove, trie-removed}
 use Rattle.model.specs.Places.{place-of}
 use Rattle.model.specs.Checks.{Kind, is-bad, is-cut, is-sound}
 use Rattle.model.specs.Format.{AreBytes, bytes-at-slot, bytes-of-slot, check-file, entry-length, file-size, kept-run, layout-of, read-file, read-slot, slot-size, store-bytes}
-use Rattle.model.specs.Calls.{Looked, PutDone, RecoverDone, RemoveDone, fine, held, looked-of, put-answer, put-by-stores, put-of, put-on-looked, put-takes, recover-by, recover-of, refusing, remove-answer, remove-by-stores, remove-of, remove-on-looked, stores-bytes, trie-after-put}
+use Rattle.model.specs.Calls.{Looked, PutDone, RecoverDone, RemoveDone, fine, held, looked-of, put-answer, put-by-stores, put-of, put-on-looked, recover-by, recover-of, refusing, remove-answer, remove-by-stores, remove-of, remove-on-looked, stores-bytes, trie-after-put}
 use Rattle.model.specs.Deciding.{over, str?}
 use Rattle.model.proofs.Names.{is-legal-name-legal}
 use Rattle.model.proofs.Entries.{chosen-no, chosen-yes}

@@ -1,16 +1,14 @@
 -- Where a name left the range: what demand 1 says of a refusal 4, of any calls.
 use Rattle.model.proofs.Prelude.{Bool, List, Option, [], _<_, _∙_, _∷_, _≡_, _≤_, _⊎_, arith, clash, false, inl, inr, nothing, refl, some, sym, true, ℕ}
-use Rattle.model.specs.declared.Cause.{Cause}
 use Rattle.model.specs.declared.Cause.the-variants.{StaleTrie}
-use Rattle.model.specs.declared.LookUpAnswer.the-variants.{Refused as LookUpRefused}
 use Rattle.model.specs.declared.Trie.{Trie}
 use Rattle.model.specs.Names.{filled, is-legal-name}
-use Rattle.model.specs.Files.{Slot, free, used}
+use Rattle.model.specs.Files.{free}
 use Rattle.model.specs.Tries.{root}
 use Rattle.model.specs.Format.{bytes-at-slot, is-right-header, layout-of, read-slot}
 use Rattle.model.proofs.Names.{length-filled, never-both}
 use Rattle.promises.specs.Calls.{Calls, our-calls}
-use Rattle.promises.specs.Demand1.{Demand1, Ends, FirstHolding, IsMalformed, IsZero, Lacks, LegalName, Lost, RightHeader, Table, because, create-table, list-table, look-up-table, off-at, put-table, rebuild-table, recover-table, remove-table, slots-of}
+use Rattle.promises.specs.Demand1.{Demand1, Ends, FirstHolding, IsMalformed, IsZero, LegalName, Lost, RightHeader, Table, because, create-table, list-table, look-up-table, off-at, put-table, rebuild-table, recover-table, remove-table, slots-of}
 use Rattle.promises.specs.Where.{LeftRange, Where}
 use Rattle.promises.proofs.Differing.{breaks-fits, one-bound, one-number}
 use Rattle.promises.proofs.Demand1.{at-end, demand-1, ended, header-right, illegal, legal-name, right-header, zero-free}
