@@ -2,18 +2,20 @@
 // refusals R10.9, and then plans its stores, without the limit and without writing, before it commits them.
 ghost use mathlib.Core.Path.{_≡_};
 ghost use Prim.Native.Nat.{_≤_, _<_, _+_};
-ghost use lib.ListN.{length, take};
+ghost use lib.ListN.{getD, length, take};
 ghost use Rattle.model.specs.Calls.{put-of, remove-of};
 ghost use Rattle.model.specs.Format.{kept-run};
+ghost use Rattle.model.specs.Names.{Legal};
 ghost use Rattle.slots.specs.Spots.{Spotted};
 ghost use Rattle.file.specs.Plans.{Fits};
-ghost use Rattle.file.specs.Sizes.{Sized};
+ghost use Rattle.file.specs.Sizes.{Below, Sized};
 ghost use Rattle.growth.specs.Grows.{Grows};
 ghost use Rattle.checking.specs.Ready.{Agreed, Ready};
 ghost use Rattle.splitting.specs.Parts.{Parted};
 ghost use Rattle.changing.specs.Full.{DivideTold};
 ghost use Rattle.changing.specs.Outcomes.{put as putDone, removed as removeDone};
-ghost use Rattle.changing.specs.Splits.{AddTold, PutTold, RemoveTold, RenewTold, ReplaceTold, SplitTold};
+ghost use Rattle.changing.specs.Splits.{AddTold, PutTold, RenewTold, ReplaceTold, SplitTold};
+ghost use Rattle.changing.specs.Merges.{CountTold, LeftTold, MergeTold, RemovalTold, RemoveTold, RightTold, TrieTold};
 ghost use Rattle.changing.specs.Homes.{HomeTold};
 use bucket::SLOT;
 use checking::Checked;
@@ -395,7 +397,7 @@ fn removal(file: &[u8], checked: Checked, place: usize, spot: Spot) -> RemovePla
 
 // R7.10: remove from a file that passed the checks. An absent name needs no store.
 fn remove_plan(file: &[u8], checked: Checked, name: &[u8; 24]) -> RemovePlan
-    requires { ⌜ Ready checked (now file) ⌝ }
+    requires { ⌜ (Ready checked (now file)) × (Legal (now name)) ⌝ }
     ensures { λ r. ⌜ (Fits (r .plan) (checked .size)) × (RemoveTold r checked (now (file .entry)) (now (name .entry))) ⌝ }
 {
     let size = checked.size;
