@@ -53,9 +53,9 @@ RemovePlanned p y fs (stores ss) = Planned (p .plan) y ss × (1 < length ss → 
 abbrev pub MergeTold : RemovePlan → Checked → List ℕ → ℕ → ℕ → ℕ → ℕ → Type 0
 MergeTold r c xs right m n i =
     (fs : List Slot) → read-file xs ≡ some (c .size .layout, fs) → (p : ℕ) → suc p ≡ right → (l : Low) (s u : Str) (es gs : List Entry)
-    → placed fs p ≡ used l s es → placed fs right ≡ used (at s) u gs → m ≡ length es → n ≡ length gs → (k : Str) → l ◁ k → k ⊑ u
+    → placed fs p ≡ used l s es → placed fs (suc p) ≡ used (at s) u gs → m ≡ length es → n ≡ length gs → (k : Str) → l ◁ k → k ⊑ u
     → length (without k (es ++ gs)) ≤ c .size .layout .b / 2 → (w : ℕ) → find k (es ++ gs) ≡ some w → i ≡ place k (es ++ gs)
-    → RemovePlanned r (c .size .layout) fs (stores (merged k (getD (order-of fs) p 0) (getD (order-of fs) right 0) l u es gs))
+    → RemovePlanned r (c .size .layout) fs (stores (merged k (getD (order-of fs) p 0) (getD (order-of fs) (suc p) 0) l u es gs))
 
 -- A name that the bucket at a place in order holds.
 abbrev pub RemovalTold : RemovePlan → Checked → List ℕ → ℕ → Spot → Type 0
@@ -73,5 +73,6 @@ RemoveTold r c xs n =
 abbrev pub TrieTold : Trie → Checked → List ℕ → ℕ → Type 0
 TrieTold r c xs right =
     (fs : List Slot) → read-file xs ≡ some (c .size .layout, fs) → Sound (c .size .layout .b) fs
+    → length fs ≡ c .size .slots → c .survey .count ≡ suc (length (order-of fs))
     → order-of fs ≡ take right (take (c .survey .count) (c .survey .order)) ++ drop (suc right) (take (c .survey .count) (c .survey .order))
     → string-count fs ≤ 256 → r ≡ rebuilt-trie fs

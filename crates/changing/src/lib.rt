@@ -292,7 +292,7 @@ pub struct RemovePlan {
     pub right: usize,
 }
 
-fn removing(plan: Plan, right: usize) -> RemovePlan
+fn removal_planned(plan: Plan, right: usize) -> RemovePlan
     ensures { λ r. ⌜ (r .plan ≡ plan) × (r .right ≡ right) ⌝ }
 {
     RemovePlan { plan, right }
@@ -368,7 +368,7 @@ fn merge(
         size.layout,
         i,
     );
-    removing(file::two_stores(l, &wide, r, &[0u8; SLOT]), right)
+    removal_planned(file::two_stores(l, &wide, r, &[0u8; SLOT]), right)
 }
 
 // The removal of a name that is held, at its spot in the bucket at a place in order. Without the name, this bucket and its right
@@ -392,7 +392,7 @@ fn removal(file: &[u8], checked: Checked, place: usize, spot: Spot) -> RemovePla
     }
     let k = slot_at_place(checked, place);
     let new = slots::lessened(file::slot_at(file, size, k), layout, spot);
-    removing(file::one_store(k, &new), 0)
+    removal_planned(file::one_store(k, &new), 0)
 }
 
 // R7.10: remove from a file that passed the checks. An absent name needs no store.
@@ -408,7 +408,7 @@ fn remove_plan(file: &[u8], checked: Checked, name: &[u8; 24]) -> RemovePlan
     let k = slot_at_place(checked, place);
     let spot = slots::spot_in(file::slot_at(file, size, k), size.layout, key);
     if !spot.held {
-        return removing(file::no_store(), 0);
+        return removal_planned(file::no_store(), 0);
     }
     removal(file, checked, place, spot)
 }
