@@ -174,7 +174,10 @@ pub fn by_model(call: &Call) -> Outcome {
             if trie.len() != IMAGE {
                 return outcome;
             }
-            calls::remove(&mut outcome.file, &read_image(trie), name, *limit)
+            let mut merged = read_image(trie);
+            let answer = calls::remove(&mut outcome.file, &mut merged, name, *limit);
+            outcome.trie = write_image(&merged);
+            answer
         }
         Call::List { file, trie, first, second, output } => {
             outcome.file.clone_from(file);

@@ -22,13 +22,14 @@ fn world(chance: &mut Chance) -> Vec<Vec<u8>> {
     names
 }
 
-/// Tells one history. `call` makes a call and gives what it left behind.
+/// Tells one history. `call` makes a call and gives what it left behind. The answer is how many merges were stopped between
+/// their two stores.
 ///
 /// R13.3: from a new file, puts and removes in any order, any of them stopped after any of its stores. After a stop the
 /// trie is thrown away, the file recovered (again, if that was stopped too) and the trie rebuilt. What was stopped
-/// before its last store counts as never made. Every legal name looks up as this history says, and nothing refuses a
-/// recovery or the rebuilding after it.
-pub fn tell(seed: u64, mut call: impl FnMut(Call) -> Outcome) {
+/// before its last store counts as never made, but a removal that merges counts from its first store on. Every legal name
+/// looks up as this history says, and nothing refuses a recovery or the rebuilding after it.
+pub fn tell(seed: u64, mut call: impl FnMut(Call) -> Outcome) -> usize {
     let mut chance = Chance::new(seed);
     let b = chance.between(2, 5);
     let slots = chance.between(1, 24);
@@ -45,8 +46,16 @@ pub fn tell(seed: u64, mut call: impl FnMut(Call) -> Outcome) {
     });
     assert_eq!(made.answer, 150);
     let (mut file, mut trie) = (made.file, made.trie);
+    let mut merges_stopped = 0;
     for step in 0..60 {
-        let name = chance.pick(&names).clone();
+        let mut name = chance.pick(&names).clone();
+        // In the middle more is removed than put, and mostly what is held.
+        let puts = if (20..45).contains(&step) { 30 } else { 80 };
+        let removes = !chance.percent(puts);
+        if removes && !history.is_empty() && chance.percent(75) {
+            let held: Vec<&Vec<u8>> = history.keys().collect();
+            name = chance.pick(&held).to_vec();
+        }
         let limit = chance.below(3) as u64;
         // Now and then a refused call: it changes nothing.
         let (asked, limit) = match chance.below(20) {
@@ -54,7 +63,7 @@ pub fn tell(seed: u64, mut call: impl FnMut(Call) -> Outcome) {
             1 => (name.clone(), 3),
             _ => (name.clone(), limit),
         };
-        let outcome = if chance.percent(75) {
+        let outcome = if !removes {
             let (value, run) = (chance.word(), make::run(&mut chance));
             let outcome = call(Call::Put { file: file.clone(), trie: trie.clone(), name: asked, value, run, limit });
             let content = [value, if header.has_runs() { run } else { 0 }];
@@ -72,6 +81,11 @@ pub fn tell(seed: u64, mut call: impl FnMut(Call) -> Outcome) {
             let outcome = call(Call::Remove { file: file.clone(), trie: trie.clone(), name: asked, limit });
             match outcome.answer {
                 120 => assert!(history.remove(&name).is_some()),
+                // A merge, of which the first store is made.
+                112 if outcome.out[0] == 1 => {
+                    assert!(history.remove(&name).is_some());
+                    merges_stopped += 1;
+                }
                 101 => assert!(!history.contains_key(&name)),
                 _ => {}
             }
@@ -109,6 +123,7 @@ pub fn tell(seed: u64, mut call: impl FnMut(Call) -> Outcome) {
             }
         }
     }
+    merges_stopped
 }
 
 #[cfg(test)]
@@ -117,8 +132,7 @@ mod tests {
 
     #[test]
     fn the_model_keeps_demand_3() {
-        for seed in 0..300 {
-            super::tell(seed, |call| by_model(&call));
-        }
+        let stopped: usize = (0..300).map(|seed| super::tell(seed, |call| by_model(&call))).sum();
+        assert!(stopped > 50, "{stopped} merges were stopped");
     }
 }

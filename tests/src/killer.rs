@@ -1,8 +1,9 @@
 //! Kills processes over a file on disk, and holds what they leave and what their successors find against a journal.
 //!
 //! The journal is kept here, outside the processes: a plain map of the requests that count. A request that was said to be
-//! made counts. The one in flight at a kill counts when its last store has reached the file, and not before; which stores
-//! have is seen by the bytes: the model says what the file holds after each of them.
+//! made counts. The one in flight at a kill counts when its last store has reached the file, and not before, but a removal
+//! that merges counts from its first store on; which stores have is seen by the bytes: the model says what the file holds
+//! after each of them.
 //!
 //! A SIGKILL leaves every finished `pwrite` whole, synced or not: only a machine that fails loses what is not yet on disk.
 //! Linux looks for the signal also between two pages of one `pwrite`, so a slot across the edge of a page may be left in
@@ -42,6 +43,8 @@ pub struct Tally {
     pub kills: u64,
     /// Kills between the two stores of a split: the file is left cut.
     pub between: u64,
+    /// Kills between the two stores of a merge: the file is left cut, and the removal counts.
+    pub merging: u64,
     /// Kills after a last store, before its request was said to be made.
     pub unsaid: u64,
     /// Kills of a process that had still to recover a cut file.
@@ -352,17 +355,26 @@ impl<'a> Trial<'a> {
             reached.unwrap_or_else(|| self.put_back(&states, &left))
         };
         let whole = reached == states.len() - 1;
-        self.file.clone_from(&states[reached].file);
-        match flight {
-            Flight::Request(_) if whole => {
-                self.tally.unsaid += (reached > 0) as u64;
-                self.count(&states[reached]);
+        let counts = match flight {
+            Flight::Request(number) => {
+                let removes = self.world.request(number).content.is_none();
+                let part = (reached > 0 && !whole) as u64;
+                self.tally.unsaid += (reached > 0 && whole) as u64;
+                *if removes { &mut self.tally.merging } else { &mut self.tally.between } += part;
+                whole || (removes && reached > 0)
             }
-            Flight::Request(_) => self.tally.between += (reached > 0) as u64,
-            Flight::Opening => self.tally.recovering += was_cut as u64,
-            Flight::Nothing => {}
+            Flight::Opening => {
+                self.tally.recovering += was_cut as u64;
+                whole
+            }
+            Flight::Nothing => whole,
+        };
+        if let (Flight::Request(_), true, Some(last)) = (flight, counts, states.last()) {
+            self.count(last);
         }
-        whole
+        // A merge that counts already may still have its right slot to free.
+        self.file.clone_from(&states[reached].file);
+        counts
     }
 
     /// A store that the kill left in part, its first pages new and the rest old, is put back. The stores before it.
@@ -397,6 +409,35 @@ impl<'a> Trial<'a> {
                 0 => moment + 1 + self.next % (moments - 1),
                 step => moment + moments - step,
             };
+        }
+    }
+
+    /// How many stores are made before the next removal that merges; None if it is far.
+    fn stores_before_a_merge(&self) -> Option<u64> {
+        let mut file = by_model(&Call::Recover { file: self.file.clone(), limit: 1 }).file;
+        let mut trie = by_model(&Call::Rebuild { file: file.clone(), trie: vec![0; IMAGE] }).trie;
+        let mut stores = 0;
+        for number in self.next..self.next + 90 {
+            let request = self.world.request(number);
+            let made = (0..2).find(|limit| by_model(&call_for(&request, &file, &trie, *limit)).answer != STOPPED);
+            if request.content.is_none() && made.is_none() {
+                return Some(stores);
+            }
+            stores += made.unwrap_or(2);
+            let outcome = by_model(&call_for(&request, &file, &trie, 2));
+            (file, trie) = (outcome.file, outcome.trie);
+        }
+        None
+    }
+
+    /// Kills in the next merges: between the two stores of one, after both of the next, and so on.
+    fn at_merges(&mut self, kills: u64) {
+        let moments = self.victim.moments;
+        for kill in 0..kills {
+            let Some(stores) = self.stores_before_a_merge() else { return };
+            // A cut file is recovered first, and that is a store too. At the second moment of a store it is made.
+            let before = self.is_cut() as u64 + stores + kill % 2;
+            self.life(Kill::Moment(moments * before + 1));
         }
     }
 
@@ -475,8 +516,12 @@ pub fn try_files(victim: &Victim, moments: Moments, default: bool, time: Duratio
                 // One process fills the first bucket, so that a split is near.
                 trial.life(Kill::Moment(victim.moments * b));
                 trial.at_every_moment(trial.next + 4);
+                trial.at_merges(2);
             }
-            Moments::Every => trial.at_every_moment(8 * b),
+            Moments::Every => {
+                trial.at_every_moment(8 * b);
+                trial.at_merges(6);
+            }
             Moments::Random => trial.at_random(&mut Chance::new(seed), end.min(Instant::now() + time / 4)),
             Moments::Inside => trial.inside(&mut Chance::new(seed), end.min(Instant::now() + time / 4)),
         }
@@ -490,10 +535,11 @@ impl std::fmt::Display for Tally {
     fn fmt(&self, to: &mut std::fmt::Formatter) -> std::fmt::Result {
         write!(
             to,
-            "{} kills, {} between the two stores of a split, {} after a last store, {} in a recovery; {} recoveries \
+            "{} kills, {} between the two stores of a split, {} of a merge, {} after a last store, {} in a recovery; {} recoveries \
              freed a slot; {} names compared, {} requests, {} with an older run, {} files; {} inside a write, {} slots torn",
             self.kills,
             self.between,
+            self.merging,
             self.unsaid,
             self.recovering,
             self.freed,

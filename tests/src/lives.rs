@@ -51,12 +51,25 @@ impl World {
     }
 
     /// The request of a number. Its value is no other request's, so that every store changes a byte. Later requests mostly
-    /// have later runs; some come late.
+    /// have later runs; some come late. Some buckets are filled, then most of what came in goes again, so that buckets split
+    /// and merge, and the file grows in the long run.
     pub fn request(&self, number: u64) -> Request<'_> {
-        let mut chance = Chance::new(self.seed ^ ((number + 1) << 32));
-        let name = chance.pick(&self.names);
-        let content = chance.percent(85).then(|| Content::new(number + 1, number / 8 + chance.below(40) as u64));
-        Request { name, content }
+        let b = self.header.b as u64;
+        let (begin, turn) = (number - number % (8 * b), 4 * b);
+        let mut chance = self.chance(number);
+        let name: &Vec<u8> = chance.pick(&self.names);
+        if chance.percent(if number - begin < turn { 95 } else { 20 }) {
+            let content = Content::new(number + 1, number / 8 + chance.below(40) as u64);
+            return Request { name, content: Some(content) };
+        }
+        // What was put since `begin`, in this order.
+        let earlier = begin + (number - begin) % turn;
+        let name: &Vec<u8> = self.chance(earlier).pick(&self.names);
+        Request { name, content: None }
+    }
+
+    fn chance(&self, number: u64) -> Chance {
+        Chance::new(self.seed ^ ((number + 1) << 32))
     }
 
     /// The world in words, with so many of its requests, for a process without this `Chance`: each name on a line, an
@@ -251,5 +264,32 @@ impl Life {
             unsafe { kill(std::process::id() as i32, SIGKILL) };
         }
         self.moments -= 1;
+    }
+}
+
+#[cfg(test)]
+mod tests {
+    use super::*;
+    use crate::door::by_model;
+
+    #[test]
+    fn each_world_has_splits_and_merges() {
+        for seed in 0..24 {
+            let world = World::new(seed);
+            let Header { version, b, slots } = world.header;
+            let file = vec![0; world.header.file_length()];
+            let create = Call::Create { file, version, b: b as u64, slots: slots as u64, trie: vec![0; IMAGE] };
+            let Outcome { mut file, mut trie, .. } = by_model(&create);
+            let mut two_stores = [0, 0];
+            for number in 0..24 * b as u64 {
+                let request = world.request(number);
+                let stopped = by_model(&call_for(&request, &file, &trie, 1)).answer == STOPPED;
+                two_stores[request.content.is_none() as usize] += stopped as usize;
+                let outcome = by_model(&call_for(&request, &file, &trie, 2));
+                assert!(matches!(outcome.answer, 12 | 100..), "{}", outcome.answer);
+                (file, trie) = (outcome.file, outcome.trie);
+            }
+            assert!(two_stores.iter().all(|times| *times > 0), "world {seed}, b = {b}: {two_stores:?}");
+        }
     }
 }

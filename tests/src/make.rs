@@ -445,16 +445,33 @@ pub fn unreached_leaves(trie: &Trie) -> Vec<Place> {
     unreached.map(|(_, leaf)| leaf.place).collect()
 }
 
-/// A file that is cut or nearly so, made from a sound one: a copy of part of a full bucket A is put into a free slot N.
-/// None if no bucket is full or no slot is free.
+/// A sound file from which most entries are gone, without a merge: what is removed from it next finds few in the buckets.
+pub fn thinned(chance: &mut Chance, file: &[u8]) -> Vec<u8> {
+    let mut read = File::read(file).expect("the header is right");
+    let most = read.header.b / 2;
+    for slot in &mut read.slots {
+        if let Slot::Used(bucket) = slot {
+            let left = chance.between(0, most);
+            while bucket.entries.len() > left {
+                bucket.entries.remove(chance.below(bucket.entries.len()));
+            }
+        }
+    }
+    file_bytes(read.header.version, read.header.b, &read.slots)
+}
+
+/// A file that is cut or nearly so, made from a sound one: a copy of part of a bucket A is put into a free slot N. Mostly A is
+/// full, as a split leaves it; a merge leaves one that is not. None if no slot is free.
 pub fn cut_file(chance: &mut Chance, file: &File, names: &[Vec<u8>], nearly: bool) -> Option<Vec<u8>> {
-    let full: Vec<usize> =
-        file.used().filter(|(_, bucket)| bucket.entries.len() == file.header.b).map(|(number, _)| number).collect();
+    let mut from: Vec<usize> = file.used().map(|(number, _)| number).collect();
+    if chance.percent(60) && file.used().any(|(_, bucket)| bucket.entries.len() == file.header.b) {
+        from.retain(|number| file.bucket(*number).entries.len() == file.header.b);
+    }
     let free: Vec<usize> = (0..file.slots.len()).filter(|number| file.slots[*number] == Slot::Free).collect();
-    if full.is_empty() || free.is_empty() {
+    if free.is_empty() {
         return None;
     }
-    let a = *chance.pick(&full);
+    let a = *chance.pick(&from);
     let n = *chance.pick(&free);
     let mut kept = file.bucket(a).clone();
     // N's lower: any bound between A's two, mostly the beginning of one of A's names.
@@ -462,7 +479,7 @@ pub fn cut_file(chance: &mut Chance, file: &File, names: &[Vec<u8>], nearly: boo
     let mut lower = Bound::empty();
     for _ in 0..20 {
         let from_own = chance.percent(80);
-        lower = bound(chance, if from_own { &own } else { names });
+        lower = bound(chance, if from_own && !own.is_empty() { &own } else { names });
         if lower < kept.upper && (kept.lower.is_empty() || kept.lower < lower) {
             break;
         }
@@ -503,7 +520,7 @@ pub fn cut_file(chance: &mut Chance, file: &File, names: &[Vec<u8>], nearly: boo
                 one_more(chance, &mut copy);
                 one_more(chance, &mut copy);
             }
-            4 => {
+            4 if !kept.entries.is_empty() => {
                 kept.entries.remove(chance.below(kept.entries.len()));
             }
             5 => copy.lower = bound(chance, names),

@@ -3,7 +3,7 @@
 use crate::door::{read_image, Call, Outcome, IMAGE, OUT_AT_ENTRY};
 use crate::make::file_bytes;
 use crate::model::calls::{self, entries_between, Answer, Content};
-use crate::model::file::{Bucket, Entry, File, Header, Slot, VERSIONS};
+use crate::model::file::{slot_bytes, Bucket, Entry, File, Header, Slot, VERSIONS};
 use crate::model::names::{filled, unfilled, Bound};
 use crate::model::trie::{row, strings, walk, Side};
 
@@ -701,15 +701,254 @@ pub fn replace_remove_and_stops(door: Door) {
         assert_eq!(desk.put_all(b"of", 77, 1), (111, words(&[2, desk.run()])));
         assert_eq!(desk.put_all(b"of", 0, 2), (111, words(&[77, desk.run()])));
         assert_eq!(desk.look_up(b"of"), desk.found(0));
-        assert_eq!(desk.remove("of", 0), (112, words(&[0])));
-        assert_eq!(desk.remove("of", 1), (120, words(&[])));
-        assert_eq!(desk.look_up(b"of"), (101, words(&[])));
-        // R7.10: an emptied bucket keeps its range.
-        assert_eq!(desk.buckets()[2], (2, "i".to_string(), "o".to_string(), vec![]));
+        assert_eq!(desk.remove("to", 0), (112, words(&[0])));
+        assert_eq!(desk.remove("to", 1), (120, words(&[])));
+        assert_eq!(desk.look_up(b"to"), (101, words(&[])));
+        // that, the and, beside them, of are one too many for b/2 = 2: nothing merges.
+        assert_eq!(desk.buckets()[3], (1, "o".to_string(), String::new(), strs(&["that", "the"])));
         assert!(desk.trie == trie);
         // R7.11: an absent name needs no store.
-        assert_eq!(desk.remove("of", 0), (101, words(&[])));
+        assert_eq!(desk.remove("to", 0), (101, words(&[])));
         assert_eq!(desk.check(), 140);
+    }
+}
+
+/// A slot with these names; a name's value is its place from 1 on, its run that of the desk.
+fn slot(lower: &str, upper: &str, names: &[&str]) -> Slot {
+    let bound = |digits: &str| Bound(digits.as_bytes().to_vec());
+    let entries = names.iter().zip(1..).map(|(name, value)| Entry { name: filled(name.as_bytes()), value, run: RUN });
+    Slot::Used(Bucket { lower: bound(lower), upper: bound(upper), entries: entries.collect() })
+}
+
+/// Buckets as a desk tells them.
+fn told(buckets: &[(usize, &str, &str, &[&str])]) -> Vec<(usize, String, String, Vec<String>)> {
+    buckets.iter().map(|(slot, l, u, names)| (*slot, l.to_string(), u.to_string(), strs(names))).collect()
+}
+
+impl Desk<'_> {
+    /// Removes a name whose bucket merges: stopped before its first store, stopped after it, and whole. `left` takes
+    /// everything in, `right` is freed.
+    fn merge(&mut self, name: &str, left: usize, right: usize) {
+        let (file, trie) = (self.file.clone(), self.trie.clone());
+        assert_eq!(self.remove(name, 0), (112, words(&[0])));
+        assert!(self.file == file && self.trie == trie);
+        // After the first store the right slot is as it was, and the left one has its final bytes.
+        assert_eq!(self.remove(name, 1), (112, words(&[1])));
+        assert!(self.trie == trie, "stopped, the trie stays as it is");
+        let header = self.header();
+        let stopped = self.file.clone();
+        for number in (0..header.slots).filter(|number| *number != left) {
+            assert!(slot_bytes(&stopped, &header, number) == slot_bytes(&file, &header, number));
+        }
+        assert_eq!(self.check(), 141);
+        assert_eq!(self.put("zz", 6, 2), 3);
+        assert_eq!(self.remove(name, 2).0, 3);
+        assert_eq!(self.recover(0), (112, words(&[0])));
+        assert_eq!(self.recover(1), (130, words(&[right as u64])));
+        let recovered = self.file.clone();
+        self.file = file;
+        assert_eq!(self.remove(name, 2), (120, words(&[])));
+        assert!(self.file == recovered, "recovery after a stop leaves the file of the whole call");
+        assert!(slot_bytes(&self.file, &header, left) == slot_bytes(&stopped, &header, left));
+        assert!(slot_bytes(&self.file, &header, right).iter().all(|byte| *byte == 0));
+        assert_eq!(self.look_up(name.as_bytes()), (101, words(&[])));
+        let merged = self.trie.clone();
+        assert_eq!(self.rebuild(), 151);
+        assert!(self.trie == merged, "the trie after a merge is the rebuilt one");
+    }
+
+    /// Removes a name whose bucket does not merge: one store, and the trie stays as it is.
+    fn remove_alone(&mut self, name: &str) {
+        let trie = self.trie.clone();
+        let used = self.read().used().count();
+        assert_eq!(self.remove(name, 0), (112, words(&[0])));
+        assert_eq!(self.remove(name, 1), (120, words(&[])));
+        assert!(self.trie == trie && self.read().used().count() == used);
+    }
+}
+
+/// The nine words, removed one after the other: to the right, to the left, down to one bucket. b/2 is 2.
+pub fn the_nine_words_removed(door: Door) {
+    let mut desk = Desk::new(4, 8, door);
+    desk.add(&NINE);
+    // in, and of on its right.
+    desk.merge("is", 3, 2);
+    let expected =
+        told(&[(0, "", "i ", &["a", "and", "i"]), (3, "i ", "o", &["in", "of"]), (1, "o", "", &["that", "the", "to"])]);
+    assert_eq!(desk.buckets(), expected);
+    assert_eq!(desk.cells(), vec![('i', 0, -1, -2), (' ', 1, 0, 3), ('o', 0, 3, 1)]);
+    // Each neighbour has three.
+    desk.remove_alone("in");
+    desk.remove_alone("of");
+    assert_eq!(desk.buckets()[1], (3, "i ".to_string(), "o".to_string(), vec![]));
+    // and, i, and nothing on their right.
+    desk.merge("a", 0, 3);
+    assert_eq!(desk.buckets(), told(&[(0, "", "o", &["and", "i"]), (1, "o", "", &["that", "the", "to"])]));
+    assert_eq!(desk.cells(), vec![('o', 0, 0, 1)]);
+    desk.remove_alone("and");
+    desk.remove_alone("that");
+    // to, no neighbour on the right, i on the left. Stopped after one store, slot 1 still has the one more.
+    desk.merge("the", 0, 1);
+    assert_eq!(desk.buckets(), told(&[(0, "", "", &["i", "to"])]));
+    assert!(desk.trie == [0; IMAGE]);
+    desk.remove_alone("i");
+    desk.remove_alone("to");
+    assert_eq!(desk.buckets(), told(&[(0, "", "", &[])]));
+    // The freed slots are taken again, the lowest first.
+    desk.add(&NINE);
+    assert_eq!(desk.buckets().len(), 4);
+}
+
+/// Where both neighbours have few enough, the right one is taken; in every version, for b = 4 and 5.
+pub fn the_right_neighbour_is_tried_first(door: Door) {
+    for version in VERSIONS {
+        for b in [4, 5] {
+            let slots = [slot("p", "", &["q"]), slot("", "g", &["a"]), slot("g", "p", &["h", "i"]), Slot::Free];
+            let mut desk = Desk { file: file_bytes(version, b, &slots), trie: vec![], door: &mut *door };
+            assert_eq!(desk.rebuild(), 151);
+            desk.merge("i", 2, 0);
+            assert_eq!(desk.buckets(), told(&[(1, "", "g", &["a"]), (2, "g", "", &["h", "q"])]));
+            assert_eq!(desk.look_up(b"q"), desk.found(1));
+            // One merge a removal: a and h q are three, then a and q two.
+            desk.merge("h", 1, 2);
+            assert_eq!(desk.buckets(), told(&[(1, "", "", &["a", "q"])]));
+            // The one used slot is not slot 0, and the trie leads there.
+            assert_eq!(&desk.trie[..4], &[0, 0, 1, 0]);
+        }
+    }
+}
+
+/// b = 2 and 3: b/2 is 1, so an emptied bucket joins a neighbour with at most one entry.
+pub fn merges_of_the_smallest_buckets(door: Door) {
+    for version in VERSIONS {
+        for b in [2, 3] {
+            let mut lay = |slots: &[Slot]| {
+                let file = file_bytes(version, b, slots);
+                let mut desk = Desk { file, trie: vec![], door: &mut *door };
+                assert_eq!(desk.rebuild(), 151);
+                (desk.file, desk.trie)
+            };
+            let to_the_right = lay(&[slot("", "g", &["a"]), slot("g", "p", &["h"]), slot("p", "", &["q"])]);
+            let to_the_left = lay(&[slot("", "g", &["a"]), slot("g", "p", &["h"]), slot("p", "", &["q", "r"])]);
+            let alone = lay(&[slot("", "g", &["a", "b"]), slot("g", "p", &["h"]), slot("p", "", &["q", "r"])]);
+            let two = lay(&[slot("", "g", &["a"]), slot("g", "", &["h", "i"])]);
+            let mut desk = Desk { file: to_the_right.0, trie: to_the_right.1, door: &mut *door };
+            desk.merge("h", 1, 2);
+            assert_eq!(desk.buckets(), told(&[(0, "", "g", &["a"]), (1, "g", "", &["q"])]));
+            desk.merge("a", 0, 1);
+            assert_eq!(desk.buckets(), told(&[(0, "", "", &["q"])]));
+            desk.remove_alone("q");
+            (desk.file, desk.trie) = to_the_left;
+            // Slot 1 has h more than slot 0 has in its range.
+            desk.merge("h", 0, 1);
+            assert_eq!(desk.buckets(), told(&[(0, "", "p", &["a"]), (2, "p", "", &["q", "r"])]));
+            // R7.10: an emptied bucket that does not merge keeps its range.
+            (desk.file, desk.trie) = alone;
+            desk.remove_alone("h");
+            assert_eq!(desk.buckets()[1], (1, "g".to_string(), "p".to_string(), vec![]));
+            // One entry and one are two: too many.
+            (desk.file, desk.trie) = two;
+            desk.remove_alone("i");
+            desk.merge("h", 0, 1);
+            assert_eq!(desk.buckets(), told(&[(0, "", "", &["a"])]));
+        }
+    }
+}
+
+/// Removing an absent name changes nothing, though its bucket and both neighbours are empty.
+pub fn an_absent_name_merges_nothing(door: Door) {
+    for version in VERSIONS {
+        let slots = [slot("", "g", &[]), slot("g", "p", &[]), slot("p", "", &["q"])];
+        let mut desk = Desk { file: file_bytes(version, 4, &slots), trie: vec![], door: &mut *door };
+        assert_eq!(desk.rebuild(), 151);
+        let (file, trie) = (desk.file.clone(), desk.trie.clone());
+        for name in ["a", "h", "r"] {
+            for limit in 0..=2 {
+                assert_eq!(desk.remove(name, limit), (101, words(&[])));
+            }
+        }
+        assert!(desk.file == file && desk.trie == trie);
+        // A removal merges two, and not the third.
+        desk.merge("q", 1, 2);
+        assert_eq!(desk.buckets(), told(&[(0, "", "g", &[]), (1, "g", "", &[])]));
+    }
+}
+
+/// A slot that a merge freed is taken by the next split, as the lowest free one.
+pub fn a_split_into_a_freed_slot(door: Door) {
+    let mut desk = Desk::new(4, 8, door);
+    desk.add(&NINE);
+    desk.merge("is", 3, 2);
+    // that the to tx ty: "to" against "ty".
+    desk.add(&["tx", "ty"]);
+    let expected = told(&[(1, "o", "to", &["that", "the", "to"]), (2, "to", "", &["tx", "ty"])]);
+    assert_eq!(desk.buckets()[2..], expected);
+}
+
+/// R4.8 to R4.13 without R4.11: A need not be full.
+pub fn a_cut_file_whose_bucket_is_not_full(door: Door) {
+    for version in VERSIONS {
+        // What A and N hold, and whether the file is cut.
+        let cases: [(&[&str], &[&str], bool); 8] = [
+            (&["a", "c"], &["c"], true),
+            (&["a"], &[], true),
+            (&[], &[], true),
+            (&["a"], &["c"], true),
+            (&[], &["c"], true),
+            (&["a"], &["c", "d"], false),
+            (&["a", "c"], &[], false),
+            (&["a", "c", "d"], &["c"], false),
+        ];
+        for (a, n, cut) in cases {
+            // The same value for each name.
+            let mut slots = [slot("", "", a), slot("b", "", n)];
+            for used in &mut slots {
+                let Slot::Used(bucket) = used else { panic!("it is used") };
+                bucket.entries.iter_mut().for_each(|entry| entry.value = 7);
+            }
+            let mut desk = Desk { file: file_bytes(version, 4, &slots), trie: vec![0; IMAGE], door: &mut *door };
+            assert_eq!(desk.check(), if cut { 141 } else { 142 }, "{a:?} {n:?}");
+            let recovered = desk.recover(1);
+            assert_eq!(recovered, if cut { (130, words(&[1])) } else { (2, words(&[])) });
+            if cut {
+                assert_eq!(desk.buckets(), told(&[(0, "", "", a)]));
+            }
+        }
+    }
+}
+
+/// Vintages put and deleted whole, each with stops: after everything is deleted one bucket is used, and the trie has no cell.
+pub fn vintages_deleted_whole(door: Door) {
+    for version in VERSIONS {
+        for b in [2, 3, 6] {
+            let mut desk = Desk::of_version(version, b, 64, &mut *door);
+            let series = ["GDP", "GDP real", "CPI", "CPI core", "M1"];
+            let vintage =
+                |year: usize| series.iter().map(move |name| format!("{name} {}", 1990 + year)).collect::<Vec<_>>();
+            for year in 0..12 {
+                for name in vintage(year) {
+                    assert_eq!(desk.put(&name, year as u64, 2), 110);
+                }
+                // Three vintages are kept.
+                for name in year.checked_sub(3).map_or(vec![], vintage) {
+                    assert_eq!(desk.remove(&name, 2).0, 120);
+                }
+            }
+            for name in (9..12).flat_map(vintage) {
+                // Stopped after one store, a merge counts as made.
+                match desk.remove(&name, 1) {
+                    (120, _) => {}
+                    stopped => {
+                        assert_eq!(stopped, (112, words(&[1])));
+                        assert_eq!(desk.recover(1).0, 130);
+                        assert_eq!(desk.rebuild(), 151);
+                    }
+                }
+                assert_eq!(desk.look_up(name.as_bytes()).0, 101);
+            }
+            assert_eq!(desk.read().used().count(), 1, "version {version}, b = {b}");
+            assert_eq!(read_image(&desk.trie).count, 0);
+        }
     }
 }
 
@@ -894,6 +1133,13 @@ macro_rules! every_situation {
             entries_of_40_bytes
             a_copied_entry_has_value_and_run
             replace_remove_and_stops
+            the_nine_words_removed
+            the_right_neighbour_is_tried_first
+            merges_of_the_smallest_buckets
+            an_absent_name_merges_nothing
+            a_split_into_a_freed_slot
+            a_cut_file_whose_bucket_is_not_full
+            vintages_deleted_whole
             each_refusal_number
             where_a_name_left_the_range
             strings_fill_the_trie

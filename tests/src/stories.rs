@@ -6,7 +6,7 @@ use crate::damage::{damaged_file, damaged_trie, unreached_leaf_changed};
 use crate::door::{read_image, write_image, Call, Outcome, IMAGE};
 use crate::make::{self, cut_file, shaped, sound_file, value, Roots, STYLES};
 use crate::model::calls::{entries_between, split, split_positions, split_string};
-use crate::model::file::{header, kind, read_slot, slot_bytes, Bucket, Entry, File, Header, Kind, Slot};
+use crate::model::file::{cut_slot, header, kind, read_slot, slot_bytes, Bucket, Entry, File, Header, Kind, Slot};
 use crate::model::names::{filled, is_legal_name, is_within, unfilled, Bound, Filled, BLANK, DIGITS};
 use crate::model::trie::{agrees, rebuilt, strings, strings_of, walk, Side, CELLS};
 use crate::run::Run;
@@ -59,6 +59,23 @@ pub const SITUATIONS: &[&str] = &[
     "a list of 1024 entries",
     "a split stopped after one store, the new name moved",
     "a split stopped after one store, the new name stayed",
+    "a removal that merges to the right",
+    "a removal that merges to the left",
+    "a removal that merges to the right, and could to the left",
+    "a removal that merges, b = 2",
+    "a removal that merges, b = 3",
+    "a removal that merges in a file of version 1",
+    "a removal that merges in a file of version 2",
+    "a removal that merges in a file of version 3",
+    "a removal that would merge with one entry less",
+    "a removal that leaves one bucket",
+    "a merge with a trie that is neither grown nor rebuilt",
+    "a merge to the right stopped after one store",
+    "a merge to the left stopped after one store",
+    "a merge with limit 0",
+    "an absent name beside buckets that would merge",
+    "a split into a slot that a merge freed",
+    "a cut file whose bucket is not full",
     "a recovery that was stopped",
     "a trie rebuilt with 256 cells",
     "a lone used slot other than 0",
@@ -120,6 +137,8 @@ struct Story<'a> {
     /// Images that once agreed with the file.
     old_tries: Vec<Vec<u8>>,
     puts: usize,
+    /// The slot that the last merge freed.
+    freed: Option<usize>,
 }
 
 /// The story of a new file.
@@ -140,9 +159,14 @@ pub fn tell_history(seed: u64, run: &mut Run, profile: &Profile) {
     let file = vec![dirt; header.file_length()];
     let made = run.call(Call::Create { file, version: header.version, b: b as u64, slots: slots as u64, trie });
     let changes = chance.between(profile.changes.0, profile.changes.1);
-    let mut story =
-        Story { chance, run, names, file: made.file, trie: made.trie, old_tries: Vec::new(), puts: profile.puts };
-    for _ in 0..changes {
+    let (file, trie) = (made.file, made.trie);
+    let mut story = Story { chance, run, names, file, trie, old_tries: Vec::new(), puts: profile.puts, freed: None };
+    // In half of the stories, what has come in goes again.
+    let turn = if story.chance.percent(50) { changes * 2 / 3 } else { changes };
+    for change in 0..changes {
+        if change == turn {
+            story.puts = 100 - profile.puts;
+        }
         story.change();
         if story.chance.percent(profile.beside) {
             story.beside();
@@ -164,7 +188,10 @@ pub fn tell_built(seed: u64, run: &mut Run, profile: &Profile) {
     let how_many = chance.between(profile.names.0, profile.names.1);
     let mut names = make::names(&mut chance, style, how_many);
     let header = Header::new(make::version(&mut chance), b, slots);
-    let file = sound_file(&mut chance, header, used, &names);
+    let mut file = sound_file(&mut chance, header, used, &names);
+    if chance.percent(40) {
+        file = make::thinned(&mut chance, &file);
+    }
     names.extend(make::names_near(&mut chance, &file));
     tell_of_file(chance, run, profile, file, names);
 }
@@ -193,7 +220,8 @@ fn tell_of_file(mut chance: Chance, run: &mut Run, profile: &Profile, file: Vec<
     }
     let trie = shaped(&mut chance, &read, Roots::Any).map_or(vec![0; IMAGE], |trie| write_image(&trie));
     let changes = chance.between(profile.changes.0, profile.changes.1);
-    let mut story = Story { chance, run, names, file, trie, old_tries: Vec::new(), puts: profile.puts };
+    let puts = if chance.percent(50) { profile.puts } else { 100 - profile.puts };
+    let mut story = Story { chance, run, names, file, trie, old_tries: Vec::new(), puts, freed: None };
     for _ in 0..changes {
         story.beside();
         story.change();
@@ -203,21 +231,32 @@ fn tell_of_file(mut chance: Chance, run: &mut Run, profile: &Profile, file: Vec<
 impl Story<'_> {
     /// A put or a remove on the file itself, with its own trie. What was stopped is mended.
     fn change(&mut self) {
-        let name = self.chance.pick(&self.names).clone();
+        let mut name = self.chance.pick(&self.names).clone();
         let limit = *self.chance.pick(&[2, 2, 2, 2, 2, 2, 1, 1, 0]);
         let before = self.trie.clone();
         let file = self.file.clone();
         let trie = self.trie.clone();
-        let outcome = if self.chance.percent(self.puts) {
+        let puts = self.chance.percent(self.puts);
+        if !puts && self.chance.percent(60) {
+            name = self.held_name(&file).unwrap_or(name);
+        }
+        let outcome = if puts {
             let (value, run) = (value(&mut self.chance), make::run(&mut self.chance));
             let outcome = self.run.call(Call::Put { file, trie, name: name.clone(), value, run, limit });
             mark_run(&self.file, &name, run, limit, &outcome);
             outcome
         } else {
-            self.run.call(Call::Remove { file, trie, name: name.clone(), limit })
+            let outcome = self.run.call(Call::Remove { file, trie, name: name.clone(), limit });
+            if let Some(freed) = mark_merge(&self.file, &self.trie, &name, limit, &outcome) {
+                self.freed = Some(freed);
+            }
+            outcome
         };
         if outcome.answer == 110 && outcome.trie != before {
-            mark_growth(&before, &outcome.trie, &self.file, &outcome.file);
+            let new_slot = mark_growth(&before, &outcome.trie, &self.file, &outcome.file);
+            if new_slot == self.freed {
+                mark("a split into a slot that a merge freed");
+            }
         }
         if outcome.trie != before && self.old_tries.len() < 40 {
             self.old_tries.push(before);
@@ -226,7 +265,7 @@ impl Story<'_> {
         self.file = outcome.file;
         self.trie = outcome.trie;
         if stopped && outcome.out[0] == 1 {
-            if let Kind::Cut(n) = kind(&self.file) {
+            if let (true, Kind::Cut(n)) = (puts, kind(&self.file)) {
                 let moved = File::read(&self.file).unwrap().bucket(n).entry(&filled(&name)).is_some();
                 mark(if moved {
                     "a split stopped after one store, the new name moved"
@@ -267,6 +306,14 @@ impl Story<'_> {
     fn beside(&mut self) {
         let file = self.some_file();
         let kind = self.run.call(Call::Check { file: file.clone() }).answer;
+        if kind == CUT {
+            let read = File::read(&file).expect("a cut file has a right header");
+            let n = cut_slot(&read).expect("a cut file has a slot N");
+            let is_a = |slot: usize, bucket: &Bucket| slot != n && bucket.upper == read.bucket(n).upper;
+            if read.used().any(|(slot, bucket)| is_a(slot, bucket) && bucket.entries.len() < read.header.b) {
+                mark("a cut file whose bucket is not full");
+            }
+        }
         if kind == SOUND
             && header(&file).map(|header| header.version) != header(&self.file).map(|header| header.version)
         {
@@ -357,6 +404,13 @@ impl Story<'_> {
         }
     }
 
+    /// A name that the file holds. None if it holds none, or if its header is wrong.
+    fn held_name(&mut self, file: &[u8]) -> Option<Vec<u8>> {
+        let read = File::read(file)?;
+        let held: Vec<&Filled> = read.used().flat_map(|(_, bucket)| &bucket.entries).map(|entry| &entry.name).collect();
+        (!held.is_empty()).then(|| unfilled(*self.chance.pick(&held)).to_vec())
+    }
+
     fn some_limit(&mut self) -> u64 {
         *self.chance.pick(&[2, 2, 2, 2, 2, 1, 1, 0, 0, 3, u64::MAX, 1 << 32])
     }
@@ -381,19 +435,24 @@ impl Story<'_> {
                 mark_run(&file, &name, run, limit, &outcome);
                 if outcome.answer == 110 && outcome.trie != trie {
                     mark_growth(&trie, &outcome.trie, &file, &outcome.file);
-                    if trie != self.trie
-                        && Some(&trie)
-                            != File::read(&file).and_then(|file| rebuilt(&file)).map(|trie| write_image(&trie)).as_ref()
-                    {
+                    if trie != self.trie && Some(&trie) != rebuilt_image(&file).as_ref() {
                         mark("a split of a trie that is neither grown nor rebuilt");
                     }
                 }
             }
             60..=72 => {
-                let (name, limit) = (self.some_name(), self.some_limit());
-                let outcome = self.run.call(Call::Remove { file, trie, name, limit });
+                let (mut name, limit) = (self.some_name(), self.some_limit());
+                if self.chance.percent(50) {
+                    name = self.held_name(&file).unwrap_or(name);
+                }
+                let (f, t, n) = (file.clone(), trie.clone(), name.clone());
+                let outcome = self.run.call(Call::Remove { file: f, trie: t, name: n, limit });
                 if outcome.answer == 101 && limit == 0 {
                     mark("an absent name removed with limit 0");
+                }
+                let merged = mark_merge(&file, &trie, &name, limit, &outcome).is_some() && outcome.answer == 120;
+                if merged && trie != self.trie && Some(&trie) != rebuilt_image(&file).as_ref() {
+                    mark("a merge with a trie that is neither grown nor rebuilt");
                 }
             }
             73..=87 => self.some_list(&file, kind, trie),
@@ -481,7 +540,79 @@ impl Story<'_> {
     }
 }
 
-fn mark_growth(before: &[u8], after: &[u8], file: &[u8], file_after: &[u8]) {
+/// The image of the trie rebuilt from a sound file.
+fn rebuilt_image(file: &[u8]) -> Option<Vec<u8>> {
+    rebuilt(&File::read(file)?).map(|trie| write_image(&trie))
+}
+
+/// Notes whether a removal merged two buckets, made or stopped after its first store. The slot that it freed or would free.
+fn mark_merge(file: &[u8], trie: &[u8], name: &[u8], limit: u64, outcome: &Outcome) -> Option<usize> {
+    let done = outcome.answer == 120;
+    if !done && outcome.answer != 112 && outcome.answer != 101 {
+        return None;
+    }
+    let before = File::read(file).expect("2 stands before the rest");
+    let order = before.range_order().expect("2 and 3 stand before the rest");
+    let (slot, bucket) = before.bucket_of(&filled(name));
+    let place = order.iter().position(|used| *used == slot).expect("the slot is used");
+    let left = bucket.entries.len() - usize::from(outcome.answer != 101);
+    let together = |place: Option<usize>| {
+        place.and_then(|place| order.get(place)).map(|other| left + before.bucket(*other).entries.len())
+    };
+    let (on_left, on_right) = (together(place.checked_sub(1)), together(Some(place + 1)));
+    let most = before.header.b / 2;
+    let few = |together: Option<usize>| together.is_some_and(|together| together <= most);
+    if outcome.answer == 101 {
+        if few(on_left) || few(on_right) {
+            mark("an absent name beside buckets that would merge");
+        }
+        assert!(outcome.file == file && outcome.trie == trie);
+        return None;
+    }
+    if !few(on_left) && !few(on_right) {
+        if on_left == Some(most + 1) || on_right == Some(most + 1) {
+            mark("a removal that would merge with one entry less");
+        }
+        assert!(outcome.trie == trie && done == (limit > 0));
+        return None;
+    }
+    if limit == 0 {
+        mark("a merge with limit 0");
+        return None;
+    }
+    let right_wins = few(on_right);
+    if !done {
+        mark(if right_wins {
+            "a merge to the right stopped after one store"
+        } else {
+            "a merge to the left stopped after one store"
+        });
+        return None;
+    }
+    mark(if right_wins { "a removal that merges to the right" } else { "a removal that merges to the left" });
+    if few(on_left) && right_wins {
+        mark("a removal that merges to the right, and could to the left");
+    }
+    match before.header.b {
+        2 => mark("a removal that merges, b = 2"),
+        3 => mark("a removal that merges, b = 3"),
+        _ => {}
+    }
+    let each = [
+        "a removal that merges in a file of version 1",
+        "a removal that merges in a file of version 2",
+        "a removal that merges in a file of version 3",
+    ];
+    mark(each[before.header.version as usize - 1]);
+    if order.len() == 2 {
+        mark("a removal that leaves one bucket");
+    }
+    assert!(rebuilt_image(&outcome.file).as_ref() == Some(&outcome.trie), "the trie after a merge is the rebuilt one");
+    Some(if right_wins { order[place + 1] } else { slot })
+}
+
+/// Notes how a split changed trie and file. The new slot.
+fn mark_growth(before: &[u8], after: &[u8], file: &[u8], file_after: &[u8]) -> Option<usize> {
     let (old, new) = (read_image(before), read_image(after));
     match new.count - old.count {
         0 => {}
@@ -508,9 +639,8 @@ fn mark_growth(before: &[u8], after: &[u8], file: &[u8], file_after: &[u8]) {
     if turned >= 2 {
         mark("a split that leads two or more old leaves to the new slot");
     }
-    let (Some(old), Some(new)) = (File::read(file), File::read(file_after)) else { return };
-    let new_slot = new.used().find(|(slot, _)| old.used().all(|(used, _)| used != *slot));
-    let Some((new_slot, bucket)) = new_slot else { return };
+    let (old, new) = (File::read(file)?, File::read(file_after)?);
+    let (new_slot, bucket) = new.used().find(|(slot, _)| old.used().all(|(used, _)| used != *slot))?;
     if old.used().any(|(used, _)| new_slot < used) {
         mark("a split into a slot below a used one");
     }
@@ -532,6 +662,7 @@ fn mark_growth(before: &[u8], after: &[u8], file: &[u8], file_after: &[u8]) {
     if bucket.entries.iter().any(|entry| unfilled(&entry.name).contains(&BLANK)) {
         mark("a split of names with a blank inside");
     }
+    Some(new_slot)
 }
 
 /// Notes which split key of a version was taken. The file has just been split, and the new bucket has the upper part.

@@ -390,6 +390,91 @@ pub fn orders(story: u64, run: &mut Run) {
     });
 }
 
+/// Every order in which a few names can go, and every stop on the way. The story's number chooses the names; the versions take
+/// turns.
+pub fn removals(story: u64, run: &mut Run) {
+    let sets: [&[&str]; 4] = [
+        &["rate1", "rate2", "rate3", "razz", "rz", "rb"],
+        &["a", "b", "c", "d", "e", "f"],
+        &["a", "a b", "a  b", "a b c", "a   c", "a!"],
+        &["and", "i", "in", "is", "it", "o"],
+    ];
+    let names = sets[story as usize % sets.len()];
+    let b = 2 + story / sets.len() as u64 % 2;
+    let files = VERSIONS.map(|version| {
+        let file = vec![0x55; Header::new(version, b as usize, 5).file_length()];
+        let made = run.call(Call::Create { file, version, b, slots: 5, trie: vec![0x55; IMAGE] });
+        let (mut file, mut trie) = (made.file, made.trie);
+        for (name, value) in names.iter().zip(1..) {
+            let name = name.as_bytes().to_vec();
+            let outcome = run.call(Call::Put { file, trie, name, value, run: value, limit: 2 });
+            assert_eq!(outcome.answer, 110);
+            (file, trie) = (outcome.file, outcome.trie);
+        }
+        (file, trie)
+    });
+    let mut files = files.iter().cycle();
+    let mut order: Vec<usize> = (0..names.len()).collect();
+    each_order(&mut order, 0, &mut |order| {
+        let (mut file, mut trie) = files.next().expect("they come again and again").clone();
+        for place in order {
+            let name = names[*place].as_bytes().to_vec();
+            for limit in [0, 1] {
+                let (f, t, n) = (file.clone(), trie.clone(), name.clone());
+                let stopped = run.call(Call::Remove { file: f, trie: t, name: n, limit });
+                if limit == 0 || stopped.answer == 120 {
+                    continue;
+                }
+                // A removal that merges counts from its first store on.
+                let (f, t, n) = (file.clone(), trie.clone(), name.clone());
+                let merged = run.call(Call::Remove { file: f, trie: t, name: n, limit: 2 });
+                let mended = run.call(Call::Recover { file: stopped.file, limit: 1 });
+                assert!(mended.file == merged.file, "recovery gives the file after the call");
+            }
+            let outcome = run.call(Call::Remove { file, trie, name, limit: 2 });
+            (file, trie) = (outcome.file, outcome.trie);
+        }
+        assert_eq!(File::read(&file).expect("a header").used().count(), 1, "one bucket is left");
+    });
+}
+
+/// Vintages come and go: of each series a name for each month, of which the last three years are kept, until at last
+/// everything goes. The story's number chooses version and b.
+pub fn vintages(story: u64, run: &mut Run) {
+    let version = VERSIONS[story as usize % VERSIONS.len()];
+    let b = [2, 4, 16][story as usize / VERSIONS.len() % 3];
+    let header = Header::new(version, b, 64);
+    let file = vec![0x55; header.file_length()];
+    let made = run.call(Call::Create { file, version, b: b as u64, slots: 64, trie: vec![0x55; IMAGE] });
+    let (mut file, mut trie) = (made.file, made.trie);
+    let vintage = |year: u64| {
+        let name = move |series: &str, quarter: u64| format!("{series} {} Q{quarter}", 1990 + year).into_bytes();
+        (1..=4).flat_map(move |quarter| ["GDP", "GDP real", "CPI", "M1"].map(|series| name(series, quarter)))
+    };
+    let remove = |run: &mut Run, file: &mut Vec<u8>, trie: &mut Vec<u8>, name: Vec<u8>| {
+        let (f, t) = (std::mem::take(file), std::mem::take(trie));
+        let outcome = run.call(Call::Remove { file: f, trie: t, name, limit: 2 });
+        assert_eq!(outcome.answer, 120);
+        (*file, *trie) = (outcome.file, outcome.trie);
+    };
+    for year in 0..12 {
+        for name in vintage(year) {
+            let outcome = run.call(Call::Put { file, trie, name, value: year, run: year, limit: 2 });
+            assert_eq!(outcome.answer, 110);
+            (file, trie) = (outcome.file, outcome.trie);
+        }
+        for name in year.checked_sub(3).into_iter().flat_map(vintage) {
+            remove(run, &mut file, &mut trie, name);
+        }
+    }
+    let mut left: Vec<Vec<u8>> = (9..12).flat_map(vintage).collect();
+    Chance::new(story).shuffle(&mut left);
+    for name in left {
+        remove(run, &mut file, &mut trie, name);
+    }
+    assert_eq!(File::read(&file).expect("a header").used().count(), 1, "one bucket is left");
+}
+
 fn each_order(order: &mut Vec<usize>, from: usize, tell: &mut impl FnMut(&[usize])) {
     if from == order.len() {
         return tell(order);

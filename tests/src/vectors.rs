@@ -49,6 +49,7 @@ pub fn text() -> String {
     lists(&mut sheet);
     worked_puts(&mut sheet);
     shorter_separators(&mut sheet);
+    merges(&mut sheet);
     worked_words(&mut sheet);
     most_strings(&mut sheet);
     sheet.written()
@@ -158,7 +159,7 @@ struct Small {
     trie: Trie,
     /// The trie before it last grew.
     older: Trie,
-    /// What the last split leaves when it is stopped after one store.
+    /// What the last split or merge leaves when it is stopped after one store.
     cut: Option<Vec<u8>>,
     names: Vec<Vec<u8>>,
 }
@@ -170,10 +171,10 @@ impl Small {
         let names = few_names(chance);
         let (file, trie) = new_file(version, b, slots);
         let mut small = Small { file, older: trie.clone(), trie, cut: None, names };
-        for _ in 0..chance.between(2, 10) {
+        for _ in 0..chance.between(2, 12) {
             let name = chance.pick(&small.names).clone();
-            if chance.percent(10) {
-                calls::remove(&mut small.file, &small.trie, &name, 2);
+            if chance.percent(20) {
+                small.remove(&name);
             } else {
                 small.put(&name, some_content(chance));
             }
@@ -187,6 +188,17 @@ impl Small {
             self.cut = Some(stopped);
         }
         calls::put(&mut self.file, &mut self.trie, name, content, 2);
+        if self.trie != trie {
+            self.older = trie;
+        }
+    }
+
+    fn remove(&mut self, name: &[u8]) {
+        let (mut stopped, trie) = (self.file.clone(), self.trie.clone());
+        if calls::remove(&mut stopped, &mut self.trie, name, 1) == Answer::Stopped(1) {
+            self.cut = Some(stopped);
+        }
+        calls::remove(&mut self.file, &mut self.trie, name, 2);
         if self.trie != trie {
             self.older = trie;
         }
@@ -401,6 +413,11 @@ fn cut_or_not(sheet: &mut Sheet) {
         ("a c d", "c e"),
         ("B a b", "d e"),
         ("a c", "c"),
+        ("a", ""),
+        ("", ""),
+        ("", "c"),
+        ("c", ""),
+        ("c", "d"),
         ("a c d", "c c! d"),
     ] {
         check(sheet, &file_bytes(1, 3, &[bucket("", a), bucket("b", n)]));
@@ -620,17 +637,36 @@ fn puts(sheet: &mut Sheet) {
     });
 }
 
+fn remove(sheet: &mut Sheet, list: &'static str, file: &[u8], trie: &Trie, name: &[u8], limit: u64) -> (Vec<u8>, Trie) {
+    let (mut new_file, mut new_trie) = (file.to_vec(), trie.clone());
+    let answer = calls::remove(&mut new_file, &mut new_trie, name, limit);
+    let asked = format!("{} {limit}", bytes(name));
+    let words = [sheet.file(file), sheet.trie(trie), asked, said(answer), sheet.file(&new_file), sheet.trie(&new_trie)];
+    sheet.case(list, "removes", &words);
+    (new_file, new_trie)
+}
+
 fn removes(sheet: &mut Sheet) {
-    gather(12_000, "removed 3, absent 2, stopped 0 1, 1 1, 2 1, 3 1, 4 1, 8 1", |chance, wanted| {
+    let sorts = "removed 3, to the right 3, to the left 3, absent 2, stopped 0 2, stopped 1 3, 1 1, 2 1, 3 1, 4 1, 8 1";
+    gather(12_000, sorts, |chance, wanted| {
         let small = Small::new(chance);
         let (file, trie, name) = (small.some_file(chance), small.some_trie(chance), small.some_name(chance));
         let limit = *chance.pick(&[0, 1, 2, 2, 3]);
-        let mut after = file.clone();
-        let answer = calls::remove(&mut after, &trie, &name, limit);
-        if small.trie.count > 1 && wanted.takes(sort(answer)) {
-            let asked = format!("{} {limit}", bytes(&name));
-            let words = [sheet.file(&file), sheet.trie(&trie), asked, said(answer), sheet.file(&after)];
-            sheet.case("removings", "removes", &words);
+        let (mut after, mut merged) = (file.clone(), trie.clone());
+        let sort = match calls::remove(&mut after, &mut merged, &name, limit) {
+            Answer::Removed => {
+                let (before, after) = (File::read(&file).expect("a header"), File::read(&after).expect("a header"));
+                let slot = before.bucket_of(&filled(&name)).0;
+                match before.used().count() - after.used().count() {
+                    0 => "removed",
+                    _ if after.slots[slot] == Slot::Free => "to the left",
+                    _ => "to the right",
+                }
+            }
+            answer => sort(answer),
+        };
+        if small.trie.count > 1 && wanted.takes(sort) {
+            remove(sheet, "removings", &file, &trie, &name, limit);
         }
     });
 }
@@ -668,6 +704,25 @@ fn worked_puts(sheet: &mut Sheet) {
     let recovered = recover(sheet, "worked", &cut, 1);
     let trie = rebuild(sheet, "worked", &recovered);
     look_up(sheet, "worked", &recovered, &trie, b"rz");
+}
+
+/// The nine words with b = 4, and removals that merge: is to the right, then a to the right again, then the to the left, each
+/// also stopped after its first store.
+fn merges(sheet: &mut Sheet) {
+    let (mut file, mut trie) = new_file(1, 4, 4);
+    for (place, word) in NINE.iter().enumerate() {
+        let content = Content::new(place as u64 + 1, 0);
+        assert_eq!(calls::put(&mut file, &mut trie, word.as_bytes(), content, 2), Answer::Added);
+    }
+    for (merging, others) in [("is", &["in", "of"]), ("a", &["and", "that"]), ("the", &["i", "to"])] {
+        let (stopped, _) = remove(sheet, "worked", &file, &trie, merging.as_bytes(), 1);
+        let (after, merged) = remove(sheet, "worked", &file, &trie, merging.as_bytes(), 2);
+        assert!(recover(sheet, "worked", &stopped, 1) == after);
+        (file, trie) = (after, merged);
+        for word in others {
+            assert_eq!(calls::remove(&mut file, &mut trie, word.as_bytes(), 1), Answer::Removed);
+        }
+    }
 }
 
 /// What version 2 splits otherwise: the last of the nine words, and b = 2 with names that are beginnings of each other. Then a

@@ -13,7 +13,7 @@ use palhavento_tests::stories::{tell_brim, tell_built, tell_history, Profile, SI
 use palhavento_tests::sweeps;
 
 /// As many parts as there are tests below.
-const PARTS: usize = 20;
+const PARTS: usize = 22;
 /// So many calls at least are compared in a whole run.
 const CALLS: u64 = 1_000_000;
 
@@ -130,6 +130,16 @@ fn bits_of_a_trie() {
 #[test]
 fn orders() {
     run_part("orders", 0, 14, sweeps::orders);
+}
+
+#[test]
+fn removals() {
+    run_part("removals", 0, 8, sweeps::removals);
+}
+
+#[test]
+fn vintages() {
+    run_part("vintages", 0, 3 * EACH_VERSION, sweeps::vintages);
 }
 
 #[test]

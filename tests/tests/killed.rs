@@ -34,6 +34,7 @@ fn kill(name: &str, victim: &Victim, others: &[Moments]) -> Vec<Tally> {
         std::io::stderr().write_all(format!("{name} killed {how}: {tally}\n").as_bytes()).unwrap();
     }
     assert!(tallies[0].between > 0 && tallies[0].freed > 0, "no cut file was met");
+    assert!(tallies[0].merging > 0, "no merge was cut");
     tallies
 }
 

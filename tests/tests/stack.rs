@@ -9,7 +9,9 @@ use palhavento_tests::chance::Chance;
 use palhavento_tests::damage::{damaged_file, damaged_trie};
 use palhavento_tests::door::{by_model, write_image, Call, CALLS, IMAGE};
 use palhavento_tests::library::{lend, take_back, Grounds, Lent};
-use palhavento_tests::make::{cut_file, file_with_strings, names, names_near, shaped, sound_file, Roots, Style};
+use palhavento_tests::make::{
+    cut_file, file_with_strings, names, names_near, shaped, sound_file, thinned, Roots, Style,
+};
 use palhavento_tests::model::file::{File, Header, VERSIONS};
 use palhavento_tests::model::trie::{rebuilt, Cell, Side, Trie, CELLS};
 use palhavento_tests::run::SMALL_STACK;
@@ -130,6 +132,9 @@ fn files(chance: &mut Chance) -> Vec<Vec<u8>> {
     for (used, how_many) in [(64, 256), (63, 256), (63, 255), (12, 240), (64, 63)] {
         files.push(file_with_strings(chance, header(), used, how_many));
     }
+    // Few entries in each bucket, so that removals merge and rebuild the trie.
+    let thin: Vec<Vec<u8>> = files.iter().step_by(4).map(|file| thinned(chance, file)).collect();
+    files.extend(thin);
     let sound = files.clone();
     for file in &sound {
         let read = File::read(file).unwrap();

@@ -22,7 +22,7 @@ use Rattle.entries.proofs.Products.{parts-are}
 use Rattle.bucket.specs.Copies.{CopyTold, is-upper-part}
 use Rattle.bucket.specs.Forms.{ReadAs}
 use Rattle.bucket.specs.Slots.{LowTold, count-at}
-use Rattle.bucket.proofs.Slots.{Reads, count-is, entries-fit, read-low, read-used, reads, row-read}
+use Rattle.bucket.proofs.Slots.{Reads, entries-fit, read-low, read-used, reads, row-read}
 
 -- The test of the entries as the code makes it: e is their size, new and old are the bytes of two rows.
 module _ (e n m : ℕ) (new old : List ℕ) {ns es : List Entry} (least : 24 ≤ e) (fn : e * n ≤ length new) (fo : e * m ≤ length old)
@@ -74,7 +74,7 @@ module _ (y : Layout) (n a : List ℕ) where
   -- Nothing that reads as used and is well formed is refused wrongly.
   abbrev Refuses : Type 0
   Refuses = (ln la : Low) (un ua : Str) (en ea : List Entry) → Reads y n ln un en → Reads y a la ua ea
-      → (low : Str) → ln ≡ at low → la ◁ low → length ea ≡ y .b → Copied (move low ea) en → ⊥
+      → (low : Str) → ln ≡ at low → la ◁ low → Copied (move low ea) en → ⊥
 
   refusal : Refuses → CopyTold y n a false
   refusal f = record {
@@ -82,12 +82,9 @@ module _ (y : Layout) (n a : List ℕ) where
     refused = λ e {ln} {la} {un} {ua} {en} {ea} rn ra. f ln la un ua en ea (reads y n (rn .0) (rn .1)) (reads y a (ra .0) (ra .1));
   }
 
-  pub not-full : ¬ (count-at (y .b) a ≡ y .b) → CopyTold y n a false
-  not-full h = refusal (λ ln la un ua en ea N A low i j k c. h (count-is A ∙ k))
-
   module _ (kn ka : ℕ) (tn : LowTold n kn) (ta : LowTold a ka) where
     pub not-below : ltb ka kn ≡ false → CopyTold y n a false
-    not-below h = refusal (λ ln la un ua en ea N A low i j k c.
+    not-below h = refusal (λ ln la un ua en ea N A low i j c.
         never-both (ltb (low-value la) (low-value ln)) (lower-below la ln low (A .low) (N .low) i j) (sym (ap₂ ltb (read-low y a ka A ta) (read-low y n kn N tn)) ∙ h))
 
     -- The test made to the end.
@@ -131,13 +128,13 @@ module _ (y : Layout) (n a : List ℕ) where
         pub copied-test : Copied (move low ea) en → test ≡ true
         copied-test c = test-is ∙ copied-met (entry-length y) (N .row) c
 
-      pub tested : count-at (y .b) a ≡ y .b → ltb ka kn ≡ true → (r : Bool) → r ≡ test → CopyTold y n a r
-      tested full h r e = record { copied = yes-copy; refused = λ t rn ra low i j k c. never-both r (e ∙ copied-test rn ra low i c) t }
+      pub tested : ltb ka kn ≡ true → (r : Bool) → r ≡ test → CopyTold y n a r
+      tested h r e = record { copied = yes-copy; refused = λ t rn ra low i j c. never-both r (e ∙ copied-test rn ra low i c) t }
         where
           yes-copy : r ≡ true → {ln la : Low} {un ua : Str} {en ea : List Entry} → ReadAs y n ln un en → ReadAs y a la ua ea
-              → (low : Str) × (ln ≡ at low) × (la ◁ low) × (length ea ≡ y .b) × Copied (move low ea) en
+              → (low : Str) × (ln ≡ at low) × (la ◁ low) × Copied (move low ea) en
           yes-copy t {ln} {la} rn ra =
               let N = reads y n (rn .0) (rn .1) in
               let A = reads y a (ra .0) (ra .1) in
               let p = lower-some la ln (A .low) (N .low) (sym (ap₂ ltb (read-low y a ka A ta) (read-low y n kn N tn)) ∙ h) in
-              (p .0, p .1, p .2, sym (count-is A) ∙ full, test-copied rn ra (p .0) (p .1) (sym e ∙ t))
+              (p .0, p .1, p .2, test-copied rn ra (p .0) (p .1) (sym e ∙ t))

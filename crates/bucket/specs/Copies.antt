@@ -4,7 +4,6 @@ use mathlib.Core.Bool.{Bool, _&&_, false, true}
 use mathlib.Core.List.{List}
 use Prim.Native.Nat.{_+_, _-_, ℕ}
 use lib.Dec.{leb}
-use lib.ListN.{length}
 use Rattle.model.specs.declared.Layout.{Layout}
 use Rattle.model.specs.Order.{Low, Str, _◁_, at}
 use Rattle.model.specs.Entries.{Entry, move}
@@ -21,6 +20,6 @@ is-upper-part e new n old m v =
 -- R4.9 to R4.13, of A and N: n and a are the bytes of two slots that are used and well formed.
 pub record CopyTold (y : Layout) (n a : List ℕ) (r : Bool) : Type 0 where
   pub copied : r ≡ true → {ln la : Low} {un ua : Str} {en ea : List Entry} → ReadAs y n ln un en → ReadAs y a la ua ea
-      → (low : Str) × (ln ≡ at low) × (la ◁ low) × (length ea ≡ y .b) × Copied (move low ea) en
+      → (low : Str) × (ln ≡ at low) × (la ◁ low) × Copied (move low ea) en
   pub refused : r ≡ false → {ln la : Low} {un ua : Str} {en ea : List Entry} → ReadAs y n ln un en → ReadAs y a la ua ea
-      → (low : Str) → ln ≡ at low → la ◁ low → length ea ≡ y .b → Copied (move low ea) en → ⊥
+      → (low : Str) → ln ≡ at low → la ◁ low → Copied (move low ea) en → ⊥

@@ -199,16 +199,13 @@ pub fn form_of(slot: &[u8], layout: Layout) -> Form
     form_by(slot, entry_size(layout), layout.b)
 }
 
-// R4.10, R4.11 and R4.13: whether N is a copy, not yet cut out, of the upper part of A.
+// R4.10 and R4.13: whether N is a copy, not yet cut out, of the upper part of A.
 pub fn is_copy_of(n: &[u8], a: &[u8], layout: Layout) -> bool
     requires { ⌜ (OfSize (now n) layout) × (OfSize (now a) layout) ⌝ }
     ensures { λ r. ⌜ CopyTold layout (now (n .entry)) (now (a .entry)) r ⌝ }
 {
     let b = layout.b;
     let count = count_of(a, b);
-    if count != b {
-        return false;
-    }
     let low = low_key(n);
     if !digits::is_below(low_key(a), low) {
         return false;

@@ -175,9 +175,15 @@ pub extern "C" fn pal_remove(
     if trie.len() != image::BYTES {
         return MALFORMED;
     }
-    let answer = changing::remove(file, image::decoded(trie), name, limit);
+    let given = changing::remove(file, image::decoded(trie), name, limit);
+    let answer = given.answer;
     match answer {
-        RemoveAnswer::Removed => 120,
+        RemoveAnswer::Removed(stores) => {
+            if 1 < stores {
+                image::encode(trie, given.trie);
+            }
+            120
+        }
         RemoveAnswer::Absent => 101,
         RemoveAnswer::Stopped(stores) => {
             out[0] = stores;

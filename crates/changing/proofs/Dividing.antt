@@ -50,7 +50,7 @@ use Rattle.changing.specs.Splits.{PutAsked, SplitTold}
 use Rattle.changing.proofs.Homes.{NoStore, slot-read}
 
 -- What the plan of two stores ensures; its slots are the file's.
-abbrev TwoStores : Plan → ℕ → List ℕ → ℕ → List ℕ → Type 0
+abbrev pub TwoStores : Plan → ℕ → List ℕ → ℕ → List ℕ → Type 0
 TwoStores p k bytes l others = (p .stores ≡ 2) × (p .first ≡ k) × (p .one ≡ bytes) × (p .second ≡ l) × (p .two ≡ others)
 
 pub fits-two : (r p : Plan) (k l : ℕ) (bytes others : List ℕ) (size : Size) → r ≡ p → TwoStores p k bytes l others → k < size .slots → l < size .slots → Fits r size

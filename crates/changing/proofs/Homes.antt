@@ -38,10 +38,10 @@ module _ {c : Checked} {xs : List ℕ} {fs : List Slot} (R : Ready c xs) (e : re
   pub ready-sound : Sound (c .size .layout .b) fs
   ready-sound = subst (Sound (c .size .layout .b)) same-slots (R .sound)
 
-  ready-order : take (c .survey .count) (c .survey .order) ≡ order-of fs
+  pub ready-order : take (c .survey .count) (c .survey .order) ≡ order-of fs
   ready-order = R .order-is ∙ ap order-of same-slots
 
-  ready-count : c .survey .count ≡ length (order-of fs)
+  pub ready-count : c .survey .count ≡ length (order-of fs)
   ready-count = R .count-is ∙ ap (λ (gs : List Slot). length (order-of gs)) same-slots
 
   pub ready-ordered : Ordered xs (c .size) (c .survey .order) (c .survey .count) fs

@@ -1,4 +1,5 @@
 pub mod Homes
 pub mod Dividing
 pub mod Putting
+pub mod Neighbours
 pub mod Removing

@@ -3,3 +3,4 @@ pub mod Homes
 pub mod Plans
 pub mod Full
 pub mod Splits
+pub mod Merges

@@ -2,11 +2,11 @@
 use mathlib.Core.List.{List}
 use Prim.Native.Nat.{ℕ}
 use Rattle.model.specs.declared.PutGiven.{PutGiven}
-use Rattle.model.specs.declared.RemoveAnswer.{RemoveAnswer}
+use Rattle.model.specs.declared.RemoveGiven.{RemoveGiven}
 use Rattle.model.specs.Calls.{PutDone, RemoveDone}
 
 abbrev pub put : PutGiven → List ℕ → PutDone
 put r xs = record { answer = r .answer; file = xs; trie = r .trie }
 
-abbrev pub removed : RemoveAnswer → List ℕ → RemoveDone
-removed r xs = record { answer = r; file = xs }
+abbrev pub removed : RemoveGiven → List ℕ → RemoveDone
+removed r xs = record { answer = r .answer; file = xs; trie = r .trie }

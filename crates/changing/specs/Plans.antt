@@ -1,4 +1,4 @@
--- What the plan of a put or a remove says, for what the definitions make of the request.
+-- What the plan of a put says, for what the definitions make of the request.
 use mathlib.Core.Path.{_≡_}
 use mathlib.Core.List.{List, []}
 use Prim.Native.Nat.{ℕ}
@@ -10,7 +10,6 @@ use Rattle.model.specs.Files.{Slot}
 use Rattle.model.specs.Changes.{Result, refuse, stores}
 use Rattle.model.specs.Places.{place-of}
 use Rattle.model.specs.Calls.{held, put-answer, refusal-of, trie-after-put}
-use Rattle.file.specs.declared.Plan.{Plan}
 use Rattle.file.specs.Plans.{Planned}
 use Rattle.changing.specs.declared.PutPlan.{PutPlan}
 
@@ -20,8 +19,3 @@ PutPlanned p t y fs n v (refuse c) = Planned (p .plan) y [] × (p .answer ≡ Re
 PutPlanned p t y fs n v (stores ss) =
     Planned (p .plan) y ss × (p .answer ≡ put-answer (held fs n))
     × (p .trie ≡ trie-after-put (y .b) (place-of y) fs n v ss t)
-
--- A remove's answer follows from its stores.
-abbrev pub RemovePlanned : Plan → Layout → Result → Type 0
-RemovePlanned p y (refuse c) = ⊥
-RemovePlanned p y (stores ss) = Planned p y ss

@@ -1,4 +1,4 @@
--- What is planned for a put or a remove of a file that is read: the definitions' stores, for the slots read and the name looked for.
+-- What is planned for a put into a file that is read: the definitions' stores, for the slots read and the name looked for.
 use mathlib.Core.Path.{_≡_}
 use mathlib.Core.Option.{none as nothing, some}
 use mathlib.Core.List.{List}
@@ -9,26 +9,19 @@ use Rattle.model.specs.Order.{Low, Str}
 use Rattle.model.specs.Names.{Legal}
 use Rattle.model.specs.Entries.{Entry, content-from, find}
 use Rattle.model.specs.Files.{Slot, Sound}
-use Rattle.model.specs.Changes.{call, put as asked, remove}
+use Rattle.model.specs.Changes.{call, put as asked}
 use Rattle.model.specs.Calls.{put-takes}
 use Rattle.model.specs.Format.{kept-run, read-file}
 use Rattle.model.specs.Places.{place-of}
 use Rattle.entries.specs.declared.Content.{Content}
 use Rattle.entries.specs.Rows.{content-number}
-use Rattle.file.specs.declared.Plan.{Plan}
 use Rattle.file.specs.declared.Size.{Size}
 use Rattle.slots.specs.declared.Spot.{Spot}
 use Rattle.slots.specs.Spots.{Fits, SpotIn}
 use Rattle.changing.specs.declared.PutPlan.{PutPlan}
 use Rattle.changing.specs.Full.{Full}
 use Rattle.changing.specs.Homes.{Home}
-use Rattle.changing.specs.Plans.{PutPlanned, RemovePlanned}
-
--- Remove.
-abbrev pub RemoveTold : Plan → List ℕ → Size → Str → Type 0
-RemoveTold r xs size n =
-    (fs : List Slot) → read-file xs ≡ some (size .layout, fs) → Legal n
-    → RemovePlanned r (size .layout) (call (size .layout .b) (place-of (size .layout)) fs (remove n))
+use Rattle.changing.specs.Plans.{PutPlanned}
 
 -- Put, of the name n with the content c.
 abbrev pub PutAsked : PutPlan → Trie → Layout → List Slot → Str → ℕ → Type 0

@@ -2,20 +2,23 @@
 // refusals R10.9, and then plans its stores, without the limit and without writing, before it commits them.
 ghost use mathlib.Core.Path.{_≡_};
 ghost use Prim.Native.Nat.{_≤_, _<_, _+_};
-ghost use lib.ListN.{length, take};
+ghost use lib.ListN.{getD, length, take};
 ghost use Rattle.model.specs.Calls.{put-of, remove-of};
 ghost use Rattle.model.specs.Format.{kept-run};
 ghost use Rattle.digits.specs.Keys.{key-value, value as digits-value};
+ghost use Rattle.model.specs.Names.{Legal};
 ghost use Rattle.slots.specs.Spots.{Spotted};
 ghost use Rattle.file.specs.Plans.{Fits};
-ghost use Rattle.file.specs.Sizes.{Sized};
+ghost use Rattle.file.specs.Sizes.{Below, Sized};
 ghost use Rattle.growth.specs.Grows.{Grows};
 ghost use Rattle.checking.specs.Ready.{Agreed, Ready};
 ghost use Rattle.splitting.specs.Parts.{Parted};
 ghost use Rattle.changing.specs.Full.{DivideTold};
 ghost use Rattle.changing.specs.Outcomes.{put as putDone, removed as removeDone};
-ghost use Rattle.changing.specs.Splits.{AddTold, PutTold, RemoveTold, RenewTold, ReplaceTold, SplitTold};
+ghost use Rattle.changing.specs.Splits.{AddTold, PutTold, RenewTold, ReplaceTold, SplitTold};
+ghost use Rattle.changing.specs.Merges.{CountTold, LeftTold, MergeTold, RemovalTold, RemoveTold, RightTold, TrieTold};
 ghost use Rattle.changing.specs.Homes.{HomeTold};
+use bucket::SLOT;
 use checking::Checked;
 use checking::Verdict;
 use checking::checks_of;
@@ -33,9 +36,13 @@ use model::Layout;
 use model::PutAnswer;
 use model::PutGiven;
 use model::RemoveAnswer;
+use model::RemoveGiven;
 use model::Trie;
 use slots::Spot;
 use splitting::Split;
+
+// More entries than a bucket holds, for a neighbour that is not there.
+const NO_BUCKET: usize = 17;
 
 fn given(answer: PutAnswer, trie: Trie) -> PutGiven
     ensures { λ r. ⌜ (r .answer ≡ answer) × (r .trie ≡ trie) ⌝ }
@@ -281,46 +288,187 @@ pub fn put(file: &mut [u8], trie: Trie, name: &[u8], value: u64, run: u64, limit
     }
 }
 
-// R7.10: remove from a file that passed the checks. A bucket that becomes empty keeps its range; an absent name needs no store.
-fn remove_plan(file: &[u8], checked: Checked, name: &[u8; 24], key: Key) -> Plan
-    requires { ⌜ (Ready checked (now file)) × (key-value key ≡ digits-value (now name)) ⌝ }
-    ensures { λ r. ⌜ (Fits r (checked .size)) × (RemoveTold r (now (file .entry)) (checked .size) (now (name .entry))) ⌝ }
-{
-    let size = checked.size;
-    let k = home_of(file, checked, name);
-    let slot = file::slot_at(file, size, k);
-    let spot = slots::spot_in(slot, size.layout, key);
-    if !spot.held {
-        return file::no_store();
-    }
-    let new = slots::lessened(slot, size.layout, spot);
-    file::one_store(k, &new)
+// What a removal is to store. Where it merges, `right` is the place in order of the slot that is freed.
+pub struct RemovePlan {
+    pub plan: Plan,
+    pub right: usize,
 }
 
-// Removes a name, one store; a name that is absent needs none.
-pub fn remove(file: &mut [u8], trie: Trie, name: &[u8], limit: u64) -> RemoveAnswer
+fn removal_planned(plan: Plan, right: usize) -> RemovePlan
+    ensures { λ r. ⌜ (r .plan ≡ plan) × (r .right ≡ right) ⌝ }
+{
+    RemovePlan { plan, right }
+}
+
+// The slot at a place in order.
+fn slot_at_place(checked: Checked, place: usize) -> usize
+    requires { ⌜ (Below (checked .survey .order) (checked .size .slots)) × (checked .survey .count ≤ 64) × (place < checked .survey .count) ⌝ }
+    ensures { λ r. ⌜ (r ≡ getD (checked .survey .order) place 0) × (r < checked .size .slots) ⌝ }
+{
+    let survey = checked.survey;
+    let order = survey.order;
+    usize_of_u8(order[place])
+}
+
+// The entries of the slot at a place in order.
+fn count_at_place(file: &[u8], checked: Checked, place: usize) -> usize
+    requires { ⌜ (Ready checked (now file)) × (place < checked .survey .count) ⌝ }
+    ensures { λ r. ⌜ (r ≤ checked .size .layout .b) × (CountTold r checked (now (file .entry)) place) ⌝ }
+{
+    let size = checked.size;
+    let layout = size.layout;
+    let k = slot_at_place(checked, place);
+    bucket::count_of(file::slot_at(file, size, k), layout.b)
+}
+
+// The entries of the right neighbour; where there is none, more than any bucket holds.
+fn count_right(file: &[u8], checked: Checked, place: usize) -> usize
+    requires { ⌜ (Ready checked (now file)) × (place < checked .survey .count) ⌝ }
+    ensures { λ r. ⌜ RightTold r checked (now (file .entry)) place ⌝ }
+{
+    let survey = checked.survey;
+    let right = place + 1;
+    if survey.count <= right {
+        return NO_BUCKET;
+    }
+    count_at_place(file, checked, right)
+}
+
+// The entries of the left neighbour; where there is none, more than any bucket holds.
+fn count_left(file: &[u8], checked: Checked, place: usize) -> usize
+    requires { ⌜ (Ready checked (now file)) × (place < checked .survey .count) ⌝ }
+    ensures { λ r. ⌜ LeftTold r checked (now (file .entry)) place ⌝ }
+{
+    if place == 0 {
+        return NO_BUCKET;
+    }
+    count_at_place(file, checked, place - 1)
+}
+
+// A merge: first the left slot, which takes in what both hold but for the name, then the right one, freed. The right one stands
+// at a place in order, the left one, with m entries, before it; i is the name's place among all their entries.
+fn merge(
+    file: &[u8],
+    checked: Checked,
+    right: usize,
+    m: usize,
+    n: usize,
+    i: usize,
+) -> RemovePlan
+    requires { ⌜ (Ready checked (now file)) × (1 ≤ right) × (right < checked .survey .count) × (m ≤ checked .size .layout .b)
+        × (n ≤ checked .size .layout .b) × (m + n ≤ 16) × (i < m + n) ⌝ }
+    ensures { λ r. ⌜ (Fits (r .plan) (checked .size)) × (MergeTold r checked (now (file .entry)) right m n i) ⌝ }
+{
+    let size = checked.size;
+    let l = slot_at_place(checked, right - 1);
+    let r = slot_at_place(checked, right);
+    let wide = slots::widened(
+        file::slot_at(file, size, l),
+        m,
+        file::slot_at(file, size, r),
+        n,
+        size.layout,
+        i,
+    );
+    removal_planned(file::two_stores(l, &wide, r, &[0u8; SLOT]), right)
+}
+
+// The removal of a name that is held, at its spot in the bucket at a place in order. Without the name, this bucket and its right
+// neighbour merge if they have at most b/2 entries together, else it and the left one if these do. A bucket that becomes empty
+// and does not merge keeps its range.
+fn removal(file: &[u8], checked: Checked, place: usize, spot: Spot) -> RemovePlan
+    requires { ⌜ (Ready checked (now file)) × (place < checked .survey .count) × (Spotted spot (checked .size .layout)) × (spot .place < spot .count) ⌝ }
+    ensures { λ r. ⌜ (Fits (r .plan) (checked .size)) × (RemovalTold r checked (now (file .entry)) place spot) ⌝ }
+{
+    let size = checked.size;
+    let layout = size.layout;
+    let most = layout.b / 2;
+    let count = spot.count;
+    let n = count_right(file, checked, place);
+    if count - 1 + n <= most {
+        return merge(file, checked, place + 1, count, n, spot.place);
+    }
+    let m = count_left(file, checked, place);
+    if m + (count - 1) <= most {
+        return merge(file, checked, place, m, count, m + spot.place);
+    }
+    let k = slot_at_place(checked, place);
+    let new = slots::lessened(file::slot_at(file, size, k), layout, spot);
+    removal_planned(file::one_store(k, &new), 0)
+}
+
+// R7.10: remove from a file that passed the checks. An absent name needs no store.
+fn remove_plan(file: &[u8], checked: Checked, name: &[u8; 24], key: Key) -> RemovePlan
+    requires { ⌜ (Ready checked (now file)) × (Legal (now name)) × (key-value key ≡ digits-value (now name)) ⌝ }
+    ensures { λ r. ⌜ (Fits (r .plan) (checked .size)) × (RemoveTold r checked (now (file .entry)) (now (name .entry))) ⌝ }
+{
+    let size = checked.size;
+    let survey = checked.survey;
+    let order = survey.order;
+    let place = file::holder(file, size, &order, survey.count, name);
+    let k = slot_at_place(checked, place);
+    let spot = slots::spot_in(file::slot_at(file, size, k), size.layout, key);
+    if !spot.held {
+        return removal_planned(file::no_store(), 0);
+    }
+    removal(file, checked, place, spot)
+}
+
+// The trie of a file without the slot that stands at a place in order, which a merge has freed.
+fn trie_without(file: &[u8], checked: Checked, right: usize) -> Trie
+    requires { ⌜ (Sized (length (now file)) (checked .size)) × (Below (checked .survey .order) (checked .size .slots))
+        × (checked .survey .count ≤ 64) × (right < checked .survey .count) ⌝ }
+    ensures { λ r. ⌜ TrieTold r checked (now (file .entry)) right ⌝ }
+{
+    let survey = checked.survey;
+    let mut order = survey.order;
+    file::leave_out(&mut order, survey.count, right);
+    rebuilding::rebuilt(strings::strings_of(
+        file,
+        checked.size,
+        &order,
+        survey.count - 1,
+    ))
+}
+
+fn left_with(answer: RemoveAnswer, trie: Trie) -> RemoveGiven
+    ensures { λ r. ⌜ (r .answer ≡ answer) × (r .trie ≡ trie) ⌝ }
+{
+    RemoveGiven { answer, trie }
+}
+
+// Removes a name: one store, or the two of a merge; a name that is absent needs none. After a merge the trie is the rebuilt one.
+pub fn remove(file: &mut [u8], trie: Trie, name: &[u8], limit: u64) -> RemoveGiven
     ensures { λ r. ⌜ removeDone r (now (file .exit)) ≡ remove-of (now (file .entry)) trie (now (name .entry)) limit ⌝ }
 {
     if 2 < limit {
-        return RemoveAnswer::Refused(Cause::WrongSize);
+        return left_with(RemoveAnswer::Refused(Cause::WrongSize), trie);
     }
     let filled = digits::filled(name);
     let Naming::Legal(key) = digits::naming_of(name, &filled) else {
-        return RemoveAnswer::Refused(Cause::IllegalName);
+        return left_with(RemoveAnswer::Refused(Cause::IllegalName), trie);
     };
     let checked = checks_of(file, trie);
     let verdict = checked.verdict;
     match verdict {
-        Verdict::Refused(cause) => RemoveAnswer::Refused(cause),
+        Verdict::Refused(cause) => left_with(RemoveAnswer::Refused(cause), trie),
         Verdict::Fine => {
-            let plan = remove_plan(file, checked, &filled, key);
+            let change = remove_plan(file, checked, &filled, key);
+            let plan = change.plan;
+            let stores = plan.stores;
             if file::commit(file, checked.size, plan, limit) {
-                return RemoveAnswer::Stopped(limit);
+                return left_with(RemoveAnswer::Stopped(limit), trie);
             }
-            if plan.stores < 1 {
-                return RemoveAnswer::Absent;
+            if stores < 1 {
+                return left_with(RemoveAnswer::Absent, trie);
             }
-            RemoveAnswer::Removed
+            if stores < 2 {
+                return left_with(RemoveAnswer::Removed(1), trie);
+            }
+            left_with(
+                RemoveAnswer::Removed(2),
+                trie_without(file, checked, change.right),
+            )
         }
     }
 }

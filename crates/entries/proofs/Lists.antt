@@ -1,5 +1,5 @@
 -- Bytes and lists of entries: what is read, what is written, the place of a name, and a splice as an insertion or a removal.
-use Rattle.model.proofs.Prelude.{List, Option, [], _*_, _++_, _+_, _-_, _<_, _^_, _∙_, _∷_, _≡_, _≤_, ap, ap₂, append-assoc, arith, decLt, drop, drop-append-le, drop-at, drop-drop, eq-eqb, getD, length, length-drop, length-take-le, ne-eqb, nothing, refl, replicate, some, sub-zero, suc, sym, take, take-add, take-all, take-append-drop, take-append-le, take-at, zero, ℕ}
+use Rattle.model.proofs.Prelude.{List, Option, [], _*_, _++_, _+_, _-_, _<_, _^_, _∙_, _∷_, _≡_, _≤_, ap, ap₂, append-assoc, arith, decLt, drop, drop-append-le, drop-at, drop-drop, eq-eqb, getD, length, length-append, length-drop, length-take-le, ne-eqb, nothing, refl, replicate, some, sub-zero, suc, sym, take, take-add, take-all, take-append-drop, take-append-le, take-at, zero, ℕ}
 use native.Mathlib.Nat.{mul-zero}
 use Rattle.model.specs.Calls.{between}
 use Rattle.model.specs.Entries.{Entry, Row, find, insert, name-at, without}
@@ -69,6 +69,20 @@ read-entries-parts : (e i n : ℕ) (p ys : List ℕ) → 24 ≤ e → length p �
 read-entries-parts e i n p ys h k =
     read-entries-add e i n (p ++ ys)
     ∙ ap₂ (λ (a b : List Entry). a ++ b) (read-entries-front e i p ys h (omega arith)) (ap (read-entries e n) (drop-at p ys (e * i) k))
+
+-- The entries of two rows, one after the other, in the room that the code has.
+pub joined-list : (e m n : ℕ) (xs ys : List ℕ) → 24 ≤ e → e * m ≤ length xs → e * n ≤ length ys → e * m + e * n ≤ room
+    → read-entries e (m + n) (padded room (take (e * m) xs ++ take (e * n) ys)) ≡ read-entries e m xs ++ read-entries e n ys
+joined-list e m n xs ys least hx hy most =
+    let p = take (e * m) xs in
+    let q = take (e * n) ys in
+    let lp : length p ≡ e * m = length-take-le (e * m) xs hx in
+    let lq : length q ≡ e * n = length-take-le (e * n) ys hy in
+    let z : List ℕ = replicate (room - length (p ++ q)) 0 in
+    ap (read-entries e (m + n)) (padded-short room (p ++ q) (omega (arith, length-append p q, lp, lq)) ∙ append-assoc p q z)
+    ∙ read-entries-parts e m n p (q ++ z) least lp
+    ∙ ap₂ (λ (a b : List Entry). a ++ b) (read-entries-take e m xs least hx)
+    (read-entries-front e n q z least (omega (arith, lq)) ∙ read-entries-take e n ys least hy)
 
 -- The entries of a part, as the code cuts it.
 pub part-is : (e i j at end : ℕ) (xs : List ℕ) → at ≡ e * i → end ≡ e * j → take (end - at) (drop at xs) ≡ entries-from e i j xs

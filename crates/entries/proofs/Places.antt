@@ -1,5 +1,5 @@
 -- The place of a name in a row, and the entries from one name to another.
-use Rattle.model.proofs.Prelude.{Bool, List, Option, [], _-_, _<_, _||_, _∙_, _∷_, _≡_, _≤_, and-false, ap, ap₂, arith, clash, cond, drop, false, getD, length, ltb, not, nothing, refl, some, suc, sym, take, true, ℕ}
+use Rattle.model.proofs.Prelude.{Bool, List, Option, [], _++_, _+_, _-_, _<_, _||_, _∙_, _∷_, _≡_, _≤_, and-false, ap, ap₂, arith, clash, cond, drop, false, getD, length, ltb, not, nothing, refl, some, suc, sym, take, true, ℕ}
 use mathlib.Core.Bool.{or-true}
 use Rattle.model.specs.Calls.{between}
 use Rattle.model.specs.Entries.{Entry, Row, entry, find, name-at, no-entries}
@@ -46,6 +46,21 @@ place-most n (e ∷ es) = elim (le? n (e .0)) [
   | yes p ↦ rw (chosen-yes (le? n (e .0)) p) (omega arith)
   | no p ↦ rw (chosen-no (le? n (e .0)) p) (omega (arith, place-most n es))
 ]
+
+-- The place in two rows, one after the other.
+pub place-left : (n : Str) (es gs : List Entry) {w : ℕ} → find n es ≡ some w → place n (es ++ gs) ≡ place n es
+unfolding place find
+place-left n [] gs h = clash cc
+place-left n (e ∷ es) gs h = elim (le? n (e .0)) [
+  | yes p ↦ rw (chosen-yes (le? n (e .0)) p, chosen-yes (le? n (e .0)) p)
+  | no p ↦ rw (chosen-no (le? n (e .0)) p, chosen-no (le? n (e .0)) p, place-left n es gs (find-behind n e es p ∙ h))
+]
+
+pub place-right : {l : Low} {s : Str} {es : List Entry} (n : Str) (gs : List Entry) → Row l es s → ¬ (n ⊑ s) → place n (es ++ gs) ≡ length es + place n gs
+unfolding place
+place-right n gs no-entries h = omega arith
+place-right n gs (entry {e = e} {es = es} g a b r) h =
+    rw (chosen-no (le? n (e .0)) (λ p. h (le-trans p b))) (omega (arith, place-right n gs r h))
 
 -- A name that is held stands at its place, and one that is not held does not.
 pub place-found : {l : Low} {u : Str} {es : List Entry} (n : Str) (w : ℕ) → Row l es u → find n es ≡ some w

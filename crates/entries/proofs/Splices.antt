@@ -40,3 +40,16 @@ module _ (e count i taken : ℕ) (xs middle : List ℕ) (fits : e * count ≤ le
       let e₃ : m₃ ≡ padded room (front ++ middle ++ back) =
       copied (at + length middle) (front ++ middle) (take (end - next) (drop next xs)) back e₂ (omega (arith, length-append front middle, length-front)) (rw (d, b)) (omega (arith, length-back)) q₃ in
       e₃ ∙ simp append-assoc
+
+-- The copies of which the code joins two rows.
+pub join-copies : (e m n : ℕ) (xs ys : List ℕ) → e * m ≤ length xs → e * n ≤ length ys → e * m + e * n ≤ room → (at end : ℕ) (m₁ m₂ : List ℕ) → at ≡ e * m → end ≡ e * n
+    → m₁ ≡ paste (replicate room 0) 0 (take (at - 0) (drop 0 xs)) (length (take (at - 0) (drop 0 xs)))
+    → m₂ ≡ paste m₁ at (take (end - 0) (drop 0 ys)) (length (take (end - 0) (drop 0 ys)))
+    → m₂ ≡ padded room (take (e * m) xs ++ take (e * n) ys)
+join-copies e m n xs ys hx hy most at end m₁ m₂ a b q₁ q₂ =
+    let z : at - 0 ≡ e * m = omega arith in
+    let w : end - 0 ≡ e * n = omega arith in
+    let lx : length (take (e * m) xs) ≡ e * m = length-take-le (e * m) xs hx in
+    let ly : length (take (e * n) ys) ≡ e * n = length-take-le (e * n) ys hy in
+    let e₁ : m₁ ≡ padded room (take (e * m) xs) = copied 0 [] (take (at - 0) (drop 0 xs)) (take (e * m) xs) (zeros-padded room) refl (rw z) (omega (arith, lx)) q₁ in
+    copied at (take (e * m) xs) (take (end - 0) (drop 0 ys)) (take (e * n) ys) e₁ (lx ∙ sym a) (rw w) (omega (arith, ly)) q₂

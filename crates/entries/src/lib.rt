@@ -3,7 +3,7 @@
 // Only `entry_at` has a product; its contract gives the callers what they need of it, so their own sums are linear. Only
 // `content_at`, `entry_of` and `is_same_entry` tell the two sizes apart.
 ghost use mathlib.Core.Bool.{_&&_, cond};
-ghost use mathlib.Core.List.{[]};
+ghost use mathlib.Core.List.{[], _++_};
 ghost use mathlib.Core.Path.{_≡_};
 ghost use Prim.Native.Nat.{_≤_, _<_, _+_, _-_, _*_, _^_};
 ghost use lib.Dec.{leb, ltb};
@@ -189,6 +189,19 @@ fn spliced(
     copy(&mut all, 0, &entries[0..at]);
     copy(&mut all, at, middle);
     copy(&mut all, at + middle.len(), &entries[next..end]);
+    all
+}
+
+// The first entries of one row, so many, and behind them those of another.
+pub fn joined(first: &[u8], m: usize, second: &[u8], n: usize, e: usize) -> [u8; ROOM]
+    requires { ⌜ (e * m ≤ length (now first)) × (e * n ≤ length (now second)) × (m + n ≤ 17) × (24 ≤ e) × (e ≤ 40) ⌝ }
+    ensures { λ r. ⌜ r ≡ padded room (take (e * m) (now (first .entry)) ++ take (e * n) (now (second .entry))) ⌝ }
+{
+    let mut all = [0u8; ROOM];
+    let at = entry_at(e, m, m + n);
+    let end = entry_at(e, n, n);
+    copy(&mut all, 0, &first[0..at]);
+    copy(&mut all, at, &second[0..end]);
     all
 }
 

@@ -189,13 +189,12 @@ module _ {xs : List ℕ} {size : Size} {order : List ℕ} {count map : ℕ} (few
                   old = ea;
                   a-is = y ∙ ap (λ w. used la w ea) z;
                   below = q .2;
-                  full = q .3;
-                  copied = q .4;
+                  copied = q .3;
                 }
 
         no-copy : c ≡ false → Copy (size .layout .b) (L .slots) (getD order p 0) (getD order place 0) → ⊥
         no-copy t C = D .refused t (n-read (C .n-is) tt, rw (C .n-is) at (L .well (getD order place 0))) (a-read (C .a-is) tt, rw (C .a-is) at (L .well (getD order p 0)))
-            (C .low) refl (C .below) (C .full) (C .copied)
+            (C .low) refl (C .below) (C .copied)
 
         pub said-no-copy : c ≡ false → is-bad ≡ check-of-slots (size .layout) (size .slots) xs
         said-no-copy t = said is-bad (check-bad (size .layout .b) (L .slots) (twin-bad (size .layout .b) lists twins sorted (λ q. no-copy t (q .0))))

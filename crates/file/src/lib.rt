@@ -24,6 +24,7 @@ mod order;
 mod survey;
 
 pub use order::holder;
+pub use order::leave_out;
 pub use survey::Kind;
 pub use survey::Survey;
 pub use survey::survey_of;

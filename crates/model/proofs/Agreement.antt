@@ -175,6 +175,11 @@ module _ (b : ℕ) {fs : List Slot} (S : Sound b fs) where
       strings-same : strings [] (A .tree) ≡ strings-of fs
       strings-same = asc-unique (trie-asc flat) (strings-asc b S) (λ x m. strings-every b S x (A .only x m)) (λ x m. A .every x (strings-only b S x m))
 
+  -- A file that some trie agrees with has few enough strings.
+  pub agrees-few : {t : Trie} → Agrees fs t → string-count fs ≤ 256
+  agrees-few {t} A = let C = agrees-cells A in
+      omega (arith, A .few, count-right b S, cells-count (C .trie), reads-size (C .reads), visits-count (C .reads) (C .each), length-take (t .count) (t .cells))
+
   pub cells-agree : {t : Trie} → length (t .cells) ≡ 256 → t .count ≤ 256
       → ((i : ℕ) → t .count ≤ i → at-cell (t .cells) i ≡ zero-cell) → (0 < t .count → t .first ≡ 0)
       → CellsAgree (ranges fs) (S .order) (take (t .count) (t .cells)) (root-side (t .count) (t .first)) → Agrees fs t

@@ -2,9 +2,9 @@
 use Rattle.model.proofs.Prelude.{Bool, List, Option, [], _<_, _∙_, _∷_, _≡_, _≤_, ap, arith, clash, cond, decLe, decLt, false, length, lt-ltb, ltb-true, nothing, refl, some, subst, sym, true, ℕ}
 use Rattle.model.specs.Order.{Low, Str, _⊑_, _◁_, at}
 use Rattle.model.specs.Names.{Legal}
-use Rattle.model.specs.Entries.{Entry, chosen, find, insert, is-older, run-of-content, without}
+use Rattle.model.specs.Entries.{Entry, chosen, find, insert, is-older, run-of-content}
 use Rattle.model.specs.Files.{In, Slot, Sound, entries-of, first, free, head, slot-at, string-count, used}
-use Rattle.model.specs.Changes.{Denied, Lowest, Request, Result, Store, call, free?, halves, holds?, no-room, put, put-in, refuse, remove, remove-in, stored, stores, stores-if, too-many}
+use Rattle.model.specs.Changes.{Denied, Lowest, Request, Result, Store, call, free?, halves, holds?, no-room, put, put-in, refuse, removal, remove, remove-in, stored, stores, stores-if, too-many}
 use Rattle.model.proofs.Entries.{chosen-no, chosen-yes}
 use Rattle.model.proofs.Files.{bucket, first-before, first-passes, first-right, one-range}
 use Rattle.model.specs.declared.Layout.{Layout}
@@ -44,13 +44,13 @@ module _ (b : ℕ) (place : List Entry → ℕ) where
     change-unique (splits {A = A} {N = N} {l = l} {u = u} {es = es} is g lo up h L f) (splits {A = C} {N = M} {l = m} {u = w} {es = gs} is′ g′ lo′ up′ h′ L′ f′) =
         let e : (A ≡ C) × (used l u es ≡ used m w gs) = one-bucket is lo up is′ lo′ up′ in
         let p : A ≡ C = e .0 in let q : used l u es ≡ used m w gs = e .1 in let r : N ≡ M = lowest-unique L L′ in cc
-    change-unique (removes {A = A} {l = l} {u = u} {es = es} is lo up h) (removes {A = C} {l = m} {u = w} {es = gs} is′ lo′ up′ h′) =
+    change-unique (removes A {l = l} {u = u} {es = es} is lo up h) (removes C {l = m} {u = w} {es = gs} is′ lo′ up′ h′) =
         let e : (A ≡ C) × (used l u es ≡ used m w gs) = one-bucket is lo up is′ lo′ up′ in
         let p : A ≡ C = e .0 in let q : used l u es ≡ used m w gs = e .1 in cc
-    change-unique (removes {es = es} {n = n} {w = w} is lo up h) (absent C is′ lo′ up′ h′) =
+    change-unique (removes A {es = es} {n = n} {w = w} is lo up h) (absent C is′ lo′ up′ h′) =
         let z : _≡_ {A = Option ℕ} nothing (some w) = sym h′ ∙ ap (find n) (sym (same-entries (one-bucket is lo up is′ lo′ up′ .1))) ∙ h in
         clash cc
-    change-unique (absent A is lo up h) (removes {es = gs} {n = n} {w = w} is′ lo′ up′ h′) =
+    change-unique (absent A is lo up h) (removes C {es = gs} {n = n} {w = w} is′ lo′ up′ h′) =
         let z : _≡_ {A = Option ℕ} nothing (some w) = sym h ∙ ap (find n) (same-entries (one-bucket is lo up is′ lo′ up′ .1)) ∙ h′ in
         clash cc
     change-unique (absent A is lo up h) (absent C is′ lo′ up′ h′) = refl
@@ -89,9 +89,9 @@ module _ (b : ℕ) (place : List Entry → ℕ) (fs : List Slot) where
         go A free e h = absurd (h .0)
         go A (used l u es) e h = by (find n es) refl
           where
-            by : (f : Option ℕ) → find n es ≡ f → Answered (remove n) (stores (stores-if f ((A, used l u (without n es)) ∷ [])))
+            by : (f : Option ℕ) → find n es ≡ f → Answered (remove n) (stores (stores-if f (removal b fs n A l u es)))
             by nothing g = is-made (absent A e (h .1) (h .2) g)
-            by (some w) g = is-made (removes e (h .1) (h .2) g)
+            by (some w) g = is-made (removes A e (h .1) (h .2) g)
 
     pub put-right : (v : ℕ) → Legal n → Answered (put n v) (call b place fs (put n v))
     unfolding call put-in

@@ -1,48 +1,42 @@
 -- All stores of a change made, the file is sound and says what was asked; a part of them, it is as before or cut, and
 -- recovers to what it was.
-use Rattle.model.proofs.Prelude.{List, List·Memᴰ, List·Memᴰ·head, List·Memᴰ·tail, Memᴰ·append-right, [], _++_, _<_, _∙_, _∷_, _≡_, _≢_, _≤_, _⊎_, ap, arith, fun-ext, getD-set-other, getD-set-same, inl, inr, length, length-set, nothing, refl, set, set-getD, set-set, some, subst, suc, sym, take, zero, ℕ, ℕ-discrete}
+use Rattle.model.proofs.Prelude.{List, List·Memᴰ, List·Memᴰ·head, List·Memᴰ·tail, Memᴰ·append-right, [], _++_, _/_, _<_, _∙_, _∷_, _≡_, _≢_, _≤_, _⊎_, ap, arith, cond, false, fun-ext, getD-set-other, getD-set-same, inl, inr, length, length-set, nothing, refl, set, set-getD, set-set, some, subst, suc, sym, take, zero, ℕ, ℕ-discrete}
 use Rattle.model.specs.Order.{Low, Str, _≺_, _⊑_, _◁_, above, at, none}
 use Rattle.model.specs.Names.{Bound, BoundLow, Legal, limit}
 use Rattle.model.specs.Entries.{Entry, Row, find, insert, move, name-at, stay, without}
 use Rattle.model.specs.Files.{Chain, Copied, Cut, In, IsUsed, Slot, Sound, Well, all, bounds, by-heads, entries-of, exactly, free, head, one-more, range, ranges, slot-at, string-count, used, well-used}
-use Rattle.model.specs.Changes.{Lowest, Map, Means, Request, Store, halves, meant, put, remove, split-of, split-string, stored}
+use Rattle.model.specs.Changes.{Lowest, Map, Means, Request, Store, counts, halves, meant, merged, put, removal, remove, split-of, split-string, stored, trie-removed}
 use Rattle.model.proofs.Lists.{mem-insert, mem-parts}
 use Rattle.model.proofs.Order.{le-trans, low-at, low-lower, lt-le}
 use Rattle.model.proofs.Entries.{chosen-no, chosen-yes, find-at, find-drop, find-insert-other, find-insert-same, find-keep, insert-new, keep-comm, keep-insert-out, keep-parts, keep-some, length-insert, length-keep, row-insert, row-keep, split-bound, split-key, split-last, split-over, split-under}
-use Rattle.model.proofs.Files.{count-right, one-range, used-inside, well-parts}
+use Rattle.model.proofs.Files.{at-set, count-right, one-range, used-inside, well-parts}
 use Rattle.model.proofs.Splitting.{SplitAt, chain-split}
+use Rattle.model.proofs.Merging.{Removal, alone, leftward, merge-cut, merge-few, merge-means, merge-sound, removal-is, removal-some, rightward}
 use Rattle.model.specs.declared.Trie.{Trie}
 use Rattle.model.specs.Growth.{grown-trie}
 use Rattle.model.specs.Deciding.{le?, not?, over, str?}
 
 module _ (b : ℕ) (place : List Entry → ℕ) where
   -- Where nothing is refused: what is asked, and the stores that it takes. One for a name that finds room (R7.2), two
-  -- for a split (R7.8), one to replace or to remove (R7.9, R7.10), none to remove an absent name (R7.11).
+  -- for a split (R7.8), one to replace (R7.9), one or the two of a merge to remove (R7.10), none to remove an absent name (R7.11).
   pub data Change (fs : List Slot) : Request → List Store → Type 0 where
     fits : {A : ℕ} {l : Low} {u : Str} {es : List Entry} {n : Str} {v : ℕ} → slot-at fs A ≡ used l u es → Legal n → l ◁ n → n ⊑ u
         → length (insert n v es) ≤ b → Change fs (put n v) ((A, used l u (insert n v es)) ∷ [])
     splits : {A N : ℕ} {l : Low} {u : Str} {es : List Entry} {n : Str} {v : ℕ} → slot-at fs A ≡ used l u es → Legal n → l ◁ n → n ⊑ u
         → b < length (insert n v es) → Lowest fs N → string-count (stored (halves b place N A l u (insert n v es)) fs) ≤ 256
         → Change fs (put n v) (halves b place N A l u (insert n v es))
-    removes : {A : ℕ} {l : Low} {u : Str} {es : List Entry} {n : Str} {w : ℕ} → slot-at fs A ≡ used l u es → l ◁ n → n ⊑ u
-        → find n es ≡ some w → Change fs (remove n) ((A, used l u (without n es)) ∷ [])
+    removes : (A : ℕ) {l : Low} {u : Str} {es : List Entry} {n : Str} {w : ℕ} → slot-at fs A ≡ used l u es → l ◁ n → n ⊑ u
+        → find n es ≡ some w → Change fs (remove n) (removal b fs n A l u es)
     absent : (A : ℕ) {l : Low} {u : Str} {es : List Entry} {n : Str} → slot-at fs A ≡ used l u es → l ◁ n → n ⊑ u
         → find n es ≡ nothing → Change fs (remove n) []
 
-  -- R8.1: the trie changes with the last store of a split.
+  -- R8.1: the trie changes with the last store of a split; after a merge it is the rebuilt one.
   unfoldable pub trie-after : {fs : List Slot} {q : Request} {ss : List Store} → Change fs q ss → Trie → Trie
   trie-after (fits is g lo up k) t = t
   trie-after (splits {A = A} {N = N} {es = es} {n = n} {v = v} is g lo up k f c) t =
       grown-trie t (name-at (insert n v es) (place (insert n v es))) (split-of b place (insert n v es)) A N
-  trie-after (removes is lo up e) t = t
+  trie-after {fs} (removes A {l = l} {u = u} {es = es} {n = n} is lo up e) t = trie-removed fs (removal b fs n A l u es) t
   trie-after (absent A is lo up e) t = t
-
--- What a store at A leaves: the new slot at A, the old ones elsewhere.
-pub at-set : (P : ℕ → Slot → Type 0) (fs : List Slot) (A : ℕ) (x : Slot) → A < length fs → P A x → ((B : ℕ) → B ≢ A → P B (slot-at fs B)) → (B : ℕ) → P B (slot-at (set fs A x) B)
-at-set P fs A x h p f B = elim (ℕ-discrete B A) [
-  | yes e ↦ subst (λ C. P C (slot-at (set fs A x) C)) (sym e) (rw (getD-set-same fs A x free h) p)
-  | no e ↦ rw (getD-set-other fs A B x free e) (f B e)
-]
 
 module _ (b : ℕ) where
   module _ (fs : List Slot) (S : Sound b fs) (A : ℕ) (l : Low) (u : Str) (es : List Entry) (is : slot-at fs A ≡ used l u es) where
@@ -183,7 +177,6 @@ module _ (b : ℕ) where
         old = es;
         a-is = rw first-back is;
         below = s-above;
-        full = full;
         copied = copied;
       }
 
@@ -236,6 +229,14 @@ module _ (b : ℕ) where
     pub means : Means fs m
     pub few : string-count fs ≤ 256
 
+  pub merge-fine : {fs : List Slot} {m : Map} → Fine fs m → (L R : ℕ) (l : Low) (s u : Str) (es gs : List Entry) → slot-at fs L ≡ used l s es → slot-at fs R ≡ used (at s) u gs
+      → (n : Str) → l ◁ n → n ⊑ u → length (without n (es ++ gs)) ≤ b / 2 → Fine (stored (merged n L R l u es gs) fs) (meant (remove n) m)
+  merge-fine {fs} {m} F L R l s u es gs l-is r-is n lo up k = record {
+    sound = merge-sound b fs (F .sound) L R l s u es gs l-is r-is n lo up k;
+    means = merge-means b fs (F .sound) L R l s u es gs l-is r-is n lo up m (F .means);
+    few = omega (arith, merge-few b fs (F .sound) L R l s u es gs l-is r-is n lo up k, F .few);
+  }
+
   -- A store that keeps the range keeps the number of strings.
   pub one-count : (fs : List Slot) (S : Sound b fs) (A : ℕ) (l : Low) (u : Str) (es : List Entry) (is : slot-at fs A ≡ used l u es) (es′ : List Entry)
       (r : Row l es′ u) (k : length es′ ≤ b) → string-count (set fs A (used l u es′)) ≡ string-count fs
@@ -243,7 +244,64 @@ module _ (b : ℕ) where
   one-count fs S A l u es is es′ r k = count-right b (one-sound fs S A l u es is es′ r k)
       ∙ ap (λ h. length (all (bounds (by-heads h) (S .order)))) (fun-ext (same-heads fs S A l u es is es′)) ∙ sym (count-right b S)
 
+  -- A removal made: alone, or with a merge.
+  pub removal-made : {fs : List Slot} {m : Map} → Fine fs m → (A : ℕ) (l : Low) (u : Str) (es : List Entry) (n : Str) → slot-at fs A ≡ used l u es → l ◁ n → n ⊑ u
+      → {ss : List Store} → Removal b fs n A l u es ss → Fine (stored ss fs) (meant (remove n) m)
+  removal-made {fs} {m} F A l u es n is lo up (alone c d) =
+      let w = well-a fs (F .sound) A l u es is in
+      let r = row-keep (λ k. not? (str? k n)) l u (w .3) (λ k p c d. (c, d)) in
+      let k : length (without n es) ≤ b = omega (arith, length-keep (λ k. not? (str? k n)) es, w .4) in record {
+        sound = one-sound fs (F .sound) A l u es is (without n es) r k;
+        means = one-means fs (F .sound) A l u es is (without n es) m (meant (remove n) m) (F .means) (remove-find fs (F .sound) A l u es is n 0 lo up m (F .means)) (remove-outside fs (F .sound) A l u es is n 0 lo up m);
+        few = rw (one-count fs (F .sound) A l u es is (without n es) r k) (F .few);
+      }
+  removal-made {fs} {m} F A l u es n is lo up (rightward {R = R} {v = v} {gs = gs} r-is k) =
+      let up′ : n ⊑ v = le-trans up (lt-le (over (well-a fs (F .sound) R (at u) v gs r-is .2))) in
+      merge-fine F A R l u v es gs is r-is n lo up′ k
+  removal-made {fs} {m} F A l u es n is lo up (leftward {L = L} {k = k} {s = s} {ds = ds} c q l-is f) =
+      let r-is : slot-at fs A ≡ used (at s) u es = is ∙ ap (λ x. used x u es) q in
+      let lo′ : k ◁ n = low-lower (low-at (well-a fs (F .sound) L k s ds l-is .2)) (rw q at lo) in
+      merge-fine F L A k s u ds es l-is r-is n lo′ up f
+
+  -- No string is new.
+  pub removal-few : {fs : List Slot} (S : Sound b fs) (A : ℕ) (l : Low) (u : Str) (es : List Entry) (n : Str) → slot-at fs A ≡ used l u es → l ◁ n → n ⊑ u
+      → {ss : List Store} → Removal b fs n A l u es ss → string-count (stored ss fs) ≤ string-count fs
+  removal-few {fs} S A l u es n is lo up (alone c d) =
+      let w = well-a fs S A l u es is in
+      let r = row-keep (λ k. not? (str? k n)) l u (w .3) (λ k p c d. (c, d)) in
+      let k : length (without n es) ≤ b = omega (arith, length-keep (λ k. not? (str? k n)) es, w .4) in
+      omega (arith, one-count fs S A l u es is (without n es) r k)
+  removal-few {fs} S A l u es n is lo up (rightward {R = R} {v = v} {gs = gs} r-is k) =
+      let up′ : n ⊑ v = le-trans up (lt-le (over (well-a fs S R (at u) v gs r-is .2))) in
+      merge-few b fs S A R l u v es gs is r-is n lo up′ k
+  removal-few {fs} S A l u es n is lo up (leftward {L = L} {k = k} {s = s} {ds = ds} c q l-is f) =
+      let r-is : slot-at fs A ≡ used (at s) u es = is ∙ ap (λ x. used x u es) q in
+      let lo′ : k ◁ n = low-lower (low-at (well-a fs S L k s ds l-is .2)) (rw q at lo) in
+      merge-few b fs S L A k s u ds es l-is r-is n lo′ up f
+
+  -- A removal stopped after a store: only a merge can be, after its first of two.
+  pub removal-stopped : {fs : List Slot} {m : Map} → Fine fs m → (A : ℕ) (l : Low) (u : Str) (es : List Entry) (n : Str) (w : ℕ) → slot-at fs A ≡ used l u es → l ◁ n → n ⊑ u
+      → find n es ≡ some w → {ss : List Store} → Removal b fs n A l u es ss → (j : ℕ) → suc j < length ss
+      → (N : ℕ) × Cut b (stored (take (suc j) ss) fs) N × (set (stored (take (suc j) ss) fs) N free ≡ stored ss fs)
+  removal-stopped F A l u es n w is lo up e (alone c d) j h = absurd (omega arith)
+  removal-stopped {fs} F A l u es n w is lo up e (rightward {R = R} {v = v} {gs = gs} r-is k) zero h =
+      let up′ : n ⊑ v = le-trans up (lt-le (over (well-a fs (F .sound) R (at u) v gs r-is .2))) in
+      (R, merge-cut b fs (F .sound) A R l u v es gs is r-is n lo up′ k (inl up), refl)
+  removal-stopped {fs} F A l u es n w is lo up e (leftward {L = L} {k = k} {s = s} {ds = ds} c q l-is f) zero h =
+      let r-is : slot-at fs A ≡ used (at s) u es = is ∙ ap (λ x. used x u es) q in
+      let lo′ : k ◁ n = low-lower (low-at (well-a fs (F .sound) L k s ds l-is .2)) (rw q at lo) in
+      (A, merge-cut b fs (F .sound) L A k s u ds es l-is r-is n lo′ up f (inr (w, e)), refl)
+  removal-stopped F A l u es n w is lo up e (rightward r-is k) (suc j) h = absurd (omega arith)
+  removal-stopped F A l u es n w is lo up e (leftward c q l-is f) (suc j) h = absurd (omega arith)
+
   module _ (place : List Entry → ℕ) (place-lt : (ws : List Entry) → place ws < b) where
+    -- No change has more than two stores.
+    pub change-length : {fs : List Slot} {q : Request} {ss : List Store} → Change b place fs q ss → length ss ≤ 2
+    change-length (fits is g lo up k) = omega arith
+    change-length (splits is g lo up big low few) = omega arith
+    change-length {fs} (removes A {l = l} {u = u} {es = es} {n = n} is lo up e) = removal-some b fs n A l u es (removal-is b fs n A l u es) .1
+    change-length (absent A is lo up e) = omega arith
+
     pub change-made : {fs : List Slot} {m : Map} {q : Request} {ss : List Store} → Fine fs m → Change b place fs q ss → Fine (stored ss fs) (meant q m)
     change-made {fs} {m} F (fits {A = A} {l = l} {u = u} {es = es} {n = n} {v = v} is g lo up k) =
         let r = row-insert n v g lo up (well-a fs (F .sound) A l u es is .3) in record {
@@ -256,14 +314,7 @@ module _ (b : ℕ) where
       means = second-means fs (F .sound) A l u es is n v g lo up big (place (insert n v es)) (place-lt (insert n v es)) N low m (F .means);
       few = few;
     }
-    change-made {fs} {m} F (removes {A = A} {l = l} {u = u} {es = es} {n = n} is lo up e) =
-        let w = well-a fs (F .sound) A l u es is in
-        let r = row-keep (λ k. not? (str? k n)) l u (w .3) (λ k p c d. (c, d)) in
-        let k : length (without n es) ≤ b = omega (arith, length-keep (λ k. not? (str? k n)) es, w .4) in record {
-          sound = one-sound fs (F .sound) A l u es is (without n es) r k;
-          means = one-means fs (F .sound) A l u es is (without n es) m (meant (remove n) m) (F .means) (remove-find fs (F .sound) A l u es is n 0 lo up m (F .means)) (remove-outside fs (F .sound) A l u es is n 0 lo up m);
-          few = rw (one-count fs (F .sound) A l u es is (without n es) r k) (F .few);
-        }
+    change-made {fs} {m} F (removes A {l = l} {u = u} {es = es} {n = n} is lo up e) = removal-made F A l u es n is lo up (removal-is b fs n A l u es)
     change-made {fs} {m} F (absent A {n = n} is lo up e) = record {
       sound = F .sound;
       means = λ k B h. F .means k B h ∙ elim (str? k n) [
@@ -273,13 +324,16 @@ module _ (b : ℕ) where
       few = F .few;
     }
 
-    -- Stopped: nothing changed, or the file is cut and freeing its one slot gives back what was there.
+    -- Stopped: nothing changed, or the file is cut, and freeing its one slot gives what the call counts as: what was there, or
+    -- what it would have left, for a merge.
     pub change-stopped : {fs : List Slot} {m : Map} {q : Request} {ss : List Store} → Fine fs m → Change b place fs q ss → (k : ℕ) → k < length ss
-        → (stored (take k ss) fs ≡ fs) ⊎ ((N : ℕ) × Cut b (stored (take k ss) fs) N × (set (stored (take k ss) fs) N free ≡ fs))
-    change-stopped F c zero h = inl refl
+        → ((stored (take k ss) fs ≡ fs) × (counts q k ≡ false)) ⊎ ((N : ℕ) × Cut b (stored (take k ss) fs) N × (set (stored (take k ss) fs) N free ≡ cond (counts q k) (stored ss fs) fs))
+    unfolding counts
+    change-stopped {q = put n v} F c zero h = inl (refl, refl)
+    change-stopped {q = remove n} F c zero h = inl (refl, refl)
     change-stopped F (fits is g lo up k) (suc j) h = absurd (omega arith)
     change-stopped {fs} F (splits {A = A} {N = N} {l = l} {u = u} {es = es} {n = n} {v = v} is g lo up big low few) (suc zero) h =
         inr (N, first-cut fs (F .sound) A l u es is n v g lo up big (place (insert n v es)) (place-lt (insert n v es)) N low, first-back fs (F .sound) A l u es is n v g lo up big (place (insert n v es)) (place-lt (insert n v es)) N low)
     change-stopped F (splits is g lo up big low few) (suc (suc j)) h = absurd (omega arith)
-    change-stopped F (removes is lo up e) (suc j) h = absurd (omega arith)
+    change-stopped {fs} F (removes A {l = l} {u = u} {es = es} {n = n} {w = w} is lo up e) (suc j) h = inr (removal-stopped F A l u es n w is lo up e (removal-is b fs n A l u es) j h)
     change-stopped F (absent A is lo up e) (suc j) h = absurd (omega arith)

@@ -257,37 +257,36 @@ module _ (b : ℕ) where
   -- A slot that serves as A.
   abbrev Twin : Str → Str → List Entry → Slot → Type 0
   Twin low up ns free = ⊥
-  Twin low up ns (used l u es) = ((u ≡ up) × (l ◁ low)) × ((length es ≡ b) × Copied (move low es) ns)
+  Twin low up ns (used l u es) = (u ≡ up) × (l ◁ low) × Copied (move low es) ns
 
-  is-twin-twin : (low up : Str) (ns : List Entry) (x : Slot) → is-twin b low up ns x ≡ true → Twin low up ns x
+  is-twin-twin : (low up : Str) (ns : List Entry) (x : Slot) → is-twin low up ns x ≡ true → Twin low up ns x
   unfolding is-twin
   is-twin-twin low up ns free e = clash cc
   is-twin-twin low up ns (used l u es) e =
-      let p = both-true (same-str u up && is-above l low && eqb (length es) b) (is-copied (move low es) ns) e in
-      let q = both-true (same-str u up && is-above l low) (eqb (length es) b) (p .0) in
-      let r = both-true (same-str u up) (is-above l low) (q .0) in
-      ((same-str-equal u up (r .0), is-above-above l low (r .1)), (eqb-true (length es) b (q .1), is-copied-copied (move low es) ns (p .1)))
+      let p = both-true (same-str u up && is-above l low) (is-copied (move low es) ns) e in
+      let q = both-true (same-str u up) (is-above l low) (p .0) in
+      (same-str-equal u up (q .0), is-above-above l low (q .1), is-copied-copied (move low es) ns (p .1))
 
-  twin-is-twin : (low up : Str) (ns : List Entry) (x : Slot) → Twin low up ns x → is-twin b low up ns x ≡ true
+  twin-is-twin : (low up : Str) (ns : List Entry) (x : Slot) → Twin low up ns x → is-twin low up ns x ≡ true
   unfolding is-twin
   twin-is-twin low up ns free t = absurd t
   twin-is-twin low up ns (used l u es) t =
-      rw (t .0 .0, same-str-self up, above-is-above (t .0 .1), eq-eqb (length es) b (t .1 .0)) (copied-is-copied (t .1 .1))
+      rw (t .0, same-str-self up, above-is-above (t .1)) (copied-is-copied (t .2))
 
-  has-twin-twin : (low up : Str) (ns : List Entry) (gs : List Slot) → has-twin b low up ns gs ≡ true → (A : ℕ) × Twin low up ns (slot-at gs A)
+  has-twin-twin : (low up : Str) (ns : List Entry) (gs : List Slot) → has-twin low up ns gs ≡ true → (A : ℕ) × Twin low up ns (slot-at gs A)
   unfolding has-twin
   has-twin-twin low up ns [] e = clash cc
-  has-twin-twin low up ns (x ∷ gs) e = elim (either-true (is-twin b low up ns x) (has-twin b low up ns gs) e)
+  has-twin-twin low up ns (x ∷ gs) e = elim (either-true (is-twin low up ns x) (has-twin low up ns gs) e)
       [ inl q ↦ (0, is-twin-twin low up ns x q) | inr q ↦ later (has-twin-twin low up ns gs q) ]
     where
       later : (A : ℕ) × Twin low up ns (slot-at gs A) → (A : ℕ) × Twin low up ns (slot-at (x ∷ gs) A)
       later (A, t) = (suc A, t)
 
-  twin-has-twin : (low up : Str) (ns : List Entry) (gs : List Slot) (A : ℕ) → Twin low up ns (slot-at gs A) → has-twin b low up ns gs ≡ true
+  twin-has-twin : (low up : Str) (ns : List Entry) (gs : List Slot) (A : ℕ) → Twin low up ns (slot-at gs A) → has-twin low up ns gs ≡ true
   unfolding has-twin
   twin-has-twin low up ns [] A t = absurd t
-  twin-has-twin low up ns (x ∷ gs) zero t = true-left (is-twin b low up ns x) (has-twin b low up ns gs) (twin-is-twin low up ns x t)
-  twin-has-twin low up ns (x ∷ gs) (suc A) t = true-right (is-twin b low up ns x) (has-twin b low up ns gs) (twin-has-twin low up ns gs A t)
+  twin-has-twin low up ns (x ∷ gs) zero t = true-left (is-twin low up ns x) (has-twin low up ns gs) (twin-is-twin low up ns x t)
+  twin-has-twin low up ns (x ∷ gs) (suc A) t = true-right (is-twin low up ns x) (has-twin low up ns gs) (twin-has-twin low up ns gs A t)
 
   module _ (fs : List Slot) (N : ℕ) where
     pub is-cut-by-cut : (x : Slot) → slot-at fs N ≡ x → is-cut-by b fs N x ≡ true → Cut b fs N
@@ -295,8 +294,8 @@ module _ (b : ℕ) where
     is-cut-by-cut free i e = clash cc
     is-cut-by-cut (used none up ns) i e = clash cc
     is-cut-by-cut (used (at low) up ns) i e =
-        let p = both-true (is-well-formed b (used (at low) up ns) && has-twin b low up ns (set fs N free)) (is-sound-file b (set fs N free)) e in
-        let q = both-true (is-well-formed b (used (at low) up ns)) (has-twin b low up ns (set fs N free)) (p .0) in
+        let p = both-true (is-well-formed b (used (at low) up ns) && has-twin low up ns (set fs N free)) (is-sound-file b (set fs N free)) e in
+        let q = both-true (is-well-formed b (used (at low) up ns)) (has-twin low up ns (set fs N free)) (p .0) in
         let t = has-twin-twin low up ns (set fs N free) (q .1) in
         make (is-well-formed-well b (used (at low) up ns) (q .0)) (is-sound-file-sound b (set fs N free) (p .1)) (t .0) (slot-at (set fs N free) (t .0)) refl (t .1)
       where
@@ -312,18 +311,17 @@ module _ (b : ℕ) where
           A = A;
           a-low = l;
           old = es;
-          a-is = j ∙ ap (λ v. used l v es) (t .0 .0);
-          below = t .0 .1;
-          full = t .1 .0;
-          copied = t .1 .1;
+          a-is = j ∙ ap (λ v. used l v es) (t .0);
+          below = t .1;
+          copied = t .2;
         }
 
     pub cut-is-cut-by : Cut b fs N → is-cut-by b fs N (slot-at fs N) ≡ true
     unfolding is-cut-by
     cut-is-cut-by C = rw (C .n-is, well-is-well-formed b (rw (C .n-is) at (C .n-well)), twin-has-twin (C .low) (C .up) (C .new) (set fs N free) (C .A) (rw (C .a-is) twin)) (sound-is-sound-file b (C .freed))
       where
-        twin : ((C .up ≡ C .up) × (C .a-low ◁ C .low)) × ((length (C .old) ≡ b) × Copied (move (C .low) (C .old)) (C .new))
-        twin = ((refl, C .below), (C .full, C .copied))
+        twin : (C .up ≡ C .up) × (C .a-low ◁ C .low) × Copied (move (C .low) (C .old)) (C .new)
+        twin = (refl, C .below, C .copied)
 
   -- What check says.
   abbrev pub Checked : List Slot → Kind → Type 0

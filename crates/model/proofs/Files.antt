@@ -18,6 +18,13 @@ use Rattle.model.proofs.Tries.{walk}
 pub used-inside : (fs : List Slot) (A : ℕ) → IsUsed (head (slot-at fs A)) → A < length fs
 used-inside fs A h = elim (decLt A (length fs)) [ yes k ↦ k | no k ↦ absurd (rw (List·getD-eq-default fs free {n = A} (omega arith)) at h) ]
 
+-- What a store at A leaves: the new slot at A, the old ones elsewhere.
+pub at-set : (P : ℕ → Slot → Type 0) (fs : List Slot) (A : ℕ) (x : Slot) → A < length fs → P A x → ((B : ℕ) → B ≢ A → P B (slot-at fs B)) → (B : ℕ) → P B (slot-at (set fs A x) B)
+at-set P fs A x h p f B = elim (ℕ-discrete B A) [
+  | yes e ↦ subst (λ C. P C (slot-at (set fs A x) C)) (sym e) (rw (getD-set-same fs A x free h) p)
+  | no e ↦ rw (getD-set-other fs A B x free e) (f B e)
+]
+
 pub first-right : {P : Slot → Type 0} (t : (x : Slot) → Dec (P x)) (fs : List Slot) (B : ℕ) → P (slot-at fs B) → ¬ P free → P (slot-at fs (first t fs))
 unfolding first
 first-right t [] B p n = absurd (n p)
@@ -155,7 +162,7 @@ module _ (b : ℕ) where
     bucket n = (walk n [] (rebuilt (ranges fs) (S .order)), walk-right (ranges fs) (rebuilt-agrees (ranges fs) (S .order) (S .chain)) n)
 
   module _ {fs : List Slot} (S : Sound b fs) where
-    starts-one : (l : Low) (B : ℕ) → IsUsed (head (slot-at fs B)) → lower-of (head (slot-at fs B)) ≡ l → first (starts? l) fs ≡ B
+    pub starts-one : (l : Low) (B : ℕ) → IsUsed (head (slot-at fs B)) → lower-of (head (slot-at fs B)) ≡ l → first (starts? l) fs ≡ B
     starts-one l B u e =
         let h : Starts l (slot-at fs (first (starts? l) fs)) = first-right (starts? l) fs B (u, e) (λ h. h .0) in
         one-lower S (first (starts? l) fs) B (h .0) u (h .1 ∙ sym e)

@@ -1,5 +1,5 @@
 -- A made change keeps the trie's agreement: as it is where the ranges stay, grown where a bucket was split.
-use Rattle.model.proofs.Prelude.{List, [], _++_, _<_, _∷_, _≡_, _≤_, ap, arith, fun-ext, length, length-take, refl, set, some, subst, suc, sym, take, zero, ℕ}
+use Rattle.model.proofs.Prelude.{List, [], _++_, _<_, _∙_, _∷_, _≡_, _≤_, ap, arith, fun-ext, length, length-take, refl, set, some, subst, suc, sym, take, zero, ℕ}
 use Rattle.model.specs.declared.Cell.{Cell}
 use Rattle.model.specs.declared.Side.{Side}
 use Rattle.model.specs.declared.Side.the-variants.{Cell as further, Slot as slot}
@@ -11,14 +11,16 @@ use Rattle.model.specs.Files.{RangeTable, Slot, Sound, by-heads, ranges,
 use Rattle.model.specs.Tries.{Agrees, Reads, Tree, first-leaf-of, here, leaf, node, root, root-side, there, trie-of, walk-of, walk-trie}
 use Rattle.model.specs.Rebuilding.{side-of}
 use Rattle.model.specs.Growth.{grown-trie, placed, turn, turn-side}
-use Rattle.model.specs.Changes.{Lowest, Request, Store, split-string, stored}
-use Rattle.model.specs.Deciding.{not?, str?}
+use Rattle.model.specs.Changes.{Lowest, Request, Store, split-string, stored, trie-removed}
+use Rattle.model.specs.Deciding.{not?, over, str?}
 use Rattle.model.proofs.Lists.{mem-parts}
+use Rattle.model.proofs.Order.{le-trans, low-at, low-lower, lt-le}
 use Rattle.model.proofs.Entries.{length-keep, row-at, row-insert, row-keep, row-lt, split-take}
 use Rattle.model.proofs.Cells.{visits-count}
-use Rattle.model.proofs.Agreement.{CellsAgree, agrees-cells, cells-agree, live-count, trie-of-agrees, visit-count, whole-run}
+use Rattle.model.proofs.Agreement.{CellsAgree, agrees-cells, agrees-few, cells-agree, live-count, rebuilt-trie-agrees, trie-of-agrees, visit-count, whole-run}
 use Rattle.model.proofs.Splitting.{SplitAt}
 use Rattle.model.proofs.GrownCells.{cells-turned, grows, new-cells, root-turned}
+use Rattle.model.proofs.Merging.{Removal, alone, leftward, merge-few, merge-sound, removal-is, rightward}
 use Rattle.model.proofs.Changes.{Change, absent, after-second, fits, is-split, length-all, one-sound, removes, row-all, same-heads, second-sound, splits, trie-after, well-a}
 use Rattle.model.proofs.Walks.{live-cells, path-cells, path-reads, spot-cells, spot-reads, string-fits, top-side, walk-cells, walk-reads}
 use Rattle.model.proofs.Growth.{at-leaf-grown}
@@ -118,13 +120,26 @@ module _ (b : ℕ) where
           C : CellsAgree (ranges gs) (second-sound b fs S A l u es is n v legal lo up big i i-lt N lowest .order) (cells-turned cs a c s A N) (root-turned cs a c s A N)
           C = grown-agree (rw (ec, ea) (agrees-cells b S G))
 
+  -- The trie after a removal: as it was, or the rebuilt one after a merge.
+  pub removal-agrees : {fs : List Slot} (S : Sound b fs) (A : ℕ) (l : Low) (u : Str) (es : List Entry) (n : Str) → slot-at fs A ≡ used l u es → l ◁ n → n ⊑ u
+      → {ss : List Store} → Removal b fs n A l u es ss → {t : Trie} → Agrees fs t → Agrees (stored ss fs) (trie-removed fs ss t)
+  unfolding trie-removed
+  removal-agrees {fs} S A l u es n is lo up (alone c d) G =
+      let w = well-a b fs S A l u es is in
+      kept-agrees fs S A l u es is (without n es) (row-keep (λ k. not? (str? k n)) l u (w .3) (λ k p c d. (c, d))) (omega (arith, length-keep (λ k. not? (str? k n)) es, w .4)) G
+  removal-agrees {fs} S A l u es n is lo up (rightward {R = R} {v = v} {gs = gs} r-is k) G =
+      let up′ : n ⊑ v = le-trans up (lt-le (over (well-a b fs S R (at u) v gs r-is .2))) in
+      rebuilt-trie-agrees b (merge-sound b fs S A R l u v es gs is r-is n lo up′ k) (omega (arith, merge-few b fs S A R l u v es gs is r-is n lo up′ k, agrees-few b S G))
+  removal-agrees {fs} S A l u es n is lo up (leftward {L = L} {k = k} {s = s} {ds = ds} c q l-is f) G =
+      let r-is : slot-at fs A ≡ used (at s) u es = is ∙ ap (λ x. used x u es) q in
+      let lo′ : k ◁ n = low-lower (low-at (well-a b fs S L k s ds l-is .2)) (rw q at lo) in
+      rebuilt-trie-agrees b (merge-sound b fs S L A k s u ds es l-is r-is n lo′ up f) (omega (arith, merge-few b fs S L A k s u ds es l-is r-is n lo′ up f, agrees-few b S G))
+
   pub change-agrees : (place : List Entry → ℕ) → ((ws : List Entry) → place ws < b) → {fs : List Slot} {q : Request} {ss : List Store} (S : Sound b fs) (c : Change b place fs q ss) {t : Trie} → Agrees fs t → Agrees (stored ss fs) (trie-after b place c t)
   unfolding trie-after
   change-agrees place place-lt {fs} S (fits {A = A} {l = l} {u = u} {es = es} {n = n} {v = v} is g lo up k) G =
       kept-agrees fs S A l u es is (insert n v es) (row-insert n v g lo up (well-a b fs S A l u es is .3)) k G
   change-agrees place place-lt {fs} S (splits {A = A} {N = N} {l = l} {u = u} {es = es} {n = n} {v = v} is g lo up big low few) {t} G =
       grown-agrees fs S A l u es is n v g lo up big (place (insert n v es)) (place-lt (insert n v es)) N low (take (t .count) (t .cells)) (root-side (t .count) (t .first)) refl refl G few
-  change-agrees place place-lt {fs} S (removes {A = A} {l = l} {u = u} {es = es} {n = n} is lo up e) G =
-      let w = well-a b fs S A l u es is in
-      kept-agrees fs S A l u es is (without n es) (row-keep (λ k. not? (str? k n)) l u (w .3) (λ k p c d. (c, d))) (omega (arith, length-keep (λ k. not? (str? k n)) es, w .4)) G
+  change-agrees place place-lt {fs} S (removes A {l = l} {u = u} {es = es} {n = n} is lo up e) G = removal-agrees S A l u es n is lo up (removal-is b fs n A l u es) G
   change-agrees place place-lt S (absent A is lo up e) G = G

@@ -15,7 +15,10 @@ pub mod Walks
 pub mod Agreement
 pub mod Splitting
 pub mod GrownCells
+pub mod Merging
 pub mod Changes
+pub mod Removals
+pub mod MergeExamples
 pub mod Calls
 pub mod Places
 pub mod Checks

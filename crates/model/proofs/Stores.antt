@@ -1,17 +1,18 @@
 -- The stores of a change on the bytes of a file are its stores on the file's slots, and what they leave reads back.
-use Rattle.model.proofs.Prelude.{List, [], _-_, _<_, _^_, _∙_, _∷_, _≡_, getD-set-other, getD-set-same, length, length-set, refl, set, some, suc, take, zero, ℕ, ℕ-discrete}
+use Rattle.model.proofs.Prelude.{List, [], _++_, _-_, _<_, _^_, _∙_, _∷_, _≡_, getD-set-other, getD-set-same, length, length-set, refl, set, some, suc, take, zero, ℕ, ℕ-discrete}
 use Rattle.model.specs.declared.Layout.{Layout}
 use Rattle.model.specs.declared.Trie.{Trie}
 use Rattle.model.specs.Order.{Str}
 use Rattle.model.specs.Entries.{Entry, insert, keep}
 use Rattle.model.specs.Files.{Cut, IsUsed, Slot, Sound, Well, entries-of, free, head, slot-at}
-use Rattle.model.specs.Changes.{Request, Store, put, remove, stored}
+use Rattle.model.specs.Changes.{Request, Store, put, remove, stored, trie-removed}
 use Rattle.model.specs.Format.{AreBytes, Sizes, entry-length, file-bytes, layout-of, read-file, store-bytes}
 use Rattle.model.specs.Calls.{stores-bytes, trie-after-put}
 use Rattle.model.specs.Deciding.{le?, str?}
 use Rattle.model.proofs.Entries.{chosen-no, chosen-yes}
 use Rattle.model.proofs.Files.{cut-inside, used-inside}
 use Rattle.model.proofs.Format.{Contents, bytes-file-bytes, contents-read-file, file-bytes-read-file, headed-layout, read-file-file-bytes, read-file-read, store-bytes-file-bytes}
+use Rattle.model.proofs.Merging.{Removal, alone, leftward, removal-is, rightward}
 use Rattle.model.proofs.Changes.{Change, absent, fits, removes, splits, trie-after}
 
 -- Each store is of one of n slots, and its contents fit entries of e bytes.
@@ -61,6 +62,10 @@ contents-insert e n w (x ∷ es) h v = elim (le? n (x .0)) [
   ]
 ]
 
+contents-append : (e : ℕ) (es gs : List Entry) → Contents e es → Contents e gs → Contents e (es ++ gs)
+contents-append e [] gs v w = w
+contents-append e (x ∷ es) gs v w = (v .0, contents-append e es gs (v .1) w)
+
 -- A content that is asked to be put fits an entry of e bytes.
 abbrev pub Asked : ℕ → Request → Type 0
 Asked e (put n v) = v < 256 ^ (e - 24)
@@ -77,7 +82,14 @@ change-legal e b place {fs} (fits {A = A} {es = es} {n = n} {v = v} is g lo up k
 change-legal e b place {fs} (splits {A = A} {N = N} {es = es} {n = n} {v = v} is g lo up k f c) h w =
     let r = contents-insert e n v es h (rw is at (w A)) in
     (f .inside, contents-keep e _ (insert n v es) r, (there fs A is tt, contents-keep e _ (insert n v es) r, tt))
-change-legal e b place {fs} (removes {A = A} {es = es} is lo up f) h w = (there fs A is tt, contents-keep e _ es (rw is at (w A)), tt)
+change-legal e b place {fs} (removes A {l = l} {u = u} {es = es} {n = n} is lo up f) h w = go (removal-is b fs n A l u es)
+  where
+    go : {ss : List Store} → Removal b fs n A l u es ss → Legal e (length fs) ss
+    go (alone c d) = (there fs A is tt, contents-keep e _ es (rw is at (w A)), tt)
+    go (rightward {R = R} {gs = gs} r k) =
+        (there fs A is tt, contents-keep e _ (es ++ gs) (contents-append e es gs (rw is at (w A)) (rw r at (w R))), (there fs R r tt, tt, tt))
+    go (leftward {L = L} {ds = ds} c q i k) =
+        (there fs L i tt, contents-keep e _ (ds ++ es) (contents-append e ds es (rw i at (w L)) (rw is at (w A))), (there fs A is tt, tt, tt))
 change-legal e b place (absent A is lo up f) h w = tt
 
 -- The first ones of a change's stores are no less legal.
@@ -117,3 +129,8 @@ pub trie-after-put-is : (b : ℕ) (place : List Entry → ℕ) {fs : List Slot} 
 unfolding trie-after-put trie-after
 trie-after-put-is b place n v (fits is g lo up k) t = refl
 trie-after-put-is b place n v (splits is g lo up k f c) t = rw is
+
+pub trie-removed-is : (b : ℕ) (place : List Entry → ℕ) {fs : List Slot} {n : Str} {ss : List Store} (c : Change b place fs (remove n) ss) (t : Trie) → trie-removed fs ss t ≡ trie-after b place c t
+unfolding trie-after trie-removed
+trie-removed-is b place (removes A is lo up e) t = refl
+trie-removed-is b place (absent A is lo up e) t = refl

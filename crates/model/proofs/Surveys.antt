@@ -219,7 +219,6 @@ module _ (b : ℕ) where
     pub old : List Entry
     pub a-is : slot-at fs A ≡ used a-low up old
     pub below : a-low ◁ low
-    pub full : length old ≡ b
     pub copied : Copied (move low old) new
 
   module _ (fs : List Slot) (w : (B : ℕ) → Well b (slot-at fs B)) where
@@ -302,7 +301,6 @@ module _ (b : ℕ) where
       old = c .old;
       a-is = kept fs N A (freed-other fs N A (chain-used (ranges (set fs N free)) d A (Memᴰ·append-right Xs (List·Memᴰ·head refl)))) ∙ c .a-is;
       below = c .below;
-      full = c .full;
       copied = c .copied;
     }
 
@@ -443,7 +441,6 @@ module _ (b : ℕ) where
     old = C .old;
     a-is = a-there b C;
     below = C .below;
-    full = C .full;
     copied = C .copied;
   }
 

@@ -68,7 +68,7 @@ said-by-put (PutRefused c) = refused-with c
 
 -- R7.10: removed, without a value; R7.11: absent.
 abbrev pub said-by-remove : RemoveAnswer → Saying
-said-by-remove Removed = (120, [])
+said-by-remove (Removed k) = (120, [])
 said-by-remove NotHeld = (101, [])
 said-by-remove (RemoveStopped n) = (112, n ∷ [])
 said-by-remove (RemoveRefused c) = refused-with c

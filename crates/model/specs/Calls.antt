@@ -28,7 +28,7 @@ use Rattle.model.specs.Files.{Slot, created, entries-of, first, free, or
 use Rattle.model.specs.Tries.{Spot, walk-of, zero-cell}
 use Rattle.model.specs.Rebuilding.{rebuilt-trie}
 use Rattle.model.specs.Growth.{grown-trie}
-use Rattle.model.specs.Changes.{Result, Store, call, holds?, put, refuse, remove, split-of, stores}
+use Rattle.model.specs.Changes.{Result, Store, call, holds?, put, refuse, remove, split-of, stores, trie-removed}
 use Rattle.model.specs.Places.{place-of}
 use Rattle.model.specs.Checks.{Kind, is-above, is-bad, is-cut, is-sound, is-well-formed}
 use Rattle.model.specs.Agreeing.{is-agreeing}
@@ -216,32 +216,33 @@ put-made-with legal looked xs t name v r limit =
 unfoldable pub put-of : List ℕ → Trie → List ℕ → ℕ → ℕ → ℕ → PutDone
 put-of xs t name v r limit = put-made-with is-legal-name looked-of xs t name v r limit
 
--- What remove leaves. The trie stays.
+-- What remove leaves. "The trie after a merge is the rebuilt one"; else it stays.
 pub record RemoveDone : Type 0 where
   pub answer : RemoveAnswer
   pub file : List ℕ
+  pub trie : Trie
 
--- R7.10: removed, in one store; R7.11: absent, without a store.
+-- R7.10: removed, in one store or the two of a merge; R7.11: absent, without a store.
 abbrev pub remove-answer : List Store → RemoveAnswer
 remove-answer [] = NotHeld
-remove-answer (s ∷ ss) = Removed
+remove-answer (s ∷ ss) = Removed (length (s ∷ ss))
 
-unfoldable pub remove-by-stores : List ℕ → Layout → ℕ → Result → RemoveDone
-remove-by-stores xs y limit (refuse r) = record { answer = RemoveRefused BadFile; file = xs }
-remove-by-stores xs y limit (stores ss) =
-    cond (ltb limit (length ss)) (record { answer = RemoveStopped limit; file = stores-bytes y (take limit ss) xs })
-    (record { answer = remove-answer ss; file = stores-bytes y ss xs })
+unfoldable pub remove-by-stores : List ℕ → Trie → Layout → List Slot → ℕ → Result → RemoveDone
+remove-by-stores xs t y fs limit (refuse r) = record { answer = RemoveRefused BadFile; file = xs; trie = t }
+remove-by-stores xs t y fs limit (stores ss) =
+    cond (ltb limit (length ss)) (record { answer = RemoveStopped limit; file = stores-bytes y (take limit ss) xs; trie = t })
+    (record { answer = remove-answer ss; file = stores-bytes y ss xs; trie = trie-removed fs ss t })
 
-unfoldable pub remove-on-looked : List ℕ → Str → ℕ → Looked → RemoveDone
-remove-on-looked xs n limit (refusing c) = record { answer = RemoveRefused c; file = xs }
-remove-on-looked xs n limit (fine y fs) = remove-by-stores xs y limit (call (y .b) (place-of y) fs (remove n))
+unfoldable pub remove-on-looked : List ℕ → Trie → Str → ℕ → Looked → RemoveDone
+remove-on-looked xs t n limit (refusing c) = record { answer = RemoveRefused c; file = xs; trie = t }
+remove-on-looked xs t n limit (fine y fs) = remove-by-stores xs t y fs limit (call (y .b) (place-of y) fs (remove n))
 
 -- Remove, in the order 8, 1, 2, 3, 4 (R10.9).
 abbrev pub remove-made-with : (List ℕ → Bool) → (List ℕ → Trie → Looked) → List ℕ → Trie → List ℕ → ℕ → RemoveDone
 remove-made-with legal looked xs t name limit =
-    let d = remove-on-looked xs (filled name) limit (looked xs t) in
-    cond (ltb 2 limit) (record { answer = RemoveRefused WrongSize; file = xs })
-    (cond (legal name) d (record { answer = RemoveRefused IllegalName; file = xs }))
+    let d = remove-on-looked xs t (filled name) limit (looked xs t) in
+    cond (ltb 2 limit) (record { answer = RemoveRefused WrongSize; file = xs; trie = t })
+    (cond (legal name) d (record { answer = RemoveRefused IllegalName; file = xs; trie = t }))
 
 unfoldable pub remove-of : List ℕ → Trie → List ℕ → ℕ → RemoveDone
 remove-of xs t name limit = remove-made-with is-legal-name looked-of xs t name limit

@@ -1,16 +1,19 @@
 -- Changing the file: put and remove as lists of whole-slot stores, and what refuses them.
 use mathlib.Core.Path.{_≡_, refl}
 use mathlib.Core.Logic.{_≢_}
+use mathlib.Core.Bool.{Bool, false, true}
 use mathlib.Core.Option.{Option, none as nothing, some}
-use mathlib.Core.List.{List, [], _∷_}
-use Prim.Native.Nat.{_<_, ℕ}
+use mathlib.Core.List.{List, [], _++_, _∷_}
+use Prim.Native.Nat.{_/_, _<_, suc, zero, ℕ}
 use native.Mathlib.Decide.{decLe, decLt}
 use native.Mathlib.Omega.{arith}
 use lib.ListN.{length, set}
-use Rattle.model.specs.Order.{Low, Str, _⊑_, _◁_, at}
+use Rattle.model.specs.declared.Trie.{Trie}
+use Rattle.model.specs.Order.{Low, Str, _⊑_, _◁_, at, none}
 use Rattle.model.specs.Names.{split-beginning}
 use Rattle.model.specs.Entries.{Entry, chosen, find, insert, move, name-at, stay, without}
-use Rattle.model.specs.Files.{In, Slot, entries-of, first, free, head, slot-at, string-count, used}
+use Rattle.model.specs.Files.{In, IsUsed, Slot, entries-of, first, free, head, slot-at, starts?, string-count, upper-of, used}
+use Rattle.model.specs.Rebuilding.{rebuilt-trie}
 use Rattle.model.specs.Deciding.{le?, low?, str?}
 
 -- Put of a filled name with its value, and remove.
@@ -31,6 +34,50 @@ pub record Lowest (fs : List Slot) (N : ℕ) : Type 0 where
   pub inside : N < length fs
   pub is-free : slot-at fs N ≡ free
   pub lowest : (B : ℕ) → B < N → slot-at fs B ≢ free
+
+-- The neighbours of a bucket: the right one's lower is its upper, the left one's upper is its lower. Where there is none,
+-- the number is that of no slot, which reads as free.
+abbrev pub Closes : Str → Slot → Type 0
+Closes u x = IsUsed (head x) × (upper-of (head x) ≡ u)
+
+unfoldable pub closes? : (u : Str) (x : Slot) → Dec (Closes u x)
+closes? u free = no (λ h. h .0)
+closes? u (used l v es) = elim (str? v u) [ yes e ↦ yes (tt, e) | no n ↦ no (λ h. n (h .1)) ]
+
+unfoldable pub right-of : Str → List Slot → ℕ
+right-of u fs = first (starts? (at u)) fs
+
+unfoldable pub left-of : Low → List Slot → ℕ
+left-of none fs = length fs
+left-of (at s) fs = first (closes? s) fs
+
+-- "the left one takes everything in, then the right slot is freed": "Two stores: the widened slot, without the removed name,
+-- then the freed one." L is the left slot, with lower l and entries es, R the right one, with upper u and entries gs.
+abbrev pub merged : Str → ℕ → ℕ → Low → Str → List Entry → List Entry → List Store
+merged n L R l u es gs = (L, used l u (without n (es ++ gs))) ∷ (R, free) ∷ []
+
+-- "The trie after a merge is the rebuilt one." Two stores are a merge; with fewer the trie stays.
+unfoldable pub trie-removed : List Slot → List Store → Trie → Trie
+trie-removed fs [] t = t
+trie-removed fs (x ∷ []) t = t
+trie-removed fs (x ∷ y ∷ ss) t = rebuilt-trie (stored (x ∷ y ∷ ss) fs)
+
+module _ (b : ℕ) where
+  -- "When a removal leaves a bucket and its right neighbour with at most b/2 entries together (rounded down)": x is what the
+  -- left slot L holds, y what the right slot R holds; else the stores ss.
+  unfoldable pub merged-or : Str → ℕ → Slot → ℕ → Slot → List Store → List Store
+  merged-or n L free R y ss = ss
+  merged-or n L (used l s es) R free ss = ss
+  merged-or n L (used l s es) R (used m u gs) ss = chosen (decLe (length (without n (es ++ gs))) (b / 2)) (merged n L R l u es gs) ss
+
+  -- The stores of a removal from slot A: with the right neighbour, "If that doesn't apply, the same is tried with the left
+  -- neighbour and the bucket", else one store.
+  unfoldable pub removal : List Slot → Str → ℕ → Low → Str → List Entry → List Store
+  removal fs n A l u es =
+      let L = left-of l fs in
+      let R = right-of u fs in
+      let ss = merged-or n L (slot-at fs L) A (used l u es) ((A, used l u (without n es)) ∷ []) in
+      merged-or n A (used l u es) R (slot-at fs R) ss
 
 -- The split string of the names at two places, counted from 0.
 abbrev pub split-string : ℕ → ℕ → List Entry → Str
@@ -84,7 +131,8 @@ stores-if nothing ss = []
 stores-if (some v) ss = ss
 
 module _ (b : ℕ) (place : List Entry → ℕ) (fs : List Slot) where
-  -- One store where a name finds room (R7.2), to replace (R7.9), to remove (R7.10); two to split (R7.8); else none (R7.11).
+  -- One store where a name finds room (R7.2), to replace (R7.9), to remove without a merge (R7.10); two to split (R7.8) and to
+  -- merge; else none (R7.11).
   unfoldable pub put-in : Str → ℕ → ℕ → Slot → Result
   put-in n v A free = refuse 2
   put-in n v A (used l u es) =
@@ -96,7 +144,7 @@ module _ (b : ℕ) (place : List Entry → ℕ) (fs : List Slot) where
 
   unfoldable pub remove-in : Str → ℕ → Slot → Result
   remove-in n A free = refuse 2
-  remove-in n A (used l u es) = stores (stores-if (find n es) ((A, used l u (without n es)) ∷ []))
+  remove-in n A (used l u es) = let ss = removal b fs n A l u es in stores (stores-if (find n es) ss)
 
   unfoldable pub call : Request → Result
   call (put n v) = let A = first (holds? n) fs in put-in n v A (slot-at fs A)
@@ -109,6 +157,13 @@ Map = Str → Option ℕ
 abbrev pub meant : Request → Map → Map
 meant (put n v) m k = chosen (str? k n) (some v) (m k)
 meant (remove n) m k = chosen (str? k n) nothing (m k)
+
+-- R13.3: a call stopped before its last store counts as never made, but "a merging removal counts as made from its first store
+-- on": does a call that was stopped after j stores count as made?
+unfoldable pub counts : Request → ℕ → Bool
+counts (put n v) j = false
+counts (remove n) zero = false
+counts (remove n) (suc j) = true
 
 -- Each name is found with the map's value in every bucket whose range holds it.
 abbrev pub Means : List Slot → Map → Type 0

@@ -98,23 +98,23 @@ unfoldable pub is-copied : List Entry → List Entry → Bool
 is-copied es ns = are-same-entries ns es || has-one-more (length ns) es ns
 
 -- R4.9 to R4.11: A beside N.
-unfoldable pub is-twin : ℕ → Str → Str → List Entry → Slot → Bool
-is-twin b low up ns free = false
-is-twin b low up ns (used l u es) = same-str u up && is-above l low && eqb (length es) b && is-copied (move low es) ns
+unfoldable pub is-twin : Str → Str → List Entry → Slot → Bool
+is-twin low up ns free = false
+is-twin low up ns (used l u es) = same-str u up && is-above l low && is-copied (move low es) ns
 
-unfoldable pub has-twin : ℕ → Str → Str → List Entry → List Slot → Bool
-has-twin b low up ns [] = false
-has-twin b low up ns (x ∷ xs) = is-twin b low up ns x || has-twin b low up ns xs
+unfoldable pub has-twin : Str → Str → List Entry → List Slot → Bool
+has-twin low up ns [] = false
+has-twin low up ns (x ∷ xs) = is-twin low up ns x || has-twin low up ns xs
 
 -- R4.8: without N the file is sound; the slot is x.
-abbrev pub is-cut-by-with : (Slot → Bool) → (List Slot → Bool) → ℕ → List Slot → ℕ → Slot → Bool
-is-cut-by-with well sound b fs N free = false
-is-cut-by-with well sound b fs N (used none up ns) = false
-is-cut-by-with well sound b fs N (used (at low) up ns) =
-    well (used (at low) up ns) && has-twin b low up ns (set fs N free) && sound (set fs N free)
+abbrev pub is-cut-by-with : (Slot → Bool) → (List Slot → Bool) → List Slot → ℕ → Slot → Bool
+is-cut-by-with well sound fs N free = false
+is-cut-by-with well sound fs N (used none up ns) = false
+is-cut-by-with well sound fs N (used (at low) up ns) =
+    well (used (at low) up ns) && has-twin low up ns (set fs N free) && sound (set fs N free)
 
 unfoldable pub is-cut-by : ℕ → List Slot → ℕ → Slot → Bool
-is-cut-by b fs N x = is-cut-by-with (is-well-formed b) (is-sound-file b) b fs N x
+is-cut-by b fs N x = is-cut-by-with (is-well-formed b) (is-sound-file b) fs N x
 
 -- R9.2: sound, cut or bad. Only one slot can be the one to free (R4.15).
 pub data Kind : Type 0 where

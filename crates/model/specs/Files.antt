@@ -90,7 +90,8 @@ module _ (b : ℕ) where
     pub listed : (B : ℕ) → IsUsed (head (slot-at fs B)) → List·Memᴰ B order
     pub well : (B : ℕ) → Well (slot-at fs B)
 
-  -- R4.8 to R4.13: cut. N's lower is not empty (R4.12), since no slot with an empty lower string is well formed.
+  -- R4.8 to R4.13: cut; since request 03 A may have any number of entries. N's lower is not empty (R4.12), since no slot with
+  -- an empty lower string is well formed.
   pub record Cut (fs : List Slot) (N : ℕ) : Type 0 where
     pub low : Str
     pub up : Str
@@ -103,7 +104,6 @@ module _ (b : ℕ) where
     pub old : List Entry
     pub a-is : slot-at (set fs N free) A ≡ used a-low up old
     pub below : a-low ◁ low
-    pub full : length old ≡ b
     pub copied : Copied (move low old) new
 
   -- R4.14: neither sound nor cut.

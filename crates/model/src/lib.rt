@@ -83,11 +83,18 @@ pub struct PutGiven {
     pub trie: Trie,
 }
 
+// Removed carries the number of stores: two where buckets were merged.
 pub enum RemoveAnswer {
-    Removed,
+    Removed(u64),
     Absent,
     Stopped(u64),
     Refused(Cause),
+}
+
+// Remove's answer and the trie after it.
+pub struct RemoveGiven {
+    pub answer: RemoveAnswer,
+    pub trie: Trie,
 }
 
 pub enum RecoverAnswer {

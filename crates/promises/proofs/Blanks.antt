@@ -232,7 +232,7 @@ older-cut b fs N = go (slot-at fs N) refl
     go (used none u ns) e = refl
     go (used (at low) u ns) e =
         rw (older-well b (used (at low) u ns), older-sound b (set fs N free), plain-freed fs N, e)
-        (parts (is-well-formed b (used (at low) u ns)) (plain-entries ns) (has-twin b low u ns (set fs N free)) (is-sound-file b (set fs N free)) (are-all-plain (set fs N free)))
+        (parts (is-well-formed b (used (at low) u ns)) (plain-entries ns) (has-twin low u ns (set fs N free)) (is-sound-file b (set fs N free)) (are-all-plain (set fs N free)))
 
 -- So check says then what it says today where all is plain, and bad elsewhere.
 cut-plain : (cut older : ℕ → Bool) (p : Bool) → ((k : ℕ) → older k ≡ (cut k && p)) → (N : ℕ) → cut-below-with older N ≡ cond p (cut-below-with cut N) is-bad

@@ -18,7 +18,7 @@ use Rattle.model.specs.Entries.{Entry, content-from, find, is-older}
 use Rattle.model.specs.Files.{In, Slot, Well, created, first, free, head, order-of, slot-at, string-count, used, well-free}
 use Rattle.model.specs.Tries.{Agrees, root, root-side, walk-of, walk-run}
 use Rattle.model.specs.Rebuilding.{rebuilt-trie}
-use Rattle.model.specs.Changes.{Denied, Request, Result, Store, holds?, no-room, put, remove, too-many}
+use Rattle.model.specs.Changes.{Denied, Request, Result, Store, holds?, no-room, put, remove, too-many, trie-removed}
 use Rattle.model.specs.Checks.{Kind, is-above, is-bad, is-cut, is-sound, is-well-formed, same-str}
 use Rattle.model.specs.Agreeing.{is-agreeing}
 use Rattle.model.specs.Format.{BadFile, SoundFile, are-legal-sizes, bytes-at-slot, bytes-of-entries, bytes-of-slot, check-file, entry-length, file-bytes, file-size, header-bytes, header-of, is-right-header, kept-run, layout-of, read-file, read-slot, store-bytes}
@@ -286,25 +286,25 @@ module _ (xs : List ℕ) (t : Trie) (name : List ℕ) (limit : ℕ) where
   k = filled name
 
   abbrev RemoveVerdict : Table → RemoveDone → Type 0
-  RemoveVerdict rs d = Verdict RemoveRefused (λ (d : RemoveDone). d .answer) (λ (d : RemoveDone). d .file ≡ xs) rs d
+  RemoveVerdict rs d = Verdict RemoveRefused (λ (d : RemoveDone). d .answer) (λ (d : RemoveDone). (d .file ≡ xs) × (d .trie ≡ t)) rs d
 
-  remove-passed : (y : Layout) (ss : List Store) (s : Bool) (rs : List Store)
-      → RemoveVerdict [] (cond s (record { answer = RemoveStopped limit; file = stores-bytes y (take limit ss) xs }) (record { answer = remove-answer rs; file = stores-bytes y ss xs }))
-  remove-passed y ss true rs = pass (λ c q. clash cc)
-  remove-passed y ss false [] = pass (λ c q. clash cc)
-  remove-passed y ss false (r ∷ rs) = pass (λ c q. clash cc)
+  remove-passed : (y : Layout) (ss : List Store) (made : Trie) (s : Bool) (rs : List Store)
+      → RemoveVerdict [] (cond s (record { answer = RemoveStopped limit; file = stores-bytes y (take limit ss) xs; trie = t }) (record { answer = remove-answer rs; file = stores-bytes y ss xs; trie = made }))
+  remove-passed y ss made true rs = pass (λ c q. clash cc)
+  remove-passed y ss made false [] = pass (λ c q. clash cc)
+  remove-passed y ss made false (r ∷ rs) = pass (λ c q. clash cc)
 
-  remove-made : (y : Layout) {fs : List Slot} {r : Result} → Answered (y .b) (place-of y) fs (remove k) r → RemoveVerdict [] (remove-by-stores xs y limit r)
+  remove-made : (y : Layout) (fs : List Slot) {r : Result} → Answered (y .b) (place-of y) fs (remove k) r → RemoveVerdict [] (remove-by-stores xs t y fs limit r)
   unfolding remove-by-stores
-  remove-made y (is-made {ss = ss} c) = remove-passed y ss (ltb limit (length ss)) ss
-  remove-made y (is-denied d) = absurd (denied-put (place-of y) d)
+  remove-made y fs (is-made {ss = ss} c) = remove-passed y ss (trie-removed fs ss t) (ltb limit (length ss)) ss
+  remove-made y fs (is-denied d) = absurd (denied-put (place-of y) d)
 
   remove-verdict : RemoveVerdict (remove-table xs t name limit) (remove-of xs t name limit)
   unfolding remove-of remove-on-looked
   remove-verdict =
       asked-verdict name limit (because bad-file (BadFile xs) ∷ because cut-file (IsCut xs) ∷ because stale-trie (Stale xs t) ∷ [])
-      (remove-on-looked xs k limit (looked-of xs t)) (record { answer = RemoveRefused wrong-size; file = xs }) (record { answer = RemoveRefused illegal-name; file = xs }) refl refl refl refl
-      (λ e. looked-verdict xs t [] (remove-on-looked xs k limit) (λ c. refl) (λ c. refl) (λ y fs p. remove-made y (remove-right (y .b) (place-of y) fs (p .sound) k)))
+      (remove-on-looked xs t k limit (looked-of xs t)) (record { answer = RemoveRefused wrong-size; file = xs; trie = t }) (record { answer = RemoveRefused illegal-name; file = xs; trie = t }) refl (refl, refl) refl (refl, refl)
+      (λ e. looked-verdict xs t [] (remove-on-looked xs t k limit) (λ c. refl) (λ c. (refl, refl)) (λ y fs p. remove-made y fs (remove-right (y .b) (place-of y) fs (p .sound) k)))
 
 -- List.
 module _ (xs : List ℕ) (t : Trie) (low high out : List ℕ) where

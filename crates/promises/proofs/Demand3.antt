@@ -1,32 +1,32 @@
 -- Demand 3: after any events the file says what the history says, and recovery and rebuilding do not refuse.
-use Rattle.model.proofs.Prelude.{Bool, List, Option, [], _&&_, _<_, _^_, _∙_, _∷_, _≡_, _≤_, _⊎_, ap, arith, clash, cond, decLe, eqb, false, inl, inr, le-leb, le-ltb, length, lt-ltb, ltb, ltb-true, nothing, refl, set, some, subst, sym, take, true, ℕ}
+use Rattle.model.proofs.Prelude.{Bool, List, Option, [], _&&_, _<_, _^_, _∙_, _∷_, _≡_, _≤_, _⊎_, ap, arith, clash, cond, decLe, eqb, false, inl, inr, le-leb, le-ltb, length, lt-ltb, ltb, ltb-true, nothing, refl, set, some, subst, suc, sym, take, true, zero, ℕ}
 use Rattle.model.specs.declared.Trie.{Trie}
 use Rattle.model.specs.declared.Layout.{Layout}
 use Rattle.model.specs.declared.Cause.the-variants.{IllegalName, WrongSize}
 use Rattle.model.specs.declared.PutAnswer.the-variants.{Refused as PutRefused, Stopped as PutStopped}
 use Rattle.model.specs.declared.RecoverAnswer.{RecoverAnswer}
 use Rattle.model.specs.declared.RecoverAnswer.the-variants.{Freed, Nothing, Stopped as RecoverStopped}
-use Rattle.model.specs.declared.RemoveAnswer.the-variants.{Refused as RemoveRefused, Removed, Stopped as RemoveStopped}
+use Rattle.model.specs.declared.RemoveAnswer.the-variants.{Refused as RemoveRefused, Stopped as RemoveStopped}
 use Rattle.model.specs.declared.TrieAnswer.the-variants.{Given, Refused as TrieRefused}
 use Rattle.model.specs.Order.{Str}
 use Rattle.model.specs.Names.{Legal, filled, is-legal-name}
 use Rattle.model.specs.Entries.{content-from}
 use Rattle.model.specs.Files.{Cut, Slot, Well, created, free, slot-at, string-count}
 use Rattle.model.specs.Tries.{Agrees, walk-trie}
-use Rattle.model.specs.Changes.{Map, Request, Result, Store, meant, put as to-put, remove as to-remove, stored}
+use Rattle.model.specs.Changes.{Map, Request, Result, Store, counts, meant, put as to-put, remove as to-remove, stored, trie-removed}
 use Rattle.model.specs.Format.{CutFile, SoundFile, are-legal-sizes, check-file, entry-length, file-bytes, file-size, kept-run, layout-of, read-file, store-bytes}
 use Rattle.model.specs.Places.{place-of}
-use Rattle.model.specs.Calls.{CreateDone, Looked, PutDone, RecoverDone, RemoveDone, create-of, fine, held, held-answer, looked-of, new-trie, put-answer, put-by-stores, put-of, put-on-looked, put-takes, rebuild-by, rebuild-of, recover-by, recover-of, refusing, remove-by-stores, remove-of, remove-on-looked, stores-bytes, trie-after-put}
+use Rattle.model.specs.Calls.{CreateDone, Looked, PutDone, RecoverDone, RemoveDone, create-of, fine, held, held-answer, looked-of, new-trie, put-answer, put-by-stores, put-of, put-on-looked, put-takes, rebuild-by, rebuild-of, recover-by, recover-of, refusing, remove-answer, remove-by-stores, remove-of, remove-on-looked, stores-bytes, trie-after-put}
 use Rattle.model.proofs.Names.{both-true, is-legal-name-legal}
 use Rattle.model.proofs.Files.{cut-not-sound, cut-well}
 use Rattle.model.proofs.Agreement.{agrees-walk, rebuilt-trie-agrees}
 use Rattle.model.proofs.LookUps.{lookup-agrees}
 use Rattle.model.proofs.Places.{place-lt}
-use Rattle.model.proofs.Changes.{Change, Fine, absent, change-made, change-stopped, removes, trie-after}
+use Rattle.model.proofs.Changes.{Change, Fine, change-made, change-stopped, trie-after}
 use Rattle.model.proofs.Calls.{Answered, is-denied, is-made, put-right, put-taken, remove-right}
 use Rattle.model.proofs.Format.{are-legal-sizes-sizes, contents-read-file, file-bytes-read-file, headed-layout, put-fits, read-file-read}
 use Rattle.model.proofs.CheckedFiles.{check-file-cut, check-file-sound}
-use Rattle.model.proofs.Stores.{Asked, Left, change-legal, left-freed, left-stored, legal-take, trie-after-put-is}
+use Rattle.model.proofs.Stores.{Asked, Left, change-legal, left-freed, left-stored, legal-take, trie-after-put-is, trie-removed-is}
 use Rattle.model.proofs.GrownTries.{change-agrees}
 use Rattle.model.proofs.Created.{created-agrees, created-fine, created-left}
 use Rattle.promises.specs.Calls.{our-calls}
@@ -212,7 +212,7 @@ module _ (xs : List ℕ) (t : Trie) (m : Map) (U : Up xs t m) where
         }
 
     -- or some of them.
-    stopped-down : (k : ℕ) → k < length ss → Fallen (stores-bytes y (take k ss) xs) m
+    stopped-down : (k : ℕ) → k < length ss → Fallen (stores-bytes y (take k ss) xs) (cond (counts q k) (meant q m) m)
     stopped-down k h = go (change-stopped (y .b) (place-of y) (place-lt y two) F c k h)
       where
         F : Fine (y .b) fs m
@@ -221,9 +221,14 @@ module _ (xs : List ℕ) (t : Trie) (m : Map) (U : Up xs t m) where
         left : ((B : ℕ) → Well (y .b) (slot-at (stored (take k ss) fs) B)) → Left y (stored (take k ss) fs) (stores-bytes y (take k ss) xs)
         left = left-stored y xs (U .left .bytes) (p .is) (take k ss) (legal-take (entry-length y) (length fs) k ss (change-legal (entry-length y) (y .b) (place-of y) c asked (contents-read-file xs (U .left .bytes) (p .is))))
 
-        go : (stored (take k ss) fs ≡ fs) ⊎ ((N : ℕ) × Cut (y .b) (stored (take k ss) fs) N × (set (stored (take k ss) fs) N free ≡ fs)) → Fallen (stores-bytes y (take k ss) xs) m
-        go (inl e) = record { layout = y; slots = stored (take k ss) fs; left = left (rw e (F .sound .well)); near = inl (rw e F) }
-        go (inr (N, C, e)) = record { layout = y; slots = stored (take k ss) fs; left = left (cut-well (y .b) C); near = inr (N, C, rw e F) }
+        as-counted : (c : Bool) → Fine (y .b) (cond c (stored ss fs) fs) (cond c (meant q m) m)
+        as-counted true = change-made (y .b) (place-of y) (place-lt y two) F c
+        as-counted false = F
+
+        go : ((stored (take k ss) fs ≡ fs) × (counts q k ≡ false)) ⊎ ((N : ℕ) × Cut (y .b) (stored (take k ss) fs) N × (set (stored (take k ss) fs) N free ≡ cond (counts q k) (stored ss fs) fs))
+            → Fallen (stores-bytes y (take k ss) xs) (cond (counts q k) (meant q m) m)
+        go (inl (e, f)) = record { layout = y; slots = stored (take k ss) fs; left = left (rw e (F .sound .well)); near = inl (rw (e, f) F) }
+        go (inr (N, C, e)) = record { layout = y; slots = stored (take k ss) fs; left = left (cut-well (y .b) C); near = inr (N, C, rw e (as-counted (counts q k))) }
 
 -- A trie that passes the checks of put and remove agrees with the file, in hand or not.
 passed-up : (xs : List ℕ) (m : Map) → Fallen xs m → (t : Trie) {y : Layout} {fs : List Slot} → Passed xs t y fs → Up xs t m
@@ -265,7 +270,7 @@ module _ (s : State) (g : Good s) (t : Trie) where
     Fit y d = Good (after-put s n (content y) (d .answer) (d .file) (d .trie))
 
     put-made : (y : Layout) (fs : List Slot) → Passed xs t y fs → {r : Result} → Answered (y .b) (place-of y) fs (to-put n (content y)) r → Fit y (put-by-stores xs t y fs n (content y) limit r)
-    unfolding put-by-stores after-put
+    unfolding put-by-stores after-put counts
     put-made y fs p (is-denied d) = stays s g
     put-made y fs p (is-made {ss = ss} c) = go (ltb limit (length ss)) refl (held fs n)
       where
@@ -301,24 +306,27 @@ module _ (s : State) (g : Good s) (t : Trie) where
     k = filled name
 
     abbrev Fits : RemoveDone → Type 0
-    Fits d = Good (after-remove s k (d .answer) (d .file) t)
+    Fits d = Good (after-remove s k (d .answer) (d .file) (d .trie))
 
-    remove-made : (y : Layout) (fs : List Slot) → Passed xs t y fs → {r : Result} → Answered (y .b) (place-of y) fs (to-remove k) r → Fits (remove-by-stores xs y limit r)
-    unfolding remove-by-stores after-remove stores-bytes trie-after
+    remove-made : (y : Layout) (fs : List Slot) → Passed xs t y fs → {r : Result} → Answered (y .b) (place-of y) fs (to-remove k) r → Fits (remove-by-stores xs t y fs limit r)
+    unfolding remove-by-stores after-remove counts
     remove-made y fs p (is-denied d) = stays s g
-    remove-made y fs p (is-made (absent A is lo high e)) =
-        rw (le-ltb limit 0 (omega arith)) (made-up xs t m (up p) y fs p (absent A is lo high e) tt)
-    remove-made y fs p (is-made {ss = ss} (removes is lo high e)) = go (ltb limit 1) refl
+    remove-made y fs p (is-made {ss = ss} c) = go (ltb limit (length ss)) refl
       where
-        c : Change (y .b) (place-of y) fs (to-remove k) ss
-        c = removes is lo high e
+        stopped : (j : ℕ) → j < length ss → Good (after-remove s k (RemoveStopped j) (stores-bytes y (take j ss) xs) t)
+        stopped zero h = stopped-down xs t m (up p) y fs p c tt zero h
+        stopped (suc j) h = stopped-down xs t m (up p) y fs p c tt (suc j) h
 
-        go : (c : Bool) → ltb limit 1 ≡ c
-            → Fits (cond c (record { answer = RemoveStopped limit; file = stores-bytes y (take limit ss) xs }) (record { answer = Removed; file = stores-bytes y ss xs }))
-        go true e = stopped-down xs t m (up p) y fs p c tt limit (ltb-true limit 1 e)
-        go false e = made-up xs t m (up p) y fs p c tt
+        made : (rs : List Store) → Good (after-remove s k (remove-answer rs) (stores-bytes y ss xs) (trie-removed fs ss t))
+        made [] = rw (trie-removed-is (y .b) (place-of y) c t) (made-up xs t m (up p) y fs p c tt)
+        made (r ∷ rs) = rw (trie-removed-is (y .b) (place-of y) c t) (made-up xs t m (up p) y fs p c tt)
 
-    remove-looked : (l : Looked) → looked-of xs t ≡ l → Fits (remove-on-looked xs k limit l)
+        go : (c : Bool) → ltb limit (length ss) ≡ c
+            → Fits (cond c (record { answer = RemoveStopped limit; file = stores-bytes y (take limit ss) xs; trie = t }) (record { answer = remove-answer ss; file = stores-bytes y ss xs; trie = trie-removed fs ss t }))
+        go true e = stopped limit (ltb-true limit (length ss) e)
+        go false e = made ss
+
+    remove-looked : (l : Looked) → looked-of xs t ≡ l → Fits (remove-on-looked xs t k limit l)
     unfolding remove-on-looked after-remove
     remove-looked (refusing c) e = stays s g
     remove-looked (fine y fs) e = let p = looked-passed xs t y fs e in remove-made y fs p (remove-right (y .b) (place-of y) fs (p .sound) k)
@@ -328,7 +336,7 @@ module _ (s : State) (g : Good s) (t : Trie) where
     remove-good = limited (ltb 2 limit) (is-legal-name name)
       where
         limited : (c h : Bool)
-            → Fits (cond c (record { answer = RemoveRefused WrongSize; file = xs }) (cond h (remove-on-looked xs k limit (looked-of xs t)) (record { answer = RemoveRefused IllegalName; file = xs })))
+            → Fits (cond c (record { answer = RemoveRefused WrongSize; file = xs; trie = t }) (cond h (remove-on-looked xs t k limit (looked-of xs t)) (record { answer = RemoveRefused IllegalName; file = xs; trie = t })))
         limited true h = stays s g
         limited false true = remove-looked (looked-of xs t) refl
         limited false false = stays s g
@@ -362,7 +370,7 @@ good-holds s g = record {
   remove-refused = demand-1 .remove-leaves (file-of s);
   recover-refused = demand-1 .recover-leaves (file-of s);
   put-stopped = put-stops (file-of s);
-  remove-stopped = remove-stops (file-of s);
+  remove-stopped = remove-stops (file-of s) (fallen s g .left .bytes);
   recover-stopped = recover-stops (file-of s);
 }
 

@@ -13,6 +13,7 @@ pub mod Limits
 pub mod Meanings
 pub mod Separators
 pub mod Runs
+pub mod Merging
 pub mod Determined
 pub mod Blanks
 pub mod Older

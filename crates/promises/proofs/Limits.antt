@@ -49,10 +49,10 @@ unfolding put-by-stores stores-bytes asked
 put-left xs t y fs n v limit (refuse r) = rw (take-nil limit)
 put-left xs t y fs n v limit (stores ss) = left-of (λ (d : PutDone). d .file) _ _ y ss xs limit refl refl
 
-remove-left : (xs : List ℕ) (y : Layout) (limit : ℕ) (r : Result) → remove-by-stores xs y limit r .file ≡ stores-bytes y (take limit (asked r)) xs
+remove-left : (xs : List ℕ) (t : Trie) (y : Layout) (fs : List Slot) (limit : ℕ) (r : Result) → remove-by-stores xs t y fs limit r .file ≡ stores-bytes y (take limit (asked r)) xs
 unfolding remove-by-stores stores-bytes asked
-remove-left xs y limit (refuse r) = rw (take-nil limit)
-remove-left xs y limit (stores ss) = left-of (λ (d : RemoveDone). d .file) _ _ y ss xs limit refl refl
+remove-left xs t y fs limit (refuse r) = rw (take-nil limit)
+remove-left xs t y fs limit (stores ss) = left-of (λ (d : RemoveDone). d .file) _ _ y ss xs limit refl refl
 
 module _ (xs : List ℕ) (t : Trie) (name : List ℕ) where
   -- The layout of a file that passed the checks.
@@ -76,7 +76,7 @@ module _ (xs : List ℕ) (t : Trie) (name : List ℕ) where
   remove-in-order true (fine y fs) e f =
       let r = call (y .b) (place-of y) fs (remove (filled name)) in
       in-order xs (λ (limit : ℕ). remove-of xs t name limit .file) (asked r)
-      (λ limit h. rw (le-ltb 2 limit h, e, f, layout-is y fs f) (remove-left xs y limit r))
+      (λ limit h. rw (le-ltb 2 limit h, e, f, layout-is y fs f) (remove-left xs t y fs limit r))
 
 freed-left : (xs : List ℕ) (N limit : ℕ) → recover-by xs limit (is-cut N) .file ≡ stores-bytes (layout-of xs) (take limit ((N, free) ∷ [])) xs
 unfolding recover-by stores-bytes

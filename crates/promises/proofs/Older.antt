@@ -1,5 +1,5 @@
 -- What the build before inner blanks makes of each file is what today's makes of it, or a refusal.
-use Rattle.model.proofs.Prelude.{Bool, List, Option, [], _&&_, _∷_, _<_, _^_, _-_, _∙_, _≡_, _≤_, _⊎_, ap, arith, clash, cond, decLt, eqb, false, inl, inr, le-leb, le-ltb, leb, leb-true, length, length-set, ltb, nothing, refl, replicate, set, some, suc, sym, take, take-length, true, zero, ℕ, ℕ-discrete}
+use Rattle.model.proofs.Prelude.{Bool, List, Option, [], _&&_, _++_, _∷_, _/_, _<_, _^_, _-_, _∙_, _≡_, _≤_, _⊎_, ap, arith, clash, cond, decLt, eqb, false, inl, inr, le-leb, le-ltb, leb, leb-true, length, length-set, ltb, nothing, refl, replicate, set, some, suc, sym, take, take-length, true, zero, ℕ, ℕ-discrete}
 use Rattle.model.specs.declared.Cause.the-variants.{BadFile as bad-file, IllegalName, StaleTrie, WrongSize}
 use Rattle.model.specs.declared.Layout.{Layout}
 use Rattle.model.specs.declared.ListAnswer.the-variants.{Refused as ListRefused}
@@ -11,28 +11,30 @@ use Rattle.model.specs.declared.RemoveAnswer.the-variants.{Refused as RemoveRef
 use Rattle.model.specs.declared.Side.{Side}
 use Rattle.model.specs.declared.Trie.{Trie}
 use Rattle.model.specs.declared.TrieAnswer.the-variants.{Given, Refused as TrieRefused}
-use Rattle.model.specs.Order.{Str}
+use Rattle.model.specs.Order.{Low, Str, _⊑_, _◁_, at}
 use Rattle.model.specs.Names.{broken, filled, is-at-most, is-legal-name}
 use Rattle.model.specs.Entries.{Entry, content-from, find, insert, keep, without}
-use Rattle.model.specs.Files.{Slot, Sound, Well, created, first, free, slot-at, used, well-used}
+use Rattle.model.specs.Files.{Slot, Sound, Well, created, first, free, slot-at, used, well-free, well-used}
 use Rattle.model.specs.Tries.{root, root-side, walk-of, walk-run}
-use Rattle.model.specs.Changes.{Request, Result, Store, put, remove, stored}
+use Rattle.model.specs.Changes.{Request, Result, Store, merged, put, remove, stored, trie-removed}
 use Rattle.model.specs.Places.{place-of}
 use Rattle.model.specs.Checks.{Kind, check, is-above, is-bad, is-cut, is-sound, is-well-formed}
 use Rattle.model.specs.Format.{AreBytes, BadFile, CutFile, are-legal-sizes, bytes-at-slot, check-file, check-read, check-read-with, entry-length, file-bytes, file-size, header-of, is-right-header, kept-run, layout-of, read-file, read-slot, store-bytes}
 use Rattle.model.specs.Calls.{CreateDone, Looked, PutDone, RecoverDone, RemoveDone, arrived-answer, create-of, fine, headed-answer, held, held-answer, landed, list-of, list-on-looked, list-with, look-up-of, look-up-with, looked-at-by, looked-of, new-trie, no-rebuilt, put-answer, put-by-stores, put-made-with, put-of, put-on-looked, rebuild-by, rebuild-of, recover-by, recover-of, recover-with, refusing, remove-answer, remove-by-stores, remove-made-with, remove-of, remove-on-looked, slot-answer, stores-bytes, trie-after-put}
-use Rattle.model.specs.Deciding.{le?, not?, str?}
+use Rattle.model.specs.Deciding.{le?, not?, over, str?}
 use Rattle.model.proofs.Names.{both-true, is-legal-name-legal, length-filled}
 use Rattle.model.proofs.Entries.{chosen-no, chosen-yes, length-keep, row-insert, row-keep}
-use Rattle.model.proofs.Changes.{Change, absent, at-set, fits, inside-a, new-well, old-well, removes, splits, well-a}
+use Rattle.model.proofs.Changes.{Change, absent, fits, inside-a, new-well, old-well, removes, splits, well-a}
 use Rattle.model.proofs.Calls.{Answered, is-denied, is-made, put-right, put-taken, remove-right}
 use Rattle.model.proofs.Created.{created-left}
 use Rattle.model.proofs.Places.{place-lt}
 use Rattle.model.proofs.Stores.{Asked, change-legal, left-freed, left-stored, legal-take}
 use Rattle.model.proofs.Checks.{well-is-well-formed}
 use Rattle.model.proofs.CheckedFiles.{CheckedFile, check-file-right}
-use Rattle.model.proofs.Files.{cut-well}
+use Rattle.model.proofs.Files.{at-set, cut-well}
 use Rattle.model.proofs.Format.{are-legal-sizes-sizes, contents-read-file, file-bytes-read-file, headed-header-of, headed-layout, headed-slots, put-fits, read-file-read, read-slot-read-file}
+use Rattle.model.proofs.Order.{le-trans, low-at, low-lower, lt-le}
+use Rattle.model.proofs.Merging.{Removal, alone, leftward, removal-is, rightward, row-merged, whole-low}
 use Rattle.promises.specs.Calls.{our-calls}
 use Rattle.promises.specs.Demand1.{Arrives, RightHeader, here, left-of, right-of, slots-of}
 use Rattle.promises.specs.Older.{BlankFile, HoldsBlank, Older, PlainFile, Reads, checked-by-older, is-older-name, kind-of-older, looked-by-older, older-arrived, older-calls, older-headed, older-rebuild, older-slot-answer}
@@ -270,7 +272,7 @@ module _ (xs : List ℕ) (t : Trie) (F : BlankFile xs) where
   refuses-put name v run limit e h = rw (le-ltb 2 limit h, e, bad-looked xs t F)
 
   refuses-remove : (name : List ℕ) (limit : ℕ) → is-older-name name ≡ true → limit ≤ 2
-      → remove-made-with is-older-name looked-by-older xs t name limit ≡ record { answer = RemoveRefused bad-file; file = xs }
+      → remove-made-with is-older-name looked-by-older xs t name limit ≡ record { answer = RemoveRefused bad-file; file = xs; trie = t }
   unfolding remove-on-looked
   refuses-remove name limit e h = rw (le-ltb 2 limit h, e, bad-looked xs t F)
 
@@ -323,6 +325,15 @@ fit-stored b [] fs h f = f
 fit-stored b (s ∷ ss) fs h f =
     fit-stored b ss (set fs (s .0) (s .1)) (rw (length-set fs (s .0) (s .1)) (h .2)) (at-set (λ B x. Fit b x) fs (s .0) (s .1) (h .0) (h .1) (λ B d. f B))
 
+plain-none : plain-entries [] ≡ true
+unfolding plain-entries
+plain-none = refl
+
+plain-append : (es gs : List Entry) → plain-entries es ≡ true → plain-entries gs ≡ true → plain-entries (es ++ gs) ≡ true
+unfolding plain-entries
+plain-append [] gs h k = k
+plain-append (e ∷ es) gs h k = let p = both-true (is-plain (e .0)) (plain-entries es) h in rw (p .0) (plain-append es gs (p .1) k)
+
 PlainAsked : Request → Type 0
 PlainAsked (put n v) = is-plain n ≡ true
 PlainAsked (remove n) = Unit {0}
@@ -342,12 +353,29 @@ change-fit y two {fs} S (splits {A = A} {N = N} {l = l} {u = u} {es = es} {n = n
       (new-well (y .b) fs S A l u es is n v g lo up big i j N low, plain-keep _ (insert n v es) e),
       (inside-a (y .b) fs S A l u es is, (old-well (y .b) fs S A l u es is n v g lo up big i j N low, plain-keep _ (insert n v es) e), tt),
     )
-change-fit y two {fs} S (removes {A = A} {l = l} {u = u} {es = es} {n = n} is lo up f) a p =
-    let w = well-a (y .b) fs S A l u es is in
-    let e : plain-entries es ≡ true = rw is at (p A) in
-    let r = row-keep (λ k. not? (str? k n)) l u (w .3) (λ k p c d. (c, d)) in
-    let k : length (without n es) ≤ y .b = omega (arith, length-keep (λ k. not? (str? k n)) es, w .4) in
-    (inside-a (y .b) fs S A l u es is, (well-used (w .0) (w .1) (w .2) r k, plain-keep _ es e), tt)
+change-fit y two {fs} S (removes A {l = l} {u = u} {es = es} {n = n} is lo up f) a p = go (removal-is (y .b) fs n A l u es)
+  where
+    merge : (L R : ℕ) (k : Low) (s v : Str) (ds gs : List Entry) → slot-at fs L ≡ used k s ds → slot-at fs R ≡ used (at s) v gs → k ◁ n → n ⊑ v
+        → length (without n (ds ++ gs)) ≤ y .b / 2 → EachFit (y .b) (length fs) (merged n L R k v ds gs)
+    merge L R k s v ds gs l-is r-is lo up few =
+        let w = well-a (y .b) fs S L k s ds l-is in
+        let x = well-a (y .b) fs S R (at s) v gs r-is in
+        let r = row-merged (y .b) fs S L R k s v ds gs l-is r-is n lo up in
+        let e : plain-entries (ds ++ gs) ≡ true = plain-append ds gs (rw l-is at (p L)) (rw r-is at (p R)) in
+        let c : length (without n (ds ++ gs)) ≤ y .b = omega (arith, few) in
+        (inside-a (y .b) fs S L k s ds l-is, (well-used (w .0) (x .1) (whole-low (y .b) fs S L R k s v ds gs l-is r-is) r c, plain-keep _ (ds ++ gs) e), (inside-a (y .b) fs S R (at s) v gs r-is, (well-free, plain-none), tt))
+
+    go : {ss : List Store} → Removal (y .b) fs n A l u es ss → EachFit (y .b) (length fs) ss
+    go (alone c d) =
+        let w = well-a (y .b) fs S A l u es is in
+        let e : plain-entries es ≡ true = rw is at (p A) in
+        let r = row-keep (λ k. not? (str? k n)) l u (w .3) (λ k p c d. (c, d)) in
+        let k : length (without n es) ≤ y .b = omega (arith, length-keep (λ k. not? (str? k n)) es, w .4) in
+        (inside-a (y .b) fs S A l u es is, (well-used (w .0) (w .1) (w .2) r k, plain-keep _ es e), tt)
+    go (rightward {R = R} {v = v} {gs = gs} r-is k) =
+        merge A R l u v es gs is r-is lo (le-trans up (lt-le (over (well-a (y .b) fs S R (at u) v gs r-is .2)))) k
+    go (leftward {L = L} {k = k} {s = s} {ds = ds} c q l-is few) =
+        merge L A k s u ds es l-is (is ∙ ap (λ x. used x u es) q) (low-lower (low-at (well-a (y .b) fs S L k s ds l-is .2)) (rw q at lo)) up few
 change-fit y two S (absent A is lo up f) a p = tt
 
 -- So what some or all of a change's stores leave is plain.
@@ -441,19 +469,19 @@ module _ (xs : List ℕ) (bytes : AreBytes xs) (plain : PlainFile xs) (t : Trie)
       n : Str
       n = filled name
 
-      made : {y : Layout} {fs : List Slot} → Passed xs t y fs → {r : Result} → Answered (y .b) (place-of y) fs (remove n) r → PlainFile (remove-by-stores xs y limit r .file)
+      made : {y : Layout} {fs : List Slot} → Passed xs t y fs → {r : Result} → Answered (y .b) (place-of y) fs (remove n) r → PlainFile (remove-by-stores xs t y fs limit r .file)
       made p (is-denied d) = plain
-      made {y} p (is-made {ss = ss} c) = go (ltb limit (length ss))
+      made {y} {fs} p (is-made {ss = ss} c) = go (ltb limit (length ss))
         where
-          go : (s : Bool) → PlainFile (cond {A = RemoveDone} s (record { answer = RemoveStopped limit; file = stores-bytes y (take limit ss) xs }) (record { answer = remove-answer ss; file = stores-bytes y ss xs }) .file)
+          go : (s : Bool) → PlainFile (cond {A = RemoveDone} s (record { answer = RemoveStopped limit; file = stores-bytes y (take limit ss) xs; trie = t }) (record { answer = remove-answer ss; file = stores-bytes y ss xs; trie = trie-removed fs ss t }) .file)
           go true = stored-plain xs bytes plain t p c tt tt limit
           go false = all-plain xs bytes plain t p c tt tt
 
-      looked : (l : Looked) → looked-of xs t ≡ l → PlainFile (remove-on-looked xs n limit l .file)
+      looked : (l : Looked) → looked-of xs t ≡ l → PlainFile (remove-on-looked xs t n limit l .file)
       looked (refusing c) e = plain
       looked (fine y fs) e = let p = looked-passed xs t y fs e in made p (remove-right (y .b) (place-of y) fs (p .sound) n)
 
-      limited : (c g : Bool) → PlainFile (cond {A = RemoveDone} c (record { answer = RemoveRefused WrongSize; file = xs }) (cond g (remove-on-looked xs n limit (looked-of xs t)) (record { answer = RemoveRefused IllegalName; file = xs })) .file)
+      limited : (c g : Bool) → PlainFile (cond {A = RemoveDone} c (record { answer = RemoveRefused WrongSize; file = xs; trie = t }) (cond g (remove-on-looked xs t n limit (looked-of xs t)) (record { answer = RemoveRefused IllegalName; file = xs; trie = t })) .file)
       limited true g = plain
       limited false false = plain
       limited false true = looked (looked-of xs t) refl

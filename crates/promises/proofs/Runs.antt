@@ -11,9 +11,9 @@ use Rattle.model.specs.declared.Trie.{Trie}
 use Rattle.model.specs.Order.{Low, Str, _⊑_, _◁_}
 use Rattle.model.specs.Names.{broken, filled, is-at-most, is-legal-name}
 use Rattle.model.specs.Entries.{Entry, content-from, find, insert, run-of-content, value-of-content}
-use Rattle.model.specs.Files.{In, Slot, Sound, Well, entries-of, first, free, head, slot-at, string-count, used}
+use Rattle.model.specs.Files.{In, Slot, Sound, Well, entries-of, first, free, head, slot-at, used}
 use Rattle.model.specs.Tries.{Agrees, walk-of}
-use Rattle.model.specs.Changes.{Map, Result, Store, holds?, meant, no-room, put, refuse, remove, stored, stores, too-many}
+use Rattle.model.specs.Changes.{Map, Result, Store, holds?, meant, no-room, put, refuse, remove, stored, stores, too-many, trie-removed}
 use Rattle.model.specs.Checks.{is-above, is-well-formed}
 use Rattle.model.specs.Deciding.{not?, str?}
 use Rattle.model.specs.Format.{AreBytes, bytes-at-slot, entry-length, file-size, header-of, is-right-header, kept-run, layout-of, read-file, read-slot, slot-size, version-1, version-2, version-3}
@@ -21,10 +21,8 @@ use Rattle.model.specs.Places.{place-of}
 use Rattle.model.specs.Calls.{Looked, PutDone, RemoveDone, arrived-answer, fine, headed-answer, held, held-answer, landed, look-up-of, looked-of, put-answer, put-by-stores, put-of, put-on-looked, put-takes, refusing, remove-answer, remove-by-stores, remove-of, remove-on-looked, slot-answer, stores-bytes, trie-after-put}
 use Rattle.model.proofs.Names.{is-legal-name-legal}
 use Rattle.model.proofs.Entries.{chosen-yes, find-drop, insert-new}
-use Rattle.model.proofs.Files.{count-right, one-range, well-parts}
-use Rattle.model.proofs.Tries.{cells-count}
-use Rattle.model.proofs.Cells.{reads-size, visits-count}
-use Rattle.model.proofs.Agreement.{agrees-cells, agrees-walk, live-count}
+use Rattle.model.proofs.Files.{one-range, well-parts}
+use Rattle.model.proofs.Agreement.{agrees-few, agrees-walk}
 use Rattle.model.proofs.LookUps.{lookup-agrees}
 use Rattle.model.proofs.Places.{place-lt}
 use Rattle.model.proofs.Changes.{Fine, change-made, fits, splits}
@@ -242,12 +240,6 @@ module _ (xs : List ℕ) (t : Trie) (name : List ℕ) (v run : ℕ) (bytes : Are
         go false false q = clash cc
         go false true q = looked-0 (looked-of xs t) refl q
 
--- An agreeing trie's cells are as many as the strings.
-agreed-few : (b : ℕ) {fs : List Slot} (S : Sound b fs) {t : Trie} → Agrees fs t → string-count fs ≤ 256
-agreed-few b S A =
-    let C = agrees-cells b S A in
-    omega (arith, A .few, live-count A, count-right b S, cells-count (C .trie), reads-size (C .reads), visits-count (C .reads) (C .each))
-
 -- What a removal leaves says nothing of the name.
 record Gone (ys : List ℕ) (n : Str) : Type 0 where
   layout : Layout
@@ -260,12 +252,12 @@ module _ (xs : List ℕ) (t : Trie) (name : List ℕ) (limit : ℕ) (bytes : Are
   k = filled name
 
   abbrev Forgets : RemoveDone → Type 0
-  Forgets d = d .answer ≡ Removed → Gone (d .file) k
+  Forgets d = (j : ℕ) → d .answer ≡ Removed j → Gone (d .file) k
 
-  forgets-made : (y : Layout) (fs : List Slot) → Passed xs t y fs → {r : Result} → Answered (y .b) (place-of y) fs (remove k) r → Forgets (remove-by-stores xs y limit r)
+  forgets-made : (y : Layout) (fs : List Slot) → Passed xs t y fs → {r : Result} → Answered (y .b) (place-of y) fs (remove k) r → Forgets (remove-by-stores xs t y fs limit r)
   unfolding remove-by-stores
-  forgets-made y fs p (is-denied d) q = clash cc
-  forgets-made y fs p (is-made {ss = ss} c) q = go (ltb limit (length ss)) ss q
+  forgets-made y fs p (is-denied d) = λ j q. clash cc
+  forgets-made y fs p (is-made {ss = ss} c) = go (ltb limit (length ss)) ss
     where
       says : Map
       says j = held fs j
@@ -274,7 +266,7 @@ module _ (xs : List ℕ) (t : Trie) (name : List ℕ) (limit : ℕ) (bytes : Are
       before = record {
         sound = p .sound;
         means = λ j B h. ap (λ (A : ℕ). find j (entries-of (slot-at fs A))) (one-range (y .b) (p .sound) j h (in-range (y .b) (place-of y) fs (p .sound) j));
-        few = agreed-few (y .b) (p .sound) (p .agrees);
+        few = agrees-few (y .b) (p .sound) (p .agrees);
       }
 
       after : Fine (y .b) (stored ss fs) (meant (remove k) says)
@@ -289,31 +281,31 @@ module _ (xs : List ℕ) (t : Trie) (name : List ℕ) (limit : ℕ) (bytes : Are
       }
 
       go : (s : Bool) (rs : List Store)
-          → Forgets (cond s (record { answer = RemoveStopped limit; file = stores-bytes y (take limit ss) xs }) (record { answer = remove-answer rs; file = stores-bytes y ss xs }))
-      go true rs q = clash cc
-      go false rs q = gone
+          → Forgets (cond s (record { answer = RemoveStopped limit; file = stores-bytes y (take limit ss) xs; trie = t }) (record { answer = remove-answer rs; file = stores-bytes y ss xs; trie = trie-removed fs ss t }))
+      go true rs j q = clash cc
+      go false rs j q = gone
 
-  forgets-looked : (l : Looked) → looked-of xs t ≡ l → Forgets (remove-on-looked xs k limit l)
+  forgets-looked : (l : Looked) → looked-of xs t ≡ l → Forgets (remove-on-looked xs t k limit l)
   unfolding remove-on-looked
-  forgets-looked (refusing c) e q = clash cc
-  forgets-looked (fine y fs) e q = let p = looked-passed xs t y fs e in forgets-made y fs p (remove-right (y .b) (place-of y) fs (p .sound) k) q
+  forgets-looked (refusing c) e = λ j q. clash cc
+  forgets-looked (fine y fs) e = let p = looked-passed xs t y fs e in forgets-made y fs p (remove-right (y .b) (place-of y) fs (p .sound) k)
 
   forgets : Forgets (remove-of xs t name limit)
   unfolding remove-of
   forgets = go (ltb 2 limit) (is-legal-name name)
     where
       go : (l g : Bool)
-          → Forgets (cond l (record { answer = RemoveRefused WrongSize; file = xs }) (cond g (remove-on-looked xs k limit (looked-of xs t)) (record { answer = RemoveRefused IllegalName; file = xs })))
-      go true g q = clash cc
-      go false false q = clash cc
-      go false true q = forgets-looked (looked-of xs t) refl q
+          → Forgets (cond l (record { answer = RemoveRefused WrongSize; file = xs; trie = t }) (cond g (remove-on-looked xs t k limit (looked-of xs t)) (record { answer = RemoveRefused IllegalName; file = xs; trie = t })))
+      go true g = λ j q. clash cc
+      go false false = λ j q. clash cc
+      go false true = forgets-looked (looked-of xs t) refl
 
-  pub forgotten : (u : Trie) (v run again : ℕ) → remove-of xs t name limit .answer ≡ Removed
+  pub forgotten : (u : Trie) (v run again j : ℕ) → remove-of xs t name limit .answer ≡ Removed j
       → put-of (remove-of xs t name limit .file) u name v run again .answer ≢ PutRefused OlderRun
-  forgotten u v run again e r =
+  forgotten u v run again j e r =
       let ys = remove-of xs t name limit .file in
       let H = first-higher ys u name v run again (demand-1 .put ys u name v run again OlderRun .0 r) in
-      let G = forgets e in
+      let G = forgets j e in
       let s = same-slots (G .is) (H .file) in
       let z : _≡_ {A = Option ℕ} nothing (some (H .content)) = sym (G .lost (H .bucket) (rw s at (H .in-range))) ∙ (rw s at (H .found)) in
       clash cc
@@ -331,5 +323,5 @@ runs = record {
   ignored = λ xs t name v run other limit older. ignored xs t v run other limit older name;
   found-0 = λ xs t name v run bytes older. found-0 xs t name v run bytes older;
   replaced-0 = λ xs t name v run limit old old-run bytes older. replaced-0 xs t name v run bytes older limit old old-run;
-  forgotten = λ xs t u name v run limit again bytes. forgotten xs t name limit bytes u v run again;
+  forgotten = λ xs t u name v run limit again j bytes. forgotten xs t name limit bytes u v run again j;
 }

@@ -4,7 +4,7 @@ use Rattle.model.specs.Order.{Str}
 use Rattle.model.specs.Names.{Legal}
 use Rattle.model.specs.Entries.{Entry}
 use Rattle.model.specs.Files.{Slot, Sound, string-count}
-use Rattle.model.specs.Changes.{Map, Means, Request, Result, Store, call, put, split-of, split-string, stores}
+use Rattle.model.specs.Changes.{Map, Means, Request, Result, Store, call, counts, put, split-of, split-string, stores}
 use Rattle.model.specs.Places.{digits-at, place-of}
 use Rattle.model.specs.Format.{is-offered, version-1, version-2, version-3}
 use Rattle.model.proofs.Names.{both-true}
@@ -47,6 +47,7 @@ made-change (is-denied d) e = clash cc
 leaves : (b : ℕ) (place : List Entry → ℕ) → ((ws : List Entry) → place ws < b)
     → (fs : List Slot) (m : Map) → Sound b fs → Means fs m → string-count fs ≤ 256
     → (n : Str) (v : ℕ) → Legal n → (ss : List Store) → call b place fs (put n v) ≡ stores ss → PutLeaves b place fs m n v ss
+unfolding counts
 leaves b place lt fs m S M few n v g ss e =
     let c = made-change (put-right b place fs S n v g) e in
     let before : Fine b fs m = record { sound = S; means = M; few = few } in
@@ -55,7 +56,7 @@ leaves b place lt fs m S M few n v g ss e =
       sound = F .sound;
       means = F .means;
       few = F .few;
-      stopped = change-stopped b place lt before c;
+      stopped = λ k h. elim (change-stopped b place lt before c k h) [ inl x ↦ inl (x .0) | inr x ↦ inr x ];
       agrees = λ t G. rw (trie-after-put-is b place n v c t) (change-agrees b place lt S c G);
     }
 

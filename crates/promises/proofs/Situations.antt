@@ -5,7 +5,7 @@ use Rattle.model.specs.Names.{are-digits, broken, filled, is-at-most, is-legal-
 use Rattle.model.specs.Entries.{chosen, find, insert, keep}
 use Rattle.model.specs.Files.{Slot, first, order-from, starts?, string-count}
 use Rattle.model.specs.Tries.{Agrees, walk-of, walk-run}
-use Rattle.model.specs.Changes.{call, free?, holds?, put-in}
+use Rattle.model.specs.Changes.{call, counts, free?, holds?, put-in}
 use Rattle.model.specs.Checks.{all-well, are-same-entries, check, cut-among, has-one-more, has-twin, is-above, is-chain, is-copied, is-cut-by, is-in, is-legal-low, is-listed, is-row, is-sound-file, is-twin, is-used-slot, is-well-formed, same-low, same-str}
 use Rattle.model.specs.Agreeing.{are-numbers, are-zero-cells, is-agreeing, is-each-once, is-trie-of, join-trees, read-tree, same-side, same-strs, slots-between, times}
 use Rattle.model.specs.Format.{are-legal-sizes, bytes-at-slot, bytes-of-entries, bytes-of-slot, digits-of-low, entry-length, file-bytes, file-size, header-bytes, header-of, is-offered, is-right-header, layout-of, little-endian, low-of, padded, read-entries, read-slot, read-used-slot, slot-size, slots-bytes, used-of, value-of}
@@ -29,7 +29,7 @@ unfolding
     puts after-put trie-after-put walk-run walk-of place-of winner shortest positions only-from
     call put-in holds? free? first chosen insert find keep not? le? str? low? decLe decLt ℕ-discrete
     low-same? starts? order-from string-count
-    run act answered recovered check cut-among is-cut-by has-twin is-twin is-copied has-one-more are-same-entries
+    run act answered counts recovered check cut-among is-cut-by has-twin is-twin is-copied has-one-more are-same-entries
     is-sound-file all-well is-well-formed is-row is-chain is-listed is-in is-used-slot is-above is-legal-low is-legal-bound is-legal-filled is-at-most same-str same-low
     is-agreeing is-trie-of read-tree join-trees are-zero-cells same-side is-each-once times are-numbers same-strs slots-between
     is-offered entry-length slot-size file-size are-legal-sizes header-bytes padded little-endian value-of bytes-of-entries digits-of-low low-of

@@ -23,7 +23,7 @@ use Rattle.model.specs.Order.{Str}
 use Rattle.model.specs.Names.{are-digits, filled, is-at-most, is-legal-bound, is-legal-filled, is-legal-name, not-greater, smaller, split-beginning, split-tried, within}
 use Rattle.model.specs.Entries.{chosen, content-from, find, insert, is-older, keep, run-of-content, value-of-content}
 use Rattle.model.specs.Files.{Slot, created, entries-of, first, free, order-from, slot-at, starts?, string-count}
-use Rattle.model.specs.Changes.{Map, Result, call, free?, holds?, put, put-in, refuse, remove, remove-in, split-of, split-string, stores, stores-if}
+use Rattle.model.specs.Changes.{Map, Result, call, closes?, free?, holds?, left-of, merged-or, put, put-in, refuse, removal, remove, remove-in, right-of, split-of, split-string, stores, stores-if, trie-removed}
 use Rattle.model.specs.Checks.{all-well, are-same-entries, check, cut-among, has-one-more, has-twin, is-above, is-bad, is-chain, is-copied, is-cut-by, is-in, is-legal-low, is-listed, is-row, is-sound-file, is-twin, is-used-slot, is-well-formed, same-low, same-str}
 use Rattle.model.specs.Agreeing.{are-numbers, are-zero-cells, is-agreeing, is-each-once, is-trie-of, join-trees, read-tree, same-side, same-strs, slots-between, times}
 use Rattle.model.specs.Format.{are-legal-sizes, bytes-at-slot, bytes-of-entries, bytes-of-entry, bytes-of-slot, check-file, check-read, digits-of-low, entry-length, file-bytes, file-size, header-bytes, header-of, is-offered, is-right-header, joined, kept-run, laid-out, layout-of, little-endian, low-of, padded, read-by, read-entries, read-file, read-slot, read-slots, read-used-slot, slot-size, slots-bytes, store-bytes, used-of, value-of, version-1}
@@ -148,7 +148,7 @@ unfolding
     split-beginning
     chosen not? find insert keep
     first low-same? starts? order-from string-count
-    holds? free? stores-if put-in remove-in call
+    holds? free? closes? left-of right-of merged-or removal trie-removed stores-if put-in remove-in call
     is-above is-legal-low same-str same-low is-row is-well-formed all-well is-used-slot is-chain is-in is-listed is-sound-file are-same-entries has-one-more
     is-copied is-twin has-twin is-cut-by cut-among check
     join-trees read-tree same-side are-zero-cells times is-each-once are-numbers same-strs slots-between is-trie-of is-agreeing

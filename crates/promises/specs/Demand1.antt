@@ -234,7 +234,7 @@ list-table xs t low high out =
     ∷ because short-output (Short xs low high out) ∷ []
 
 -- Demand 1 of the calls. Check refuses nothing. What a call may only read it cannot change: the file of check, rebuild, look
--- up and list, and the trie of look up, remove and list.
+-- up and list, and the trie of look up and list.
 pub record Demand1 (C : Calls) : Type 0 where
   pub create : (xs : List ℕ) (v b slots : ℕ) → Exactly TrieRefused (C .create xs v b slots .answer) (create-table xs v b slots)
   pub recover : (xs : List ℕ) (limit : ℕ) → Exactly RecoverRefused (C .recover xs limit .answer) (recover-table xs limit)
@@ -254,7 +254,7 @@ pub record Demand1 (C : Calls) : Type 0 where
   pub put-leaves : (xs : List ℕ) (t : Trie) (name : List ℕ) (v run limit : ℕ) (c : Cause) → C .put xs t name v run limit .answer ≡ PutRefused c
       → (C .put xs t name v run limit .file ≡ xs) × (C .put xs t name v run limit .trie ≡ t)
   pub remove-leaves : (xs : List ℕ) (t : Trie) (name : List ℕ) (limit : ℕ) (c : Cause) → C .remove xs t name limit .answer ≡ RemoveRefused c
-      → C .remove xs t name limit .file ≡ xs
+      → (C .remove xs t name limit .file ≡ xs) × (C .remove xs t name limit .trie ≡ t)
   pub list-leaves : (xs : List ℕ) (t : Trie) (low high out : List ℕ) (c : Cause) → C .list xs t low high out .answer ≡ ListRefused c
       → C .list xs t low high out .output ≡ out
   -- R10.9, as far as a call has the causes; look up has its own order.

@@ -57,8 +57,8 @@ now ys (running xs t m) = running ys t m
 now ys (down xs m) = down ys m
 
 -- R13.3: a call counts as made exactly when it was not stopped short of its last store; a remove that says absent
--- counts as made too. After a stop the trie is discarded. The file is always the one that the call leaves; the trie in
--- hand after a call that counts as made is the one that it gave or was lent.
+-- counts as made too, and a removal that merges does from its first store on. After a stop the trie is discarded. The file
+-- is always the one that the call leaves; the trie in hand after a call that was not stopped is the one that it gave.
 unfoldable pub after-put : State → Str → ℕ → PutAnswer → List ℕ → Trie → State
 after-put s n v Added xs t = running xs t (meant (to-put n v) (said s))
 after-put s n v (Replaced old old-run) xs t = running xs t (meant (to-put n v) (said s))
@@ -66,9 +66,10 @@ after-put s n v (PutStopped made) xs t = down xs (said s)
 after-put s n v (PutRefused c) xs t = now xs s
 
 unfoldable pub after-remove : State → Str → RemoveAnswer → List ℕ → Trie → State
-after-remove s n Removed xs t = running xs t (meant (to-remove n) (said s))
+after-remove s n (Removed stores) xs t = running xs t (meant (to-remove n) (said s))
 after-remove s n Absent xs t = running xs t (meant (to-remove n) (said s))
-after-remove s n (RemoveStopped made) xs t = down xs (said s)
+after-remove s n (RemoveStopped zero) xs t = down xs (said s)
+after-remove s n (RemoveStopped (suc made)) xs t = down xs (meant (to-remove n) (said s))
 after-remove s n (RemoveRefused c) xs t = now xs s
 
 unfoldable pub after-recover : State → RecoverAnswer → List ℕ → State
@@ -90,7 +91,7 @@ module _ (C : Calls) where
   unfoldable pub remove-by : State → Trie → List ℕ → ℕ → State
   remove-by s t name limit =
       let d = C .remove (file-of s) t name limit in
-      after-remove s (filled name) (d .answer) (d .file) t
+      after-remove s (filled name) (d .answer) (d .file) (d .trie)
 
   unfoldable pub step : Event → State → State
   step (put name v small run low limit) (running xs t m) = put-by (running xs t m) t name v run limit
@@ -157,7 +158,7 @@ module _ (C : Calls) where
     pub put-refused : (t : Trie) (name : List ℕ) (v run limit : ℕ) (c : Cause) → C .put (file-of s) t name v run limit .answer ≡ PutRefused c
         → (C .put (file-of s) t name v run limit .file ≡ file-of s) × (C .put (file-of s) t name v run limit .trie ≡ t)
     pub remove-refused : (t : Trie) (name : List ℕ) (limit : ℕ) (c : Cause) → C .remove (file-of s) t name limit .answer ≡ RemoveRefused c
-        → C .remove (file-of s) t name limit .file ≡ file-of s
+        → (C .remove (file-of s) t name limit .file ≡ file-of s) × (C .remove (file-of s) t name limit .trie ≡ t)
     pub recover-refused : (limit : ℕ) (c : Cause) → C .recover (file-of s) limit .answer ≡ RecoverRefused c
         → C .recover (file-of s) limit .file ≡ file-of s
     -- R13.3: any call may be stopped after any of its stores.

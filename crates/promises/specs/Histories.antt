@@ -9,7 +9,7 @@ use Rattle.model.specs.Order.{Str}
 use Rattle.model.specs.Names.{is-legal-filled}
 use Rattle.model.specs.Entries.{Entry}
 use Rattle.model.specs.Files.{Slot, created, free}
-use Rattle.model.specs.Changes.{Map, Request, Result, call, meant, put, refuse, remove, stored, stores}
+use Rattle.model.specs.Changes.{Map, Request, Result, call, counts, meant, put, refuse, remove, stored, stores}
 use Rattle.model.specs.Checks.{Kind, check, is-bad, is-cut, is-sound}
 
 -- A call with its store limit; the trie is lost; a recovery with its store limit.
@@ -27,11 +27,12 @@ abbrev pub asked-name : Request → Str
 asked-name (put n v) = n
 asked-name (remove n) = n
 
--- R13.3: a call stopped before its last store counts as never made, any other as made. A stopped call makes the stores
+-- R13.3: a call stopped before its last store counts as `counts` says, any other as made. A stopped call makes the stores
 -- that its limit allows, and the trie is lost then.
 unfoldable pub answered : Request → ℕ → List Slot → Map → Result → World
 answered q j fs m (refuse r) = ready fs m
-answered q j fs m (stores ss) = cond (ltb j (length ss)) (down (stored (take j ss) fs) m) (ready (stored ss fs) (meant q m))
+answered q j fs m (stores ss) =
+    cond (ltb j (length ss)) (down (stored (take j ss) fs) (cond (counts q j) (meant q m) m)) (ready (stored ss fs) (meant q m))
 
 -- R9.3: recover frees N and names it; on a sound file there is nothing to do.
 unfoldable pub recovered : List Slot → Map → ℕ → Kind → World

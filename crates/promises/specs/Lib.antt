@@ -12,6 +12,7 @@ pub mod Meanings
 pub mod Older
 pub mod Separators
 pub mod Runs
+pub mod Merging
 pub mod Determined
 pub mod WrongCalls
 pub mod Strength

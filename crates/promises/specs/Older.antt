@@ -60,7 +60,7 @@ unfoldable pub is-older-sound : ℕ → List Slot → Bool
 is-older-sound b fs = is-sound-with (older-all-well b) fs
 
 unfoldable pub older-cut-by : ℕ → List Slot → ℕ → Slot → Bool
-older-cut-by b fs N x = is-cut-by-with (is-older-well b) (is-older-sound b) b fs N x
+older-cut-by b fs N x = is-cut-by-with (is-older-well b) (is-older-sound b) fs N x
 
 unfoldable pub older-cut-below : ℕ → ℕ → List Slot → Kind
 older-cut-below N b fs = cut-below-with (λ (k : ℕ). older-cut-by b fs k (slot-at fs k)) N
@@ -162,7 +162,7 @@ pub record Refuses (D : Calls) : Type 0 where
   pub put : (xs : List ℕ) (t : Trie) (name : List ℕ) (v run limit : ℕ) → BlankFile xs → is-older-name name ≡ true → limit ≤ 2
       → D .put xs t name v run limit ≡ record { answer = PutRefused bad-file; file = xs; trie = t }
   pub remove : (xs : List ℕ) (t : Trie) (name : List ℕ) (limit : ℕ) → BlankFile xs → is-older-name name ≡ true → limit ≤ 2
-      → D .remove xs t name limit ≡ record { answer = RemoveRefused bad-file; file = xs }
+      → D .remove xs t name limit ≡ record { answer = RemoveRefused bad-file; file = xs; trie = t }
   pub list : (xs : List ℕ) (t : Trie) (low high out : List ℕ) → BlankFile xs → is-older-name low ≡ true → is-older-name high ≡ true
       → D .list xs t low high out ≡ record { answer = ListRefused bad-file; output = out }
 

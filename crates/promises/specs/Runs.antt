@@ -45,5 +45,6 @@ pub record Runs (C : Calls) : Type 0 where
   pub replaced-0 : (xs : List ℕ) (t : Trie) (name : List ℕ) (v run limit old old-run : ℕ) → AreBytes xs → layout-of xs .version ≢ 3
       → C .put xs t name v run limit .answer ≡ Replaced old old-run → old-run ≡ 0
   -- Removal forgets the run: after it no put of the name is refused 12.
-  pub forgotten : (xs : List ℕ) (t u : Trie) (name : List ℕ) (v run limit again : ℕ) → AreBytes xs → C .remove xs t name limit .answer ≡ Removed
+  pub forgotten : (xs : List ℕ) (t u : Trie) (name : List ℕ) (v run limit again stores : ℕ) → AreBytes xs
+      → C .remove xs t name limit .answer ≡ Removed stores
       → C .put (C .remove xs t name limit .file) u name v run again .answer ≢ PutRefused OlderRun

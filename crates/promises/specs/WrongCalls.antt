@@ -94,14 +94,14 @@ abbrev pub stores-nothing : Calls
 stores-nothing = with-put (make-put take (λ made. made) (λ ss. []))
 
 -- The same of remove: it stores nothing, and says of every name that it is absent.
-unfoldable pub absent-instead : List ℕ → RemoveAnswer → RemoveDone
-absent-instead xs Removed = record { answer = NotHeld; file = xs }
-absent-instead xs NotHeld = record { answer = NotHeld; file = xs }
-absent-instead xs (RemoveStopped made) = record { answer = RemoveStopped made; file = xs }
-absent-instead xs (RemoveRefused c) = record { answer = RemoveRefused c; file = xs }
+unfoldable pub absent-instead : List ℕ → Trie → RemoveAnswer → RemoveDone
+absent-instead xs t (Removed made) = record { answer = NotHeld; file = xs; trie = t }
+absent-instead xs t NotHeld = record { answer = NotHeld; file = xs; trie = t }
+absent-instead xs t (RemoveStopped made) = record { answer = RemoveStopped made; file = xs; trie = t }
+absent-instead xs t (RemoveRefused c) = record { answer = RemoveRefused c; file = xs; trie = t }
 
 abbrev pub removes-nothing : Calls
-removes-nothing = instead recover-of put-of (λ xs t name limit. absent-instead xs (remove-of xs t name limit .answer))
+removes-nothing = instead recover-of put-of (λ xs t name limit. absent-instead xs t (remove-of xs t name limit .answer))
 
 -- R15.4: a split that replaces two slots in its first store.
 unfoldable pub both : ℕ → List Store → List Store

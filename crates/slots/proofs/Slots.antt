@@ -75,6 +75,18 @@ slot-written y l u es lower upper part count r h p q k g i j =
     let w : part ≡ bytes-of-entries e es = sym (take-all (e * count) part (omega arith)) ∙ read-bytes e count part es least (omega arith) g i in
     ap (take (slot-size y)) (j ∙ rw (p, q, n, w)) ∙ written-slot y l u es h
 
+-- The same of the first entries of a row, as the code cuts them.
+pub slot-cut : (y : Layout) (l : Low) (u : Str) (ws : List Entry) (lower upper row : List ℕ) (count end : ℕ) (r : List ℕ) → y .b ≤ 16
+    → lower ≡ digits-of-low l → upper ≡ u → end ≡ entry-length y * count → end ≤ length row → AreBytes (take (end - 0) row)
+    → read-entries (entry-length y) count row ≡ ws → r ≡ written-bytes lower upper count (take (end - 0) row) → Begins r y (used l u ws)
+slot-cut y l u ws lower upper row count end r h p o q k g i j =
+    let e = entry-length y in
+    let least : 24 ≤ e = omega (arith, entry-size y .least) in
+    let z : end - 0 ≡ e * count = omega arith in
+    let m : length (take (e * count) row) ≡ e * count = length-take-le (e * count) row (omega arith) in
+    slot-written y l u ws lower upper (take (end - 0) row) count r h p o
+    (ap (λ (n : ℕ). length (take n row)) z ∙ m) g (ap (λ (n : ℕ). read-entries e count (take n row)) z ∙ read-entries-take e count row least (omega arith) ∙ i) j
+
 -- The bounds of a slot that is read.
 module _ (y : Layout) (xs : List ℕ) {l : Low} {u : Str} {es : List Entry} (R : Reads y xs l u es) where
   pub lower-is : lower-bytes xs ≡ digits-of-low l
@@ -83,14 +95,9 @@ module _ (y : Layout) (xs : List ℕ) {l : Low} {u : Str} {es : List Entry} (R :
   pub upper-is : upper-bytes xs ≡ u
   upper-is = ap upper-bytes (R .is) ∙ upper-bytes-slot y l u es (is-legal-bound-bound u (R .high) .fits)
 
--- The same with the bounds of a slot that is read, and other entries: the first of a row, as the code cuts them.
+-- The same with the bounds of a slot that is read, and other entries.
 pub slot-rewritten : (y : Layout) (xs : List ℕ) {l : Low} {u : Str} {es : List Entry} (ws : List Entry) (row : List ℕ) (count end : ℕ) (r : List ℕ) → y .b ≤ 16
     → Reads y xs l u es → end ≡ entry-length y * count → end ≤ length row → AreBytes (take (end - 0) row) → read-entries (entry-length y) count row ≡ ws
     → r ≡ written-bytes (lower-bytes xs) (upper-bytes xs) count (take (end - 0) row) → Begins r y (used l u ws)
-slot-rewritten y xs {l} {u} {es} ws row count end r h R q k g i j =
-    let e = entry-length y in
-    let least : 24 ≤ e = omega (arith, entry-size y .least) in
-    let z : end - 0 ≡ e * count = omega arith in
-    let m : length (take (e * count) row) ≡ e * count = length-take-le (e * count) row (omega arith) in
-    slot-written y l u ws (lower-bytes xs) (upper-bytes xs) (take (end - 0) row) count r h (lower-is y xs R) (upper-is y xs R)
-    (ap (λ (n : ℕ). length (take n row)) z ∙ m) g (ap (λ (n : ℕ). read-entries e count (take n row)) z ∙ read-entries-take e count row least (omega arith) ∙ i) j
+slot-rewritten y xs {l} {u} ws row count end r h R q k g i j =
+    slot-cut y l u ws (lower-bytes xs) (upper-bytes xs) row count end r h (lower-is y xs R) (upper-is y xs R) q k g i j

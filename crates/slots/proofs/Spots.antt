@@ -1,16 +1,20 @@
 -- A slot that is used and well formed, read: the spot of a name, what is held there, and the entries from one name to another.
-use Rattle.model.proofs.Prelude.{Bool, List, Option, [], _&&_, _*_, _+_, _-_, _<_, _^_, _∙_, _≡_, _≤_, ap, arith, cond, drop, eqb, false, length, ltb, ltb-true, nothing, refl, some, suc, sym, take, true, ℕ}
+use Rattle.model.proofs.Prelude.{Bool, List, Option, [], _&&_, _*_, _++_, _+_, _-_, _<_, _^_, _∙_, _≡_, _≤_, ap, ap₂, arith, cond, drop, eqb, false, length, ltb, ltb-true, nothing, refl, some, suc, sym, take, true, ℕ}
 use Rattle.model.specs.declared.Layout.{Layout}
-use Rattle.model.specs.Order.{Low, Str}
+use Rattle.model.specs.Order.{Low, Str, at}
+use Rattle.model.specs.Deciding.{over}
 use Rattle.model.specs.Calls.{between}
 use Rattle.model.specs.Entries.{Entry, Row, find, insert, without}
 use Rattle.model.specs.Format.{AreBytes, bytes-of-entries, bytes-of-entry, entry-length, padded, read-entries, value-of}
 use Rattle.model.specs.Names.{Legal}
-use Rattle.model.proofs.Format.{Contents, bytes-drop, contents-read-slot, entry-size}
+use Rattle.model.proofs.Format.{Contents, bytes-drop, contents-read-slot, entry-size, length-padded}
+use Rattle.model.proofs.Files.{well-parts}
+use Rattle.model.proofs.Merging.{row-join}
 use Rattle.model.proofs.Names.{both-true}
+use Rattle.model.proofs.Order.{low-at, lt-le}
 use Rattle.digits.specs.Keys.{value}
 use Rattle.entries.specs.Rows.{below, held-at, held-under, is-at, place, room, spliced-bytes, values}
-use Rattle.entries.proofs.Lists.{content-there, held-find, length-read-entries, part-between, rank-place, spliced-held, spliced-new, spliced-without}
+use Rattle.entries.proofs.Lists.{content-there, held-find, joined-list, length-read-entries, part-between, rank-place, spliced-held, spliced-new, spliced-without}
 use Rattle.entries.proofs.Products.{room-most}
 use Rattle.entries.proofs.Places.{place-found}
 use Rattle.bucket.specs.Forms.{ReadAs}
@@ -128,3 +132,38 @@ module _ (y : Layout) (xs : List ℕ) (size : OfSize xs y) (bytes : AreBytes xs)
   part-listed n m v w f g p q =
       part-between e count behind n m v w (omega (arith, entry-size y .least)) slot-fits (bytes-drop 64 xs bytes) slot-is-row f g p q
       ∙ ap (λ (x : List Entry). bytes-of-entries e (between n m x)) slot-row
+
+-- Two neighbours: the entries of both, in one row, and this row without a name.
+module _ (y : Layout) (xs zs : List ℕ) (size-x : OfSize xs y) (size-z : OfSize zs y) (bytes-x : AreBytes xs) (bytes-z : AreBytes zs)
+    {l : Low} {s u : Str} {es gs : List Entry} (r : ReadAs y xs l s es) (q : ReadAs y zs (at s) u gs)
+    (m n : ℕ) (h : m ≡ length es) (k : n ≡ length gs) (few : m + n ≤ 16) where
+  abbrev z : ℕ
+  z = entry-length y
+
+  abbrev both : List ℕ
+  both = padded room (take (z * m) (drop 64 xs) ++ take (z * n) (drop 64 zs))
+
+  some-most : z * (m + n) ≤ 640
+  some-most = room-most z (m + n) (entry-size y .most) few
+
+  both-read : read-entries z (m + n) both ≡ es ++ gs
+  both-read =
+      let a : m ≡ count-at (y .b) xs = h ∙ sym (slot-count y xs size-x bytes-x r) in
+      let b : n ≡ count-at (y .b) zs = k ∙ sym (slot-count y zs size-z bytes-z q) in
+      let f : z * m ≤ length (drop 64 xs) = rw a (slot-fits y xs size-x bytes-x r) in
+      let g : z * n ≤ length (drop 64 zs) = rw b (slot-fits y zs size-z bytes-z q) in
+      let c : read-entries z m (drop 64 xs) ≡ es = rw a (slot-row y xs size-x bytes-x r) in
+      let d : read-entries z n (drop 64 zs) ≡ gs = rw b (slot-row y zs size-z bytes-z q) in
+      joined-list z m n (drop 64 xs) (drop 64 zs) (omega (arith, entry-size y .least)) f g (omega (arith, some-most)) ∙ ap₂ (λ (v w : List Entry). v ++ w) c d
+
+  both-row : Row l (read-entries z (m + n) both) u
+  both-row =
+      let a = well-parts (y .b) (r .1) in let b = well-parts (y .b) (q .1) in
+      rw both-read (row-join (a .3) (b .3) (low-at (a .2)) (lt-le (over (b .2))))
+
+  pub both-without : (i : ℕ) (x : Str) (w : ℕ) → find x (es ++ gs) ≡ some w → i ≡ place x (es ++ gs)
+      → read-entries z (m + n - 1) (padded room (spliced-bytes z both (m + n) i 1 [])) ≡ without x (es ++ gs)
+  both-without i x w f e =
+      rw (e, ← both-read)
+      (spliced-without z (m + n) both (omega (arith, entry-size y .least)) (entry-size y .most) (omega (arith, some-most, length-padded room (take (z * m) (drop 64 xs) ++ take (z * n) (drop 64 zs)))) some-most both-row x w
+      (ap (find x) both-read ∙ f))

@@ -1,12 +1,12 @@
 -- Where in a slot a name is or would be, and the slot with the name put in, given another content, or taken out.
 use mathlib.Core.Bool.{Bool, false, true}
-use mathlib.Core.List.{List}
+use mathlib.Core.List.{List, _++_}
 use mathlib.Core.Option.{Option, none as nothing, some}
 use mathlib.Core.Path.{_≡_}
 use Prim.Native.Nat.{_+_, _-_, _<_, _^_, _≤_, ℕ}
 use lib.ListN.{length, take}
 use Rattle.model.specs.declared.Layout.{Layout}
-use Rattle.model.specs.Order.{Low, Str}
+use Rattle.model.specs.Order.{Low, Str, at}
 use Rattle.model.specs.Names.{Legal}
 use Rattle.model.specs.Entries.{Entry, find, insert, without}
 use Rattle.model.specs.Files.{Slot, used}
@@ -70,6 +70,12 @@ abbrev pub LessenedTold : List ℕ → Layout → List ℕ → Spot → Type 0
 LessenedTold r y xs s =
     (l : Low) (u : Str) (es : List Entry) → ReadAs y xs l u es → (n : Str) → Legal n → SpotIn s n es → (w : ℕ) → find n es ≡ some w
     → Begins r y (used l u (without n es))
+
+-- Two neighbours as one, without a name that one of them holds: m and n are their counts, i the name's place in both rows.
+abbrev pub WidenedTold : List ℕ → Layout → List ℕ → ℕ → List ℕ → ℕ → ℕ → Type 0
+WidenedTold r y xs m zs n i =
+    (l : Low) (s u : Str) (es gs : List Entry) → ReadAs y xs l s es → ReadAs y zs (at s) u gs → m ≡ length es → n ≡ length gs
+    → (k : Str) (w : ℕ) → find k (es ++ gs) ≡ some w → i ≡ place k (es ++ gs) → Begins r y (used l u (without k (es ++ gs)))
 
 -- The entries that are read at the beginning of a row.
 abbrev pub RowOf : Layout → List ℕ → List Entry → Type 0

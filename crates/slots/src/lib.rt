@@ -1,7 +1,7 @@
 // One slot as its bounds and its entries: the place of a name and what is held there, the slot with a name put in or taken out, the two
 // halves of a split, and the part that a list gives out.
 ghost use mathlib.Core.Path.{_≡_};
-ghost use Prim.Native.Nat.{_*_, _/_, _<_, _^_, _≤_};
+ghost use Prim.Native.Nat.{_*_, _+_, _/_, _<_, _^_, _≤_};
 ghost use lib.ListN.{drop, length, take};
 ghost use Rattle.model.specs.Format.{AreBytes, entry-length};
 ghost use Rattle.digits.specs.Keys.{key-value};
@@ -9,7 +9,7 @@ ghost use Rattle.entries.specs.Rows.{Valued};
 ghost use Rattle.bucket.specs.Slots.{OfSize, lower-bytes, upper-bytes};
 ghost use Rattle.slots.specs.Parts.{part-of};
 ghost use Rattle.slots.specs.Halves.{LowerTold, NameTold, StayTold, UpperTold};
-ghost use Rattle.slots.specs.Spots.{AddedTold, ContentTold, HeldTold, LessenedTold, OverfullTold, ReplacedTold, SpotTold, Spotted};
+ghost use Rattle.slots.specs.Spots.{AddedTold, ContentTold, HeldTold, LessenedTold, OverfullTold, ReplacedTold, SpotTold, Spotted, WidenedTold};
 ghost use Rattle.slots.specs.Written.{entries-room, written-bytes};
 use bucket::SLOT;
 use digits::Key;
@@ -155,6 +155,37 @@ pub fn lessened(slot: &[u8], layout: Layout, spot: Spot) -> [u8; SLOT]
     let count = spot.count - 1;
     let end = entries::entry_at(e, count, layout.b);
     rewritten(slot, count, &row[0..end])
+}
+
+// Two neighbours as one slot, without the entry at place i of both their rows: the left one has m entries, the right one n.
+pub fn widened(
+    left: &[u8],
+    m: usize,
+    right: &[u8],
+    n: usize,
+    layout: Layout,
+    i: usize,
+) -> [u8; SLOT]
+    requires { ⌜ (OfSize (now left) layout) × (OfSize (now right) layout) × (m ≤ layout .b) × (n ≤ layout .b) × (m + n ≤ 16) × (i < m + n) ⌝ }
+    ensures { λ r. ⌜ WidenedTold r layout (now (left .entry)) m (now (right .entry)) n i ⌝ }
+{
+    let e = bucket::entry_size(layout);
+    let all = entries::joined(
+        bucket::entries_of(left, layout),
+        m,
+        bucket::entries_of(right, layout),
+        n,
+        e,
+    );
+    let row = entries::without_entry(&all, e, m + n, i);
+    let count = m + n - 1;
+    let end = entries::entry_at(e, count, m + n);
+    written(
+        bucket::lower_bound(left),
+        bucket::upper_bound(right),
+        count,
+        &row[0..end],
+    )
 }
 
 // The name of entry i in a row of b + 1.

@@ -3,7 +3,7 @@ use Rattle.model.proofs.Prelude.{decLe, decLt, refl, ℕ-discrete}
 use Rattle.model.specs.Names.{are-digits, broken, filled, is-at-most, is-legal-bound, is-legal-filled, is-legal-name, not-greater, smaller, split-beginning, split-tried, within}
 use Rattle.model.specs.Entries.{chosen, content-from, find, insert, is-older, keep, run-of-content, value-of-content}
 use Rattle.model.specs.Files.{first, order-from, starts?, string-count}
-use Rattle.model.specs.Changes.{call, free?, holds?, put-in, remove-in, stores-if}
+use Rattle.model.specs.Changes.{call, closes?, free?, holds?, left-of, merged-or, put-in, removal, remove-in, right-of, stores-if, trie-removed}
 use Rattle.model.specs.Places.{only-from, place-of, positions, shortest, winner}
 use Rattle.model.specs.Checks.{all-well, are-same-entries, check, cut-among, has-one-more, has-twin, is-above, is-chain, is-copied, is-cut-by, is-in, is-legal-low, is-listed, is-row, is-sound-file, is-twin, is-used-slot, is-well-formed, same-low, same-str}
 use Rattle.model.specs.Agreeing.{are-numbers, are-zero-cells, is-agreeing, is-each-once, is-trie-of, join-trees, read-tree, same-side, same-strs, slots-between, times}
@@ -22,7 +22,7 @@ unfolding
     split-beginning
     chosen not? find insert keep content-from value-of-content run-of-content is-older
     first low-same? starts? order-from string-count
-    holds? free? stores-if put-in remove-in call
+    holds? free? closes? left-of right-of merged-or removal trie-removed stores-if put-in remove-in call
     is-above is-legal-low same-str same-low is-row is-well-formed all-well is-used-slot is-chain is-in is-listed is-sound-file are-same-entries has-one-more
     is-copied is-twin has-twin is-cut-by cut-among check
     join-trees read-tree same-side are-zero-cells times is-each-once are-numbers same-strs slots-between is-trie-of is-agreeing

@@ -267,8 +267,22 @@ pub fn put(file: &mut [u8], trie: &mut Trie, name: &[u8], content: Content, limi
     Added
 }
 
-/// R7.10: one store, and the bucket keeps its range; R7.11: an absent name needs no store.
-pub fn remove(file: &mut [u8], trie: &Trie, name: &[u8], limit: u64) -> Answer {
+/// The two slots that a removal joins: the left one takes everything in, the right one is freed.
+///
+/// The bucket in `slot` has lost the name already. Its right neighbour is tried first, then its left one; two are joined that
+/// have at most half of b entries together, rounded down.
+pub fn joined(file: &File, slot: usize, without_it: &Bucket) -> Option<(usize, usize)> {
+    let order = file.range_order().expect("the file is sound");
+    let place = order.iter().position(|used| *used == slot).expect("the slot is used");
+    let few = |other: usize| without_it.entries.len() + file.bucket(other).entries.len() <= file.header.b / 2;
+    let right = order.get(place + 1).filter(|right| few(**right)).map(|right| (slot, *right));
+    let left = place.checked_sub(1).map(|left| order[left]).filter(|left| few(*left)).map(|left| (left, slot));
+    right.or(left)
+}
+
+/// R7.10: one store, and the bucket keeps its range, unless it is joined with a neighbour; R7.11: an absent name needs no
+/// store.
+pub fn remove(file: &mut [u8], trie: &mut Trie, name: &[u8], limit: u64) -> Answer {
     let sound = match whole_check(limit, &[name], file, trie) {
         Ok(sound) => sound,
         Err(refused) => return refused,
@@ -280,8 +294,23 @@ pub fn remove(file: &mut [u8], trie: &Trie, name: &[u8], limit: u64) -> Answer {
     if without_it == *bucket {
         return Absent;
     }
-    let stores = [(slot, bucket_bytes(&without_it, &sound.header))];
-    make_stores(file, &sound.header, limit, &stores).unwrap_or(Removed)
+    let header = &sound.header;
+    let Some((left, right)) = joined(&sound, slot, &without_it) else {
+        return make_stores(file, header, limit, &[(slot, bucket_bytes(&without_it, header))]).unwrap_or(Removed);
+    };
+    // Two stores: first the widened slot, without the removed name, then the freed one.
+    let part = |part: usize| if part == slot { &without_it } else { sound.bucket(part) };
+    let (low, high) = (part(left), part(right));
+    let entries = low.entries.iter().chain(&high.entries).cloned().collect();
+    let widened = Bucket { lower: low.lower.clone(), upper: high.upper.clone(), entries };
+    let stores = [(left, bucket_bytes(&widened, header)), (right, vec![0; header.slot_length()])];
+    if let Some(stopped) = make_stores(file, header, limit, &stores) {
+        // R7.12: stopped, the trie stays as it is.
+        return stopped;
+    }
+    let merged = File::read(file).expect("the header is right");
+    *trie = rebuilt(&merged).expect("a merge adds no string");
+    Removed
 }
 
 /// R9.8: the entries in the range, ascending, with nothing written behind them; R9.9: none if the first name is above
@@ -317,7 +346,7 @@ pub fn entries_between(file: &File, first: &Filled, second: &Filled) -> Vec<Entr
 mod tests {
     use super::*;
     use crate::chance::Chance;
-    use crate::make::{names, STYLES};
+    use crate::make::{names, version, STYLES};
 
     #[test]
     fn positions_of_split_keys() {
@@ -346,6 +375,35 @@ mod tests {
         assert_eq!(string(2, &["a", "and", "of", "the", "to"]), ("o".to_string(), filled(b"of"), 3));
         assert_eq!(string(2, &["a", "ab", "abc"]), ("a ".to_string(), filled(b"a"), 1));
         assert_eq!(string(2, &["r1", "r2", "r3"]), ("r2".to_string(), filled(b"r2"), 2));
+    }
+
+    /// After any history of puts and removes, whatever is deleted in whatever order until nothing is left.
+    #[test]
+    fn one_bucket_is_left_when_everything_is_deleted() {
+        let mut most = 0;
+        for seed in 0..400 {
+            let mut chance = Chance::new(seed);
+            let header = Header::new(version(&mut chance), chance.between(2, 6), chance.between(4, 24));
+            let style = *chance.pick(&STYLES);
+            let mut pool = names(&mut chance, style, 40);
+            let mut file = vec![0; header.file_length()];
+            let (_, mut trie) = create(&mut file, header.version, header.b as u64, header.slots as u64);
+            for _ in 0..chance.between(20, 150) {
+                let name = chance.pick(&pool).clone();
+                if chance.percent(65) {
+                    put(&mut file, &mut trie, &name, Content::new(1, 1), 2);
+                } else {
+                    remove(&mut file, &mut trie, &name, 2);
+                }
+            }
+            most = most.max(File::read(&file).unwrap().used().count());
+            chance.shuffle(&mut pool);
+            for name in &pool {
+                assert!(matches!(remove(&mut file, &mut trie, name, 2), Removed | Absent));
+            }
+            assert_eq!(File::read(&file).unwrap().used().count(), 1, "seed {seed}");
+        }
+        assert!(most > 15, "at most {most} buckets");
     }
 
     /// Names nearer to the last share no less with it: a string is never longer than that of a later position.

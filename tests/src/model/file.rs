@@ -283,7 +283,7 @@ pub fn cut_slot(file: &File) -> Option<usize> {
         if range_order(&slots).is_none() || bucket.lower.is_empty() {
             continue;
         }
-        if file.used().any(|(a, other)| a != n && is_cut_pair(other, bucket, file.header.b)) {
+        if file.used().any(|(a, other)| a != n && is_cut_pair(other, bucket)) {
             found.push(n);
         }
     }
@@ -292,14 +292,14 @@ pub fn cut_slot(file: &File) -> Option<usize> {
 }
 
 /// The words of *cut* that speak of A and N together.
-fn is_cut_pair(a: &Bucket, n: &Bucket, b: usize) -> bool {
+fn is_cut_pair(a: &Bucket, n: &Bucket) -> bool {
     let inside: Vec<&Entry> = a.entries.iter().filter(|entry| n.holds(&entry.name)).collect();
     let exactly = n.entries.iter().eq(inside.iter().copied());
     let one_more = (0..n.entries.len()).any(|more| {
         let rest = n.entries.iter().enumerate().filter(|(place, _)| *place != more).map(|(_, entry)| entry);
         rest.eq(inside.iter().copied())
     });
-    a.upper == n.upper && (a.lower.is_empty() || a.lower < n.lower) && a.entries.len() == b && (exactly || one_more)
+    a.upper == n.upper && (a.lower.is_empty() || a.lower < n.lower) && (exactly || one_more)
 }
 
 /// What check says of a file.

@@ -1,41 +1,42 @@
--- `remove_plan` meets its contract: one store, of the slot without the name; none where it is absent.
-use Rattle.model.proofs.Prelude.{List, needs, not-false, not-true, refl, subst, sym, ℕ}
-use Rattle.bucket.specs.Forms.{ReadAs}
-use Rattle.changing.proofs.Homes.{fits-none, fits-one, ready-sound, slot-read, spot-held, spot-lost}
-use Rattle.changing.proofs.Removing.{remove-absent, remove-held}
+-- `remove_plan` meets its contract: none where the name is absent, else the stores of its removal.
+use Rattle.model.proofs.Prelude.{_∙_, ap, getD, needs, not-false, not-true}
+use Rattle.model.specs.Files.{order-of}
+use Rattle.file.specs.declared.Plan.{Plan}
+use Rattle.changing.proofs.Homes.{fits-none, home-right, ready-ordered, ready-sound, spot-held, spot-lost}
+use Rattle.changing.proofs.Neighbours.{place-read}
+use Rattle.changing.proofs.Removing.{home-place, remove-absent, remove-held}
 use Rattle.changing.proofs.remove_plan.Tie as tie
+
+slot-at-place-requires : tie.Need-slot-at-place-requires
+slot-at-place-requires c κs = let s = c .before .before .before .before .before .before in let R = s .pre .0 in (R .slots-inside, R .count-most, home-place R (s .pre .1) (c .holder .ensures))
 
 returns : tie.Need-returns
 returns c =
-    let s = c .before .before .before .before .before .before .before .before in let a = s .args in let n = a .name .now in let home = c .before .before .before .before .before .home-of in let slot = c .before .before .before .before .slot-at in let spot = c .before .before .before .spot-in in
-    let y = a .checked .size .layout in (
-      fits-none (c .no-store .result) (c .no-store .result) (a .checked .size) refl (c .no-store .ensures) (s .pre .0 .said .sized .legal),
-      (λ fs e g.
-          let H = home .ensures .right fs e g in
-          let R = subst (λ (z : List ℕ). ReadAs y z (H .0) (H .1) (H .2)) (sym (slot .ensures .0)) (slot-read (a .file .now) e (ready-sound (s .pre .0) e) (home .result) (H .3 .is)) in
-          let P = spot .ensures .1 (H .0) (H .1) (H .2) R n g (s .pre .1) in
-          remove-absent y (H .3) (c .no-store .result) (spot-lost P (not-true (spot .result .held) (c .before .if1 .taken))) (c .no-store .ensures .0)),
+    let s = c .before .before .before .before .before .before .before .before .before .before .before .before .before in let a = s .args in let R = s .pre .0 in let g = s .pre .1 in let n = a .name .now in let y = a .checked .size .layout in let r = c .removal-planned in let o = c .before .no-store in let spot = c .before .before .before .before .spot-in in let k = c .before .before .before .before .before .before .slot-at-place in let place = c .before .before .before .before .before .before .before .holder in (
+      fits-none (r .result .plan) (o .result) (a .checked .size) (r .ensures .0) (o .ensures) (R .said .sized .legal),
+      (λ fs e.
+          let H = home-right (ready-sound R e) (getD (order-of fs) (place .result) 0) n (place .ensures .found fs (ready-ordered R e) g .range) in
+          let read = place-read R e (place .result) (k .result) _ (home-place R g (place .ensures)) (k .ensures .0) (c .before .before .before .before .before .slot-at .ensures .0) (H .3 .is) in
+          let P = spot .ensures .1 (H .0) (H .1) (H .2) read n g (s .pre .2) in
+          remove-absent y (H .3) (r .result) (spot-lost P (not-true (spot .result .held) (c .before .before .if1 .taken))) (ap (λ (p : Plan). p .stores) (r .ensures .0) ∙ o .ensures .0)),
     )
 
-lessened-requires : tie.Need-lessened-requires
-lessened-requires c κs =
-    let slot = c .before .before .before .slot-at in let spot = c .before .before .spot-in in
-    (slot .ensures .1, spot .ensures .0, spot .ensures .0 .held-there (not-false (spot .result .held) (c .if1 .left)))
+removal-requires : tie.Need-removal-requires
+removal-requires c κs =
+    let s = c .before .before .before .before .before .before .before .before .before .before .before in let spot = c .before .before .spot-in in
+    (s .pre .0, home-place (s .pre .0) (s .pre .1) (c .before .before .before .before .before .holder .ensures), spot .ensures .0, spot .ensures .0 .held-there (not-false (spot .result .held) (c .if1 .left)))
 
 returns-2 : tie.Need-returns-2
 returns-2 c =
-    let s = c .before .before .before .before .before .before .before .before .before .before in let a = s .args in let n = a .name .now in let home = c .before .before .before .before .before .before .before .home-of in let slot = c .before .before .before .before .before .before .slot-at in let spot = c .before .before .before .before .before .spot-in in
-    let new = c .before .before .lessened in let o = c .one-store in let y = a .checked .size .layout in (
-      fits-one (o .result) (o .result) (home .result) (new .result) (a .checked .size) refl (o .ensures) (home .ensures .inside) (s .pre .0 .said .sized .legal),
-      (λ fs e g.
-          let H = home .ensures .right fs e g in
-          let R = subst (λ (z : List ℕ). ReadAs y z (H .0) (H .1) (H .2)) (sym (slot .ensures .0)) (slot-read (a .file .now) e (ready-sound (s .pre .0) e) (home .result) (H .3 .is)) in
-          let P = spot .ensures .1 (H .0) (H .1) (H .2) R n g (s .pre .1) in
-          let f = spot-held P (not-false (spot .result .held) (c .before .before .before .if1 .left)) in
-          remove-held y (H .3) (o .result) (new .result) (f .0) (f .1) (new .ensures (H .0) (H .1) (H .2) R n g P (f .0) (f .1)) (o .ensures)),
-    )
+    let s = c .before .before .before .before .before .before .before .before .before .before .before .before in let a = s .args in let R = s .pre .0 in let g = s .pre .1 in let n = a .name .now in let y = a .checked .size .layout in let r = c .removal in let spot = c .before .before .before .spot-in in let k = c .before .before .before .before .before .slot-at-place in let place = c .before .before .before .before .before .before .holder in
+    (r .ensures .0, (λ fs e.
+        let H = home-right (ready-sound R e) (getD (order-of fs) (place .result) 0) n (place .ensures .found fs (ready-ordered R e) g .range) in
+        let read = place-read R e (place .result) (k .result) _ (home-place R g (place .ensures)) (k .ensures .0) (c .before .before .before .before .slot-at .ensures .0) (H .3 .is) in
+        let P = spot .ensures .1 (H .0) (H .1) (H .2) read n g (s .pre .2) in
+        let f = spot-held P (not-false (spot .result .held) (c .before .if1 .left)) in
+        remove-held y (H .3) (r .result) (f .0) (f .1) (r .ensures .1 fs e n g (H .0) (H .1) (H .2) (H .3 .is) (H .3 .above) (H .3 .within) P (f .0) (f .1))))
 
 pub remove-plan-spec : {M : Type 1} → Rattle.changing.proofs.remove_plan.Statement.statement M
 remove-plan-spec =
-    tie.close (tie.spec (λ c κs. search needs) (λ c κs. search needs) (λ c κs. search needs) (λ c κs. search needs) returns lessened-requires
-    (λ c κs. search needs) returns-2)
+    tie.close (tie.spec (λ c κs. search needs) slot-at-place-requires (λ c κs. search needs) (λ c κs. search needs)
+    (λ c κs. search needs) (λ c κs. search needs) returns removal-requires returns-2)
