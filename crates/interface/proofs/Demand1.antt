@@ -13,7 +13,7 @@ use Rattle.model.specs.declared.RemoveAnswer.{RemoveAnswer}
 use Rattle.model.specs.declared.RemoveAnswer.the-variants.{Absent as NotHeld, Refused as RemoveRefused, Removed, Stopped as RemoveStopped}
 use Rattle.model.specs.declared.TrieAnswer.{TrieAnswer}
 use Rattle.model.specs.declared.TrieAnswer.the-variants.{Given, Refused as TrieRefused}
-use Rattle.model.specs.Answers.{Saying, number, said-by-check, said-by-create, said-by-list, said-by-look-up, said-by-put, said-by-rebuild, said-by-recover, said-by-remove}
+use Rattle.model.specs.Answers.{said-by-check, said-by-create, said-by-list, said-by-look-up, said-by-put, said-by-rebuild, said-by-recover, said-by-remove}
 use Rattle.model.specs.Calls.{create-of, list-of, look-up-of, new-trie, put-of, rebuild-of, recover-of, remove-of}
 use Rattle.model.specs.Checks.{Kind, is-bad, is-cut, is-sound}
 use Rattle.model.specs.Format.{check-file}
@@ -143,7 +143,7 @@ module _ (xs image name out : List ℕ) (w : IsImage image) where
   )
 
   look-up-answers : (a : LookUpAnswer) → look-up-of xs (trie-from image) name ≡ a → Answers (look-up-refusal out) (100 ∷ 101 ∷ []) look-up-left (said-by-look-up a .0)
-  look-up-answers (Found v) e = first-of
+  look-up-answers (Found v run) e = first-of
   look-up-answers NotFound e = second-of
   look-up-answers (LookUpRefused c) e = inl (c, look-up-refuses c e)
 

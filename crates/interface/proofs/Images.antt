@@ -1,6 +1,6 @@
 -- The images that calls write: the trie that leads right is read back, a put that replaces a value leaves the trie, and so does a
 -- removal without a merge.
-use Rattle.model.proofs.Prelude.{Bool, List, Option, [], _∷_, _≡_, _≤_, arith, clash, cond, false, length, length-append, ltb, nothing, refl, some, subst, suc, sym, take, true, ℕ}
+use Rattle.model.proofs.Prelude.{Bool, List, Option, [], _∙_, _∷_, _≡_, _≤_, ap, arith, clash, cond, false, length, length-append, ltb, nothing, refl, some, subst, suc, sym, take, true, ℕ}
 use Rattle.model.specs.declared.Cause.{Cause}
 use Rattle.model.specs.declared.Cause.the-variants.{BadFile, IllegalName, WrongSize}
 use Rattle.model.specs.declared.Layout.{Layout}
@@ -10,7 +10,7 @@ use Rattle.model.specs.declared.Trie.{Trie}
 use Rattle.model.specs.Order.{Str}
 use Rattle.model.specs.Names.{Legal, filled, is-legal-name}
 use Rattle.model.specs.Entries.{content-from, find}
-use Rattle.model.specs.Files.{In, Slot, first, head, slot-at}
+use Rattle.model.specs.Files.{In, Slot, entries-of, first, head, slot-at}
 use Rattle.model.specs.Changes.{Result, Store, call, holds?, put, refuse, remove, stores, trie-removed}
 use Rattle.model.specs.Places.{place-of}
 use Rattle.model.specs.Format.{kept-run}
@@ -63,7 +63,7 @@ module _ (xs : List ℕ) (t : Trie) (name : List ℕ) (v run limit : ℕ) where
       let there : A ≡ first (holds? n) fs = one-range (y .b) (p .sound) n here (first-right (holds? n) fs A here (λ h. h .0)) in
       let w = well-a (y .b) fs (p .sound) A l u es is in
       let h = was-held (held fs n) old old-run e in
-      let found : find n es ≡ some (h .0) = rw (← there, is) at (h .1) in
+      let found : find n es ≡ some (h .0) = ap (λ (x : Slot). find n (entries-of x)) (sym is ∙ ap (slot-at fs) there) ∙ h .1 in
       absurd (omega (arith, big, w .4, length-held n (content y) (h .0) (w .3) found))
 
   made : (y : Layout) (fs : List Slot) → Passed xs t y fs → {r : Result} → Answered (y .b) (place-of y) fs (put n (content y)) r → Same (put-by-stores xs t y fs n (content y) limit r)

@@ -1,11 +1,10 @@
 -- `put_plan` meets its contract: a held name is renewed, a new one added, with a split where its bucket is full.
-use Rattle.model.proofs.Prelude.{List, _≡_, arith, length, needs, not-false, not-true, refl, subst, sym, ℕ}
+use Rattle.model.proofs.Prelude.{List, _≡_, arith, length, needs, refl, subst, sym, ℕ}
 use Rattle.model.specs.Entries.{content-from}
 use Rattle.model.specs.Format.{kept-run}
 use Rattle.digits.specs.Keys.{key-value}
 use Rattle.bucket.specs.Forms.{ReadAs}
 use Rattle.entries.specs.declared.Content.{Content}
-use Rattle.entries.specs.Rows.{content-number}
 use Rattle.changing.specs.Splits.{PutAsked, PutTaken}
 use Rattle.checking.proofs.Laws.{key-whole}
 use Rattle.changing.proofs.Homes.{put-content, ready-sound, slot-read, spot-held, spot-lost}
