@@ -1,11 +1,13 @@
 -- Each call's answer, as a number, with the bytes and words lent: a law for a malformed image, and one for all others.
-use Rattle.model.proofs.Prelude.{List, _∙_, _≡_, ap, eq-eqb, length, ne-eqb, refl, subst, sym, ℕ}
+use Rattle.model.proofs.Prelude.{List, _<_, _∙_, _≡_, _≤_, ap, eq-eqb, le-ltb, length, lt-ltb, ne-eqb, refl, subst, sym, ℕ}
 use Rattle.model.specs.declared.ListAnswer.{ListAnswer}
 use Rattle.model.specs.declared.LookUpAnswer.{LookUpAnswer}
 use Rattle.model.specs.declared.PutAnswer.{PutAnswer}
 use Rattle.model.specs.declared.PutGiven.{PutGiven}
 use Rattle.model.specs.declared.RecoverAnswer.{RecoverAnswer}
 use Rattle.model.specs.declared.RemoveAnswer.{RemoveAnswer}
+use Rattle.model.specs.declared.RemoveAnswer.the-variants.{Removed}
+use Rattle.model.specs.declared.RemoveGiven.{RemoveGiven}
 use Rattle.model.specs.declared.Trie.{Trie}
 use Rattle.model.specs.declared.TrieAnswer.{TrieAnswer}
 use Rattle.model.specs.declared.TrieGiven.{TrieGiven}
@@ -25,7 +27,7 @@ use Rattle.changing.specs.Outcomes.{put, removed}
 use Rattle.trie.specs.declared.Walk.{Walk}
 use Rattle.trie.specs.Walks.{Walks}
 use Rattle.image.specs.Images.{image-length, image-of, trie-from}
-use Rattle.capi.specs.Doors.{image-after, malformed, out-after, pal-check-of, pal-create-of, pal-list-of, pal-look-up-of, pal-put-of, pal-rebuild-of, pal-recover-of, pal-remove-of}
+use Rattle.capi.specs.Doors.{image-after, image-removed, malformed, out-after, pal-check-of, pal-create-of, pal-list-of, pal-look-up-of, pal-put-of, pal-rebuild-of, pal-recover-of, pal-remove-of}
 
 module _ (image : List ℕ) (ill : length image ≡ image-length → ⊥) where
   pub create-malformed : (file : List ℕ) (version b slots : ℕ) → pal-create-of file version b slots image ≡ (malformed, file, image)
@@ -75,17 +77,24 @@ module _ (image : List ℕ) (well : length image ≡ image-length) where
   unfolding pal-put-of
   put-said file name value run limit out g d t e s z w = rw (eq-eqb (length image) image-length well, ← d, ← e, s, z, w, t)
 
-  pub remove-said : (file name : List ℕ) (limit : ℕ) (out : List ℕ) {t : Trie} {x a : RemoveAnswer} {ys ws : List ℕ} {n : ℕ}
-      → t ≡ trie-from image → x ≡ a → removed x ys ≡ remove-of file t name limit → n ≡ said-by-remove a .0
-      → ws ≡ out-after (said-by-remove a) out → pal-remove-of file image name limit out ≡ (n, ys, image, ws)
+  pub remove-said : (file name : List ℕ) (limit : ℕ) (out : List ℕ) (g : RemoveGiven) {t : Trie} {a : RemoveAnswer} {ys zs ws : List ℕ} {n : ℕ}
+      → t ≡ trie-from image → g .answer ≡ a → removed g ys ≡ remove-of file t name limit → n ≡ said-by-remove a .0 → zs ≡ image-removed a (g .trie) image
+      → ws ≡ out-after (said-by-remove a) out → pal-remove-of file image name limit out ≡ (n, ys, zs, ws)
   unfolding pal-remove-of
-  remove-said file name limit out d t e s w = rw (eq-eqb (length image) image-length well, ← d, ← e, s, w, t)
+  remove-said file name limit out g d t e s z w = rw (eq-eqb (length image) image-length well, ← d, ← e, s, z, w, t)
 
   pub list-said : (file first second output out : List ℕ) {t : Trie} {x a : ListAnswer} {ys ws : List ℕ} {n : ℕ}
       → t ≡ trie-from image → x ≡ a → listed x ys ≡ list-of file t first second output → n ≡ said-by-list a .0
       → ws ≡ out-after (said-by-list a) out → pal-list-of file image first second output out ≡ (n, ys, ws)
   unfolding pal-list-of
   list-said file first second output out d t e s w = rw (eq-eqb (length image) image-length well, ← d, ← e, s, w, t)
+
+-- The image after a removal, by the number of its stores.
+pub image-left : (stores : ℕ) (t : Trie) (image : List ℕ) → stores ≤ 1 → image ≡ image-removed (Removed stores) t image
+image-left stores t image h = rw (le-ltb 1 stores h)
+
+pub image-written : (stores : ℕ) (t : Trie) (image : List ℕ) → 1 < stores → image-of t ≡ image-removed (Removed stores) t image
+image-written stores t image h = rw (lt-ltb 1 stores h)
 
 -- Look up walks over the image itself.
 pub look-up-walked : (image file name : List ℕ) {n : List ℕ} {x : LookUpAnswer} (w : Walk) → n ≡ filled name → Walks w (walk-of (trie-from image) n)

@@ -2,11 +2,13 @@
 use mathlib.Core.Bool.{cond}
 use mathlib.Core.List.{List}
 use Prim.Native.Nat.{ℕ}
-use lib.Dec.{eqb}
+use lib.Dec.{eqb, ltb}
 use lib.ListN.{length}
 use lib.Seq.{sets}
 use Rattle.model.specs.declared.PutAnswer.{PutAnswer}
 use Rattle.model.specs.declared.PutAnswer.the-variants.{Added, Refused as PutRefused, Replaced, Stopped as PutStopped}
+use Rattle.model.specs.declared.RemoveAnswer.{RemoveAnswer}
+use Rattle.model.specs.declared.RemoveAnswer.the-variants.{Absent as NotHeld, Refused as RemoveRefused, Removed, Stopped as RemoveStopped}
 use Rattle.model.specs.declared.Trie.{Trie}
 use Rattle.model.specs.Answers.{Saying, said-by-check, said-by-create, said-by-list, said-by-look-up, said-by-put, said-by-rebuild, said-by-recover, said-by-remove}
 use Rattle.model.specs.Calls.{create-of, list-of, look-up-of, put-of, rebuild-of, recover-of, remove-of}
@@ -68,12 +70,19 @@ pal-put-of file image name value run limit out =
     let s = said-by-put (o .answer) in
     whole image (s .0, o .file, image-after (o .answer) (o .trie) image, out-after s out) (malformed, file, image, out)
 
--- The number, the file, the image, `out`. Remove leaves the trie.
+-- Two stores are a merge, after which the image is that of the rebuilt trie; else every byte of it is left.
+abbrev pub image-removed : RemoveAnswer → Trie → List ℕ → List ℕ
+image-removed (Removed stores) t image = cond (ltb 1 stores) (image-of t) image
+image-removed NotHeld t image = image
+image-removed (RemoveStopped n) t image = image
+image-removed (RemoveRefused c) t image = image
+
+-- The number, the file, the image, `out`.
 unfoldable pub pal-remove-of : List ℕ → List ℕ → List ℕ → ℕ → List ℕ → ℕ × List ℕ × List ℕ × List ℕ
 pal-remove-of file image name limit out =
     let o = remove-of file (trie-from image) name limit in
     let s = said-by-remove (o .answer) in
-    whole image (s .0, o .file, image, out-after s out) (malformed, file, image, out)
+    whole image (s .0, o .file, image-removed (o .answer) (o .trie) image, out-after s out) (malformed, file, image, out)
 
 -- The number, the output, `out`.
 unfoldable pub pal-list-of : List ℕ → List ℕ → List ℕ → List ℕ → List ℕ → List ℕ → ℕ × List ℕ × List ℕ

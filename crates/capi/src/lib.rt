@@ -179,9 +179,10 @@ pub extern "C" fn pal_remove(
     let answer = given.answer;
     match answer {
         RemoveAnswer::Removed(stores) => {
-            if 1 < stores {
-                image::encode(trie, given.trie);
+            if stores < 2 {
+                return 120;
             }
+            image::encode(trie, given.trie);
             120
         }
         RemoveAnswer::Absent => 101,

@@ -21,7 +21,7 @@ use Rattle.promises.specs.Demand1.{Exactly, create-table, list-table, look-up-t
 use Rattle.promises.proofs.Demand1.{demand-1}
 use Rattle.promises.proofs.Where.{where-ours}
 use Rattle.image.specs.Images.{cells-bytes, image-of, number-of-side, trie-from}
-use Rattle.capi.specs.Doors.{image-after, out-after, pal-check-of, pal-create-of, pal-list-of, pal-look-up-of, pal-put-of, pal-rebuild-of, pal-recover-of, pal-remove-of}
+use Rattle.capi.specs.Doors.{image-after, image-removed, out-after, pal-check-of, pal-create-of, pal-list-of, pal-look-up-of, pal-put-of, pal-rebuild-of, pal-recover-of, pal-remove-of}
 use Rattle.capi.proofs.Doors.{create-malformed, list-malformed, look-up-is-malformed, put-malformed, rebuild-malformed, remove-malformed}
 use Rattle.interface.specs.Calls.{IsImage, IsOut, our-c-calls}
 use Rattle.interface.specs.Demand1.{Answers, Demand1C, IsRefusal, change-refusal, create-refusal, list-refusal, look-up-refusal, rebuild-refusal, recover-refusal, zero-image}
@@ -180,17 +180,17 @@ module _ (xs image name : List ℕ) (limit : ℕ) (out : List ℕ) (w : IsImage 
   remove-left = pal-remove-of xs image name limit out
 
   remove-refuses : (c : Cause) → remove-of xs (trie-from image) name limit .answer ≡ RemoveRefused c → remove-left ≡ change-refusal xs image out c
-  remove-refuses c a = rw (remove-is image w xs name limit out, a, demand-1 .remove-leaves xs (trie-from image) name limit c a)
+  remove-refuses c a = rw (remove-is image w xs name limit out, a, demand-1 .remove-leaves xs (trie-from image) name limit c a .0)
 
   remove-exactly : IsOut out → Exactly (change-refusal xs image out) remove-left (remove-table xs (trie-from image) name limit)
   remove-exactly h c = (
-    λ e. let f : (said-by-remove (remove-of xs (trie-from image) name limit .answer) .0, remove-of xs (trie-from image) name limit .file, image, out-after (said-by-remove (remove-of xs (trie-from image) name limit .answer)) out) ≡ change-refusal xs image out c = sym (remove-is image w xs name limit out) ∙ e in
+    λ e. let f : (said-by-remove (remove-of xs (trie-from image) name limit .answer) .0, remove-of xs (trie-from image) name limit .file, image-removed (remove-of xs (trie-from image) name limit .answer) (remove-of xs (trie-from image) name limit .trie) image, out-after (said-by-remove (remove-of xs (trie-from image) name limit .answer)) out) ≡ change-refusal xs image out c = sym (remove-is image w xs name limit out) ∙ e in
         demand-1 .remove xs (trie-from image) name limit c .0 (remove-cause out (omega arith) c (remove-of xs (trie-from image) name limit .answer) (ap (λ (o : ℕ × List ℕ × List ℕ × List ℕ). o .0) f) (ap (λ (o : ℕ × List ℕ × List ℕ × List ℕ). o .3) f)),
     λ f. remove-refuses c (demand-1 .remove xs (trie-from image) name limit c .1 f),
   )
 
   remove-answers : (a : RemoveAnswer) → remove-of xs (trie-from image) name limit .answer ≡ a → Answers (change-refusal xs image out) (120 ∷ 101 ∷ 112 ∷ []) remove-left (said-by-remove a .0)
-  remove-answers Removed e = first-of
+  remove-answers (Removed k) e = first-of
   remove-answers NotHeld e = second-of
   remove-answers (RemoveStopped made) e = third-of
   remove-answers (RemoveRefused c) e = inl (c, remove-refuses c e)

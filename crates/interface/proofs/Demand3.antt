@@ -1,5 +1,5 @@
 -- Demand 3 of the C interface: a history over images is a history over tries, so what holds after the one holds after the other.
-use Rattle.model.proofs.Prelude.{List, Option, [], _<_, _∷_, _≡_, _≤_, arith, eqb, false, length, ne-eqb, nothing, refl, some, subst, sym, ℕ, ℕ-discrete}
+use Rattle.model.proofs.Prelude.{Bool, List, Option, [], _<_, _∷_, _≡_, _≤_, arith, cond, eqb, false, length, lt-ltb, ltb, ltb-false, ne-eqb, nothing, refl, some, subst, suc, sym, true, zero, ℕ, ℕ-discrete}
 use Rattle.model.specs.declared.Cause.{Cause}
 use Rattle.model.specs.declared.PutAnswer.{PutAnswer}
 use Rattle.model.specs.declared.PutAnswer.the-variants.{Added, Refused as PutRefused, Replaced, Stopped as PutStopped}
@@ -21,14 +21,14 @@ use Rattle.promises.specs.Calls.{our-calls}
 use Rattle.promises.specs.Demand3.{Event, Holds, Kept, Recovers, State, StoppedAt, after, after-freeing, after-put, after-rebuild, after-recover, after-remove, down, file-of, kill, nothing-to-do, now, put, put-by, put-with, rebuild, recover, remove, remove-by, remove-with, running, step, stopped-at-0}
 use Rattle.promises.proofs.Demand3.{demand-3}
 use Rattle.image.specs.Images.{image-length, image-of, trie-from}
-use Rattle.capi.specs.Doors.{image-after, malformed, out-after, pal-create-of, pal-put-of, pal-recover-of, pal-remove-of}
+use Rattle.capi.specs.Doors.{image-after, image-removed, malformed, out-after, pal-create-of, pal-put-of, pal-recover-of, pal-remove-of}
 use Rattle.capi.proofs.Doors.{create-malformed, put-malformed, rebuild-malformed, remove-malformed}
 use Rattle.interface.specs.Calls.{IsImage, our-c-calls}
 use Rattle.interface.specs.Demand1.{IsRefusal, change-refusal, recover-refusal}
 use Rattle.interface.specs.Demand3.{Demand3C, EventC, HoldsC, KeptC, RebuildsC, RecoversC, StateC, StoppedC, held-says}
 use Rattle.interface.specs.Demand3 as C
 use Rattle.interface.proofs.Saying.{create-is, look-up-is, number-small, put-is, rebuild-is, recover-is, remove-is}
-use Rattle.interface.proofs.Images.{image-size, read-back, replaced-same}
+use Rattle.interface.proofs.Images.{RemoveSays, image-size, read-back, remove-says, replaced-same}
 use Rattle.interface.proofs.Demand1.{demand-1-c, refused-below}
 use Rattle.interface.proofs.Demand2.{created-said}
 
@@ -88,18 +88,29 @@ put-goes (C.running xs j m) w i z n v (PutRefused c) ys t same A =
 put-goes (C.down xs m) w i z n v (PutRefused c) ys t same A =
     rw (other c 110 (omega arith), other c 111 (omega arith), other c 112 (omega arith)) (now-goes (C.down xs m) ys w A)
 
-remove-goes : (s : StateC) → Whole s → (i : List ℕ) → IsImage i → (n : Str) (a : RemoveAnswer) (ys : List ℕ)
-    → Always (after-remove (tries s) n a ys (trie-from i)) → Goes (C.after-remove s n (said-by-remove a .0) ys i)
+removed-goes : (k : ℕ) (ys : List ℕ) (t : Trie) (i : List ℕ) (m : Map) → IsImage i → (k ≤ 1 → t ≡ trie-from i) → Always (running ys t m)
+    → Goes (C.running ys (image-removed (Removed k) t i) m)
+removed-goes k ys t i m z same A = go (ltb 1 k) refl
+  where
+    go : (b : Bool) → ltb 1 k ≡ b → Goes (C.running ys (cond b (image-of t) i) m)
+    go true e = given-goes ys t m A
+    go false e = same-goes ys t i m z (same (ltb-false 1 k e)) A
+
+remove-goes : (s : StateC) → Whole s → (i : List ℕ) → IsImage i → (n : Str) (limit : ℕ) (a : RemoveAnswer) (ys : List ℕ) (t : Trie)
+    → ((made : ℕ) → a ≡ RemoveStopped made → made ≡ limit) → ((k : ℕ) → a ≡ Removed k → k ≤ 1 → t ≡ trie-from i) → (a ≡ NotHeld → t ≡ trie-from i)
+    → Always (after-remove (tries s) n a ys t) → Goes (C.after-remove s n limit (said-by-remove a .0) ys (image-removed a t i))
 unfolding after-remove C.after-remove
-remove-goes (C.running xs j m) w i z n Removed ys A = (z, A)
-remove-goes (C.down xs m) w i z n Removed ys A = (z, A)
-remove-goes (C.running xs j m) w i z n NotHeld ys A = (z, A)
-remove-goes (C.down xs m) w i z n NotHeld ys A = (z, A)
-remove-goes (C.running xs j m) w i z n (RemoveStopped made) ys A = (tt, A)
-remove-goes (C.down xs m) w i z n (RemoveStopped made) ys A = (tt, A)
-remove-goes (C.running xs j m) w i z n (RemoveRefused c) ys A =
+remove-goes (C.running xs j m) w i z n limit (Removed k) ys t st one none A = removed-goes k ys t i _ z (one k refl) A
+remove-goes (C.down xs m) w i z n limit (Removed k) ys t st one none A = removed-goes k ys t i _ z (one k refl) A
+remove-goes (C.running xs j m) w i z n limit NotHeld ys t st one none A = same-goes ys t i _ z (none refl) A
+remove-goes (C.down xs m) w i z n limit NotHeld ys t st one none A = same-goes ys t i _ z (none refl) A
+remove-goes (C.running xs j m) w i z n limit (RemoveStopped zero) ys t st one none A = rw (← st zero refl) (tt, A)
+remove-goes (C.running xs j m) w i z n limit (RemoveStopped (suc made)) ys t st one none A = rw (← st (suc made) refl, lt-ltb 0 (suc made) (omega arith)) (tt, A)
+remove-goes (C.down xs m) w i z n limit (RemoveStopped zero) ys t st one none A = rw (← st zero refl) (tt, A)
+remove-goes (C.down xs m) w i z n limit (RemoveStopped (suc made)) ys t st one none A = rw (← st (suc made) refl, lt-ltb 0 (suc made) (omega arith)) (tt, A)
+remove-goes (C.running xs j m) w i z n limit (RemoveRefused c) ys t st one none A =
     rw (other c 120 (omega arith), other c 101 (omega arith), other c 112 (omega arith)) (now-goes (C.running xs j m) ys w A)
-remove-goes (C.down xs m) w i z n (RemoveRefused c) ys A =
+remove-goes (C.down xs m) w i z n limit (RemoveRefused c) ys t st one none A =
     rw (other c 120 (omega arith), other c 101 (omega arith), other c 112 (omega arith)) (now-goes (C.down xs m) ys w A)
 
 recover-goes : (s : StateC) → Whole s → (a : RecoverAnswer) (ys : List ℕ) → Always (after-recover (tries s) a ys) → Goes (C.after-recover s (said-by-recover a .0) ys)
@@ -141,9 +152,10 @@ unfolding remove-by C.remove-by
 remove-steps s w i name limit out z A =
     let xs = C.file-of s in
     let o = remove-of xs (trie-from i) name limit in
+    let q = remove-says xs (trie-from i) name limit in
     rw (remove-is i z xs name limit out)
-    (remove-goes s w i z (filled name) (o .answer) (o .file)
-    (subst (λ (ys : List ℕ). Always (after-remove (tries s) (filled name) (remove-of ys (trie-from i) name limit .answer) (remove-of ys (trie-from i) name limit .file) (trie-from i))) (file-same s) A))
+    (remove-goes s w i z (filled name) limit (o .answer) (o .file) (o .trie) (q .stopped) (q .one) (q .none)
+    (subst (λ (ys : List ℕ). Always (after-remove (tries s) (filled name) (remove-of ys (trie-from i) name limit .answer) (remove-of ys (trie-from i) name limit .file) (remove-of ys (trie-from i) name limit .trie))) (file-same s) A))
 
 remove-malforms : (s : StateC) (i name : List ℕ) (limit : ℕ) (out : List ℕ) → ¬ IsImage i → C.remove-by our-c-calls s i name limit out ≡ s
 unfolding C.remove-by C.after-remove
@@ -220,7 +232,7 @@ put-stop (PutStopped made) e = (made, refl)
 put-stop (PutRefused c) e = absurd (omega (arith, number-small c))
 
 remove-stop : (a : RemoveAnswer) → said-by-remove a .0 ≡ 112 → (made : ℕ) × (a ≡ RemoveStopped made)
-remove-stop Removed e = absurd (omega arith)
+remove-stop (Removed k) e = absurd (omega arith)
 remove-stop NotHeld e = absurd (omega arith)
 remove-stop (RemoveStopped made) e = (made, refl)
 remove-stop (RemoveRefused c) e = absurd (omega (arith, number-small c))
@@ -247,18 +259,12 @@ module _ (xs : List ℕ) where
 
   remove-stops : ((t : Trie) (name : List ℕ) (limit made : ℕ) → remove-of xs t name limit .answer ≡ RemoveStopped made → StoppedAt limit made xs (remove-of xs t name limit .file))
       → (i name : List ℕ) (limit : ℕ) (out : List ℕ) → pal-remove-of xs i name limit out .0 ≡ 112
-      → StoppedC limit xs (pal-remove-of xs i name limit out .1) out (pal-remove-of xs i name limit out .3)
+      → StoppedC limit xs (pal-remove-of xs i name limit out .1) out (pal-remove-of xs i name limit out .3) × (pal-remove-of xs i name limit out .2 ≡ i)
   remove-stops h i name limit out e = elim (ℕ-discrete (length i) image-length) [
     | yes z ↦
         let p = remove-stop (remove-of xs (trie-from i) name limit .answer) (rw (remove-is i z xs name limit out) at e) in
-        rw (remove-is i z xs name limit out, p .1) (stopped out (h (trie-from i) name limit (p .0) (p .1)))
+        rw (remove-is i z xs name limit out, p .1) (stopped out (h (trie-from i) name limit (p .0) (p .1)), refl)
     | no n ↦ let z : malformed ≡ 112 = rw (remove-malformed i n xs name limit out) at e in absurd (omega arith)
-  ]
-
-  remove-leaves : (i name : List ℕ) (limit : ℕ) (out : List ℕ) → pal-remove-of xs i name limit out .2 ≡ i
-  remove-leaves i name limit out = elim (ℕ-discrete (length i) image-length) [
-    | yes z ↦ rw (remove-is i z xs name limit out)
-    | no n ↦ rw (remove-malformed i n xs name limit out)
   ]
 
   recover-stops : ((limit made : ℕ) → recover-of xs limit .answer ≡ RecoverStopped made → StoppedAt limit made xs (recover-of xs limit .file))
@@ -297,8 +303,8 @@ holds (C.running xs i m) w H = record {
   recover-refused = recover-denies xs;
   put-stopped = λ i name v run limit out e. put-stops xs (H .put-stopped) i name v run limit out e .0;
   put-image = λ i name v run limit out e. put-stops xs (H .put-stopped) i name v run limit out e .1;
-  remove-stopped = remove-stops xs (H .remove-stopped);
-  remove-image = remove-leaves xs;
+  remove-stopped = λ i name limit out e. remove-stops xs (H .remove-stopped) i name limit out e .0;
+  remove-image = λ i name limit out e. remove-stops xs (H .remove-stopped) i name limit out e .1;
   recover-stopped = recover-stops xs (H .recover-stopped);
 }
 holds (C.down xs m) w H = record {
@@ -309,8 +315,8 @@ holds (C.down xs m) w H = record {
   recover-refused = recover-denies xs;
   put-stopped = λ i name v run limit out e. put-stops xs (H .put-stopped) i name v run limit out e .0;
   put-image = λ i name v run limit out e. put-stops xs (H .put-stopped) i name v run limit out e .1;
-  remove-stopped = remove-stops xs (H .remove-stopped);
-  remove-image = remove-leaves xs;
+  remove-stopped = λ i name limit out e. remove-stops xs (H .remove-stopped) i name limit out e .0;
+  remove-image = λ i name limit out e. remove-stops xs (H .remove-stopped) i name limit out e .1;
   recover-stopped = recover-stops xs (H .recover-stopped);
 }
 

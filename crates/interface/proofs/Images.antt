@@ -1,17 +1,20 @@
--- The images that calls write: the trie that leads right is read back, and a put that replaces a value leaves the trie.
-use Rattle.model.proofs.Prelude.{Bool, List, Option, _∙_, _≡_, ap, arith, clash, cond, false, length, length-append, ltb, nothing, refl, some, subst, sym, take, true, ℕ}
-use Rattle.model.specs.declared.Cause.the-variants.{IllegalName, WrongSize}
+-- The images that calls write: the trie that leads right is read back, a put that replaces a value leaves the trie, and so does a
+-- removal without a merge.
+use Rattle.model.proofs.Prelude.{Bool, List, Option, [], _∙_, _∷_, _≡_, _≤_, ap, arith, clash, cond, false, length, length-append, ltb, nothing, refl, some, subst, suc, sym, take, true, ℕ}
+use Rattle.model.specs.declared.Cause.{Cause}
+use Rattle.model.specs.declared.Cause.the-variants.{BadFile, IllegalName, WrongSize}
 use Rattle.model.specs.declared.Layout.{Layout}
 use Rattle.model.specs.declared.PutAnswer.the-variants.{Refused as PutRefused, Replaced, Stopped as PutStopped}
+use Rattle.model.specs.declared.RemoveAnswer.the-variants.{Absent as NotHeld, Refused as RemoveRefused, Removed, Stopped as RemoveStopped}
 use Rattle.model.specs.declared.Trie.{Trie}
 use Rattle.model.specs.Order.{Str}
 use Rattle.model.specs.Names.{Legal, filled, is-legal-name}
 use Rattle.model.specs.Entries.{content-from, find}
 use Rattle.model.specs.Files.{In, Slot, entries-of, first, head, slot-at}
-use Rattle.model.specs.Changes.{Result, Store, holds?, put}
+use Rattle.model.specs.Changes.{Result, Store, call, holds?, put, refuse, remove, stores, trie-removed}
 use Rattle.model.specs.Places.{place-of}
 use Rattle.model.specs.Format.{kept-run}
-use Rattle.model.specs.Calls.{Looked, PutDone, fine, held, looked-of, put-answer, put-by-stores, put-of, put-on-looked, refusing, stores-bytes, trie-after-put}
+use Rattle.model.specs.Calls.{Looked, PutDone, RemoveDone, fine, held, looked-of, put-answer, put-by-stores, put-of, put-on-looked, refusing, remove-answer, remove-by-stores, remove-of, remove-on-looked, stores-bytes, trie-after-put}
 use Rattle.model.proofs.Names.{is-legal-name-legal}
 use Rattle.model.proofs.Files.{first-right, one-range}
 use Rattle.model.proofs.Changes.{Change, fits, splits, well-a}
@@ -103,3 +106,44 @@ module _ (xs : List ℕ) (t : Trie) (name : List ℕ) (v run limit : ℕ) where
       limited : (c : Bool) → Same (cond c big (cond (is-legal-name name) (put-on-looked xs t n v run limit (looked-of xs t)) illegal))
       limited true = λ old old-run h. refl
       limited false = legal (is-legal-name name) refl
+
+-- What remove says: stopped, it made as many stores as its limit says; with one store or none it leaves the trie.
+pub record RemoveSays (t : Trie) (limit : ℕ) (d : RemoveDone) : Type 0 where
+  pub stopped : (made : ℕ) → d .answer ≡ RemoveStopped made → made ≡ limit
+  pub one : (k : ℕ) → d .answer ≡ Removed k → k ≤ 1 → d .trie ≡ t
+  pub none : d .answer ≡ NotHeld → d .trie ≡ t
+
+module _ (xs : List ℕ) (t : Trie) (name : List ℕ) (limit : ℕ) where
+  refused-says : (c : Cause) → RemoveSays t limit (record { answer = RemoveRefused c; file = xs; trie = t })
+  refused-says c = record { stopped = λ made e. clash cc; one = λ k e h. refl; none = λ e. refl }
+
+  stores-say : (y : Layout) (fs : List Slot) (r : Result) → RemoveSays t limit (remove-by-stores xs t y fs limit r)
+  unfolding remove-by-stores trie-removed
+  stores-say y fs (refuse c) = refused-says BadFile
+  stores-say y fs (stores ss) = go (ltb limit (length ss)) ss
+    where
+      go : (b : Bool) (rs : List Store)
+          → RemoveSays t limit (cond b (record { answer = RemoveStopped limit; file = stores-bytes y (take limit ss) xs; trie = t }) (record { answer = remove-answer rs; file = stores-bytes y ss xs; trie = trie-removed fs rs t }))
+      go true rs = record { stopped = λ made e. cc; one = λ k e h. clash cc; none = λ e. clash cc }
+      go false [] = record { stopped = λ made e. clash cc; one = λ k e h. clash cc; none = λ e. refl }
+      go false (v ∷ []) = record { stopped = λ made e. clash cc; one = λ k e h. refl; none = λ e. clash cc }
+      go false (v ∷ w ∷ rs) = record {
+        stopped = λ made e. clash cc;
+        one = λ k e h. let n : suc (suc (length rs)) ≡ k = cc in absurd (omega arith);
+        none = λ e. clash cc;
+      }
+
+  looked-says : (l : Looked) → RemoveSays t limit (remove-on-looked xs t (filled name) limit l)
+  unfolding remove-on-looked
+  looked-says (refusing c) = refused-says c
+  looked-says (fine y fs) = stores-say y fs (call (y .b) (place-of y) fs (remove (filled name)))
+
+  pub remove-says : RemoveSays t limit (remove-of xs t name limit)
+  unfolding remove-of
+  remove-says = go (ltb 2 limit) (is-legal-name name)
+    where
+      go : (l g : Bool)
+          → RemoveSays t limit (cond l (record { answer = RemoveRefused WrongSize; file = xs; trie = t }) (cond g (remove-on-looked xs t (filled name) limit (looked-of xs t)) (record { answer = RemoveRefused IllegalName; file = xs; trie = t })))
+      go true g = refused-says WrongSize
+      go false true = looked-says (looked-of xs t)
+      go false false = refused-says IllegalName

@@ -17,7 +17,7 @@ use Rattle.model.specs.declared.TrieAnswer.the-variants.{Given, Refused as Trie
 use Rattle.model.specs.Answers.{number, said-by-create, said-by-list, said-by-look-up, said-by-put, said-by-rebuild, said-by-recover, said-by-remove}
 use Rattle.model.specs.Calls.{create-of, list-of, look-up-of, put-of, rebuild-of, recover-of, remove-of}
 use Rattle.image.specs.Images.{image-length, image-of, trie-from}
-use Rattle.capi.specs.Doors.{image-after, out-after, pal-create-of, pal-list-of, pal-look-up-of, pal-put-of, pal-rebuild-of, pal-recover-of, pal-remove-of}
+use Rattle.capi.specs.Doors.{image-after, image-removed, out-after, pal-create-of, pal-list-of, pal-look-up-of, pal-put-of, pal-rebuild-of, pal-recover-of, pal-remove-of}
 use Rattle.interface.specs.Calls.{IsImage}
 use Rattle.interface.specs.Demand1.{out-refused}
 
@@ -116,7 +116,7 @@ module _ (out : List ℕ) (h : 0 < length out) (c : Cause) where
   put-cause (PutRefused d) e f = ap PutRefused (one-cause out h d c e f)
 
   pub remove-cause : (a : RemoveAnswer) → said-by-remove a .0 ≡ number c → out-after (said-by-remove a) out ≡ out-refused c out → a ≡ RemoveRefused c
-  remove-cause Removed e f = absurd (omega (arith, number-small c))
+  remove-cause (Removed k) e f = absurd (omega (arith, number-small c))
   remove-cause NotHeld e f = absurd (omega (arith, number-small c))
   remove-cause (RemoveStopped made) e f = absurd (omega (arith, number-small c))
   remove-cause (RemoveRefused d) e f = ap RemoveRefused (one-cause out h d c e f)
@@ -157,7 +157,7 @@ module _ (image : List ℕ) (size : IsImage image) where
       ≡ (
         said-by-remove (remove-of xs (trie-from image) name limit .answer) .0,
         remove-of xs (trie-from image) name limit .file,
-        image,
+        image-removed (remove-of xs (trie-from image) name limit .answer) (remove-of xs (trie-from image) name limit .trie) image,
         out-after (said-by-remove (remove-of xs (trie-from image) name limit .answer)) out,
       )
   unfolding pal-remove-of

@@ -4,7 +4,7 @@ use mathlib.Core.Bool.{_||_, cond}
 use mathlib.Core.Option.{Option, none as nothing, some}
 use mathlib.Core.List.{List, [], _∷_}
 use Prim.Native.Nat.{_<_, _^_, _≤_, ℕ}
-use lib.Dec.{eqb}
+use lib.Dec.{eqb, ltb}
 use lib.Seq.{sets}
 use Rattle.model.specs.Order.{Str}
 use Rattle.model.specs.Names.{filled}
@@ -46,15 +46,17 @@ unfoldable pub now : List ℕ → StateC → StateC
 now ys (running xs image m) = running ys image m
 now ys (down xs m) = down ys m
 
--- The number tells what a call counts as: 110, 111, 120 and 101 as made, 112 as never made, and then the image is discarded. With
--- every other number, 255 among them, the image in hand stays.
+-- The number tells what a call counts as: 110, 111, 120 and 101 as made, 112 as never made, and then the image is discarded. A
+-- removal that is stopped, which has made as many stores as its limit says, counts as made from its first store on. With every
+-- other number, 255 among them, the image in hand stays.
 unfoldable pub after-put : StateC → Str → ℕ → ℕ → List ℕ → List ℕ → StateC
 after-put s n v k xs image =
     cond (eqb k 110 || eqb k 111) (running xs image (meant (to-put n v) (said s))) (cond (eqb k 112) (down xs (said s)) (now xs s))
 
-unfoldable pub after-remove : StateC → Str → ℕ → List ℕ → List ℕ → StateC
-after-remove s n k xs image =
-    cond (eqb k 120 || eqb k 101) (running xs image (meant (to-remove n) (said s))) (cond (eqb k 112) (down xs (said s)) (now xs s))
+unfoldable pub after-remove : StateC → Str → ℕ → ℕ → List ℕ → List ℕ → StateC
+after-remove s n limit k xs image =
+    let m = meant (to-remove n) (said s) in
+    cond (eqb k 120 || eqb k 101) (running xs image m) (cond (eqb k 112) (down xs (cond (ltb 0 limit) m (said s))) (now xs s))
 
 unfoldable pub after-recover : StateC → ℕ → List ℕ → StateC
 after-recover s k xs = cond (eqb k 112) (down xs (said s)) (now xs s)
@@ -71,7 +73,7 @@ module _ (C : CCalls) where
   unfoldable pub remove-by : StateC → List ℕ → List ℕ → ℕ → List ℕ → StateC
   remove-by s image name limit out =
       let d = C .remove (file-of s) image name limit out in
-      after-remove s (filled name) (d .0) (d .1) (d .2)
+      after-remove s (filled name) limit (d .0) (d .1) (d .2)
 
   unfoldable pub step : EventC → StateC → StateC
   step (put name v small run low limit out) (running xs image m) = put-by (running xs image m) image name v run limit out
@@ -147,7 +149,8 @@ module _ (C : CCalls) where
         → C .put (file-of s) image name v run limit out .2 ≡ image
     pub remove-stopped : (image name : List ℕ) (limit : ℕ) (out : List ℕ) → C .remove (file-of s) image name limit out .0 ≡ 112
         → StoppedC limit (file-of s) (C .remove (file-of s) image name limit out .1) out (C .remove (file-of s) image name limit out .3)
-    pub remove-image : (image name : List ℕ) (limit : ℕ) (out : List ℕ) → C .remove (file-of s) image name limit out .2 ≡ image
+    pub remove-image : (image name : List ℕ) (limit : ℕ) (out : List ℕ) → C .remove (file-of s) image name limit out .0 ≡ 112
+        → C .remove (file-of s) image name limit out .2 ≡ image
     pub recover-stopped : (limit : ℕ) (out : List ℕ) → C .recover (file-of s) limit out .0 ≡ 112
         → StoppedC limit (file-of s) (C .recover (file-of s) limit out .1) out (C .recover (file-of s) limit out .2)
 

@@ -4158,8 +4158,8 @@ puttings =
     puts file135 trie15 (text "z" ∷ []) 18446744073709551615 0 3 (8, []) file135 trie15
     ∷ puts file136 trie15 (text "}" ∷ []) 1660152084343432556 4 2 (111, 264 ∷ 3 ∷ []) file137 trie15
     ∷ puts file138 trie68 (text "n" ∷ []) 917 1 2 (111, 38 ∷ 0 ∷ []) file139 trie68
-    ∷ puts file140 trie69 (text "noo" ∷ []) 14212445709277726559 18446744073709551614 1 (111, 156 ∷ 2
-    ∷ []) file141 trie69
+    ∷ puts file140 trie69 (text "noo" ∷ []) 14212445709277726559 18446744073709551614 1
+    (111, 156 ∷ 2 ∷ []) file141 trie69
     ∷ puts file142 trie15 (text "srsssrt" ∷ []) 75 18446744073709551615 2 (110, []) file143 trie70
     ∷ puts file144 trie15 (text "r" ∷ []) 177 5 1 (110, []) file145 trie15
     ∷ puts file146 trie71 (text "ba" ∷ []) 237 3 0 (4, 255 ∷ []) file146 trie71

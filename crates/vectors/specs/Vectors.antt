@@ -77,7 +77,7 @@ pub data Case : Type 0 where
   rebuilds : (file : Parts) → Saying → Trie → Case
   looks-up : (file : Parts) (t : Trie) (name : Parts) → Saying → Case
   puts : (file : Parts) (t : Trie) (name : Parts) (value run limit : ℕ) → Saying → (after : Parts) → Trie → Case
-  removes : (file : Parts) (t : Trie) (name : Parts) (limit : ℕ) → Saying → (after : Parts) → Case
+  removes : (file : Parts) (t : Trie) (name : Parts) (limit : ℕ) → Saying → (after : Parts) → Trie → Case
   lists : (file : Parts) (t : Trie) (low high output : Parts) → Saying → (after : Parts) → Case
   -- Create, then a put of each of these names, with the values 1, 2 and so on and the run 0.
   grows : (file : Parts) (b slots : ℕ) (names : List Parts) (after : Parts) → Trie → Case
@@ -136,9 +136,9 @@ holds (looks-up f t n s) = same-said (said-by-look-up (look-up-of (bytes f) t (b
 holds (puts f t n v r j s g u) =
     let d = put-of (bytes f) t (bytes n) v r j in
     same-said (said-by-put (d .answer)) s && same-str (d .file) (bytes g) && same-trie (d .trie) u
-holds (removes f t n j s g) =
+holds (removes f t n j s g u) =
     let d = remove-of (bytes f) t (bytes n) j in
-    same-said (said-by-remove (d .answer)) s && same-str (d .file) (bytes g)
+    same-said (said-by-remove (d .answer)) s && same-str (d .file) (bytes g) && same-trie (d .trie) u
 holds (lists f t m n o s g) =
     let d = list-of (bytes f) t (bytes m) (bytes n) (bytes o) in
     same-said (said-by-list (d .answer)) s && same-str (d .output) (bytes g)
