@@ -429,10 +429,15 @@ class Trial:
             writer = self.kind(PATH, False, True)
             machine.faults = faults
             allowed = [writer.read()]
+            # In some lives more is removed than put, so that buckets merge.
+            removing = chance.choice((0.3, 0.3, 0.9))
             for _ in range(chance.randint(1, 60)):
                 content = writer.read()
                 assert content in allowed
-                for after in a_call(content, letters, chance)[0]:
+                stores = a_call(content, letters, chance, removing)[0]
+                # The last store of a merge frees a slot.
+                self.counts["merges"] += len(stores) == 2 and not any(changed(*stores)[1])
+                for after in stores:
                     if after == content:
                         continue
                     machine.allow([*allowed, after] if promised else [])
