@@ -463,6 +463,20 @@ class CommandLine(InFolder):
         with palhavento.open(self.store):
             self.refused(254, "rm", self.store, "--from", "a", "--to", "z")
 
+    def test_rm_of_a_range_shows_how_far_it_is(self):
+        self.nine_words()
+        # So few names take less than a moment.
+        program = "import sys; from palhavento import cli; cli.Progress.MOMENT = 0; sys.exit(cli.main())"
+        ours, theirs = pty.openpty()
+        self.addCleanup(os.close, ours)
+        ended = subprocess.run([sys.executable, "-c", program, "rm", str(self.store), "--from", "a", "--to", "z"], text=True,
+                               stdout=subprocess.PIPE, stderr=theirs, env={**os.environ, "PYTHONPATH": str(PACKAGE)}, timeout=60)
+        os.close(theirs)
+        self.assertEqual((ended.returncode, ended.stdout), (0, "removed 9\n"))
+        shown = os.read(ours, 1 << 16)
+        for done in range(1, 10):
+            self.assertIn(b"] %d of 9" % done, shown)
+
     def test_rm_of_a_range_that_is_interrupted(self):
         self.nine_words()
         # The third removal is interrupted when it is made.
