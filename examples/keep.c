@@ -109,7 +109,7 @@ static void store(const uint8_t *next)
         }
 }
 
-/* Opens the file for this process alone, recovers it where its last writer was killed in a split, and makes its trie. */
+/* Opens the file for this process alone, recovers it where its last writer was killed between two stores, and makes its trie. */
 static void open_file(void)
 {
     uint64_t out[4], answer;

@@ -29,7 +29,7 @@
  *   4. Go on with the last copies.
  *
  * Never write the second slot before the first is on disk: without the first, names would be lost;
- * without the second, pal_recover undoes the call.
+ * without the second, pal_recover undoes a put, and finishes a removal.
  *
  * A kill between these steps loses nothing but the call under way. A kill in the middle of a write
  * can leave a slot half written if the slot lies across a page edge, and a power loss if it lies
@@ -57,7 +57,7 @@ extern "C" {
 /* The version, as numbers for #if and as text. A program built with one version runs with every later
  * one of the same major number. */
 #define PALHAVENTO_VERSION_MAJOR 1
-#define PALHAVENTO_VERSION_MINOR 4
+#define PALHAVENTO_VERSION_MINOR 5
 #define PALHAVENTO_VERSION_PATCH 0
 #define PALHAVENTO_VERSION PAL_DOTTED_(PALHAVENTO_VERSION_MAJOR, PALHAVENTO_VERSION_MINOR, PALHAVENTO_VERSION_PATCH)
 #define PAL_DOTTED_(major, minor, patch) PAL_TEXT_(major) "." PAL_TEXT_(minor) "." PAL_TEXT_(patch)
@@ -121,7 +121,7 @@ extern "C" {
     ANSWER(PAL_FREED,            130, "The file was cut and is sound again: one slot was freed.") \
     ANSWER(PAL_NOTHING_TO_DO,    131, "The file was sound already.") \
     ANSWER(PAL_SOUND,            140, "The slots are free or well formed, and their ranges leave no gap.") \
-    ANSWER(PAL_CUT,              141, "A split was stopped between its two stores; freeing one slot mends it.") \
+    ANSWER(PAL_CUT,              141, "A split or a merge was stopped between its two stores; freeing one slot mends it.") \
     ANSWER(PAL_BAD,              142, "The file is neither sound nor cut.") \
     ANSWER(PAL_CREATED,          150, "The file is new and empty, and the trie is its trie.") \
     ANSWER(PAL_REBUILT,          151, "The trie is the one rebuilt from the file's bounds.") \
@@ -166,8 +166,8 @@ uint64_t pal_create(uint8_t *file, size_t file_length,
 uint64_t pal_check(const uint8_t *file, size_t file_length);
 
 /*
- * Make a cut file sound: free the new slot of the split that was stopped. One store, within the
- * limit as for pal_put. Rebuild the trie afterwards.
+ * Make a cut file sound: free the new slot of the split that was stopped, or the right one of the two
+ * that were to merge. One store, within the limit as for pal_put. Rebuild the trie afterwards.
  *
  * PAL_FREED (out[0]: the slot), PAL_NOTHING_TO_DO, PAL_STOPPED (out[0]: stores made). Refusals: 8, 2.
  */
@@ -216,8 +216,11 @@ uint64_t pal_put(uint8_t *file, size_t file_length,
                  uint64_t value, uint64_t run, uint64_t limit, uint64_t out[4]);
 
 /*
- * Remove a name, within the store limit as for pal_put. An emptied bucket keeps its range, and nothing
- * keeps the run: a later put of the name may be of any run.
+ * Remove a name, within the store limit as for pal_put. If its bucket and the right neighbour, or else
+ * the left neighbour and its bucket, then have at most b/2 entries together, they merge: the left one
+ * of the two takes everything in, and the right one's slot is freed. That takes two stores, and the
+ * trie is then the one that pal_rebuild would give; else it stays as it is. Stopped between the two,
+ * the removal counts as made. Nothing keeps the run: a later put of the name may be of any run.
  *
  * PAL_REMOVED, PAL_ABSENT, PAL_STOPPED (out[0]: stores made). Refusals: 8, 1, 2, 3, 4 (out[0]:
  * PAL_NO_DIGIT).

@@ -87,23 +87,25 @@ class Filled(NamedTuple):
     most_walk: int
 
 
-def filled(names: Sequence[str], b: int, slots: int, version: int) -> Filled:
-    """A file with these names, as far as they fit.
-
-    >>> filled(["rate1", "rate2", "rate3", "rate4", "rate5"], 2, 2, 1)
-    Filled(refusal=5, stats=Stats(version=1, b=2, slots=2, used=2, ... entries=4, strings=5, ...), mean_walk=5.0, most_walk=5)
-    """
+def made(names: Sequence[str], b: int, slots: int, version: int) -> tuple[bytes, bytes, int]:
+    """A file with these names, as far as they fit, its trie, and the number of the refusal that came then, or 0."""
     file, trie = library.create(b, slots, version)
-    held = []
-    refusal = 0
     for value, name in enumerate(names):
         try:
             _, file, trie = calls.put(file, trie, name, value, 0, 2)
         except (FileFull, TrieFull) as refused:
-            refusal = refused.number
-            break
-        held.append(name)
-    walks = [_walk(layout.trie(trie), name) for name in held]
+            return file, trie, refused.number
+    return file, trie, 0
+
+
+def filled(names: Sequence[str], b: int, slots: int, version: int) -> Filled:
+    """What such a file is.
+
+    >>> filled(["rate1", "rate2", "rate3", "rate4", "rate5"], 2, 2, 1)
+    Filled(refusal=5, stats=Stats(version=1, b=2, slots=2, used=2, ... entries=4, strings=5, ...), mean_walk=5.0, most_walk=5)
+    """
+    file, trie, refusal = made(names, b, slots, version)
+    walks = [_walk(layout.trie(trie), name) for name, _ in calls.entries(file, trie, calls.LOWEST, calls.HIGHEST)]
     return Filled(refusal, layout.stats(file, trie), sum(walks) / len(walks), max(walks))
 
 

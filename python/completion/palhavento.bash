@@ -13,7 +13,7 @@ _palhavento() {
         word=${words[at]}
         if ((options)) && [[ $word == -- ]]; then
             options=0
-        elif ((options)) && [[ $word == --b || $word == --slots || $word == --version || $word == --run ]]; then
+        elif ((options)) && [[ $word == --b || $word == --slots || $word == --version || $word == --run || $word == --from || $word == --to ]]; then
             ((at++))
         elif ((!options)) || [[ $word != -?* ]]; then
             given+=("$word")
@@ -23,6 +23,7 @@ _palhavento() {
         case $command in
             create | compact) _palhavento_words --b --slots --version ;;
             put) _palhavento_words --run ;;
+            rm) _palhavento_words --from --to ;;
             import) _palhavento_words --run --no-sync ;;
             draw) _palhavento_words --trie ;;
         esac

@@ -58,6 +58,7 @@ examples:
   palhavento get rates.tkf gdp.de               # prints 42
   palhavento put rates.tkf 'GDP real' 7         # a name with a blank, in quotes
   palhavento ls rates.tkf gdp.a gdp.z           # the names from gdp.a to gdp.z, in order
+  palhavento rm rates.tkf --from a --to b       # removes the names from a to b
   palhavento create copy.tkf
   palhavento ls rates.tkf | palhavento import copy.tkf -
   palhavento create runs.tkf --version 3        # a store that keeps the run that wrote each value
@@ -165,7 +166,7 @@ def _parted(words: Sequence[str], known: dict[str, bool]) -> tuple[list[str], li
 
 def _quoted(options: Sequence[str], words: Sequence[str]) -> str:
     """The hint that several of these words, which are no options, are one name; nothing where they cannot be."""
-    end = {"put": -1, "get": len(words), "rm": len(words)}.get(words[0], 0) if words else 0
+    end = {"put": -1, "get": len(words), "rm": len(words)}.get(words[0], 0) if words and "--from" not in options else 0
     parts = words[2:end]
     if len(parts) < 2:
         return ""
@@ -286,11 +287,36 @@ def get(arguments: argparse.Namespace) -> Report:
 
 
 def rm(arguments: argparse.Namespace) -> Report:
+    bounds = arguments.first, arguments.second
+    if (arguments.name is None) == (bounds == (None, None)) or (bounds[0] is None) != (bounds[1] is None):
+        raise Trouble(USAGE, "rm wants a name, or the names to remove by --from and --to")
+    if arguments.name is None:
+        return rm_range(arguments)
     with writing(arguments) as store:
         if arguments.name not in store:
             raise Trouble(ABSENT, f"{arguments.name}: absent")
         del store[arguments.name]
     return Report({"removed": arguments.name}, ["removed"])
+
+
+def rm_range(arguments: argparse.Namespace) -> Report:
+    with writing(arguments) as store:
+        progress = Progress()
+        try:
+            removed = store.remove_range(arguments.first, arguments.second, progress.reach)
+        except (PalhaventoError, OSError, KeyboardInterrupt) as error:
+            done = getattr(error, "removed", None)
+            # Refused before the first removal: there is nothing to tell of others.
+            if done is None or isinstance(error, PalhaventoError):
+                raise
+            status, sentence = told(error, arguments.store)
+            [note] = error.__notes__
+            again = "The same command again removes the rest."
+            raise Trouble(status, f"{sentence.rstrip('.')}. {note} {again}", {"removed_count": done}) from None
+        finally:
+            progress.end()
+    data = {"removed_count": removed, "from": arguments.first, "to": arguments.second}
+    return Report(data, [f"removed {removed}"])
 
 
 def ls(arguments: argparse.Namespace) -> Report:
@@ -311,19 +337,18 @@ class Progress:
     MOMENT = 0.3
     WIDTH = 40
 
-    def __init__(self, total: int) -> None:
-        self.total = total
+    def __init__(self) -> None:
         self.shows = sys.stderr is not None and sys.stderr.isatty()
         self.due = time.monotonic() + self.MOMENT
         self.drawn = False
 
-    def reach(self, done: int) -> None:
+    def reach(self, done: int, total: int) -> None:
         now = time.monotonic()
         if not self.shows or now < self.due:
             return
         self.due = now + self.MOMENT / 3
-        bar = ("#" * (self.WIDTH * done // self.total)).ljust(self.WIDTH, ".")
-        complain(f"\r[{bar}] {done} of {self.total}", end="")
+        bar = ("#" * (self.WIDTH * done // total)).ljust(self.WIDTH, ".")
+        complain(f"\r[{bar}] {done} of {total}", end="")
         self.drawn = True
 
     def end(self) -> None:
@@ -377,7 +402,7 @@ def named(path: str) -> Iterator[None]:
 def import_(arguments: argparse.Namespace) -> Report:
     origin, text = text_of(arguments.lines)
     entries = entries_of(text, origin, arguments.run)
-    progress = Progress(len(entries))
+    progress = Progress()
     with writing(arguments, sync=arguments.sync) as store:
         # An illegal name is found here, before anything is put.
         for number, (name, *_) in enumerate(entries, 1):
@@ -389,7 +414,7 @@ def import_(arguments: argparse.Namespace) -> Report:
         try:
             for number, entry in enumerate(entries, 1):
                 store.put(*entry)
-                progress.reach(number)
+                progress.reach(number, len(entries))
         except (PalhaventoError, OSError, KeyboardInterrupt) as error:
             status, sentence = told(error, arguments.store)
             # Unless it is known that nothing was changed, the put may be made, though nobody was told.
@@ -531,8 +556,12 @@ def parser() -> Parser:
     change.add_argument("--run", type=run_of, default=0,
                         help="the run that puts it (default 0): a store of version 3 keeps it, and refuses the put if the name is held "
                              "with a higher one; other stores ignore it")
-    for name, run, says in (("get", get, "print the value of a name"), ("rm", rm, "remove a name")):
-        command(name, run, says, "rates.tkf gdp.de").add_argument("name", metavar="NAME")
+    command("get", get, "print the value of a name", "rates.tkf gdp.de").add_argument("name", metavar="NAME")
+    away = command("rm", rm, "remove a name, or all names from one to another", "rates.tkf --from gdp.2019 --to gdp.2021}")
+    away.add_argument("name", metavar="NAME", nargs="?", help="the one name to remove")
+    away.add_argument("--from", dest="first", help="the first of the names to remove, one after the other; interrupted, the same "
+                                                   "command again removes the rest")
+    away.add_argument("--to", dest="second", help="the last of them, included; neither of the two need be held")
     listing = command("ls", ls, "list names and values in name order, a value with its run as value@run where the store keeps runs",
                       "rates.tkf gdp.a gdp.z")
     listing.add_argument("range", metavar="FIRST SECOND", nargs="*", help="only the names between, both included")
@@ -542,9 +571,9 @@ def parser() -> Parser:
     lines.add_argument("--run", type=run_of, default=0, help="the run of the lines that have none (default 0)")
     lines.add_argument("--no-sync", dest="sync", action="store_false",
                        help="faster: wait for the disk once, at the end; a power loss before may leave a bad file")
-    command("check", check, "say whether files are sound, cut (also while the writer is in a split) or bad, and why",
+    command("check", check, "say whether files are sound, cut (also while the writer is in a split or a merge) or bad, and why",
             "rates.tkf prices.tkf")
-    command("recover", recover, "free what a stopped split left behind", "rates.tkf")
+    command("recover", recover, "free what a split or a merge that was stopped has left behind", "rates.tkf")
     command("stats", stats, "tell the version, and count slots, names and strings", "rates.tkf")
     anew = command("compact", compact, "write a store anew, in as few buckets as its names fit", "rates.tkf small.tkf")
     anew.add_argument("new", metavar="NEW", help="the new store, where no file is yet")

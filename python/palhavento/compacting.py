@@ -138,14 +138,15 @@ def _packed(names: list[bytes], b: int, version: int, weight: float) -> list[_St
     A bucket splits when it holds b + 1 names: behind the split key, by the shortest string that parts the key from the last
     name (R7.3, R7.4). The key is the last name that the bucket shall have, those below it are names of the bucket too, and
     those behind it are fillers that share with the key no less than the next name does. The last name of a bucket is chosen
-    so that the bucket has many names and its bound few new strings.
+    so that the bucket has many names and its bound few new strings. A bucket has more than b/2 names, or it would merge with
+    the next one when that has no filler left (R7.10).
     """
     steps: list[_Step] = []
     strings: set[bytes] = set()
     left = names
     while len(left) > b:
         choices = []
-        for key in range(b // 2 - 1, b):
+        for key in range(b // 2, b):
             bound, fillers = _cut(left[key], left[key + 1])
             below = _below(bound, left[:key], b, version)
             beginnings = {bound[:end] for end in range(1, len(bound) + 1)}

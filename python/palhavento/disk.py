@@ -38,8 +38,9 @@ PATIENCE = 5.0
 # How often who only reads looks whether the file is still in its place. Each store looks by itself.
 LOOK_AGAIN = 0.1
 
-# What is said of a store that failed.
+# What is said of a store that failed; the last of a removal that merges, which counts from its first store on.
 NOT_MADE = "the change was not made"
+MADE = "the name is removed all the same; to free the slot that it leaves is tried again when the store is used or opened next"
 UNKNOWN = "whether the change is made is not known, and is found when the store is opened next"
 
 _log = logging.getLogger("palhavento")

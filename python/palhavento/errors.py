@@ -42,7 +42,7 @@ class BadFile(PalhaventoError):
 
 
 class CutFile(PalhaventoError):
-    """The file is cut, for a split was stopped between its two stores: recover it first."""
+    """The file is cut, for a split or a merge was stopped between its two stores: recover it first."""
 
     number = 3
 

@@ -141,10 +141,10 @@ class Opened:
         if outcome.answer == library.NOTHING_TO_DO:
             return file, None
         if self.readonly:
-            _log.info("%s: cut in a split; read as if slot %d were free", self.path, outcome.word)
+            _log.info("%s: cut in a split or a merge; read as if slot %d were free", self.path, outcome.word)
         else:
             self._store(file, outcome.file)
-            _log.warning("%s: cut in a split; recovered by freeing slot %d", self.path, outcome.word)
+            _log.warning("%s: cut in a split or a merge; recovered by freeing slot %d", self.path, outcome.word)
         return outcome.file, outcome.word
 
     def recover(self) -> int | None:
@@ -230,11 +230,19 @@ class Opened:
             self.told.pop(threading.get_ident(), None)
             self._store(before, file)
             if stopped:
-                self._store(file, last)
+                try:
+                    self._store(file, last)
+                except OSError as error:
+                    raise self._counts(error) if call is calls.remove else error
                 file = last
             self.trie = trie
             self._know(file)
             return answer
+
+    def _counts(self, error: OSError) -> OSError:
+        """What is said where the second store of a merge has failed: from the first one on the removal counts as made (R13.3)."""
+        why = error.strerror.removesuffix(disk.NOT_MADE).removesuffix(disk.UNKNOWN)
+        return OSError(error.errno, f"{why}{disk.MADE}", self.path)
 
     def put(self, name: calls.Name, value: int, run: int) -> int:
         """Put a name by a run; where it is held with a higher one, the refusal tells both."""

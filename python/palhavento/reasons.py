@@ -72,14 +72,14 @@ def state(file: bytes) -> State:
 
 
 def _cut(file: bytes) -> Fault:
-    """What a stopped split has left in a cut file."""
-    new = library.recover(file, limit=1).word
-    return Fault("R4.8", new, "is left of a split that was stopped; to recover frees it")
+    """What a split or a merge that was stopped has left in a cut file; the bytes do not always tell which it was."""
+    left = library.recover(file, limit=1).word
+    return Fault("R4.8", left, "is left of a split or a merge that was stopped; to recover frees it")
 
 
 def faults(file: bytes) -> list[Fault]:
     """What keeps a file from being sound: what is wrong with its header, else with its slots, else between them."""
-    return list(_header(file)) or list(_slots(file)) or list(_chain(_buckets(file), file[5]))
+    return list(_header(file)) or list(_slots(file)) or list(_chain(_buckets(file)))
 
 
 def _header(file: bytes) -> Iterator[Fault]:
@@ -156,13 +156,13 @@ def _slot(slot: bytes, b: int, entry: int) -> Iterator[tuple[str, str]]:
         yield "R3.17", f"byte {place} is not zero, behind the last of {count} entries"
 
 
-def _chain(used: list[_Bucket], b: int) -> Iterator[Fault]:
+def _chain(used: list[_Bucket]) -> Iterator[Fault]:
     """What is wrong between buckets that are each well formed, given in range order."""
     if not used:
         yield Fault("R4.3", None, "no slot is used")
         return
     same = [pair for pair in pairwise(used) if pair[0].upper == pair[1].upper]
-    if len(same) == 1 and (nearly := _nearly_cut(used, *same[0], b)):
+    if len(same) == 1 and (nearly := _nearly_cut(used, *same[0])):
         yield nearly
         return
     if first := used[0].lower:
@@ -177,15 +177,13 @@ def _chain(used: list[_Bucket], b: int) -> Iterator[Fault]:
         yield Fault("R4.5", used[-1].slot, f"is the last in range order, but has the upper bound {_shown(last)}")
 
 
-def _nearly_cut(used: list[_Bucket], old: _Bucket, new: _Bucket, b: int) -> Fault | None:
+def _nearly_cut(used: list[_Bucket], old: _Bucket, new: _Bucket) -> Fault | None:
     """Where the file would be sound without the second of two slots with one upper bound: why it is not cut."""
-    if any(_chain([bucket for bucket in used if bucket is not new], b)):
+    if any(_chain([bucket for bucket in used if bucket is not new])):
         return None
-    split = f"could be the new slot of a stopped split of slot {old.slot}, but"
+    split = f"could be left of a split or a merge of slot {old.slot} that was stopped, but"
     if old.lower == new.lower:
         return Fault("R4.10", new.slot, f"{split} both begin at {_shown(new.lower)}")
-    if len(old.entries) < b:
-        return Fault("R4.11", new.slot, f"{split} that one has {len(old.entries)} entries, not {b}")
     kept = [entry for entry in new.entries if entry in old.entries]
     if kept != [entry for entry in old.entries if entry[: len(new.lower)] > new.lower]:
         return Fault("R4.13", new.slot, f"{split} lacks entries of that one's, or has them with other values or runs")

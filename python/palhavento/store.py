@@ -446,23 +446,48 @@ class Store(MutableMapping[str, int]):
                 try:
                     file.put(*entry, self.run)
                 except BaseException as error:
-                    _tell(error, done, len(entries))
+                    _tell(error, f"Of {len(entries)} entries {done} were put.", "put", done)
                     raise
 
-    def clear(self) -> None:
-        """Remove every name. Each is a change of its own, so a kill may leave some."""
+    def remove_range(
+        self, first: Name, second: Name, progress: Callable[[int, int], object] | None = None
+    ) -> int:
+        """Remove every name from the first to the second, both included, and give how many there were.
+
+        Each removal is a change of its own. A kill leaves some of the names, from some name on; the same call again removes them.
+        If one is refused or fails, the error says how many were made before it, and has that as `removed`. After each, `progress`
+        is called with how many are done and how many there were.
+
+        >>> with palhavento.open("vintages.tkf", b=4, slots=16) as store:
+        ...     store.update({f"gdp.{year}q{quarter}": 0 for year in range(2019, 2024) for quarter in range(1, 5)})
+        ...     before = store.stats().used
+        ...     store.remove_range("gdp.2019", "gdp.2021}"), list(store)[:2], (before, store.stats().used)
+        (12, ['gdp.2022q1', 'gdp.2022q2'], (5, 3))
+        """
         file = self._opened
         file.must_write()
         with file.alone:
-            for name, _ in self.range():
-                file.change(calls.remove, name)
+            names = [name for name, _ in self.range(first, second)]
+            for done, name in enumerate(names):
+                try:
+                    file.change(calls.remove, name)
+                except BaseException as error:
+                    _tell(error, f"Of {len(names)} names {done} were removed before.", "removed", done)
+                    raise
+                if progress is not None:
+                    progress(done + 1, len(names))
+            return len(names)
+
+    def clear(self) -> None:
+        """Remove every name. Each is a change of its own, so a kill may leave some."""
+        self.remove_range(LOWEST, HIGHEST)
 
     # The maintainer's calls.
 
     def check(self) -> reasons.State:
         """What the file on disk is now: 'sound', 'cut' or 'bad', a string whose `reason` says why it is not sound.
 
-        A reader may see a file cut while its writer is between two stores.
+        A reader may see a file cut while its writer is between the two stores of a split or a merge.
 
         >>> palhavento.open("checked.tkf").check()
         'sound'
@@ -620,12 +645,11 @@ def _pairs(other: Any, named: dict[str, int]) -> Iterable[tuple[Name, int]]:
     yield from named.items()
 
 
-def _tell(error: BaseException, done: int, total: int) -> None:
-    """Have an error say how many of the entries were put before it."""
-    told = f"Of {total} entries {done} were put."
+def _tell(error: BaseException, told: str, what: str, done: int) -> None:
+    """Have an error say how many changes were made before it, and give it the number under a name of its own."""
     if isinstance(error, PalhaventoError):
         error.sentence = f"{error.sentence} {told}"
         error.args = error.number, error.sentence
     else:
         error.add_note(told)
-    error.put = done  # type: ignore[attr-defined]
+    setattr(error, what, done)

@@ -325,8 +325,11 @@ def entries(content: bytes) -> Contents:
     return {name.encode(): (value, run) for name, value, run in calls.rows(sound, library.rebuild(sound), b"!", b"}" * 24)}
 
 
-def a_call(content: bytes, letters: str, chance: random.Random) -> tuple[list[bytes], Contents]:
-    """The file after each store of a random call, and what it then holds; a cut file is recovered."""
+def a_call(content: bytes, letters: str, chance: random.Random, removing: float = 0.3) -> tuple[list[bytes], Contents]:
+    """The file after each store of a random call, and what it then holds; a cut file is recovered.
+
+    Of the calls about a name that is held, so many are removals.
+    """
     file = library.recover(content, limit=1).file
     held = entries(file)
     if file != content:
@@ -335,9 +338,12 @@ def a_call(content: bytes, letters: str, chance: random.Random) -> tuple[list[by
     name = "".join(chance.choices(letters, k=chance.choice((1, 2, 3, 5, 8, 24)))).strip().encode() or b"x y"
     if held and chance.random() < 0.5:
         name = chance.choice(list(held))
-    if name in held and chance.random() < 0.3:
+    if name in held and chance.random() < removing:
         del held[name]
-        return [library.remove(file, trie, name, limit=1).file], held
+        outcomes = [library.remove(file, trie, name, limit) for limit in (1, 2)]
+        # A removal that merges counts from its first store on.
+        assert entries(outcomes[0].file) == held
+        return _stores(outcomes), held
     # Some runs are older than what is held.
     value, run = chance.getrandbits(64), held.get(name, (0, 0))[1] + chance.randint(-1, 4)
     run = run if 0 <= run < 2**64 else 2**64 - 1
@@ -346,7 +352,12 @@ def a_call(content: bytes, letters: str, chance: random.Random) -> tuple[list[by
     except PalhaventoError:
         return [], held
     held[name] = value, run if layout.version(file) == library.WITH_RUNS else 0
-    return [outcome.file for outcome in outcomes[: 2 if outcomes[0].answer == library.STOPPED else 1]], held
+    return _stores(outcomes), held
+
+
+def _stores(outcomes: list[library.Outcome]) -> list[bytes]:
+    """The file after each store of a call, made with limit 1 and with limit 2."""
+    return [outcome.file for outcome in outcomes[: 2 if outcomes[0].answer == library.STOPPED else 1]]
 
 
 def changed(before: bytes, after: bytes) -> tuple[int, bytes]:
@@ -418,10 +429,15 @@ class Trial:
             writer = self.kind(PATH, False, True)
             machine.faults = faults
             allowed = [writer.read()]
+            # In some lives more is removed than put, so that buckets merge.
+            removing = chance.choice((0.3, 0.3, 0.9))
             for _ in range(chance.randint(1, 60)):
                 content = writer.read()
                 assert content in allowed
-                for after in a_call(content, letters, chance)[0]:
+                stores = a_call(content, letters, chance, removing)[0]
+                # The last store of a merge frees a slot.
+                self.counts["merges"] += len(stores) == 2 and not any(changed(*stores)[1])
+                for after in stores:
                     if after == content:
                         continue
                     machine.allow([*allowed, after] if promised else [])

@@ -38,6 +38,20 @@ def sound_file(names: list[str], b: int, slots: int, version: int = 1) -> bytes:
     return file
 
 
+def merged_file(version: int = 1) -> tuple[bytes, bytes]:
+    """A file of b = 4, cut in the removal of rate4, which merges slot 1 into slot 0; and the file after that removal.
+
+    It held rate1, rate2 and rate3 in slot 0, and rate4 and rate5 in slot 1; two of these are removed before.
+    """
+    file = sound_file([f"rate{place}" for place in range(1, 6)], 4, 3, version)
+    trie = library.rebuild(file)
+    for name in (b"rate1", b"rate2"):
+        _, file, trie, *_ = library.remove(file, trie, name, 2)
+    stopped, made = (library.remove(file, trie, b"rate4", limit) for limit in (1, 2))
+    assert (stopped.answer, stopped.word, stopped.trie, made.answer) == (library.STOPPED, 1, trie, library.REMOVED)
+    return stopped.file, made.file
+
+
 def cut_file(version: int = 1) -> bytes:
     """A file of b = 2 with rate1 and rate2, cut in the put of rate3; its new slot is 1."""
     file = sound_file(["rate1", "rate2"], 2, 3, version)

@@ -272,7 +272,7 @@ class CommandLine(InFolder):
         self.store.write_bytes(before)
         ended = self.run_("check", self.store)
         self.assertEqual(ended.returncode, 3)
-        self.assertEqual(ended.stdout, "cut: slot 1: is left of a split that was stopped; to recover frees it (R4.8)\n")
+        self.assertEqual(ended.stdout, "cut: slot 1: is left of a split or a merge that was stopped; to recover frees it (R4.8)\n")
         self.assertEqual(self.run_("ls", self.store).stdout, "rate1 1\nrate2 2\n")
         self.assertEqual(self.store.read_bytes(), before)
         ended = self.run_("recover", self.store)
@@ -364,7 +364,7 @@ class CommandLine(InFolder):
         sound.write_bytes(sound_file(WORDS, b=4, slots=8))
         cut.write_bytes(cut_file())
         bad.write_bytes(sound.read_bytes()[:-1])
-        lines = [f"{sound}: sound\n", f"{cut}: cut: slot 1: is left of a split that was stopped; to recover frees it (R4.8)\n",
+        lines = [f"{sound}: sound\n", f"{cut}: cut: slot 1: is left of a split or a merge that was stopped; to recover frees it (R4.8)\n",
                  f"{bad}: bad: length: it has 1551 bytes, and 8 slots with b = 4 of version 1 take 1552 (R2.7)\n"]
         for files, status in (([sound, sound], 0), ([cut, sound], 3), ([sound, cut, bad], 2), ([bad, cut], 2)):
             ended = self.run_("check", *files)
@@ -447,6 +447,49 @@ class CommandLine(InFolder):
                                        f"{100 * min(range(1, len(BLANKS) + 1), key=lambda place: BLANKS[place - 1])} is ignored\n")
         self.assertEqual(self.done("ls", self.folder / "two.tkf").replace("\n", "@\n"),
                          "".join(line.rpartition("@")[0] + "@\n" for line in listed.splitlines()))
+
+    def test_rm_of_a_range(self):
+        self.nine_words()
+        self.assertEqual(self.done("rm", self.store, "--from", "b", "--to", "i"), "removed 1\n")
+        self.assertEqual(self.done("rm", "--from", "a", "--to", "o", self.store), "removed 4\n")
+        self.assertEqual(self.done("ls", self.store), "of 2\nthat 7\nthe 1\nto 4\n")
+        self.assertEqual(self.done("rm", self.store, "--from", "a", "--to", "o"), "removed 0\n")
+        said = json.loads(self.done("rm", "--json", self.store, "--from", "the", "--to", "to"))
+        self.assertEqual(said, {"removed_count": 2, "from": "the", "to": "to"})
+        self.assertEqual(self.done("stats", self.store).splitlines()[3], "used 1")
+        self.all_refused(64, [["rm", self.store], ["rm", self.store, "of", "--from", "a", "--to", "z"], ["rm", self.store, "--from", "a"],
+                              ["rm", self.store, "--to", "z"], ["rm", self.store, "of", "--to", "z"], ["rm", self.store, "a", "b", "--from", "a"]])
+        self.refused(1, "rm", self.store, "--from", "a", "--to", "z ")
+        with palhavento.open(self.store):
+            self.refused(254, "rm", self.store, "--from", "a", "--to", "z")
+
+    def test_rm_of_a_range_shows_how_far_it_is(self):
+        self.nine_words()
+        # So few names take less than a moment.
+        program = "import sys; from palhavento import cli; cli.Progress.MOMENT = 0; sys.exit(cli.main())"
+        ours, theirs = pty.openpty()
+        self.addCleanup(os.close, ours)
+        ended = subprocess.run([sys.executable, "-c", program, "rm", str(self.store), "--from", "a", "--to", "z"], text=True,
+                               stdout=subprocess.PIPE, stderr=theirs, env={**os.environ, "PYTHONPATH": str(PACKAGE)}, timeout=60)
+        os.close(theirs)
+        self.assertEqual((ended.returncode, ended.stdout), (0, "removed 9\n"))
+        shown = os.read(ours, 1 << 16)
+        for done in range(1, 10):
+            self.assertIn(b"] %d of 9" % done, shown)
+
+    def test_rm_of_a_range_that_is_interrupted(self):
+        self.nine_words()
+        # The third removal is interrupted when it is made.
+        program = ("import sys; from palhavento import cli, opened\nreal, left = opened.Opened.change, 3\n"
+                   "def change(self, *given):\n    global left\n    left -= 1\n    real(self, *given)\n"
+                   "    if not left: raise KeyboardInterrupt\nopened.Opened.change = change\nsys.exit(cli.main())")
+        ended = subprocess.run([sys.executable, "-c", program, "rm", "--json", self.store, "--from", "a", "--to", "is"], text=True,
+                               capture_output=True, env={**os.environ, "PYTHONPATH": str(PACKAGE)}, timeout=60)
+        told = "interrupted. Of 5 names 2 were removed before. The same command again removes the rest."
+        self.assertEqual((ended.returncode, ended.stderr), (130, f"palhavento: {told}\n"))
+        self.assertEqual(json.loads(ended.stdout), {"error": told, "status": 130, "removed_count": 2})
+        self.assertEqual(self.done("rm", self.store, "--from", "a", "--to", "is"), "removed 2\n")
+        self.assertEqual(self.done("ls", self.store), "of 2\nthat 7\nthe 1\nto 4\n")
 
     def test_a_stores_version(self):
         for version in (1, 2):

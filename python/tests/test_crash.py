@@ -38,6 +38,7 @@ class Crashes(unittest.TestCase):
         self.assertEqual(losses(counts), 0, counts)
         for seen in ("journals finished", "store under way is made", "openings that failed", "stores that failed"):
             self.assertGreater(counts[seen], 500, counts)
+        self.assertGreater(counts["merges"], 50, counts)
 
     def test_without_a_journal_much_is(self) -> None:
         counts = self.counted(2_000, Plain)

@@ -8,7 +8,7 @@ import re
 import unittest
 from pathlib import Path
 
-from support import BLANKS, WORDS, InFolder, cut_file, sound_file
+from support import BLANKS, WORDS, InFolder, cut_file, merged_file, sound_file
 
 import palhavento
 from palhavento import library, reasons
@@ -87,7 +87,8 @@ BROKEN: list[tuple[str, int | None, bytes]] = [
     ("R4.6", 2, edited((at(3), bytes(SIZE)))),
     ("R4.7", 4, edited((at(4), slot(3)), (at(5), slot(3)))),
     ("R4.10", 4, edited((at(4), slot(1)))),
-    ("R4.11", 4, edited((at(4), slot(1)), (at(4, 8), b"t"), (at(4, 1), b"\x00"), (at(4, 64), bytes(128)))),
+    ("R4.13", 4, edited((at(4), slot(1)), (at(4, 8), b"t"), (at(4, 1), b"\x02"), (entry(4, 0), b"u"), (entry(4, 1), b"v  "),
+                        (entry(4, 2), bytes(32)))),
 ]
 
 
@@ -130,8 +131,12 @@ class Reasons(unittest.TestCase):
 
     def test_sound_and_cut_files(self) -> None:
         self.assertEqual((reasons.state(NINE), reasons.state(NINE).reason, reasons.state(NINE).faults), ("sound", "", ()))
-        cut = "slot 1: is left of a split that was stopped; to recover frees it (R4.8)"
+        cut = "slot 1: is left of a split or a merge that was stopped; to recover frees it (R4.8)"
         self.assertEqual(reasons.state(cut_file()).reason, cut)
+        # The bucket that is left need not be full.
+        self.assertEqual(reasons.state(edited((at(4), slot(1)), (at(4, 8), b"t"), (at(4, 1), b"\x00"), (at(4, 64), bytes(128)))), "cut")
+        for version in library.VERSIONS:
+            self.assertEqual(reasons.state(merged_file(version)[0]).reason, cut)
 
     def test_a_blank_is_wrong_only_at_the_beginning_of_a_name(self) -> None:
         self.assertEqual(reasons.state(sound_file(BLANKS, b=2, slots=16)), "sound")
