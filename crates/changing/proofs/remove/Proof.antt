@@ -62,9 +62,16 @@ trie-without-requires c κs =
     let at-commit = c .before .before .before .before .before .before in let plan = at-commit .before .before .before .remove-plan in let at-filled = at-commit .before .before .before .before .before .before in let at-checks-of = at-filled .before .before .before in let a = at-checks-of .before .before .before .before .before .before .before .before .args in
     let A = fine-agreed (at-checks-of .checks-of .result) (at-filled .before .enum-told3 .given .1) (at-checks-of .checks-of .ensures) in
     let y = at-checks-of .checks-of .result .size .layout in
-    let whole : length (at-commit .commit .last .0) ≡ length (a .file .now) = search needs in
-    (record { legal = A .ready .said .sized .legal; whole = whole ∙ A .ready .said .sized .whole }, A .ready .slots-inside, A .ready .count-most, omega (arith, A .ready .count-is,
-    freed-place (plan .result) y (A .ready .slots) (call (y .b) (place-of y) (A .ready .slots) (asked (filled (a .name .now)))) (rw (at-filled .filled .ensures) at (plan .ensures .1 (A .ready .slots) (A .ready .is))) (omega (arith, c .before .if4 .left))))
+    let whole : length (at-commit .commit .last .0) ≡ length (a .file .now) = search needs in (
+      record { legal = A .ready .said .sized .legal; whole = whole ∙ A .ready .said .sized .whole },
+      A .ready .slots-inside,
+      A .ready .count-most,
+      omega (
+        arith,
+        A .ready .count-is,
+        freed-place (plan .result) y (A .ready .slots) (call (y .b) (place-of y) (A .ready .slots) (asked (filled (a .name .now)))) (rw (at-filled .filled .ensures) at (plan .ensures .1 (A .ready .slots) (A .ready .is))) (omega (arith, c .before .if4 .left)),
+      ),
+    )
 
 returns-6 : tie.Need-returns-6
 returns-6 c =
