@@ -18,7 +18,7 @@ use Rattle.bucket.proofs.Slots.{count-is}
 use Rattle.slots.specs.declared.Spot.{Spot}
 use Rattle.slots.specs.Spots.{Begins, SpotIn, WidenedTold}
 use Rattle.file.specs.declared.Plan.{Plan}
-use Rattle.file.specs.Holders.{Ordered, placed}
+use Rattle.file.specs.Holders.{placed}
 use Rattle.file.proofs.Committing.{free-begins}
 use Rattle.file.proofs.Holding.{place-number, place-reads}
 use Rattle.checking.specs.declared.Checked.{Checked}

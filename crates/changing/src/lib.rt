@@ -347,14 +347,7 @@ fn count_left(file: &[u8], checked: Checked, place: usize) -> usize
 
 // A merge: first the left slot, which takes in what both hold but for the name, then the right one, freed. The right one stands
 // at a place in order, the left one, with m entries, before it; i is the name's place among all their entries.
-fn merge(
-    file: &[u8],
-    checked: Checked,
-    right: usize,
-    m: usize,
-    n: usize,
-    i: usize,
-) -> RemovePlan
+fn merge(file: &[u8], checked: Checked, right: usize, m: usize, n: usize, i: usize) -> RemovePlan
     requires { ⌜ (Ready checked (now file)) × (1 ≤ right) × (right < checked .survey .count) × (m ≤ checked .size .layout .b)
         × (n ≤ checked .size .layout .b) × (m + n ≤ 16) × (i < m + n) ⌝ }
     ensures { λ r. ⌜ (Fits (r .plan) (checked .size)) × (MergeTold r checked (now (file .entry)) right m n i) ⌝ }
@@ -423,12 +416,7 @@ fn trie_without(file: &[u8], checked: Checked, right: usize) -> Trie
     let survey = checked.survey;
     let mut order = survey.order;
     file::leave_out(&mut order, survey.count, right);
-    rebuilding::rebuilt(strings::strings_of(
-        file,
-        checked.size,
-        &order,
-        survey.count - 1,
-    ))
+    rebuilding::rebuilt(strings::strings_of(file, checked.size, &order, survey.count - 1))
 }
 
 fn left_with(answer: RemoveAnswer, trie: Trie) -> RemoveGiven

@@ -28,7 +28,7 @@ use Rattle.interface.specs.Demand1.{IsRefusal, change-refusal, recover-r
 use Rattle.interface.specs.Demand3.{Demand3C, EventC, HoldsC, KeptC, RebuildsC, RecoversC, StateC, StoppedC, held-says}
 use Rattle.interface.specs.Demand3 as C
 use Rattle.interface.proofs.Saying.{create-is, look-up-is, number-small, put-is, rebuild-is, recover-is, remove-is}
-use Rattle.interface.proofs.Images.{RemoveSays, image-size, read-back, remove-says, replaced-same}
+use Rattle.interface.proofs.Images.{image-size, read-back, remove-says, replaced-same}
 use Rattle.interface.proofs.Demand1.{demand-1-c, refused-below}
 use Rattle.interface.proofs.Demand2.{created-said}
 

@@ -1,5 +1,5 @@
 -- Each request has one list of stores or one refusal, and the function gives it.
-use Rattle.model.proofs.Prelude.{Bool, List, Option, [], _<_, _∙_, _∷_, _≡_, _≤_, ap, arith, clash, cond, decLe, decLt, false, length, lt-ltb, ltb-true, nothing, refl, some, subst, sym, true, ℕ}
+use Rattle.model.proofs.Prelude.{Bool, List, Option, _<_, _∙_, _≡_, _≤_, ap, arith, clash, cond, decLe, decLt, false, length, lt-ltb, ltb-true, nothing, refl, some, subst, sym, true, ℕ}
 use Rattle.model.specs.Order.{Low, Str, _⊑_, _◁_, at}
 use Rattle.model.specs.Names.{Legal}
 use Rattle.model.specs.Entries.{Entry, chosen, find, insert, is-older, run-of-content}

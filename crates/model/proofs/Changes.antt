@@ -1,6 +1,6 @@
 -- All stores of a change made, the file is sound and says what was asked; a part of them, it is as before or cut, and
 -- recovers to what it was.
-use Rattle.model.proofs.Prelude.{List, List·Memᴰ, List·Memᴰ·head, List·Memᴰ·tail, Memᴰ·append-right, [], _++_, _/_, _<_, _∙_, _∷_, _≡_, _≢_, _≤_, _⊎_, ap, arith, cond, false, fun-ext, getD-set-other, getD-set-same, inl, inr, length, length-set, nothing, refl, set, set-getD, set-set, some, subst, suc, sym, take, zero, ℕ, ℕ-discrete}
+use Rattle.model.proofs.Prelude.{List, List·Memᴰ, List·Memᴰ·head, List·Memᴰ·tail, Memᴰ·append-right, [], _++_, _/_, _<_, _∙_, _∷_, _≡_, _≢_, _≤_, _⊎_, ap, arith, cond, false, fun-ext, getD-set-other, getD-set-same, inl, inr, length, length-set, nothing, refl, set, set-getD, set-set, some, subst, suc, sym, take, zero, ℕ}
 use Rattle.model.specs.Order.{Low, Str, _≺_, _⊑_, _◁_, above, at, none}
 use Rattle.model.specs.Names.{Bound, BoundLow, Legal, limit}
 use Rattle.model.specs.Entries.{Entry, Row, find, insert, move, name-at, stay, without}

@@ -18,7 +18,6 @@ pub mod GrownCells
 pub mod Merging
 pub mod Changes
 pub mod Removals
-pub mod MergeExamples
 pub mod Calls
 pub mod Places
 pub mod Checks

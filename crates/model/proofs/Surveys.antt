@@ -1,5 +1,5 @@
 -- The used slots listed by upper bound, and where two are equal by lower limit, decide whether a file is sound, cut or bad.
-use Rattle.model.proofs.Prelude.{List, List·Memᴰ, List·Memᴰ·cases-cons, List·Memᴰ·head, List·Memᴰ·not-nil, List·Memᴰ·tail, Memᴰ·append-right, Memᴰ·cast, [], _++_, _<_, _∙_, _∷_, _≡_, _≢_, _≤_, _⊎_, ap, arith, clash, getD-set-other, inl, inr, length, refl, set, subst, sym, ℕ, ℕ-discrete}
+use Rattle.model.proofs.Prelude.{List, List·Memᴰ, List·Memᴰ·cases-cons, List·Memᴰ·head, List·Memᴰ·not-nil, List·Memᴰ·tail, Memᴰ·append-right, Memᴰ·cast, [], _++_, _<_, _∙_, _∷_, _≡_, _≢_, _≤_, _⊎_, ap, arith, clash, getD-set-other, inl, inr, refl, set, subst, sym, ℕ, ℕ-discrete}
 use Rattle.model.specs.Order.{Low, Str, _≺_, _⊴_, _◁_, at, below, least, none, top}
 use Rattle.model.specs.Entries.{Entry, move}
 use Rattle.model.specs.Files.{Bad, Chain, Copied, Cut, IsUsed, RangeTable, Slot, Sound, Well, free, head, last, lower-of, next, ranges, slot-at, upper-of, used, well-free}

@@ -1,5 +1,5 @@
 -- A removal that gives a room back: the laws of the model, told of the calls.
-use Rattle.model.proofs.Prelude.{Bool, List, Option, [], _++_, _<_, _∙_, _∷_, _≡_, _≤_, _⊎_, ap, arith, clash, cond, false, inl, inr, le-leb, le-ltb, length, ltb, ltb-false, ltb-true, refl, set, some, suc, sym, take, true, zero, ℕ}
+use Rattle.model.proofs.Prelude.{Bool, List, Option, [], _<_, _∙_, _∷_, _≡_, _≤_, ap, arith, clash, false, inl, inr, le-leb, le-ltb, length, ltb, ltb-false, ltb-true, refl, set, some, sym, take, true, ℕ}
 use Rattle.model.specs.declared.Cause.{Cause}
 use Rattle.model.specs.declared.Cause.the-variants.{BadFile, IllegalName}
 use Rattle.model.specs.declared.Layout.{Layout}
@@ -9,13 +9,13 @@ use Rattle.model.specs.declared.Trie.{Trie}
 use Rattle.model.specs.declared.TrieAnswer.the-variants.{Given}
 use Rattle.model.specs.Order.{Low, Str, _⊑_, _◁_}
 use Rattle.model.specs.Names.{filled, is-legal-name}
-use Rattle.model.specs.Entries.{Entry, find, without}
+use Rattle.model.specs.Entries.{Entry, find}
 use Rattle.model.specs.Files.{Cut, Slot, Sound, entries-of, free, slot-at, string-count, used}
-use Rattle.model.specs.Tries.{Agrees, walk-trie}
+use Rattle.model.specs.Tries.{walk-trie}
 use Rattle.model.specs.Rebuilding.{rebuilt-trie}
-use Rattle.model.specs.Changes.{Map, Request, Result, Store, call, counts, meant, put, refuse, remove, stored, stores, trie-removed}
+use Rattle.model.specs.Changes.{Map, Result, Store, call, counts, meant, refuse, remove, stored, stores, trie-removed}
 use Rattle.model.specs.Places.{place-of}
-use Rattle.model.specs.Format.{AreBytes, CutFile, SoundFile, check-file, entry-length, file-bytes, layout-of, read-file, store-bytes}
+use Rattle.model.specs.Format.{AreBytes, CutFile, SoundFile, entry-length, file-bytes, layout-of, read-file, store-bytes}
 use Rattle.model.specs.Calls.{Looked, RemoveDone, fine, looked-of, rebuild-by, rebuild-of, recover-by, recover-of, refusing, remove-answer, remove-by-stores, remove-of, remove-on-looked, stores-bytes}
 use Rattle.model.proofs.Files.{cut-well, one-range}
 use Rattle.model.proofs.Agreement.{agrees-few, agrees-walk}

@@ -11,8 +11,8 @@ use Rattle.model.specs.declared.Trie.{Trie}
 use Rattle.model.specs.Order.{Low, Str, _⊑_, _◁_}
 use Rattle.model.specs.Names.{broken, filled, is-at-most, is-legal-name}
 use Rattle.model.specs.Entries.{Entry, content-from, find, insert, run-of-content, value-of-content}
-use Rattle.model.specs.Files.{In, Slot, Sound, Well, entries-of, first, free, head, slot-at, used}
-use Rattle.model.specs.Tries.{Agrees, walk-of}
+use Rattle.model.specs.Files.{In, Slot, Well, entries-of, first, free, head, slot-at, used}
+use Rattle.model.specs.Tries.{walk-of}
 use Rattle.model.specs.Changes.{Map, Result, Store, holds?, meant, no-room, put, refuse, remove, stored, stores, too-many, trie-removed}
 use Rattle.model.specs.Checks.{is-above, is-well-formed}
 use Rattle.model.specs.Deciding.{not?, str?}

@@ -1,4 +1,5 @@
 -- The build before request 06, when no blank was legal in a name: its rule, its calls, and how its outcomes and today's agree.
+-- But for the names that it took for legal it is today's build in everything: it splits, merges and keeps runs as today's does.
 use mathlib.Core.Path.{_≡_}
 use mathlib.Core.Logic.{_↔_, _⊎_}
 use mathlib.Core.Bool.{Bool, _&&_, cond, false, true}

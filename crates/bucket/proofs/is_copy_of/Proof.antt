@@ -1,5 +1,5 @@
 -- `bucket::is_copy_of` meets its contract: each test that it makes is one that a copy passes.
-use Rattle.model.proofs.Prelude.{_*_, _∙_, _≡_, arith, needs, not-false, not-true, sym, ℕ}
+use Rattle.model.proofs.Prelude.{_∙_, arith, needs, not-false, not-true, sym}
 use native.Mathlib.Nat.{le-trans}
 use Rattle.digits.specs.Keys.{key-value}
 use Rattle.model.proofs.Format.{bytes-each}

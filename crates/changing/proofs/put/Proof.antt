@@ -20,8 +20,7 @@ returns-2 c =
 
 put-plan-requires : tie.Need-put-plan-requires
 put-plan-requires c κs =
-    let checks = c .before .before .before .before in let named = checks .before .before .before .before .before in let a = named .before .before .before .before .before .before .args in
-    (
+    let checks = c .before .before .before .before in let named = checks .before .before .before .before .before in let a = named .before .before .before .before .before .before .args in (
       fine-agreed (checks .checks-of .result) (c .before .before .enum-told2 .given .1) (checks .checks-of .ensures),
       naming-legal (named .naming-of .result) (a .name .now) (named .before .before .filled .result) (named .naming-of .ensures) (checks .before .before .before .key .given .1) .1,
     )

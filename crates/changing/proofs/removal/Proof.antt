@@ -15,9 +15,11 @@ merge-requires c κs =
 
 returns : tie.Need-returns
 returns c =
-    let s = c .before .before .before .before .before .before .before in let a = s .args in let k = c .before .before .count-right in
-    (c .merge .ensures .0, (λ fs e n g l u es is lo up I w f.
-        removal-right (s .pre .0) e (a .place) (s .pre .1) is n lo up (a .spot) I w f (c .merge .result) (k .result) (k .ensures) (omega (arith, c .before .if1 .taken)) (c .merge .ensures .1)))
+    let s = c .before .before .before .before .before .before .before in let a = s .args in let k = c .before .before .count-right in (
+      c .merge .ensures .0,
+      (λ fs e n g l u es is lo up I w f.
+          removal-right (s .pre .0) e (a .place) (s .pre .1) is n lo up (a .spot) I w f (c .merge .result) (k .result) (k .ensures) (omega (arith, c .before .if1 .taken)) (c .merge .ensures .1)),
+    )
 
 add-if2 : tie.Need-add-if2
 add-if2 c = let s = c .before .before .before .before .before .before .before in omega (arith, small (s .pre .0) (c .count-left .ensures), s .pre .2 .count-most, s .pre .0 .said .sized .legal .b-most)
@@ -30,9 +32,11 @@ merge-requires-2 c κs =
 
 returns-2 : tie.Need-returns-2
 returns-2 c =
-    let s = c .before .before .before .before .before .before .before .before .before .before in let a = s .args in let k = c .before .before .before .count-left in let m = c .before .before .before .before .before .count-right in
-    (c .merge2 .ensures .0, (λ fs e n g l u es is lo up I w f.
-        removal-left (s .pre .0) e (a .place) (s .pre .1) is n lo up (a .spot) I w f (c .merge2 .result) (k .result) (m .result) (m .ensures) (omega (arith, c .before .before .before .before .if1 .left)) (k .ensures) (omega (arith, c .before .before .if2 .taken)) (c .merge2 .ensures .1)))
+    let s = c .before .before .before .before .before .before .before .before .before .before in let a = s .args in let k = c .before .before .before .count-left in let m = c .before .before .before .before .before .count-right in (
+      c .merge2 .ensures .0,
+      (λ fs e n g l u es is lo up I w f.
+          removal-left (s .pre .0) e (a .place) (s .pre .1) is n lo up (a .spot) I w f (c .merge2 .result) (k .result) (m .result) (m .ensures) (omega (arith, c .before .before .before .before .if1 .left)) (k .ensures) (omega (arith, c .before .before .if2 .taken)) (c .merge2 .ensures .1)),
+    )
 
 returns-3 : tie.Need-returns-3
 returns-3 c =

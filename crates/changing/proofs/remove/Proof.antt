@@ -24,8 +24,7 @@ returns-2 c =
 remove-plan-requires : tie.Need-remove-plan-requires
 remove-plan-requires c κs =
     let at-checks-of = c .before .before .before .before in let named = at-checks-of .before .before .before .before .before in let a = named .before .before .before .before .before .before .args in
-    let l = naming-legal (named .naming-of .result) (a .name .now) (named .before .before .filled .result) (named .naming-of .ensures) (at-checks-of .before .before .before .key .given .1) in
-    (
+    let l = naming-legal (named .naming-of .result) (a .name .now) (named .before .before .filled .result) (named .naming-of .ensures) (at-checks-of .before .before .before .key .given .1) in (
       fine-agreed (at-checks-of .checks-of .result) (c .before .before .enum-told2 .given .1) (at-checks-of .checks-of .ensures) .ready,
       rw (named .before .before .filled .ensures) (is-legal-name-legal (a .name .now) (l .0)),
       l .1,
@@ -68,9 +67,16 @@ trie-without-requires c κs =
     let at-commit = c .before .before .before .before .before .before in let plan = at-commit .before .before .before .remove-plan in let at-plan = at-commit .before .before .before in let at-checks-of = at-plan .before .before .before .before .before in let named = at-checks-of .before .before .before .before .before in let a = named .before .before .before .before .before .before .args in
     let A = fine-agreed (at-checks-of .checks-of .result) (at-plan .before .before .before .enum-told2 .given .1) (at-checks-of .checks-of .ensures) in
     let y = at-checks-of .checks-of .result .size .layout in
-    let whole : length (at-commit .commit .last .0) ≡ length (a .file .now) = search needs in
-    (record { legal = A .ready .said .sized .legal; whole = whole ∙ A .ready .said .sized .whole }, A .ready .slots-inside, A .ready .count-most, omega (arith, A .ready .count-is,
-    freed-place (plan .result) y (A .ready .slots) (call (y .b) (place-of y) (A .ready .slots) (asked (filled (a .name .now)))) (rw (named .before .before .filled .ensures) at (plan .ensures .1 (A .ready .slots) (A .ready .is))) (omega (arith, c .before .if4 .left))))
+    let whole : length (at-commit .commit .last .0) ≡ length (a .file .now) = search needs in (
+      record { legal = A .ready .said .sized .legal; whole = whole ∙ A .ready .said .sized .whole },
+      A .ready .slots-inside,
+      A .ready .count-most,
+      omega (
+        arith,
+        A .ready .count-is,
+        freed-place (plan .result) y (A .ready .slots) (call (y .b) (place-of y) (A .ready .slots) (asked (filled (a .name .now)))) (rw (named .before .before .filled .ensures) at (plan .ensures .1 (A .ready .slots) (A .ready .is))) (omega (arith, c .before .if4 .left)),
+      ),
+    )
 
 returns-6 : tie.Need-returns-6
 returns-6 c =

@@ -28,13 +28,15 @@ removal-requires c κs =
 
 returns-2 : tie.Need-returns-2
 returns-2 c =
-    let s = c .before .before .before .before .before .before .before .before .before .before .before .before in let a = s .args in let R = s .pre .0 in let g = s .pre .1 in let n = a .name .now in let y = a .checked .size .layout in let r = c .removal in let spot = c .before .before .before .spot-in in let k = c .before .before .before .before .before .slot-at-place in let place = c .before .before .before .before .before .before .holder in
-    (r .ensures .0, (λ fs e.
-        let H = home-right (ready-sound R e) (getD (order-of fs) (place .result) 0) n (place .ensures .found fs (ready-ordered R e) g .range) in
-        let read = place-read R e (place .result) (k .result) _ (home-place R g (place .ensures)) (k .ensures .0) (c .before .before .before .before .slot-at .ensures .0) (H .3 .is) in
-        let P = spot .ensures .1 (H .0) (H .1) (H .2) read n g (s .pre .2) in
-        let f = spot-held P (not-false (spot .result .held) (c .before .if1 .left)) in
-        remove-held y (H .3) (r .result) (f .0) (f .1) (r .ensures .1 fs e n g (H .0) (H .1) (H .2) (H .3 .is) (H .3 .above) (H .3 .within) P (f .0) (f .1))))
+    let s = c .before .before .before .before .before .before .before .before .before .before .before .before in let a = s .args in let R = s .pre .0 in let g = s .pre .1 in let n = a .name .now in let y = a .checked .size .layout in let r = c .removal in let spot = c .before .before .before .spot-in in let k = c .before .before .before .before .before .slot-at-place in let place = c .before .before .before .before .before .before .holder in (
+      r .ensures .0,
+      (λ fs e.
+          let H = home-right (ready-sound R e) (getD (order-of fs) (place .result) 0) n (place .ensures .found fs (ready-ordered R e) g .range) in
+          let read = place-read R e (place .result) (k .result) _ (home-place R g (place .ensures)) (k .ensures .0) (c .before .before .before .before .slot-at .ensures .0) (H .3 .is) in
+          let P = spot .ensures .1 (H .0) (H .1) (H .2) read n g (s .pre .2) in
+          let f = spot-held P (not-false (spot .result .held) (c .before .if1 .left)) in
+          remove-held y (H .3) (r .result) (f .0) (f .1) (r .ensures .1 fs e n g (H .0) (H .1) (H .2) (H .3 .is) (H .3 .above) (H .3 .within) P (f .0) (f .1))),
+    )
 
 pub remove-plan-spec : {M : Type 1} → Rattle.changing.proofs.remove_plan.Statement.statement M
 remove-plan-spec =

@@ -23,9 +23,10 @@ returns-5 c =
 
 returns-6 : tie.Need-returns-6
 returns-6 c =
-    let at-if3 = c .before .before .before .before .before .before in let a = at-if3 .before .before .before .before .before .args in let n = a .name .now in
-    (legal-name n (omega arith) (omega arith) (at-if3 .if3 .left) (c .before .before .before .before .if4 .left) ∙ sym (c .before .before .before .are-digits .ensures) ∙ not-false (c .before .before .before .are-digits .result) (c .before .before .if5 .left),
-    c .key-at .ensures ∙ ap value (take-all 24 (a .filled .now) (omega arith)))
+    let at-if3 = c .before .before .before .before .before .before in let a = at-if3 .before .before .before .before .before .args in let n = a .name .now in (
+      legal-name n (omega arith) (omega arith) (at-if3 .if3 .left) (c .before .before .before .before .if4 .left) ∙ sym (c .before .before .before .are-digits .ensures) ∙ not-false (c .before .before .before .are-digits .result) (c .before .before .if5 .left),
+      c .key-at .ensures ∙ ap value (take-all 24 (a .filled .now) (omega arith)),
+    )
 
 pub naming-of-spec : {M : Type 1} → Rattle.digits.proofs.naming_of.Statement.statement M
 naming-of-spec =

@@ -20,8 +20,7 @@ returns-2 c =
 
 list-checked-requires : tie.Need-list-checked-requires
 list-checked-requires c κs =
-    let at-checks = c .before .before .before .before .before in let at-second = at-checks .before .before .before .before in let at-first = at-second .before .before .before .before .before in let a = at-first .before .before .before .before .before .before .before .before .args in
-    (
+    let at-checks = c .before .before .before .before .before in let at-second = at-checks .before .before .before .before in let at-first = at-second .before .before .before .before .before in let a = at-first .before .before .before .before .before .before .before .before .args in (
       fine-agreed (at-checks .checks-of .result) (c .before .before .before .enum-told3 .given .1) (at-checks .checks-of .ensures) .ready,
       naming-legal (at-first .naming-of .result) (a .first .now) (at-first .before .before .before .filled .result) (at-first .naming-of .ensures) (at-second .before .before .before .low .given .1) .1,
       naming-legal (at-second .naming-of2 .result) (a .second .now) (at-first .before .before .filled2 .result) (at-second .naming-of2 .ensures) (at-checks .before .before .high .given .1) .1,
