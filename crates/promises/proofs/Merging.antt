@@ -25,7 +25,7 @@ use Rattle.model.proofs.Changes.{Change, Fine, absent, change-length, change-ma
 use Rattle.model.proofs.Removals.{removal-entries}
 use Rattle.model.proofs.Calls.{Answered, change-unique, denied-not-made, is-denied, is-made, remove-right}
 use Rattle.model.proofs.Format.{contents-read-file, file-bytes-read-file}
-use Rattle.model.proofs.CheckedFiles.{check-file-cut, check-file-sound}
+use Rattle.model.proofs.CheckedFiles.{check-file-cut, check-file-sound, one-cut, sound-not-cut}
 use Rattle.model.proofs.Stores.{Left, Legal as LegalStores, change-legal, left-freed, left-stored, legal-take, trie-removed-is}
 use Rattle.model.proofs.GrownTries.{change-agrees}
 use Rattle.promises.specs.Calls.{our-calls}
@@ -279,6 +279,8 @@ module _ (xs : List ℕ) (t : Trie) (name : List ℕ) where
 
 pub merging : Merging our-calls
 merging = record {
+  one-cut = λ xs M N C D. one-cut C D;
+  cut-not-sound = λ xs N C S. sound-not-cut S C;
   rule = rule;
   leads = λ xs t name limit k bytes h e. made-leads xs t name limit bytes h e;
   leaves = λ xs t name limit k bytes h e. made-leaves xs t name limit bytes h e;

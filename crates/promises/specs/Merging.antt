@@ -13,7 +13,7 @@ use Rattle.model.specs.Names.{filled}
 use Rattle.model.specs.Entries.{Entry, find, without}
 use Rattle.model.specs.Files.{Slot, Sound, free, order-of, slot-at, string-count, used}
 use Rattle.model.specs.Changes.{call, remove, stores}
-use Rattle.model.specs.Format.{AreBytes, SoundFile, store-bytes}
+use Rattle.model.specs.Format.{AreBytes, CutFile, SoundFile, store-bytes}
 use Rattle.model.specs.Calls.{RemoveDone, entries-in}
 use Rattle.promises.specs.Calls.{Calls}
 use Rattle.promises.specs.Demand2.{LeadsRight}
@@ -61,6 +61,10 @@ pub record NameGone (n : Str) (fs gs : List Slot) : Type 0 where
   pub entries : entries-in gs (order-of gs) ≡ without n (entries-in fs (order-of fs))
 
 pub record Merging (C : Calls) : Type 0 where
+  -- A cut file, whose bucket A may now have any number of entries, has one slot to free, and is not sound.
+  pub one-cut : (xs : List ℕ) (M N : ℕ) → CutFile xs M → CutFile xs N → M ≡ N
+  pub cut-not-sound : (xs : List ℕ) (N : ℕ) → CutFile xs N → ¬ SoundFile xs
+  -- Which stores a removal takes.
   pub rule : (b : ℕ) (place : List Entry → ℕ) (fs : List Slot) → Sound b fs → (n : Str) (A : ℕ) (l : Low) (u : Str) (es : List Entry) (w : ℕ)
       → slot-at fs A ≡ used l u es → l ◁ n → n ⊑ u → find n es ≡ some w → Rule b place fs n A l u es
   -- What a removal that was made leaves is sound, and its trie leads every name right;
