@@ -3,15 +3,17 @@
 // R3.2 to R3.17 of docs/RULES.md have the bytes: numbers and lengths first, then the two bounds, then b entries. Above this crate and
 // `slots` there are bounds and entries, and no offset inside a slot.
 ghost use mathlib.Core.Path.{_≡_};
+ghost use mathlib.Core.Bool.{true};
 ghost use Prim.Native.Nat.{_≤_, _<_, _+_, _-_, _*_};
-ghost use lib.ListN.{drop, length};
+ghost use lib.Dec.{eqb};
+ghost use lib.ListN.{drop, getD, length};
 ghost use Rattle.model.specs.Format.{entry-length, slot-size};
 ghost use Rattle.model.proofs.Format.{EntrySize};
 ghost use Rattle.model.specs.declared.Layout.{Layout};
 ghost use Rattle.digits.specs.Keys.{is-all-zero, key-value};
 ghost use Rattle.bucket.specs.Copies.{CopyTold, is-upper-part};
 ghost use Rattle.bucket.specs.Forms.{Formed, is-all-clear, ranged, vacant};
-ghost use Rattle.bucket.specs.Slots.{HighTold, LowTold, OfSize, count-at, lower-bytes, upper-bytes};
+ghost use Rattle.bucket.specs.Slots.{Following, HighTold, LowTold, OfSize, count-at, lower-bytes, upper-bytes};
 use digits::Key;
 use digits::u64_of_usize;
 use digits::usize_of_u8;
@@ -197,6 +199,70 @@ pub fn form_of(slot: &[u8], layout: Layout) -> Form
     ensures { λ r. ⌜ Formed layout (now (slot .entry)) r ⌝ }
 {
     form_by(slot, entry_size(layout), layout.b)
+}
+
+// Whether a slot that is free or well formed is used.
+pub fn is_used(slot: &[u8]) -> bool
+    requires { ⌜ 64 ≤ length (now slot) ⌝ }
+    ensures { λ r. ⌜ r ≡ eqb (getD (now (slot .entry)) 0 0) 1 ⌝ }
+{
+    slot[0] == 1
+}
+
+// Whether it has no lower bound.
+pub fn is_lowest(slot: &[u8]) -> bool
+    requires { ⌜ 64 ≤ length (now slot) ⌝ }
+    ensures { λ r. ⌜ r ≡ eqb (getD (now (slot .entry)) 2 0) 0 ⌝ }
+{
+    slot[2] == 0
+}
+
+// Whether its upper bound is empty.
+pub fn is_highest(slot: &[u8]) -> bool
+    requires { ⌜ 64 ≤ length (now slot) ⌝ }
+    ensures { λ r. ⌜ r ≡ eqb (getD (now (slot .entry)) 3 0) 0 ⌝ }
+{
+    slot[3] == 0
+}
+
+// Whether a slot's range begins where that of the slot before ends: the bytes of the two bounds are the same, all 24 of them.
+pub fn follows(slot: &[u8], before: &[u8]) -> bool
+    requires { ⌜ (64 ≤ length (now slot)) × (64 ≤ length (now before)) ⌝ }
+    ensures { λ r. ⌜ (r ≡ true → Following (now (slot .entry)) (now (before .entry))) ⌝ }
+{
+    if slot[2] == 0 {
+        return false;
+    }
+    if slot[2] != before[3] {
+        return false;
+    }
+    digits::is_same(digits::key_at(slot, 8), digits::key_at(before, 32))
+}
+
+// A number below 256 made of the 24 bytes of a bound; it serves to guess where the bound stands.
+fn mark(slot: &[u8], at: usize) -> usize
+    requires { ⌜ at + 24 ≤ length (now slot) ⌝ }
+    ensures { λ r. ⌜ r < 256 ⌝ }
+{
+    let x = digits::little_endian(slot, at)
+        ^ (digits::little_endian(slot, at + 8) >> 1)
+        ^ (digits::little_endian(slot, at + 16) >> 2);
+    let y = (x >> 32) ^ x;
+    ((y >> 16) ^ y) as usize % 251
+}
+
+pub fn lower_mark(slot: &[u8]) -> usize
+    requires { ⌜ 64 ≤ length (now slot) ⌝ }
+    ensures { λ r. ⌜ r < 256 ⌝ }
+{
+    mark(slot, 8)
+}
+
+pub fn upper_mark(slot: &[u8]) -> usize
+    requires { ⌜ 64 ≤ length (now slot) ⌝ }
+    ensures { λ r. ⌜ r < 256 ⌝ }
+{
+    mark(slot, 32)
 }
 
 // R4.10, R4.11 and R4.13: whether N is a copy, not yet cut out, of the upper part of A.

@@ -26,7 +26,9 @@ mod survey;
 pub use order::holder;
 pub use survey::Kind;
 pub use survey::Survey;
+pub use survey::found;
 pub use survey::survey_of;
+pub use survey::with_next;
 
 // What a header says: the layout of the slots, and their number.
 pub struct Size {
