@@ -3,10 +3,12 @@
 // R3.2 to R3.17 of docs/RULES.md have the bytes: numbers and lengths first, then the two bounds, then b entries. Above this crate and
 // `slots` there are bounds and entries, and no offset inside a slot.
 ghost use mathlib.Core.Path.{_≡_};
-ghost use mathlib.Core.Bool.{true};
+ghost use mathlib.Core.Bool.{_&&_, true};
 ghost use Prim.Native.Nat.{_≤_, _<_, _+_, _-_, _*_};
-ghost use lib.Dec.{eqb};
-ghost use lib.ListN.{drop, getD, length};
+ghost use lib.Dec.{eqb, leb};
+ghost use lib.ListN.{drop, getD, length, take};
+ghost use Rattle.model.specs.Names.{is-legal-bound};
+ghost use Rattle.entries.specs.Rows.{are-entries};
 ghost use Rattle.model.specs.Format.{entry-length, slot-size};
 ghost use Rattle.model.proofs.Format.{EntrySize};
 ghost use Rattle.model.specs.declared.Layout.{Layout};
@@ -158,9 +160,32 @@ fn is_clear(slot: &[u8], end: usize) -> bool
     digits::is_zero(&slot[end..])
 }
 
+// Whether these 24 bytes are a bound of `len` digits. Nearly always they are, and are found so by words.
+fn is_bound(s: &[u8], len: usize) -> bool
+    requires { ⌜ length (now s) ≡ 24 ⌝ }
+    ensures { λ r.
+        ⌜ r ≡ (leb len 24 && is-legal-bound (take len (now (s .entry))) && is-all-zero (drop len (now (s .entry)))) ⌝ }
+{
+    if gathering::is_plain(s, len) {
+        return true;
+    }
+    digits::is_bound(s, len)
+}
+
+// Whether names are legal, strictly ascending and in the range. Nearly always they are, and are found so all at once.
+fn are_entries(entries: &[u8], e: usize, count: usize, low: Key, high: Key) -> bool
+    requires { ⌜ (e * count ≤ length (now entries)) × (count ≤ 17) × (32 ≤ e) × (e ≤ 40) ⌝ }
+    ensures { λ r. ⌜ r ≡ are-entries e count (now (entries .entry)) (key-value low) (key-value high) ⌝ }
+{
+    if gathering::are_rising(entries, e, count, low, high) {
+        return true;
+    }
+    entries::are_entries(entries, e, count, low, high)
+}
+
 // A used slot as it is read, or that it is not well formed, with entries of e bytes and room for b of them.
 fn form_by(slot: &[u8], e: usize, b: usize) -> Form
-    requires { ⌜ (length (now slot) ≡ 64 + e * b) × (b ≤ 16) × (24 ≤ e) × (e ≤ 40) ⌝ }
+    requires { ⌜ (length (now slot) ≡ 64 + e * b) × (b ≤ 16) × (32 ≤ e) × (e ≤ 40) ⌝ }
     ensures { λ r. ⌜ ((y : Layout) → entry-length y ≡ e → y .b ≡ b → Formed y (now (slot .entry)) r) ⌝ }
 {
     if slot[0] != 1 {
@@ -175,11 +200,11 @@ fn form_by(slot: &[u8], e: usize, b: usize) -> Form
         return Form::Ill;
     }
     let lower = usize_of_u8(slot[2]);
-    if !digits::is_bound(&slot[8..32], lower) {
+    if !is_bound(&slot[8..32], lower) {
         return Form::Ill;
     }
     let upper = usize_of_u8(slot[3]);
-    if !digits::is_bound(&slot[32..56], upper) {
+    if !is_bound(&slot[32..56], upper) {
         return Form::Ill;
     }
     let low = low_key(slot);
@@ -187,7 +212,7 @@ fn form_by(slot: &[u8], e: usize, b: usize) -> Form
     if !digits::is_below(low, high) {
         return Form::Ill;
     }
-    if !entries::are_entries(&slot[64..], e, count, low, high) {
+    if !are_entries(&slot[64..], e, count, low, high) {
         return Form::Ill;
     }
     Form::Well(Bucket { low, high })

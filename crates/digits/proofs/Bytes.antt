@@ -22,7 +22,7 @@ pub value-of-two : (k : ℕ) (xs : List ℕ) → k + 2 ≤ length xs → value-o
 unfolding value-of
 value-of-two k xs h = omega (arith, value-of-step 1 k (k + 1) xs (omega arith) (omega arith), value-of-step 0 (k + 1) (k + 2) xs (omega arith) (omega arith))
 
-value-of-append : (x y : List ℕ) → value-of (x ++ y) ≡ value-of x + 256 ^ length x * value-of y
+pub value-of-append : (x y : List ℕ) → value-of (x ++ y) ≡ value-of x + 256 ^ length x * value-of y
 unfolding value-of
 value-of-append [] y = omega arith
 value-of-append (d ∷ x) y = rw (value-of-append x y, pow-succ' 256 (length x)) (omega (arith, mul-assoc 256 (256 ^ length x) (value-of y)))
