@@ -1,35 +1,27 @@
 -- A bound in three words: its digits and the zeros behind them, word by word.
-use mathlib.Core.Bool.{Bool, _&&_, false, true}
-use mathlib.Core.List.{List, [], _++_, _∷_}
+use mathlib.Core.Bool.{_&&_, true}
+use mathlib.Core.List.{List, _++_}
 use mathlib.Core.Path.{_∙_, _≡_, ap, refl, sym}
 use Prim.Native.Nat.{_+_, _-_, _≤_, ℕ}
 use native.Mathlib.Omega.{arith}
-use lib.Dec.{eqb, leb}
+use lib.Dec.{leb}
 use lib.ListN.{drop, length, length-drop, take}
 use lib.Seq.{drop-drop, take-add, take-all}
 use borrow.Author.Tests.{le-leb}
 use Rattle.model.specs.Names.{Digits, are-digits, is-legal-bound}
 use Rattle.model.proofs.Names.{digits-are-digits}
 use Rattle.digits.specs.Keys.{is-all-zero}
+use Rattle.digits.proofs.Keys.{zero-append}
 use Rattle.digits.proofs.Laws.{legal-part}
 use Rattle.digits.proofs.Words.{digits-append}
 use Rattle.gathering.specs.Names.{BoundIn}
-
-zero-both : (x y : List ℕ) → is-all-zero x ≡ true → is-all-zero y ≡ true → is-all-zero (x ++ y) ≡ true
-unfolding is-all-zero
-zero-both [] y h k = k
-zero-both (d ∷ x) y h k = go (eqb d 0) (zero-both x y) h
-  where
-    go : (t : Bool) → (is-all-zero x ≡ true → is-all-zero y ≡ true → is-all-zero (x ++ y) ≡ true) → (t && is-all-zero x) ≡ true → (t && is-all-zero (x ++ y)) ≡ true
-    go true r h = r h k
-    go false r h = h
 
 module _ (s : List ℕ) (at m n : ℕ) where
   parts : take (m + n) (drop at s) ≡ take m (drop at s) ++ take n (drop (at + m) s)
   parts = take-add m n (drop at s) ∙ ap (λ (y : List ℕ). take m (drop at s) ++ take n y) (drop-drop m at s)
 
   zeros : (to k : ℕ) → to ≡ at + m → k ≡ m + n → is-all-zero (take m (drop at s)) ≡ true → is-all-zero (take n (drop to s)) ≡ true → is-all-zero (take k (drop at s)) ≡ true
-  zeros to k e f h g = rw (f, parts) (zero-both (take m (drop at s)) (take n (drop (at + m) s)) h (rw e at g))
+  zeros to k e f h g = rw (f, parts, zero-append (take m (drop at s)) (take n (drop (at + m) s)), h) (rw e at g)
 
   digits : (to k : ℕ) → to ≡ at + m → k ≡ m + n → are-digits 0x20 (take m (drop at s)) ≡ true → are-digits 0x20 (take n (drop to s)) ≡ true → are-digits 0x20 (take k (drop at s)) ≡ true
   digits to k e f h g = rw (f, parts, digits-append (take m (drop at s)) (take n (drop (at + m) s)), h) (rw e at g)

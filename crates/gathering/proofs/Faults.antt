@@ -17,8 +17,7 @@ use Rattle.model.specs.Format.{AreBytes, value-of}
 use Rattle.digits.specs.Keys.{is-all-zero}
 use Rattle.gathering.specs.Names.{Clean}
 use Rattle.gathering.proofs.Names.{digits-each}
-use Rattle.gathering.proofs.Words.{or-zero}
-use Rattle.digits.proofs.Bytes.{value-of-append, value-of-split}
+use Rattle.digits.proofs.Bytes.{or-zero, value-of-append, value-of-split}
 use Rattle.digits.proofs.Keys.{bytes-part, length-part}
 
 -- One byte in each of n places.

@@ -1,13 +1,8 @@
--- Words by borrows and `|`.
+-- Words by borrows.
 use mathlib.Core.Path.{_≡_}
 use Prim.Native.Nat.{_%_, _*_, _+_, _<_, _^_, _≤_, ℕ}
 use native.Mathlib.Nat.{add-zero}
 use native.Mathlib.Omega.{arith}
-use lib.Bits.{and-le-l, and-le-r, bitOr, or-add-and}
-
--- Where `a | b` is zero, both are.
-pub or-zero : (a b : ℕ) → bitOr a b ≡ 0 → (a ≡ 0) × (b ≡ 0)
-or-zero a b e = (omega (arith, or-add-and a b, and-le-l a b, and-le-r a b), omega (arith, or-add-and a b, and-le-l a b, and-le-r a b))
 
 -- One borrow: t is that of c - z.
 carry : (p q c z t : ℕ) → z ≤ c + t * 2 ^ 64 → c + t * 2 ^ 64 < z + 2 ^ 64 → p < q + t → p * 2 ^ 64 + c < q * 2 ^ 64 + z

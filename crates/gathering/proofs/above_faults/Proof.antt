@@ -1,6 +1,6 @@
 -- `gathering::above_faults` meets its contract.
 use lib.Bits.{bitAnd}
-use Rattle.gathering.proofs.Words.{or-zero}
+use Rattle.digits.proofs.Bytes.{or-zero}
 use Rattle.gathering.proofs.Faults.{none-above}
 use native.Mathlib.Omega.{arith}
 use borrow.Author.Needs.{needs}

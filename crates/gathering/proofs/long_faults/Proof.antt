@@ -1,6 +1,6 @@
 -- `long_faults` meets its contract.
 use Rattle.model.proofs.Prelude.{arith, needs}
-use Rattle.gathering.proofs.Words.{or-zero}
+use Rattle.digits.proofs.Bytes.{or-zero}
 use Rattle.gathering.proofs.Bounds.{long-bound}
 use Rattle.gathering.proofs.long_faults.Tie as tie
 

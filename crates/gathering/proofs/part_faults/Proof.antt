@@ -3,7 +3,7 @@ use Prim.Native.Nat.{_%_, _*_, _/_, _^_, ℕ}
 use mathlib.Core.Path.{refl}
 use native.Mathlib.Omega.{arith}
 use lib.Bits.{bitAnd, bitOr, or-lt}
-use Rattle.gathering.proofs.Words.{or-zero}
+use Rattle.digits.proofs.Bytes.{or-zero}
 use Rattle.gathering.proofs.Faults.{part-digits, part-zero}
 use borrow.Author.Needs.{needs}
 use Rattle.gathering.proofs.part_faults.Statement.{statement}
