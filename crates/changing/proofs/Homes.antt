@@ -1,5 +1,5 @@
 -- The home of a name in a file that is read and sound, what its slot holds, and plans of no store and of one.
-use Rattle.model.proofs.Prelude.{_+_, _*_, Bool, List, Option, _<_, _^_, _∙_, _≡_, _≤_, ap, arith, clash, false, getD, getD-take, le-ltb, length, lt-ltb, nothing, refl, some, subst, sym, take, true, ℕ}
+use Rattle.model.proofs.Prelude.{Bool, List, Option, _<_, _^_, _∙_, _≡_, _≤_, ap, arith, clash, false, getD, getD-take, le-ltb, length, lt-ltb, nothing, refl, some, subst, sym, take, true, ℕ}
 use Rattle.model.specs.declared.Layout.{Layout}
 use Rattle.model.specs.Order.{Low, Str}
 use Rattle.model.specs.declared.PutAnswer.the-variants.{Replaced}
@@ -8,7 +8,7 @@ use Rattle.model.specs.Files.{In, Slot, Sound, free, head, order-of, slot-at, u
 use Rattle.model.specs.Changes.{call, holds?, put as asked, refuse}
 use Rattle.model.specs.Calls.{held, put-answer, put-takes}
 use Rattle.model.specs.Places.{place-of}
-use Rattle.model.specs.Format.{AreBytes, Sizes, bytes-at-slot, kept-run, read-file}
+use Rattle.model.specs.Format.{Sizes, bytes-at-slot, kept-run, read-file}
 use Rattle.model.proofs.Files.{first-right, one-range, used-inside, well-parts}
 use Rattle.model.proofs.Format.{put-fits, read-slot-read-file}
 use Rattle.entries.specs.declared.Content.{Content}
@@ -16,7 +16,6 @@ use Rattle.entries.specs.Rows.{content-number}
 use Rattle.entries.proofs.Contents.{run-is, value-is}
 use Rattle.entries.proofs.Parts.{length-held, length-new}
 use Rattle.bucket.specs.Forms.{ReadAs}
-use Rattle.bucket.proofs.Slots.{read-used}
 use Rattle.slots.specs.declared.Spot.{Spot}
 use Rattle.slots.specs.Spots.{Fits, SpotIn, is-some-value}
 use Rattle.file.specs.declared.Plan.{Plan}
@@ -97,6 +96,9 @@ new-fits {n = n} {es = es} P c b h k = omega (arith, length-new n c es h, P .cou
 -- What is said of the content that is replaced.
 pub old-said : (c : Content) (w : ℕ) → c .value < 2 ^ 64 → content-number c ≡ w → Replaced (c .value) (c .run) ≡ put-answer (some w)
 old-said c w small q = rw (← q, value-is c small, run-is c small)
+
+pub old-run : (c : Content) (w : ℕ) → c .value < 2 ^ 64 → content-number c ≡ w → run-of-content w ≡ c .run
+old-run c w small q = rw (← q) (run-is c small)
 
 -- The content of a put has room.
 pub put-content : (y : Layout) (c : Content) (v r : ℕ) → c .value ≡ v → c .run ≡ kept-run y r → v < 2 ^ 64 → r < 2 ^ 64

@@ -1,18 +1,18 @@
 -- Put, put together from the home of the name.
 use Rattle.model.specs.Places.{place-of}
-use Rattle.model.proofs.Prelude.{Bool, List, Option, [], _<_, _∙_, _∷_, _≡_, _≤_, arith, clash, decLe, false, le-ltb, length, lt-ltb, ltb, ltb-false, subst, sym, take-all, take-nil, true, ℕ}
+use Rattle.model.proofs.Prelude.{Bool, List, Option, [], _<_, _∙_, _∷_, _≡_, _≤_, arith, clash, decLe, false, le-ltb, length, lt-ltb, ltb, ltb-false, nothing, some, subst, sym, take-all, take-nil, true, ℕ}
 use Rattle.model.specs.declared.Cause.{Cause}
-use Rattle.model.specs.declared.Cause.the-variants.{IllegalName, WrongSize}
+use Rattle.model.specs.declared.Cause.the-variants.{IllegalName, OlderRun, WrongSize}
 use Rattle.model.specs.declared.Layout.{Layout}
 use Rattle.model.specs.declared.PutAnswer.the-variants.{Refused, Stopped}
 use Rattle.model.specs.declared.PutGiven.{PutGiven}
 use Rattle.model.specs.declared.Trie.{Trie}
 use Rattle.model.specs.Order.{Low, Str}
 use Rattle.model.specs.Names.{filled, is-legal-name}
-use Rattle.model.specs.Entries.{Entry, content-from, find, insert}
+use Rattle.model.specs.Entries.{Entry, content-from, find, insert, run-of-content}
 use Rattle.model.specs.Files.{Slot, used}
 use Rattle.model.specs.Changes.{Result, call, put as asked, put-in, refuse, stores}
-use Rattle.model.specs.Calls.{fine, held, looked-of, put-answer, put-by-stores, put-of, put-on-looked, put-takes, refusing, stores-bytes, trie-after-put}
+use Rattle.model.specs.Calls.{fine, held, looked-of, put-answer, put-by-stores, put-of, put-on-looked, put-takes, refusal-of, refusing, stores-bytes, trie-after-put}
 use Rattle.model.specs.Format.{kept-run}
 use Rattle.model.proofs.Entries.{chosen-yes}
 use Rattle.file.specs.declared.Plan.{Plan}
@@ -22,8 +22,8 @@ use Rattle.slots.specs.Spots.{Begins}
 use Rattle.changing.specs.Plans.{PutPlanned}
 use Rattle.changing.specs.Outcomes.{put}
 use Rattle.changing.specs.Homes.{Home}
-use Rattle.changing.specs.Splits.{PutAsked}
-use Rattle.changing.proofs.Homes.{OneStore}
+use Rattle.changing.specs.Splits.{PutAsked, PutTaken}
+use Rattle.changing.proofs.Homes.{NoStore, OneStore, takes-new, takes-older}
 
 -- One store: of a held name, or of a new one that fits.
 module _ (t : Trie) (y : Layout) {fs : List Slot} {A : ℕ} {n : Str} (c : ℕ) {l : Low} {u : Str} {es : List Entry} (H : Home A fs n l u es)
@@ -38,6 +38,17 @@ module _ (t : Trie) (y : Layout) {fs : List Slot} {A : ℕ} {n : Str} (c : ℕ) 
   put-one r p bytes f z q g =
       let a : r .answer ≡ put-answer (held fs n) = rw (← H .slot-is, H .is, f) (g .1) in
       subst (PutPlanned r t y fs n c) (sym call-put) (rw (g .0) (q .0, (q .1, rw (q .2) z)), a, g .2)
+
+-- None: what is held has a higher run.
+pub put-older : (t : Trie) (y : Layout) {fs : List Slot} {A : ℕ} {n : Str} {l : Low} {u : Str} {es : List Entry} → Home A fs n l u es → (c run : ℕ) (r : PutPlan) (p : Plan) (w : ℕ)
+    → find n es ≡ some w → run < run-of-content w → NoStore p → (r .plan ≡ p) × (r .answer ≡ Refused OlderRun) × (r .trie ≡ t) → PutTaken r t y fs n c run
+unfolding refusal-of
+put-older t y {fs} {n = n} H c run r p w f k q g = subst (PutPlanned r t y fs n c) (sym (takes-older y H c run w f k)) (rw (g .0) (q .0), g .1, g .2)
+
+-- Of a name that is not held the runs say nothing.
+pub put-new : (t : Trie) (y : Layout) {fs : List Slot} {A : ℕ} {n : Str} {l : Low} {u : Str} {es : List Entry} → Home A fs n l u es → (c run : ℕ) (r : PutPlan)
+    → find n es ≡ nothing → PutAsked r t y fs n c → PutTaken r t y fs n c run
+put-new t y {fs} {n = n} H c run r f = subst (PutPlanned r t y fs n c) (sym (takes-new y H c run f))
 
 -- What is left of a plan that is committed.
 module _ (xs ys : List ℕ) (t : Trie) (y : Layout) (fs : List Slot) (n : Str) (v limit : ℕ) (p : PutPlan) (d : Bool) (C : Committed d xs ys y (p .plan) limit)

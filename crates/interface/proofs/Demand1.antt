@@ -13,7 +13,7 @@ use Rattle.model.specs.declared.RemoveAnswer.{RemoveAnswer}
 use Rattle.model.specs.declared.RemoveAnswer.the-variants.{Absent as NotHeld, Refused as RemoveRefused, Removed, Stopped as RemoveStopped}
 use Rattle.model.specs.declared.TrieAnswer.{TrieAnswer}
 use Rattle.model.specs.declared.TrieAnswer.the-variants.{Given, Refused as TrieRefused}
-use Rattle.model.specs.Answers.{Saying, number, said-by-check, said-by-create, said-by-list, said-by-look-up, said-by-put, said-by-rebuild, said-by-recover, said-by-remove}
+use Rattle.model.specs.Answers.{said-by-check, said-by-create, said-by-list, said-by-look-up, said-by-put, said-by-rebuild, said-by-recover, said-by-remove}
 use Rattle.model.specs.Calls.{create-of, list-of, look-up-of, new-trie, put-of, rebuild-of, recover-of, remove-of}
 use Rattle.model.specs.Checks.{Kind, is-bad, is-cut, is-sound}
 use Rattle.model.specs.Format.{check-file}
@@ -143,7 +143,7 @@ module _ (xs image name out : List ℕ) (w : IsImage image) where
   )
 
   look-up-answers : (a : LookUpAnswer) → look-up-of xs (trie-from image) name ≡ a → Answers (look-up-refusal out) (100 ∷ 101 ∷ []) look-up-left (said-by-look-up a .0)
-  look-up-answers (Found v) e = first-of
+  look-up-answers (Found v run) e = first-of
   look-up-answers NotFound e = second-of
   look-up-answers (LookUpRefused c) e = inl (c, look-up-refuses c e)
 
@@ -151,28 +151,28 @@ module _ (xs image name out : List ℕ) (w : IsImage image) where
   look-up-told = subst (λ (k : ℕ). Answers (look-up-refusal out) (100 ∷ 101 ∷ []) look-up-left k) (sym (ap (λ (o : ℕ × List ℕ). o .0) (look-up-is image w xs name out))) (look-up-answers (look-up-of xs (trie-from image) name) refl)
 
 -- Put.
-module _ (xs image name : List ℕ) (v limit : ℕ) (out : List ℕ) (w : IsImage image) where
+module _ (xs image name : List ℕ) (v run limit : ℕ) (out : List ℕ) (w : IsImage image) where
   abbrev put-left : ℕ × List ℕ × List ℕ × List ℕ
-  put-left = pal-put-of xs image name v limit out
+  put-left = pal-put-of xs image name v run limit out
 
-  put-refuses : (c : Cause) → put-of xs (trie-from image) name v limit .answer ≡ PutRefused c → put-left ≡ change-refusal xs image out c
-  put-refuses c a = rw (put-is image w xs name v limit out, a, demand-1 .put-leaves xs (trie-from image) name v limit c a .0)
+  put-refuses : (c : Cause) → put-of xs (trie-from image) name v run limit .answer ≡ PutRefused c → put-left ≡ change-refusal xs image out c
+  put-refuses c a = rw (put-is image w xs name v run limit out, a, demand-1 .put-leaves xs (trie-from image) name v run limit c a .0)
 
-  put-exactly : IsOut out → Exactly (change-refusal xs image out) put-left (put-table xs (trie-from image) name v limit)
+  put-exactly : IsOut out → Exactly (change-refusal xs image out) put-left (put-table xs (trie-from image) name v run limit)
   put-exactly h c = (
-    λ e. let f : (said-by-put (put-of xs (trie-from image) name v limit .answer) .0, put-of xs (trie-from image) name v limit .file, image-after (put-of xs (trie-from image) name v limit .answer) (put-of xs (trie-from image) name v limit .trie) image, out-after (said-by-put (put-of xs (trie-from image) name v limit .answer)) out) ≡ change-refusal xs image out c = sym (put-is image w xs name v limit out) ∙ e in
-        demand-1 .put xs (trie-from image) name v limit c .0 (put-cause out (omega arith) c (put-of xs (trie-from image) name v limit .answer) (ap (λ (o : ℕ × List ℕ × List ℕ × List ℕ). o .0) f) (ap (λ (o : ℕ × List ℕ × List ℕ × List ℕ). o .3) f)),
-    λ f. put-refuses c (demand-1 .put xs (trie-from image) name v limit c .1 f),
+    λ e. let f : (said-by-put (put-of xs (trie-from image) name v run limit .answer) .0, put-of xs (trie-from image) name v run limit .file, image-after (put-of xs (trie-from image) name v run limit .answer) (put-of xs (trie-from image) name v run limit .trie) image, out-after (said-by-put (put-of xs (trie-from image) name v run limit .answer)) out) ≡ change-refusal xs image out c = sym (put-is image w xs name v run limit out) ∙ e in
+        demand-1 .put xs (trie-from image) name v run limit c .0 (put-cause out (omega arith) c (put-of xs (trie-from image) name v run limit .answer) (ap (λ (o : ℕ × List ℕ × List ℕ × List ℕ). o .0) f) (ap (λ (o : ℕ × List ℕ × List ℕ × List ℕ). o .3) f)),
+    λ f. put-refuses c (demand-1 .put xs (trie-from image) name v run limit c .1 f),
   )
 
-  put-answers : (a : PutAnswer) → put-of xs (trie-from image) name v limit .answer ≡ a → Answers (change-refusal xs image out) (110 ∷ 111 ∷ 112 ∷ []) put-left (said-by-put a .0)
+  put-answers : (a : PutAnswer) → put-of xs (trie-from image) name v run limit .answer ≡ a → Answers (change-refusal xs image out) (110 ∷ 111 ∷ 112 ∷ []) put-left (said-by-put a .0)
   put-answers Added e = first-of
-  put-answers (Replaced old) e = second-of
+  put-answers (Replaced old old-run) e = second-of
   put-answers (PutStopped made) e = third-of
   put-answers (PutRefused c) e = inl (c, put-refuses c e)
 
   put-told : Answers (change-refusal xs image out) (110 ∷ 111 ∷ 112 ∷ []) put-left (put-left .0)
-  put-told = subst (λ (k : ℕ). Answers (change-refusal xs image out) (110 ∷ 111 ∷ 112 ∷ []) put-left k) (sym (ap (λ (o : ℕ × List ℕ × List ℕ × List ℕ). o .0) (put-is image w xs name v limit out))) (put-answers (put-of xs (trie-from image) name v limit .answer) refl)
+  put-told = subst (λ (k : ℕ). Answers (change-refusal xs image out) (110 ∷ 111 ∷ 112 ∷ []) put-left k) (sym (ap (λ (o : ℕ × List ℕ × List ℕ × List ℕ). o .0) (put-is image w xs name v run limit out))) (put-answers (put-of xs (trie-from image) name v run limit .answer) refl)
 
 -- Remove.
 module _ (xs image name : List ℕ) (limit : ℕ) (out : List ℕ) (w : IsImage image) where
@@ -250,7 +250,7 @@ demand-1-c = record {
   create-malformed = λ xs v b slots image n. create-malformed image n xs v b slots;
   rebuild-malformed = λ xs image n. rebuild-malformed image n xs;
   look-up-malformed = λ xs image name out n. look-up-is-malformed image n xs name out;
-  put-malformed = λ xs image name v limit out n. put-malformed image n xs name v limit out;
+  put-malformed = λ xs image name v run limit out n. put-malformed image n xs name v run limit out;
   remove-malformed = λ xs image name limit out n. remove-malformed image n xs name limit out;
   list-malformed = λ xs image low high output out n. list-malformed image n xs low high output out;
 }

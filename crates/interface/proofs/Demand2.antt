@@ -52,10 +52,10 @@ rebuilt-leads xs image e = elim (ℕ-discrete (length image) image-length) [
 ]
 
 -- The image after a put that was made: the trie's, or the one that was lent.
-after-made : (image : List ℕ) (a : PutAnswer) (ys : List ℕ) (t : Trie) → ((old : ℕ) → a ≡ Replaced old → t ≡ trie-from image) → (Made a → LeadsRight ys t)
+after-made : (image : List ℕ) (a : PutAnswer) (ys : List ℕ) (t : Trie) → ((old old-run : ℕ) → a ≡ Replaced old old-run → t ≡ trie-from image) → (Made a → LeadsRight ys t)
     → (said-by-put a .0 ≡ 110) ⊎ (said-by-put a .0 ≡ 111) → LeadsRight ys (trie-from (image-after a t image))
 after-made image Added ys t same L e = leads-written (L tt)
-after-made image (Replaced old) ys t same L e = subst (λ (u : Trie). LeadsRight ys u) (same old refl) (L tt)
+after-made image (Replaced old old-run) ys t same L e = subst (λ (u : Trie). LeadsRight ys u) (same old old-run refl) (L tt)
 after-made image (PutStopped made) ys t same L (inl e) = absurd (omega arith)
 after-made image (PutStopped made) ys t same L (inr e) = absurd (omega arith)
 after-made image (PutRefused c) ys t same L (inl e) = absurd (omega (arith, number-small c))
@@ -65,16 +65,16 @@ not-made : {k : ℕ} → k ≡ 255 → (k ≡ 110) ⊎ (k ≡ 111) → ⊥
 not-made z (inl e) = omega arith
 not-made z (inr e) = omega arith
 
-put-leads : (xs image name : List ℕ) (v limit : ℕ) (out : List ℕ) → AreBytes xs → v < 2 ^ 64
-    → (pal-put-of xs image name v limit out .0 ≡ 110) ⊎ (pal-put-of xs image name v limit out .0 ≡ 111)
-    → LeadsRight (pal-put-of xs image name v limit out .1) (trie-from (pal-put-of xs image name v limit out .2))
-put-leads xs image name v limit out B s e = elim (ℕ-discrete (length image) image-length) [
+put-leads : (xs image name : List ℕ) (v run limit : ℕ) (out : List ℕ) → AreBytes xs → v < 2 ^ 64 → run < 2 ^ 64
+    → (pal-put-of xs image name v run limit out .0 ≡ 110) ⊎ (pal-put-of xs image name v run limit out .0 ≡ 111)
+    → LeadsRight (pal-put-of xs image name v run limit out .1) (trie-from (pal-put-of xs image name v run limit out .2))
+put-leads xs image name v run limit out B s low e = elim (ℕ-discrete (length image) image-length) [
   | yes w ↦
-      let o = put-of xs (trie-from image) name v limit in
-      rw (put-is image w xs name v limit out)
-      (after-made image (o .answer) (o .file) (o .trie) (replaced-same xs (trie-from image) name v limit) (demand-2 .grown xs (trie-from image) name v limit B s)
-      (rw (put-is image w xs name v limit out) at e))
-  | no n ↦ let z : pal-put-of xs image name v limit out .0 ≡ 255 = rw (put-malformed image n xs name v limit out) in absurd (not-made z e)
+      let o = put-of xs (trie-from image) name v run limit in
+      rw (put-is image w xs name v run limit out)
+      (after-made image (o .answer) (o .file) (o .trie) (replaced-same xs (trie-from image) name v run limit) (demand-2 .grown xs (trie-from image) name v run limit B s low)
+      (rw (put-is image w xs name v run limit out) at e))
+  | no n ↦ let z : pal-put-of xs image name v run limit out .0 ≡ 255 = rw (put-malformed image n xs name v run limit out) in absurd (not-made z e)
 ]
 
 pub demand-2-c : Demand2C our-c-calls

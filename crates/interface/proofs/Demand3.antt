@@ -12,7 +12,9 @@ use Rattle.model.specs.declared.TrieAnswer.{TrieAnswer}
 use Rattle.model.specs.declared.TrieAnswer.the-variants.{Given, Refused as TrieRefused}
 use Rattle.model.specs.Order.{Str}
 use Rattle.model.specs.Names.{filled}
+use Rattle.model.specs.Entries.{content-from}
 use Rattle.model.specs.Changes.{Map}
+use Rattle.model.specs.Format.{kept-run, layout-of}
 use Rattle.model.specs.Answers.{number, said-by-look-up, said-by-put, said-by-rebuild, said-by-recover, said-by-remove}
 use Rattle.model.specs.Calls.{create-of, held-answer, put-of, rebuild-of, recover-of, remove-of}
 use Rattle.promises.specs.Calls.{our-calls}
@@ -50,7 +52,7 @@ here : {s : State} → Always s → Holds our-calls s
 unfolding after
 here A = A []
 
-other : (c : Cause) (k : ℕ) → 9 ≤ k → eqb (number c) k ≡ false
+other : (c : Cause) (k : ℕ) → 13 ≤ k → eqb (number c) k ≡ false
 other c k h = ne-eqb (number c) k (λ e. omega (arith, number-small c))
 
 -- The image in hand is the trie in hand.
@@ -72,13 +74,13 @@ now-same (C.down xs m) = refl
 
 -- One call, by its answer.
 put-goes : (s : StateC) → Whole s → (i : List ℕ) → IsImage i → (n : Str) (v : ℕ) (a : PutAnswer) (ys : List ℕ) (t : Trie)
-    → ((old : ℕ) → a ≡ Replaced old → t ≡ trie-from i) → Always (after-put (tries s) n v a ys t)
+    → ((old old-run : ℕ) → a ≡ Replaced old old-run → t ≡ trie-from i) → Always (after-put (tries s) n v a ys t)
     → Goes (C.after-put s n v (said-by-put a .0) ys (image-after a t i))
 unfolding after-put C.after-put
 put-goes (C.running xs j m) w i z n v Added ys t same A = given-goes ys t _ A
 put-goes (C.down xs m) w i z n v Added ys t same A = given-goes ys t _ A
-put-goes (C.running xs j m) w i z n v (Replaced old) ys t same A = same-goes ys t i _ z (same old refl) A
-put-goes (C.down xs m) w i z n v (Replaced old) ys t same A = same-goes ys t i _ z (same old refl) A
+put-goes (C.running xs j m) w i z n v (Replaced old old-run) ys t same A = same-goes ys t i _ z (same old old-run refl) A
+put-goes (C.down xs m) w i z n v (Replaced old old-run) ys t same A = same-goes ys t i _ z (same old old-run refl) A
 put-goes (C.running xs j m) w i z n v (PutStopped made) ys t same A = (tt, A)
 put-goes (C.down xs m) w i z n v (PutStopped made) ys t same A = (tt, A)
 put-goes (C.running xs j m) w i z n v (PutRefused c) ys t same A =
@@ -119,19 +121,19 @@ file-same : (s : StateC) → file-of (tries s) ≡ C.file-of s
 file-same (C.running xs i m) = refl
 file-same (C.down xs m) = refl
 
-put-steps : (s : StateC) → Whole s → (i name : List ℕ) (v limit : ℕ) (out : List ℕ) → IsImage i
-    → Always (put-by our-calls (tries s) (trie-from i) name v limit) → Goes (C.put-by our-c-calls s i name v limit out)
+put-steps : (s : StateC) → Whole s → (i name : List ℕ) (v run limit : ℕ) (out : List ℕ) → IsImage i
+    → Always (put-by our-calls (tries s) (trie-from i) name v run limit) → Goes (C.put-by our-c-calls s i name v run limit out)
 unfolding put-by C.put-by
-put-steps s w i name v limit out z A =
+put-steps s w i name v run limit out z A =
     let xs = C.file-of s in
-    let o = put-of xs (trie-from i) name v limit in
-    rw (put-is i z xs name v limit out)
-    (put-goes s w i z (filled name) v (o .answer) (o .file) (o .trie) (replaced-same xs (trie-from i) name v limit)
-    (subst (λ (ys : List ℕ). Always (after-put (tries s) (filled name) v (put-of ys (trie-from i) name v limit .answer) (put-of ys (trie-from i) name v limit .file) (put-of ys (trie-from i) name v limit .trie))) (file-same s) A))
+    let o = put-of xs (trie-from i) name v run limit in
+    rw (put-is i z xs name v run limit out)
+    (put-goes s w i z (filled name) (content-from v (kept-run (layout-of xs) run)) (o .answer) (o .file) (o .trie) (replaced-same xs (trie-from i) name v run limit)
+    (subst (λ (ys : List ℕ). Always (after-put (tries s) (filled name) (content-from v (kept-run (layout-of ys) run)) (put-of ys (trie-from i) name v run limit .answer) (put-of ys (trie-from i) name v run limit .file) (put-of ys (trie-from i) name v run limit .trie))) (file-same s) A))
 
-put-malforms : (s : StateC) (i name : List ℕ) (v limit : ℕ) (out : List ℕ) → ¬ IsImage i → C.put-by our-c-calls s i name v limit out ≡ s
+put-malforms : (s : StateC) (i name : List ℕ) (v run limit : ℕ) (out : List ℕ) → ¬ IsImage i → C.put-by our-c-calls s i name v run limit out ≡ s
 unfolding C.put-by C.after-put
-put-malforms s i name v limit out n = rw (put-malformed i n (C.file-of s) name v limit out) (now-same s)
+put-malforms s i name v run limit out n = rw (put-malformed i n (C.file-of s) name v run limit out) (now-same s)
 
 remove-steps : (s : StateC) → Whole s → (i name : List ℕ) (limit : ℕ) (out : List ℕ) → IsImage i
     → Always (remove-by our-calls (tries s) (trie-from i) name limit) → Goes (C.remove-by our-c-calls s i name limit out)
@@ -153,15 +155,15 @@ rebuild-malforms s i n = rw (rebuild-malformed i n (C.file-of s))
 
 step-goes : (e : EventC) (s : StateC) → Goes s → Goes (C.step our-c-calls e s)
 unfolding after step C.step
-step-goes (C.put name v small limit out) (C.running xs i m) (w, A) =
-    put-steps (C.running xs i m) w i name v limit out w (λ es. A (put name v small limit ∷ es))
-step-goes (C.put name v small limit out) (C.down xs m) g = g
+step-goes (C.put name v small run low limit out) (C.running xs i m) (w, A) =
+    put-steps (C.running xs i m) w i name v run limit out w (λ es. A (put name v small run low limit ∷ es))
+step-goes (C.put name v small run low limit out) (C.down xs m) g = g
 step-goes (C.remove name limit out) (C.running xs i m) (w, A) =
     remove-steps (C.running xs i m) w i name limit out w (λ es. A (remove name limit ∷ es))
 step-goes (C.remove name limit out) (C.down xs m) g = g
-step-goes (C.put-with i name v small limit out) s g = elim (ℕ-discrete (length i) image-length) [
-  | yes z ↦ put-steps s (g .0) i name v limit out z (λ es. g .1 (put-with (trie-from i) name v small limit ∷ es))
-  | no n ↦ subst Goes (sym (put-malforms s i name v limit out n)) g
+step-goes (C.put-with i name v small run low limit out) s g = elim (ℕ-discrete (length i) image-length) [
+  | yes z ↦ put-steps s (g .0) i name v run limit out z (λ es. g .1 (put-with (trie-from i) name v small run low limit ∷ es))
+  | no n ↦ subst Goes (sym (put-malforms s i name v run limit out n)) g
 ]
 step-goes (C.remove-with i name limit out) s g = elim (ℕ-discrete (length i) image-length) [
   | yes z ↦ remove-steps s (g .0) i name limit out z (λ es. g .1 (remove-with (trie-from i) name limit ∷ es))
@@ -188,7 +190,7 @@ step-goes (C.rebuild i) s g = elim (ℕ-discrete (length i) image-length) [
 -- What holds of the tries holds of the images.
 held-said : (o : Option ℕ) (out : List ℕ) → _≡_ {A = ℕ × List ℕ} (said-by-look-up (held-answer o) .0, out-after (said-by-look-up (held-answer o)) out) (held-says o out)
 held-said nothing out = refl
-held-said (some v) out = refl
+held-said (some c) out = refl
 
 kept : (xs i : List ℕ) (m : Map) → IsImage i → Kept our-calls xs (trie-from i) m → KeptC our-c-calls xs i m
 kept xs i m z K = record {
@@ -213,7 +215,7 @@ recovers xs m limit out a ys (stopped-at-0 z) = C.stopped-at-0 z
 -- Stopped.
 put-stop : (a : PutAnswer) → said-by-put a .0 ≡ 112 → (made : ℕ) × (a ≡ PutStopped made)
 put-stop Added e = absurd (omega arith)
-put-stop (Replaced old) e = absurd (omega arith)
+put-stop (Replaced old old-run) e = absurd (omega arith)
 put-stop (PutStopped made) e = (made, refl)
 put-stop (PutRefused c) e = absurd (omega (arith, number-small c))
 
@@ -233,14 +235,14 @@ stopped : {limit made : ℕ} {xs ys : List ℕ} (out : List ℕ) → StoppedAt l
 stopped out S = rw (S .as-limited) (record { as-made = rw (← S .as-limited) (S .as-made); as-said = refl })
 
 module _ (xs : List ℕ) where
-  put-stops : ((t : Trie) (name : List ℕ) (v limit made : ℕ) → put-of xs t name v limit .answer ≡ PutStopped made → StoppedAt limit made xs (put-of xs t name v limit .file))
-      → (i name : List ℕ) (v limit : ℕ) (out : List ℕ) → pal-put-of xs i name v limit out .0 ≡ 112
-      → StoppedC limit xs (pal-put-of xs i name v limit out .1) out (pal-put-of xs i name v limit out .3) × (pal-put-of xs i name v limit out .2 ≡ i)
-  put-stops h i name v limit out e = elim (ℕ-discrete (length i) image-length) [
+  put-stops : ((t : Trie) (name : List ℕ) (v run limit made : ℕ) → put-of xs t name v run limit .answer ≡ PutStopped made → StoppedAt limit made xs (put-of xs t name v run limit .file))
+      → (i name : List ℕ) (v run limit : ℕ) (out : List ℕ) → pal-put-of xs i name v run limit out .0 ≡ 112
+      → StoppedC limit xs (pal-put-of xs i name v run limit out .1) out (pal-put-of xs i name v run limit out .3) × (pal-put-of xs i name v run limit out .2 ≡ i)
+  put-stops h i name v run limit out e = elim (ℕ-discrete (length i) image-length) [
     | yes z ↦
-        let p = put-stop (put-of xs (trie-from i) name v limit .answer) (rw (put-is i z xs name v limit out) at e) in
-        rw (put-is i z xs name v limit out, p .1) (stopped out (h (trie-from i) name v limit (p .0) (p .1)), refl)
-    | no n ↦ let z : malformed ≡ 112 = rw (put-malformed i n xs name v limit out) at e in absurd (omega arith)
+        let p = put-stop (put-of xs (trie-from i) name v run limit .answer) (rw (put-is i z xs name v run limit out) at e) in
+        rw (put-is i z xs name v run limit out, p .1) (stopped out (h (trie-from i) name v run limit (p .0) (p .1)), refl)
+    | no n ↦ let z : malformed ≡ 112 = rw (put-malformed i n xs name v run limit out) at e in absurd (omega arith)
   ]
 
   remove-stops : ((t : Trie) (name : List ℕ) (limit made : ℕ) → remove-of xs t name limit .answer ≡ RemoveStopped made → StoppedAt limit made xs (remove-of xs t name limit .file))
@@ -265,11 +267,11 @@ module _ (xs : List ℕ) where
       let p = recover-stop (recover-of xs limit .answer) (rw (recover-is xs limit out) at e) in
       rw (recover-is xs limit out, p .1) (stopped out (h limit (p .0) (p .1)))
 
-  put-denies : (i name : List ℕ) (v limit : ℕ) (out : List ℕ) → pal-put-of xs i name v limit out .0 < 100
-      → IsRefusal (change-refusal xs i out) (pal-put-of xs i name v limit out)
-  put-denies i name v limit out e = elim (ℕ-discrete (length i) image-length) [
-    | yes z ↦ refused-below _ (omega arith, (omega arith, (omega arith, tt))) e (demand-1-c .put-says xs i name v limit out z)
-    | no n ↦ let z : malformed < 100 = rw (put-malformed i n xs name v limit out) at e in absurd (omega arith)
+  put-denies : (i name : List ℕ) (v run limit : ℕ) (out : List ℕ) → pal-put-of xs i name v run limit out .0 < 100
+      → IsRefusal (change-refusal xs i out) (pal-put-of xs i name v run limit out)
+  put-denies i name v run limit out e = elim (ℕ-discrete (length i) image-length) [
+    | yes z ↦ refused-below _ (omega arith, (omega arith, (omega arith, tt))) e (demand-1-c .put-says xs i name v run limit out z)
+    | no n ↦ let z : malformed < 100 = rw (put-malformed i n xs name v run limit out) at e in absurd (omega arith)
   ]
 
   remove-denies : (i name : List ℕ) (limit : ℕ) (out : List ℕ) → pal-remove-of xs i name limit out .0 < 100
@@ -293,8 +295,8 @@ holds (C.running xs i m) w H = record {
   put-refused = put-denies xs;
   remove-refused = remove-denies xs;
   recover-refused = recover-denies xs;
-  put-stopped = λ i name v limit out e. put-stops xs (H .put-stopped) i name v limit out e .0;
-  put-image = λ i name v limit out e. put-stops xs (H .put-stopped) i name v limit out e .1;
+  put-stopped = λ i name v run limit out e. put-stops xs (H .put-stopped) i name v run limit out e .0;
+  put-image = λ i name v run limit out e. put-stops xs (H .put-stopped) i name v run limit out e .1;
   remove-stopped = remove-stops xs (H .remove-stopped);
   remove-image = remove-leaves xs;
   recover-stopped = recover-stops xs (H .recover-stopped);
@@ -305,8 +307,8 @@ holds (C.down xs m) w H = record {
   put-refused = put-denies xs;
   remove-refused = remove-denies xs;
   recover-refused = recover-denies xs;
-  put-stopped = λ i name v limit out e. put-stops xs (H .put-stopped) i name v limit out e .0;
-  put-image = λ i name v limit out e. put-stops xs (H .put-stopped) i name v limit out e .1;
+  put-stopped = λ i name v run limit out e. put-stops xs (H .put-stopped) i name v run limit out e .0;
+  put-image = λ i name v run limit out e. put-stops xs (H .put-stopped) i name v run limit out e .1;
   remove-stopped = remove-stops xs (H .remove-stopped);
   remove-image = remove-leaves xs;
   recover-stopped = recover-stops xs (H .recover-stopped);

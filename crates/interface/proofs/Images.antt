@@ -1,20 +1,21 @@
 -- The images that calls write: the trie that leads right is read back, and a put that replaces a value leaves the trie.
-use Rattle.model.proofs.Prelude.{Bool, List, Option, _≡_, arith, clash, cond, false, length, length-append, ltb, nothing, refl, some, subst, sym, take, true, ℕ}
+use Rattle.model.proofs.Prelude.{Bool, List, Option, _∙_, _≡_, ap, arith, clash, cond, false, length, length-append, ltb, nothing, refl, some, subst, sym, take, true, ℕ}
 use Rattle.model.specs.declared.Cause.the-variants.{IllegalName, WrongSize}
 use Rattle.model.specs.declared.Layout.{Layout}
 use Rattle.model.specs.declared.PutAnswer.the-variants.{Refused as PutRefused, Replaced, Stopped as PutStopped}
 use Rattle.model.specs.declared.Trie.{Trie}
 use Rattle.model.specs.Order.{Str}
 use Rattle.model.specs.Names.{Legal, filled, is-legal-name}
-use Rattle.model.specs.Entries.{find}
+use Rattle.model.specs.Entries.{content-from, find}
 use Rattle.model.specs.Files.{In, Slot, entries-of, first, head, slot-at}
 use Rattle.model.specs.Changes.{Result, Store, holds?, put}
 use Rattle.model.specs.Places.{place-of}
-use Rattle.model.specs.Calls.{Looked, PutDone, fine, looked-of, put-answer, put-by-stores, put-of, put-on-looked, refusing, stores-bytes, trie-after-put}
+use Rattle.model.specs.Format.{kept-run}
+use Rattle.model.specs.Calls.{Looked, PutDone, fine, held, looked-of, put-answer, put-by-stores, put-of, put-on-looked, refusing, stores-bytes, trie-after-put}
 use Rattle.model.proofs.Names.{is-legal-name-legal}
 use Rattle.model.proofs.Files.{first-right, one-range}
 use Rattle.model.proofs.Changes.{Change, fits, splits, well-a}
-use Rattle.model.proofs.Calls.{Answered, is-denied, is-made, put-right}
+use Rattle.model.proofs.Calls.{Answered, is-denied, is-made, put-right, put-taken}
 use Rattle.model.proofs.Format.{file-bytes-read-file}
 use Rattle.entries.proofs.Parts.{length-held}
 use Rattle.promises.specs.Demand2.{LeadsRight}
@@ -34,52 +35,60 @@ read-back {xs} {t} L = trie-back t (agreeing-imaged (file-bytes-read-file xs (L 
 pub leads-written : {xs : List ℕ} {t : Trie} → LeadsRight xs t → LeadsRight xs (trie-from (image-of t))
 leads-written {xs} L = subst (λ (u : Trie). LeadsRight xs u) (sym (read-back L)) L
 
-was-held : (o : Option ℕ) (old : ℕ) → put-answer o ≡ Replaced old → o ≡ some old
-was-held nothing old e = clash cc
-was-held (some w) old e = cc
+was-held : (o : Option ℕ) (old old-run : ℕ) → put-answer o ≡ Replaced old old-run → (w : ℕ) × (o ≡ some w)
+was-held nothing old old-run e = clash cc
+was-held (some w) old old-run e = (w, refl)
 
-module _ (xs : List ℕ) (t : Trie) (name : List ℕ) (v limit : ℕ) where
+module _ (xs : List ℕ) (t : Trie) (name : List ℕ) (v run limit : ℕ) where
   abbrev n : Str
   n = filled name
 
+  -- What the put asks to be stored.
+  abbrev content : Layout → ℕ
+  content y = content-from v (kept-run y run)
+
   abbrev Same : PutDone → Type 0
-  Same d = (old : ℕ) → d .answer ≡ Replaced old → d .trie ≡ t
+  Same d = (old old-run : ℕ) → d .answer ≡ Replaced old old-run → d .trie ≡ t
 
   -- A held name takes no more room, and so no split.
-  one : (y : Layout) (fs : List Slot) → Passed xs t y fs → {ss : List Store} → Change (y .b) (place-of y) fs (put n v) ss → (old : ℕ)
-      → put-answer (find n (entries-of (slot-at fs (first (holds? n) fs)))) ≡ Replaced old → trie-after-put (y .b) (place-of y) fs n v ss t ≡ t
+  one : (y : Layout) (fs : List Slot) → Passed xs t y fs → {ss : List Store} → Change (y .b) (place-of y) fs (put n (content y)) ss → (old old-run : ℕ)
+      → put-answer (held fs n) ≡ Replaced old old-run → trie-after-put (y .b) (place-of y) fs n (content y) ss t ≡ t
   unfolding trie-after-put
-  one y fs p (fits is g lo up k) old e = refl
-  one y fs p (splits {A = A} {l = l} {u = u} {es = es} is g lo up big low few) old e =
+  one y fs p (fits is g lo up k) old old-run e = refl
+  one y fs p (splits {A = A} {l = l} {u = u} {es = es} is g lo up big low few) old old-run e =
       let here : In (head (slot-at fs A)) n = rw is (tt, lo, up) in
       let there : A ≡ first (holds? n) fs = one-range (y .b) (p .sound) n here (first-right (holds? n) fs A here (λ h. h .0)) in
       let w = well-a (y .b) fs (p .sound) A l u es is in
-      let held : find n es ≡ some old = rw (← there, is) at (was-held (find n (entries-of (slot-at fs (first (holds? n) fs)))) old e) in
-      absurd (omega (arith, big, w .4, length-held n v old (w .3) held))
+      let h = was-held (held fs n) old old-run e in
+      let found : find n es ≡ some (h .0) = ap (λ (x : Slot). find n (entries-of x)) (sym is ∙ ap (slot-at fs) there) ∙ h .1 in
+      absurd (omega (arith, big, w .4, length-held n (content y) (h .0) (w .3) found))
 
-  made : (y : Layout) (fs : List Slot) → Passed xs t y fs → {r : Result} → Answered (y .b) (place-of y) fs (put n v) r → Same (put-by-stores xs t y fs n v limit r)
+  made : (y : Layout) (fs : List Slot) → Passed xs t y fs → {r : Result} → Answered (y .b) (place-of y) fs (put n (content y)) r → Same (put-by-stores xs t y fs n (content y) limit r)
   unfolding put-by-stores
-  made y fs p (is-denied d) old e = clash cc
-  made y fs p (is-made {ss = ss} c) old e = stopped (ltb limit (length ss)) e
+  made y fs p (is-denied d) old old-run e = clash cc
+  made y fs p (is-made {ss = ss} c) old old-run e = stopped (ltb limit (length ss)) e
     where
       short : PutDone
       short = record { answer = PutStopped limit; file = stores-bytes y (take limit ss) xs; trie = t }
 
       whole : PutDone
-      whole = record { answer = put-answer (find n (entries-of (slot-at fs (first (holds? n) fs)))); file = stores-bytes y ss xs; trie = trie-after-put (y .b) (place-of y) fs n v ss t }
+      whole = record { answer = put-answer (held fs n); file = stores-bytes y ss xs; trie = trie-after-put (y .b) (place-of y) fs n (content y) ss t }
 
-      stopped : (s : Bool) → cond s short whole .answer ≡ Replaced old → cond s short whole .trie ≡ t
+      stopped : (s : Bool) → cond s short whole .answer ≡ Replaced old old-run → cond s short whole .trie ≡ t
       stopped true e = refl
-      stopped false e = one y fs p c old e
+      stopped false e = one y fs p c old old-run e
 
-  looked : (l : Looked) → looked-of xs t ≡ l → Legal n → Same (put-on-looked xs t n v limit l)
-  unfolding put-on-looked
-  looked (refusing c) e g old h = refl
-  looked (fine y fs) e g old h = let p = looked-passed xs t y fs e in made y fs p (put-right (y .b) (place-of y) fs (p .sound) n v g) old h
+  looked : (l : Looked) → looked-of xs t ≡ l → Legal n → Same (put-on-looked xs t n v run limit l)
+  unfolding put-on-looked put-by-stores
+  looked (refusing c) e g = λ old old-run h. refl
+  looked (fine y fs) e g =
+      let p = looked-passed xs t y fs e in
+      put-taken (λ (r : Result). Same (put-by-stores xs t y fs n (content y) limit r)) y fs n (content y) (kept-run y run) (λ e old old-run h. refl)
+      (λ e. made y fs p (put-right (y .b) (place-of y) fs (p .sound) n (content y) g))
 
-  pub replaced-same : (old : ℕ) → put-of xs t name v limit .answer ≡ Replaced old → put-of xs t name v limit .trie ≡ t
+  pub replaced-same : Same (put-of xs t name v run limit)
   unfolding put-of
-  replaced-same old h = limited (ltb 2 limit) old h
+  replaced-same = limited (ltb 2 limit)
     where
       big : PutDone
       big = record { answer = PutRefused WrongSize; file = xs; trie = t }
@@ -87,10 +96,10 @@ module _ (xs : List ℕ) (t : Trie) (name : List ℕ) (v limit : ℕ) where
       illegal : PutDone
       illegal = record { answer = PutRefused IllegalName; file = xs; trie = t }
 
-      legal : (g : Bool) → is-legal-name name ≡ g → Same (cond g (put-on-looked xs t n v limit (looked-of xs t)) illegal)
-      legal true e old h = looked (looked-of xs t) refl (is-legal-name-legal name e) old h
-      legal false e old h = refl
+      legal : (g : Bool) → is-legal-name name ≡ g → Same (cond g (put-on-looked xs t n v run limit (looked-of xs t)) illegal)
+      legal true e = looked (looked-of xs t) refl (is-legal-name-legal name e)
+      legal false e = λ old old-run h. refl
 
-      limited : (c : Bool) → Same (cond c big (cond (is-legal-name name) (put-on-looked xs t n v limit (looked-of xs t)) illegal))
-      limited true old h = refl
-      limited false old h = legal (is-legal-name name) refl old h
+      limited : (c : Bool) → Same (cond c big (cond (is-legal-name name) (put-on-looked xs t n v run limit (looked-of xs t)) illegal))
+      limited true = λ old old-run h. refl
+      limited false = legal (is-legal-name name) refl

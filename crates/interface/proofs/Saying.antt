@@ -1,7 +1,7 @@
 -- The numbers tell the answers apart, and what each C call gives for an image of the right length.
 use Rattle.model.proofs.Prelude.{List, [], _<_, _∙_, _∷_, _≡_, ap, ap₂, arith, cond, eq-eqb, eqb, getD, length, refl, sym, ℕ, ℕ-discrete}
 use Rattle.model.specs.declared.Cause.{Cause}
-use Rattle.model.specs.declared.Cause.the-variants.{BadFile, CutFile, IllegalName, ManyStrings, NoFreeSlot, ShortOutput, StaleTrie, WrongSize}
+use Rattle.model.specs.declared.Cause.the-variants.{BadFile, CutFile, IllegalName, ManyStrings, NoFreeSlot, OlderRun, ShortOutput, StaleTrie, WrongSize}
 use Rattle.model.specs.declared.ListAnswer.{ListAnswer}
 use Rattle.model.specs.declared.ListAnswer.the-variants.{Listed, Refused as ListRefused}
 use Rattle.model.specs.declared.LookUpAnswer.{LookUpAnswer}
@@ -21,7 +21,7 @@ use Rattle.capi.specs.Doors.{image-after, out-after, pal-create-of, pal-list-of
 use Rattle.interface.specs.Calls.{IsImage}
 use Rattle.interface.specs.Demand1.{out-refused}
 
-pub number-small : (c : Cause) → number c < 9
+pub number-small : (c : Cause) → number c < 13
 number-small IllegalName = omega arith
 number-small BadFile = omega arith
 number-small CutFile = omega arith
@@ -30,12 +30,13 @@ number-small NoFreeSlot = omega arith
 number-small ManyStrings = omega arith
 number-small ShortOutput = omega arith
 number-small WrongSize = omega arith
+number-small OlderRun = omega arith
 
 -- The cause that a number says and, if it is 4, word 0.
 abbrev cause-of : ℕ → List ℕ → Cause
 cause-of k out =
     cond (eqb k 1) IllegalName (cond (eqb k 2) BadFile (cond (eqb k 3) CutFile (cond (eqb k 4) (StaleTrie (getD out 0 0))
-    (cond (eqb k 5) NoFreeSlot (cond (eqb k 6) ManyStrings (cond (eqb k 7) ShortOutput WrongSize))))))
+    (cond (eqb k 5) NoFreeSlot (cond (eqb k 6) ManyStrings (cond (eqb k 7) ShortOutput (cond (eqb k 8) WrongSize OlderRun)))))))
 
 cause-back : (c : Cause) (out : List ℕ) → 0 < length out → cause-of (number c) (out-refused c out) ≡ c
 cause-back IllegalName out h = refl
@@ -47,6 +48,7 @@ cause-back NoFreeSlot out h = refl
 cause-back ManyStrings out h = refl
 cause-back ShortOutput out h = refl
 cause-back WrongSize out h = refl
+cause-back OlderRun out h = refl
 
 one-cause : (out : List ℕ) → 0 < length out → (c d : Cause) → number c ≡ number d → out-refused c out ≡ out-refused d out → c ≡ d
 one-cause out h c d e f = sym (cause-back c out h) ∙ ap₂ cause-of e f ∙ cause-back d out h
@@ -61,6 +63,7 @@ stale-four NoFreeSlot e = absurd (omega arith)
 stale-four ManyStrings e = absurd (omega arith)
 stale-four ShortOutput e = absurd (omega arith)
 stale-four WrongSize e = absurd (omega arith)
+stale-four OlderRun e = absurd (omega arith)
 
 abbrev Fresh : Cause → Type 0
 Fresh c = (k : ℕ) → ¬ (c ≡ StaleTrie k)
@@ -80,6 +83,7 @@ fresh-cause c d f e = elim (ℕ-discrete (number c) 4) [
     bare ManyStrings n = refl
     bare ShortOutput n = refl
     bare WrongSize n = refl
+    bare OlderRun n = refl
 
     same : (c d : Cause) → number c ≡ number d → ¬ (number c ≡ 4) → out-refused c (0 ∷ []) ≡ out-refused d (0 ∷ [])
     same c d e n = bare c n ∙ sym (bare d (λ z. n (e ∙ z)))
@@ -101,13 +105,13 @@ recover-cause (RecoverRefused d) c f e = ap RecoverRefused (fresh-cause d c (λ 
 
 module _ (out : List ℕ) (h : 0 < length out) (c : Cause) where
   pub look-up-cause : (a : LookUpAnswer) → said-by-look-up a .0 ≡ number c → out-after (said-by-look-up a) out ≡ out-refused c out → a ≡ LookUpRefused c
-  look-up-cause (Found v) e f = absurd (omega (arith, number-small c))
+  look-up-cause (Found v run) e f = absurd (omega (arith, number-small c))
   look-up-cause NotFound e f = absurd (omega (arith, number-small c))
   look-up-cause (LookUpRefused d) e f = ap LookUpRefused (one-cause out h d c e f)
 
   pub put-cause : (a : PutAnswer) → said-by-put a .0 ≡ number c → out-after (said-by-put a) out ≡ out-refused c out → a ≡ PutRefused c
   put-cause Added e f = absurd (omega (arith, number-small c))
-  put-cause (Replaced old) e f = absurd (omega (arith, number-small c))
+  put-cause (Replaced old run) e f = absurd (omega (arith, number-small c))
   put-cause (PutStopped made) e f = absurd (omega (arith, number-small c))
   put-cause (PutRefused d) e f = ap PutRefused (one-cause out h d c e f)
 
@@ -137,16 +141,16 @@ module _ (image : List ℕ) (size : IsImage image) where
   unfolding pal-look-up-of
   look-up-is xs name out = rw (eq-eqb (length image) image-length size)
 
-  pub put-is : (xs name : List ℕ) (v limit : ℕ) (out : List ℕ)
-      → pal-put-of xs image name v limit out
+  pub put-is : (xs name : List ℕ) (v run limit : ℕ) (out : List ℕ)
+      → pal-put-of xs image name v run limit out
       ≡ (
-        said-by-put (put-of xs (trie-from image) name v limit .answer) .0,
-        put-of xs (trie-from image) name v limit .file,
-        image-after (put-of xs (trie-from image) name v limit .answer) (put-of xs (trie-from image) name v limit .trie) image,
-        out-after (said-by-put (put-of xs (trie-from image) name v limit .answer)) out,
+        said-by-put (put-of xs (trie-from image) name v run limit .answer) .0,
+        put-of xs (trie-from image) name v run limit .file,
+        image-after (put-of xs (trie-from image) name v run limit .answer) (put-of xs (trie-from image) name v run limit .trie) image,
+        out-after (said-by-put (put-of xs (trie-from image) name v run limit .answer)) out,
       )
   unfolding pal-put-of
-  put-is xs name v limit out = rw (eq-eqb (length image) image-length size)
+  put-is xs name v run limit out = rw (eq-eqb (length image) image-length size)
 
   pub remove-is : (xs name : List ℕ) (limit : ℕ) (out : List ℕ)
       → pal-remove-of xs image name limit out

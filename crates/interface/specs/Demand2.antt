@@ -16,10 +16,10 @@ use Rattle.promises.specs.Demand2.{LeadsRight}
 use Rattle.image.specs.Images.{trie-from}
 use Rattle.interface.specs.Calls.{CCalls, IsImage}
 
--- 100 with the value in word 0 and 0 in word 1, or 101: what the bucket holds whose range holds the name.
+-- 100 with the value in word 0 and the run in word 1, or 101: what the bucket holds whose range holds the name.
 pub data TruthfulC (fs : List Slot) (n : Str) (out : List ℕ) : ℕ × List ℕ → Type 0 where
-  true-entry : (B : ℕ) {v : ℕ} → In (head (slot-at fs B)) n → find n (entries-of (slot-at fs B)) ≡ some v
-      → TruthfulC fs n out (100, sets out 0 (value-of-content v ∷ run-of-content v ∷ []))
+  true-entry : (B : ℕ) {c : ℕ} → In (head (slot-at fs B)) n → find n (entries-of (slot-at fs B)) ≡ some c
+      → TruthfulC fs n out (100, sets out 0 (value-of-content c ∷ run-of-content c ∷ []))
   truly-absent : (B : ℕ) → In (head (slot-at fs B)) n → find n (entries-of (slot-at fs B)) ≡ nothing → TruthfulC fs n out (101, out)
 
 -- Or 4, stale, with a digit number in word 0.

@@ -8,12 +8,12 @@ use lib.Dec.{eqb}
 use lib.Seq.{sets}
 use Rattle.model.specs.Order.{Str}
 use Rattle.model.specs.Names.{filled}
+use Rattle.model.specs.Entries.{content-from, run-of-content, value-of-content}
 use Rattle.model.specs.Changes.{Map, Means, meant, put as to-put, remove as to-remove}
+use Rattle.model.specs.Format.{kept-run, layout-of}
 use Rattle.promises.specs.Demand1.{LegalName}
 use Rattle.promises.specs.Demand2.{LeadsRight}
 use Rattle.promises.specs.Demand3.{replaced}
-use Rattle.model.specs.Entries.{content-from, run-of-content, value-of-content}
-use Rattle.model.specs.Format.{kept-run, layout-of}
 use Rattle.image.specs.Images.{trie-from}
 use Rattle.interface.specs.Calls.{CCalls, IsImage}
 use Rattle.interface.specs.Demand1.{IsRefusal, change-refusal, recover-refusal}

@@ -31,7 +31,7 @@ use Rattle.model.proofs.Changes.{Fine, change-made, fits, splits}
 use Rattle.model.proofs.Calls.{Answered, in-range, is-denied, is-made, older-held, put-right, put-taken, remove-right}
 use Rattle.model.proofs.CheckedFiles.{sound-not-cut}
 use Rattle.model.proofs.Stores.{read-stored}
-use Rattle.model.proofs.Format.{Contents, bytes-bytes-at-slot, contents-find, contents-read-file, contents-read-slot, file-bytes-read-file, headed-layout, no-run, read-file-read}
+use Rattle.model.proofs.Format.{Contents, bytes-bytes-at-slot, contents-find, contents-read-file, contents-read-slot, file-bytes-read-file, headed-layout, no-run, read-file-read, run-part, value-part}
 use Rattle.promises.specs.Calls.{our-calls}
 use Rattle.promises.specs.Demand1.{FirstHolding, HeldHigher, put-table, slots-of}
 use Rattle.promises.specs.Runs.{Reached, Runs}
@@ -79,8 +79,19 @@ module _ (xs : List ℕ) (t : Trie) (name : List ℕ) (v run limit : ℕ) where
 
   higher-first : Reached xs t name limit → HeldHigher xs name run → FirstHolding OlderRun (put-table xs t name v run limit)
   higher-first R h =
-      inr (λ k. absurd (omega (arith, k, R .limited)), inr (λ n. n (R .legal), inr (λ B. B .0 (R .file), inr (λ C. sound-not-cut (R .file) (C .1),
-      inr (λ T. T .differs (rw (same-slots (R .file .is) (T .file)) (R .agrees)), inl (refl, h))))))
+      inr (
+        λ k. absurd (omega (arith, k, R .limited)),
+        inr (
+          λ n. n (R .legal),
+          inr (
+            λ B. B .0 (R .file),
+            inr (
+              λ C. sound-not-cut (R .file) (C .1),
+              inr (λ T. T .differs (rw (same-slots (R .file .is) (T .file)) (R .agrees)), inl (refl, h)),
+            ),
+          ),
+        ),
+      )
 
 -- A held name always finds room.
 held-room : {b : ℕ} {l : Low} {u : Str} {es : List Entry} → Well b (used l u es) → (n : Str) (c w : ℕ) → find n es ≡ some w → b < length (insert n c es) → ⊥
@@ -148,10 +159,10 @@ module _ (xs : List ℕ) (t : Trie) (name : List ℕ) (limit : ℕ) (R : Reached
           let d : run-of-content w ≡ kept-run y run = b ∙ ap (λ (z : Layout). kept-run z run) layout-is in
           put-taken (Says (put-answer (held fs n))) y fs n content (kept-run y run)
           (λ e.
-              let o = older-held (kept-run y run) (held fs n) e in
-              let s : _≡_ {A = Option ℕ} (some w) (some (o .0)) = sym h ∙ o .1 in
-              let i : w ≡ o .0 = cc in
-              absurd (omega (arith, d, o .2, ap run-of-content i)))
+          let o = older-held (kept-run y run) (held fs n) e in
+          let s : _≡_ {A = Option ℕ} (some w) (some (o .0)) = sym h ∙ o .1 in
+          let i : w ≡ o .0 = cc in
+          absurd (omega (arith, d, o .2, ap run-of-content i)))
           (λ e. held-made content w h one (put-right (y .b) (place-of y) fs (R .file .sound) n content (is-legal-name-legal name (name-legal (R .legal)))))
           ∙ ap put-answer h ∙ ap₂ Replaced a b
 
@@ -311,6 +322,7 @@ pub runs : Runs our-calls
 runs = record {
   sizes = sizes;
   largest = largest;
+  told = λ v run h. (ap₂ Found (value-part v run h) (run-part v run h), ap₂ Replaced (value-part v run h) (run-part v run h));
   refused = λ xs t name v run limit R. (
     λ e. first-higher xs t name v run limit (demand-1 .put xs t name v run limit OlderRun .0 e),
     λ h. demand-1 .put xs t name v run limit OlderRun .1 (higher-first xs t name v run limit R h),

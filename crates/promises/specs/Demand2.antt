@@ -21,7 +21,8 @@ use Rattle.promises.specs.Demand1.{LegalName}
 
 -- R13.2: the true entry, or absent and truly so: what the bucket holds whose range holds the name.
 pub data Truthful (fs : List Slot) (n : Str) : LookUpAnswer → Type 0 where
-  true-entry : (B : ℕ) {v : ℕ} → In (head (slot-at fs B)) n → find n (entries-of (slot-at fs B)) ≡ some v → Truthful fs n (Found (value-of-content v) (run-of-content v))
+  true-entry : (B : ℕ) {c : ℕ} → In (head (slot-at fs B)) n → find n (entries-of (slot-at fs B)) ≡ some c
+      → Truthful fs n (Found (value-of-content c) (run-of-content c))
   truly-absent : (B : ℕ) → In (head (slot-at fs B)) n → find n (entries-of (slot-at fs B)) ≡ nothing → Truthful fs n Absent
 
 -- Or it is refused as stale.
@@ -49,7 +50,7 @@ pub record Demand2 (C : Calls) : Type 0 where
   -- R13.2: with a sound file, whatever the trie, a lookup tells the truth or refuses as stale.
   pub tells : (xs : List ℕ) (t : Trie) (name : List ℕ) (S : SoundFile xs) → LegalName name → Tells (S .slots) (filled name) (C .look-up xs t name)
   -- The grown trie is the one that create gives, and the one after each put that is made. That the lent file is bytes
-  -- and the value has 64 bits a caller knows by their types.
+  -- and that value and run have 64 bits a caller knows by their types.
   pub created : (xs : List ℕ) (v b slots : ℕ) → C .create xs v b slots .answer ≡ Given
       → LeadsRight (C .create xs v b slots .file) (C .create xs v b slots .trie)
   pub grown : (xs : List ℕ) (t : Trie) (name : List ℕ) (v run limit : ℕ) → AreBytes xs → v < 2 ^ 64 → run < 2 ^ 64 → Made (C .put xs t name v run limit .answer)

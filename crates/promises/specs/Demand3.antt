@@ -25,9 +25,9 @@ use Rattle.promises.specs.Calls.{Calls}
 use Rattle.promises.specs.Demand1.{LegalName, slots-of}
 use Rattle.promises.specs.Demand2.{LeadsRight}
 
--- What can happen. A put of a name with a 64-bit value, a 64-bit run and a store limit, or a remove of a name with one, with the trie in
--- hand; the same with any other trie at all, such as the old one after a stop; the trie is lost; a recovery with a store
--- limit, whether there is a trie in hand or not; a rebuilding. Names and limits are any, legal or not.
+-- What can happen. A put of a name with a 64-bit value, a 64-bit run and a store limit, or a remove of a name with one, with the
+-- trie in hand; the same with any other trie at all, such as the old one after a stop; the trie is lost; a recovery with a
+-- store limit, whether there is a trie in hand or not; a rebuilding. Names and limits are any, legal or not.
 pub data Event : Type 0 where
   put : List ℕ → (v : ℕ) → v < 2 ^ 64 → (run : ℕ) → run < 2 ^ 64 → ℕ → Event
   remove : List ℕ → ℕ → Event

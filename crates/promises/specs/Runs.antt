@@ -2,13 +2,16 @@
 use mathlib.Core.Logic.{_↔_, _≢_}
 use mathlib.Core.Path.{_≡_}
 use mathlib.Core.List.{List}
-use Prim.Native.Nat.{_≤_, ℕ}
+use mathlib.Core.Option.{some}
+use Prim.Native.Nat.{_<_, _^_, _≤_, ℕ}
 use Rattle.model.specs.declared.Cause.the-variants.{OlderRun}
 use Rattle.model.specs.declared.LookUpAnswer.the-variants.{Found}
 use Rattle.model.specs.declared.PutAnswer.the-variants.{Refused as PutRefused, Replaced}
 use Rattle.model.specs.declared.RemoveAnswer.the-variants.{Removed}
 use Rattle.model.specs.declared.Trie.{Trie}
+use Rattle.model.specs.Entries.{content-from}
 use Rattle.model.specs.Tries.{Agrees}
+use Rattle.model.specs.Calls.{held-answer, put-answer}
 use Rattle.model.specs.Format.{AreBytes, SoundFile, entry-length, file-size, kept-run, layout-of, version-1, version-2, version-3}
 use Rattle.promises.specs.Calls.{Calls}
 use Rattle.promises.specs.Demand1.{HeldHigher, LegalName}
@@ -24,6 +27,9 @@ pub record Runs (C : Calls) : Type 0 where
   -- Entries of 40 bytes in version 3, of 32 before; the largest file.
   pub sizes : (b : ℕ) → (entry-length (version-3 b) ≡ 40) × (entry-length (version-2 b) ≡ 32) × (entry-length (version-1 b) ≡ 32)
   pub largest : file-size (version-3 16) 64 ≡ 45072
+  -- What demand 3's map holds under a name is told as value and run, by a lookup and by a put that replaces.
+  pub told : (v run : ℕ) → v < 2 ^ 64
+      → (held-answer (some (content-from v run)) ≡ Found v run) × (put-answer (some (content-from v run)) ≡ Replaced v run)
   -- Refused 12 exactly where a held name has a higher run, whatever the limit: before any stop.
   pub refused : (xs : List ℕ) (t : Trie) (name : List ℕ) (v run limit : ℕ) → Reached xs t name limit
       → (C .put xs t name v run limit .answer ≡ PutRefused OlderRun) ↔ HeldHigher xs name run

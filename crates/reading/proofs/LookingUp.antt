@@ -1,5 +1,5 @@
 -- Look up, put together from its stages: each refusal, and what one slot answers to a name.
-use Rattle.model.proofs.Prelude.{Bool, List, Option, _&&_, _<_, _^_, _∙_, _≡_, _≤_, _⊎_, ap, arith, clash, cond, false, inl, inr, le-ltb, length, lt-ltb, ltb, not, nothing, refl, some, subst, sym, true, ℕ}
+use Rattle.model.proofs.Prelude.{Bool, List, Option, _&&_, _<_, _^_, _∙_, _≡_, _≤_, _⊎_, ap, arith, clash, cond, false, inl, inr, le-ltb, length, lt-ltb, nothing, refl, some, subst, sym, true, ℕ}
 use Rattle.model.specs.declared.Cause.the-variants.{BadFile, IllegalName, StaleTrie}
 use Rattle.model.specs.declared.Layout.{Layout}
 use Rattle.model.specs.declared.LookUpAnswer.{LookUpAnswer}

@@ -76,10 +76,10 @@ pub data Case : Type 0 where
   recovers : (file : Parts) (limit : ℕ) → Saying → (after : Parts) → Case
   rebuilds : (file : Parts) → Saying → Trie → Case
   looks-up : (file : Parts) (t : Trie) (name : Parts) → Saying → Case
-  puts : (file : Parts) (t : Trie) (name : Parts) (value limit : ℕ) → Saying → (after : Parts) → Trie → Case
+  puts : (file : Parts) (t : Trie) (name : Parts) (value run limit : ℕ) → Saying → (after : Parts) → Trie → Case
   removes : (file : Parts) (t : Trie) (name : Parts) (limit : ℕ) → Saying → (after : Parts) → Case
   lists : (file : Parts) (t : Trie) (low high output : Parts) → Saying → (after : Parts) → Case
-  -- Create, then a put of each of these names, with the values 1, 2 and so on.
+  -- Create, then a put of each of these names, with the values 1, 2 and so on and the run 0.
   grows : (file : Parts) (b slots : ℕ) (names : List Parts) (after : Parts) → Trie → Case
 
 unfoldable pub same-bool : Bool → Bool → Bool
@@ -112,7 +112,7 @@ agrees-with t (some f) = is-agreeing (f .1) t
 -- Puts one after the other, the values counted from i on.
 unfoldable pub put-all : ℕ → List Parts → List ℕ → Trie → List ℕ × Trie
 put-all i [] xs t = (xs, t)
-put-all i (n ∷ ns) xs t = let d = put-of xs t (bytes n) i 2 in put-all (suc i) ns (d .file) (d .trie)
+put-all i (n ∷ ns) xs t = let d = put-of xs t (bytes n) i 0 2 in put-all (suc i) ns (d .file) (d .trie)
 
 -- The test.
 unfoldable pub holds : Case → Bool
@@ -133,8 +133,8 @@ holds (rebuilds f s u) =
     let d = rebuild-of (bytes f) in
     same-said (said-by-rebuild (d .answer)) s && same-trie (d .trie) u
 holds (looks-up f t n s) = same-said (said-by-look-up (look-up-of (bytes f) t (bytes n))) s
-holds (puts f t n v j s g u) =
-    let d = put-of (bytes f) t (bytes n) v j in
+holds (puts f t n v r j s g u) =
+    let d = put-of (bytes f) t (bytes n) v r j in
     same-said (said-by-put (d .answer)) s && same-str (d .file) (bytes g) && same-trie (d .trie) u
 holds (removes f t n j s g) =
     let d = remove-of (bytes f) t (bytes n) j in

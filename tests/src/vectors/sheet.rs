@@ -108,12 +108,15 @@ fn definition(name: &str, type_of: &str, before: &str, things: &[String], after:
     text + "\n"
 }
 
-/// The pieces of a line between which it may be broken: each begins with `∷` or a parenthesis.
+/// The pieces of a line between which it may be broken: each begins with `∷` or a parenthesis. A pair is one piece, because the
+/// layout has a broken pair on lines of its own.
 fn pieces(line: &str) -> Vec<String> {
+    let opens_pair = |word: &str| word.starts_with('(') && word.ends_with(',');
+    let in_pair = |piece: &str| piece.split(' ').next().is_some_and(opens_pair) && !piece.contains(')');
     let mut pieces: Vec<String> = Vec::new();
     for word in line.split(' ') {
         match pieces.last_mut() {
-            Some(piece) if word != "∷" && !word.starts_with('(') => *piece += &format!(" {word}"),
+            Some(piece) if in_pair(piece) || word != "∷" && !word.starts_with('(') => *piece += &format!(" {word}"),
             _ => pieces.push(word.to_string()),
         }
     }

@@ -2,7 +2,7 @@
 use Rattle.model.proofs.Prelude.{[], _∷_, _≡_, arith, inl, inr, needs, refl, ℕ}
 use types.Run.{OneOf}
 use Rattle.model.specs.declared.Cause.{Cause}
-use Rattle.model.specs.declared.Cause.the-variants.{BadFile, CutFile, IllegalName, ManyStrings, NoFreeSlot, ShortOutput, StaleTrie, WrongSize}
+use Rattle.model.specs.declared.Cause.the-variants.{BadFile, CutFile, IllegalName, ManyStrings, NoFreeSlot, OlderRun, ShortOutput, StaleTrie, WrongSize}
 use Rattle.model.specs.Answers.{carried}
 use Rattle.capi.proofs.refused.Tie as tie
 
@@ -16,16 +16,18 @@ bare NoFreeSlot n = refl
 bare ManyStrings n = refl
 bare ShortOutput n = refl
 bare WrongSize n = refl
+bare OlderRun n = refl
 
 -- The key of a stale trie, 3, is none of the others.
-not-stale : OneOf (0 ∷ 1 ∷ 2 ∷ 4 ∷ 5 ∷ 6 ∷ 7 ∷ []) 3 → ⊥
+not-stale : OneOf (0 ∷ 1 ∷ 2 ∷ 4 ∷ 5 ∷ 6 ∷ 7 ∷ 8 ∷ []) 3 → ⊥
 not-stale (inl e) = omega arith
 not-stale (inr (inl e)) = omega arith
 not-stale (inr (inr (inl e))) = omega arith
 not-stale (inr (inr (inr (inl e)))) = omega arith
 not-stale (inr (inr (inr (inr (inl e))))) = omega arith
 not-stale (inr (inr (inr (inr (inr (inl e)))))) = omega arith
-not-stale (inr (inr (inr (inr (inr (inr e)))))) = omega arith
+not-stale (inr (inr (inr (inr (inr (inr (inl e))))))) = omega arith
+not-stale (inr (inr (inr (inr (inr (inr (inr e))))))) = omega arith
 
 returns : tie.Need-returns
 returns c =
