@@ -2,7 +2,7 @@
 use mathlib.Core.Bool.{cond, true}
 use mathlib.Core.List.{List, []}
 use mathlib.Core.Path.{_≡_}
-use Prim.Native.Nat.{_*_, _+_, _-_, _≤_, ℕ}
+use Prim.Native.Nat.{_*_, _+_, _-_, _<_, _≤_, ℕ}
 use lib.Dec.{ltb}
 use lib.ListN.{drop, getD, length, take}
 use Rattle.model.specs.declared.Layout.{Layout}
@@ -32,6 +32,10 @@ lower-bytes xs = bound-bytes-at 2 8 xs
 
 abbrev pub upper-bytes : List ℕ → List ℕ
 upper-bytes xs = bound-bytes-at 3 32 xs
+
+-- The lower bound is there, and it is the upper bound of the slot before.
+abbrev pub Following : List ℕ → List ℕ → Type 0
+Following xs before = (0 < getD xs 2 0) × (lower-bytes xs ≡ upper-bytes before)
 
 -- R3.3: the number of entries.
 unfoldable pub count-at : ℕ → List ℕ → ℕ

@@ -3,15 +3,19 @@
 // R3.2 to R3.17 of docs/RULES.md have the bytes: numbers and lengths first, then the two bounds, then b entries. Above this crate and
 // `slots` there are bounds and entries, and no offset inside a slot.
 ghost use mathlib.Core.Path.{_≡_};
+ghost use mathlib.Core.Bool.{_&&_, true};
 ghost use Prim.Native.Nat.{_≤_, _<_, _+_, _-_, _*_};
-ghost use lib.ListN.{drop, length};
+ghost use lib.Dec.{eqb, leb};
+ghost use lib.ListN.{drop, getD, length, take};
+ghost use Rattle.model.specs.Names.{is-legal-bound};
+ghost use Rattle.entries.specs.Rows.{are-entries};
 ghost use Rattle.model.specs.Format.{entry-length, slot-size};
 ghost use Rattle.model.proofs.Format.{EntrySize};
 ghost use Rattle.model.specs.declared.Layout.{Layout};
 ghost use Rattle.digits.specs.Keys.{is-all-zero, key-value};
 ghost use Rattle.bucket.specs.Copies.{CopyTold, is-upper-part};
 ghost use Rattle.bucket.specs.Forms.{Formed, is-all-clear, ranged, vacant};
-ghost use Rattle.bucket.specs.Slots.{HighTold, LowTold, OfSize, count-at, lower-bytes, upper-bytes};
+ghost use Rattle.bucket.specs.Slots.{Following, HighTold, LowTold, OfSize, count-at, lower-bytes, upper-bytes};
 use digits::Key;
 use digits::u64_of_usize;
 use digits::usize_of_u8;
@@ -156,9 +160,32 @@ fn is_clear(slot: &[u8], end: usize) -> bool
     digits::is_zero(&slot[end..])
 }
 
+// Whether these 24 bytes are a bound of `len` digits. Nearly always they are, and are found so by words.
+fn is_bound(s: &[u8], len: usize) -> bool
+    requires { ⌜ length (now s) ≡ 24 ⌝ }
+    ensures { λ r.
+        ⌜ r ≡ (leb len 24 && is-legal-bound (take len (now (s .entry))) && is-all-zero (drop len (now (s .entry)))) ⌝ }
+{
+    if gathering::is_plain(s, len) {
+        return true;
+    }
+    digits::is_bound(s, len)
+}
+
+// Whether names are legal, strictly ascending and in the range. Nearly always they are, and are found so all at once.
+fn are_entries(entries: &[u8], e: usize, count: usize, low: Key, high: Key) -> bool
+    requires { ⌜ (e * count ≤ length (now entries)) × (count ≤ 17) × (32 ≤ e) × (e ≤ 40) ⌝ }
+    ensures { λ r. ⌜ r ≡ are-entries e count (now (entries .entry)) (key-value low) (key-value high) ⌝ }
+{
+    if gathering::are_rising(entries, e, count, low, high) {
+        return true;
+    }
+    entries::are_entries(entries, e, count, low, high)
+}
+
 // A used slot as it is read, or that it is not well formed, with entries of e bytes and room for b of them.
 fn form_by(slot: &[u8], e: usize, b: usize) -> Form
-    requires { ⌜ (length (now slot) ≡ 64 + e * b) × (b ≤ 16) × (24 ≤ e) × (e ≤ 40) ⌝ }
+    requires { ⌜ (length (now slot) ≡ 64 + e * b) × (b ≤ 16) × (32 ≤ e) × (e ≤ 40) ⌝ }
     ensures { λ r. ⌜ ((y : Layout) → entry-length y ≡ e → y .b ≡ b → Formed y (now (slot .entry)) r) ⌝ }
 {
     if slot[0] != 1 {
@@ -173,11 +200,11 @@ fn form_by(slot: &[u8], e: usize, b: usize) -> Form
         return Form::Ill;
     }
     let lower = usize_of_u8(slot[2]);
-    if !digits::is_bound(&slot[8..32], lower) {
+    if !is_bound(&slot[8..32], lower) {
         return Form::Ill;
     }
     let upper = usize_of_u8(slot[3]);
-    if !digits::is_bound(&slot[32..56], upper) {
+    if !is_bound(&slot[32..56], upper) {
         return Form::Ill;
     }
     let low = low_key(slot);
@@ -185,7 +212,7 @@ fn form_by(slot: &[u8], e: usize, b: usize) -> Form
     if !digits::is_below(low, high) {
         return Form::Ill;
     }
-    if !entries::are_entries(&slot[64..], e, count, low, high) {
+    if !are_entries(&slot[64..], e, count, low, high) {
         return Form::Ill;
     }
     Form::Well(Bucket { low, high })
@@ -197,6 +224,70 @@ pub fn form_of(slot: &[u8], layout: Layout) -> Form
     ensures { λ r. ⌜ Formed layout (now (slot .entry)) r ⌝ }
 {
     form_by(slot, entry_size(layout), layout.b)
+}
+
+// Whether a slot that is free or well formed is used.
+pub fn is_used(slot: &[u8]) -> bool
+    requires { ⌜ 64 ≤ length (now slot) ⌝ }
+    ensures { λ r. ⌜ r ≡ eqb (getD (now (slot .entry)) 0 0) 1 ⌝ }
+{
+    slot[0] == 1
+}
+
+// Whether it has no lower bound.
+pub fn is_lowest(slot: &[u8]) -> bool
+    requires { ⌜ 64 ≤ length (now slot) ⌝ }
+    ensures { λ r. ⌜ r ≡ eqb (getD (now (slot .entry)) 2 0) 0 ⌝ }
+{
+    slot[2] == 0
+}
+
+// Whether its upper bound is empty.
+pub fn is_highest(slot: &[u8]) -> bool
+    requires { ⌜ 64 ≤ length (now slot) ⌝ }
+    ensures { λ r. ⌜ r ≡ eqb (getD (now (slot .entry)) 3 0) 0 ⌝ }
+{
+    slot[3] == 0
+}
+
+// Whether a slot's range begins where that of the slot before ends: the bytes of the two bounds are the same, all 24 of them.
+pub fn follows(slot: &[u8], before: &[u8]) -> bool
+    requires { ⌜ (64 ≤ length (now slot)) × (64 ≤ length (now before)) ⌝ }
+    ensures { λ r. ⌜ (r ≡ true → Following (now (slot .entry)) (now (before .entry))) ⌝ }
+{
+    if slot[2] == 0 {
+        return false;
+    }
+    if slot[2] != before[3] {
+        return false;
+    }
+    digits::is_same(digits::key_at(slot, 8), digits::key_at(before, 32))
+}
+
+// A number below 256 made of the 24 bytes of a bound; it serves to guess where the bound stands.
+fn mark(slot: &[u8], at: usize) -> usize
+    requires { ⌜ at + 24 ≤ length (now slot) ⌝ }
+    ensures { λ r. ⌜ r < 256 ⌝ }
+{
+    let x = digits::little_endian(slot, at)
+        ^ (digits::little_endian(slot, at + 8) >> 1)
+        ^ (digits::little_endian(slot, at + 16) >> 2);
+    let y = (x >> 32) ^ x;
+    ((y >> 16) ^ y) as usize % 251
+}
+
+pub fn lower_mark(slot: &[u8]) -> usize
+    requires { ⌜ 64 ≤ length (now slot) ⌝ }
+    ensures { λ r. ⌜ r < 256 ⌝ }
+{
+    mark(slot, 8)
+}
+
+pub fn upper_mark(slot: &[u8]) -> usize
+    requires { ⌜ 64 ≤ length (now slot) ⌝ }
+    ensures { λ r. ⌜ r < 256 ⌝ }
+{
+    mark(slot, 32)
 }
 
 // R4.10 and R4.13: whether N is a copy, not yet cut out, of the upper part of A.

@@ -85,7 +85,7 @@ pub fn checks_of(file: &[u8], trie: Trie) -> Checked
     let Header::Right(size) = file::header_of(file) else {
         return refused(Cause::BadFile);
     };
-    let survey = file::survey_of(file, size);
+    let survey = surveying::survey_of(file, size);
     let kind = survey.kind;
     match kind {
         Kind::Bad => refused(Cause::BadFile),

@@ -1,10 +1,10 @@
 -- Bytes put together by shifts and `|`, and in the other order.
-use Rattle.model.proofs.Prelude.{List, [], _%_, _*_, _++_, _+_, _-_, _/_, _<_, _^_, _∙_, _∷_, _≡_, _≤_, ap, arith, drop, drop-cons, drop-drop, getD, length, length-drop, length-take, mod-eq-of-lt, mul-assoc, pow-suc, pow-succ', refl, suc, sym, take, take-add, take-append-drop, zero, ℕ}
-use lib.Bits.{bitOr, or-shifted, or-shifted-r}
+use Rattle.model.proofs.Prelude.{List, [], _%_, _&&_, _*_, _++_, _+_, _-_, _/_, _<_, _^_, _∙_, _∷_, _≡_, _≤_, ap, arith, drop, drop-cons, drop-drop, eq-eqb, eqb, getD, length, length-drop, length-take, mod-eq-of-lt, mul-assoc, ne-eqb, pow-suc, pow-succ', refl, suc, sym, take, take-add, take-append-drop, zero, ℕ, ℕ-discrete}
+use lib.Bits.{and-le-l, and-le-r, bitOr, or-add-and, or-shifted, or-shifted-r}
 use Rattle.model.specs.Format.{AreBytes, value-of}
 use Rattle.model.proofs.Format.{bytes-drop, bytes-take}
-use Rattle.digits.specs.Keys.{value}
-use Rattle.digits.proofs.Keys.{length-part, value-append}
+use Rattle.digits.specs.Keys.{is-all-zero, value}
+use Rattle.digits.proofs.Keys.{length-part, value-append, zero-append}
 
 -- `a | b << k` and `b << k | a`.
 pub or-above : (k a b : ℕ) → a < 2 ^ k → b * 2 ^ k < 2 ^ 64 → bitOr a (b * 2 ^ k % 2 ^ 64) ≡ b * 2 ^ k + a
@@ -12,6 +12,19 @@ or-above k a b h l = rw (mod-eq-of-lt l) (or-shifted-r b k a h)
 
 pub or-below : (k a b : ℕ) → a < 2 ^ k → b * 2 ^ k < 2 ^ 64 → bitOr (b * 2 ^ k % 2 ^ 64) a ≡ b * 2 ^ k + a
 or-below k a b h l = rw (mod-eq-of-lt l) (or-shifted b k a h)
+
+-- `a | b` is zero where both are.
+pub or-zero : (a b : ℕ) → bitOr a b ≡ 0 → (a ≡ 0) × (b ≡ 0)
+or-zero a b e = (omega (arith, or-add-and a b, and-le-l a b, and-le-r a b), omega (arith, or-add-and a b, and-le-l a b, and-le-r a b))
+
+pub or-eqb : (a b : ℕ) → eqb (bitOr a b) 0 ≡ (eqb a 0 && eqb b 0)
+or-eqb a b = elim (ℕ-discrete a 0) [
+  | no n ↦ rw (ne-eqb a 0 n, ne-eqb (bitOr a b) 0 (λ z. n (or-zero a b z .0)))
+  | yes e ↦ elim (ℕ-discrete b 0) [
+    | no n ↦ rw (eq-eqb a 0 e, ne-eqb b 0 n, ne-eqb (bitOr a b) 0 (λ z. n (or-zero a b z .1)))
+    | yes f ↦ rw (e, f)
+  ]
+]
 
 -- Numbers whose first byte is lowest.
 value-of-step : (n k m : ℕ) (xs : List ℕ) → k < length xs → m ≡ suc k → value-of (take (suc n) (drop k xs)) ≡ getD xs k 0 + 256 * value-of (take n (drop m xs))
@@ -22,7 +35,7 @@ pub value-of-two : (k : ℕ) (xs : List ℕ) → k + 2 ≤ length xs → value-o
 unfolding value-of
 value-of-two k xs h = omega (arith, value-of-step 1 k (k + 1) xs (omega arith) (omega arith), value-of-step 0 (k + 1) (k + 2) xs (omega arith) (omega arith))
 
-value-of-append : (x y : List ℕ) → value-of (x ++ y) ≡ value-of x + 256 ^ length x * value-of y
+pub value-of-append : (x y : List ℕ) → value-of (x ++ y) ≡ value-of x + 256 ^ length x * value-of y
 unfolding value-of
 value-of-append [] y = omega arith
 value-of-append (d ∷ x) y = rw (value-of-append x y, pow-succ' 256 (length x)) (omega (arith, mul-assoc 256 (256 ^ length x) (value-of y)))
@@ -80,3 +93,20 @@ fill-is (suc (suc (suc (suc (suc (suc zero)))))) h = refl
 fill-is (suc (suc (suc (suc (suc (suc (suc zero))))))) h = refl
 fill-is (suc (suc (suc (suc (suc (suc (suc (suc zero)))))))) h = refl
 fill-is (suc (suc (suc (suc (suc (suc (suc (suc (suc n))))))))) h = absurd (omega arith)
+
+-- A word is zero where its bytes are.
+word-zero : (x : List ℕ) → eqb (value-of x) 0 ≡ is-all-zero x
+unfolding value-of is-all-zero
+word-zero [] = refl
+word-zero (d ∷ x) = elim (ℕ-discrete d 0) [
+  | no n ↦ rw (ne-eqb d 0 n, ne-eqb (d + 256 * value-of x) 0 (λ z. n (omega arith)))
+  | yes e ↦ rw (eq-eqb d 0 e) (elim (ℕ-discrete (value-of x) 0) [
+    | yes z ↦ eq-eqb (d + 256 * value-of x) 0 (omega arith) ∙ sym (eq-eqb (value-of x) 0 z) ∙ word-zero x
+    | no n ↦ ne-eqb (d + 256 * value-of x) 0 (λ z. n (omega arith)) ∙ sym (ne-eqb (value-of x) 0 n) ∙ word-zero x
+  ])
+]
+
+pub zero-word : (s : List ℕ) (at : ℕ) → is-all-zero (drop at s) ≡ (eqb (value-of (take 8 (drop at s))) 0 && is-all-zero (drop (at + 8) s))
+zero-word s at =
+    ap is-all-zero (sym (take-append-drop 8 (drop at s))) ∙ zero-append (take 8 (drop at s)) (drop 8 (drop at s))
+    ∙ rw (drop-drop 8 at s, word-zero (take 8 (drop at s)))

@@ -1,5 +1,5 @@
 -- Strings as numbers: a number's parts, and the one order.
-use Rattle.model.proofs.Prelude.{List, [], _%_, _&&_, _*_, _++_, _+_, _-_, _<_, _^_, _∙_, _∷_, _≡_, _≤_, add-mul, and-assoc, ap, arith, cond, decLe, decLt, drop, drop-drop, eq-eqb, eqb, eqb-true, false, getD, le-leb, le-ltb, leb, length, length-append, length-drop, length-take, lt-leb, lt-ltb, ltb, mul-assoc, mul-le-mul-right, ne-eqb, not, one-le-pow, pow-suc, refl, replicate, sub-zero, suc, suc-mul, sym, take, take-add, take-at, take-take, true, unary-clauses, zero, ℕ, ℕ-discrete}
+use Rattle.model.proofs.Prelude.{List, [], _%_, _&&_, _*_, _++_, _+_, _-_, _<_, _^_, _∙_, _∷_, _≡_, _≤_, add-mul, and-assoc, ap, arith, cond, decLe, decLt, drop, drop-drop, eq-eqb, eqb, eqb-true, false, getD, le-leb, le-ltb, leb, length, length-append, length-drop, length-take, lt-leb, lt-ltb, ltb, mul-assoc, mul-le-mul-right, ne-eqb, not, one-le-pow, pow-suc, refl, replicate, sub-zero, suc, suc-mul, sym, take, take-add, take-at, take-take, true, unary-clauses, zero, zero-add, zero-mul, ℕ, ℕ-discrete}
 use lib.Pow.{pow-add}
 use Rattle.model.specs.Names.{Digits, is-at-most}
 use Rattle.model.specs.Format.{AreBytes}
@@ -97,7 +97,7 @@ pub cover-continued : (k : ℕ) (x : List ℕ) → length x ≡ 24 → cover k x
 unfolding continued
 cover-continued k x h = cover-is k x 24 (omega arith) ∙ ap (λ (n : ℕ). take n (take k x ++ replicate 24 0xFF)) h
 
-zero-append : (x y : List ℕ) → is-all-zero (x ++ y) ≡ (is-all-zero x && is-all-zero y)
+pub zero-append : (x y : List ℕ) → is-all-zero (x ++ y) ≡ (is-all-zero x && is-all-zero y)
 unfolding is-all-zero
 zero-append [] y = refl
 zero-append (d ∷ x) y = rw (zero-append x y) (sym (and-assoc (eqb d 0) (is-all-zero x) (is-all-zero y)))
@@ -167,6 +167,17 @@ module _ (s : List ℕ) (at len a b c : ℕ) (room : at + 24 ≤ length s) (fits
       ∙ ap (λ (v : ℕ). v * 2 ^ 64 + value (cover (len - 16) z)) (cover-split len 8 x y (length-part s at 8 (omega arith)) (length-part s (at + 8) 8 (omega arith)))
       ∙ rw (ea, eb, ec)
       )
+
+-- A word behind the bound's end.
+zero-value : (x : List ℕ) → is-all-zero x ≡ true → value x ≡ 0
+unfolding value is-all-zero
+zero-value [] e = refl
+zero-value (d ∷ x) e =
+    let p = both-true (eqb d 0) (is-all-zero x) e in
+    rw (eqb-true d 0 (p .0), zero-mul, zero-add) (zero-value x (p .1))
+
+pub word-behind : (x : List ℕ) (k : ℕ) → k ≡ 0 → is-all-zero (drop k x) ≡ true → 0xFFFFFFFFFFFFFFFF + 1 ≡ value x + 256 ^ (8 - k)
+word-behind x k e z = rw (e, zero-value x (rw e at z))
 
 -- Numbers order as strings do.
 leb-add : (k a b : ℕ) → leb (k + a) (k + b) ≡ leb a b

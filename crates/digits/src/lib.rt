@@ -6,7 +6,7 @@ ghost use mathlib.Core.Bool.{_&&_, true};
 ghost use mathlib.Core.Logic.{_⊎_};
 ghost use mathlib.Core.Path.{_≡_};
 ghost use mathlib.Core.List.{[], _++_};
-ghost use Prim.Native.Nat.{_≤_, _<_, _+_, _-_, _^_, ℕ};
+ghost use Prim.Native.Nat.{_≤_, _<_, _+_, _*_, _-_, _^_, ℕ};
 ghost use lib.Dec.{eqb, leb, ltb};
 ghost use lib.ListN.{drop, length, take};
 ghost use Rattle.model.specs.Format.{AreBytes, value-of};
@@ -146,13 +146,20 @@ fn continued(s: &[u8], at: usize, end: usize, len: usize) -> u64
     std::num::wrapping_add_u64(word(s, at), f)
 }
 
-// The bound of `len` digits at `at`, as it is compared.
+// The bound of `len` digits at `at`, as it is compared. Most bounds end within the first word.
 pub fn bound_key_at(s: &[u8], at: usize, len: usize) -> Key
     requires { ⌜ at + 24 ≤ length (now s) ⌝ }
     ensures { λ r.
         ⌜ (len ≤ 24 → is-all-zero (take (24 - len) (drop (at + len) (now (s .entry)))) ≡ true
         → key-value r ≡ value (continued (take len (drop at (now (s .entry)))))) ⌝ }
 {
+    if len <= 8 {
+        return Key {
+            a: continued(s, at, 8, len),
+            b: 0xFFFF_FFFF_FFFF_FFFF,
+            c: 0xFFFF_FFFF_FFFF_FFFF,
+        };
+    }
     Key {
         a: continued(s, at, 8, len),
         b: continued(s, at + 8, 16, len),
@@ -218,8 +225,24 @@ pub fn larger(x: u8, y: u8) -> u8
     x
 }
 
-// Whether all bytes are zero.
-pub fn is_zero(s: &[u8]) -> bool
+// 0 where the bytes of so many words are zero.
+fn all_words(s: &[u8], words: usize) -> u64
+    requires { ⌜ 8 * words ≤ length (now s) ⌝ }
+    ensures { λ r. ⌜ is-all-zero (now (s .entry)) ≡ (eqb r 0 && is-all-zero (drop (8 * words) (now (s .entry)))) ⌝ }
+{
+    let mut all = 0u64;
+    let mut at = 0usize;
+    let mut left = words;
+    while 0 < left {
+        all = all | little_endian(s, at);
+        at += 8;
+        left -= 1;
+    }
+    all
+}
+
+// Whether all bytes are zero, a few of them.
+fn are_zero(s: &[u8]) -> bool
     ensures { λ r. ⌜ r ≡ is-all-zero (now (s .entry)) ⌝ }
 {
     let mut most = 0u8;
@@ -229,6 +252,18 @@ pub fn is_zero(s: &[u8]) -> bool
         i += 1;
     }
     most == 0
+}
+
+// Whether all bytes are zero: word by word, and then those behind the last word.
+pub fn is_zero(s: &[u8]) -> bool
+    ensures { λ r. ⌜ r ≡ is-all-zero (now (s .entry)) ⌝ }
+{
+    let words = s.len() / 8;
+    if all_words(s, words) != 0 {
+        return false;
+    }
+    let from = 8 * words;
+    are_zero(&s[from..])
 }
 
 // 1 where x is no digit, 0x20 to 0x7D, else 0.

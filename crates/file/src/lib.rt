@@ -27,7 +27,9 @@ pub use order::holder;
 pub use order::leave_out;
 pub use survey::Kind;
 pub use survey::Survey;
+pub use survey::found;
 pub use survey::survey_of;
+pub use survey::with_next;
 
 // What a header says: the layout of the slots, and their number.
 pub struct Size {

@@ -30,7 +30,7 @@ pub struct Survey {
     pub inner: usize,
 }
 
-fn found(kind: Kind, used: u64, count: usize, order: &[u8; 64], inner: usize) -> Survey
+pub fn found(kind: Kind, used: u64, count: usize, order: &[u8; 64], inner: usize) -> Survey
     ensures { λ r. ⌜ (r .count ≡ count) × (r .order ≡ now (order .entry)) × (r .inner ≡ inner) × (r .kind ≡ kind) × (r .used ≡ used) ⌝ }
 {
     Survey {
@@ -43,7 +43,7 @@ fn found(kind: Kind, used: u64, count: usize, order: &[u8; 64], inner: usize) ->
 }
 
 // The map with the next lower slot.
-fn with_next(used: u64, next: u64) -> u64
+pub fn with_next(used: u64, next: u64) -> u64
     ensures { λ r. ⌜ (2 * used + next < 2 ^ 64 → r ≡ 2 * used + next) ⌝ }
 {
     std::num::wrapping_add_u64(std::num::wrapping_add_u64(used, used), next)

@@ -217,7 +217,7 @@ fn print_file(file: &[u8]) {
     let Header::Right(size) = file::header_of(file) else {
         return;
     };
-    let survey = file::survey_of(file, size);
+    let survey = surveying::survey_of(file, size);
     let order = survey.order;
     print_buckets(file, size, &order, survey.count);
 }

@@ -58,7 +58,7 @@ pub fn check(file: &[u8]) -> Kind
     let Header::Right(size) = file::header_of(file) else {
         return Kind::Bad;
     };
-    let survey = file::survey_of(file, size);
+    let survey = surveying::survey_of(file, size);
     let kind = survey.kind;
     kind
 }
@@ -73,7 +73,7 @@ pub fn recover(file: &mut [u8], limit: u64) -> RecoverAnswer
     let Header::Right(size) = file::header_of(file) else {
         return RecoverAnswer::Refused(Cause::BadFile);
     };
-    let survey = file::survey_of(file, size);
+    let survey = surveying::survey_of(file, size);
     let kind = survey.kind;
     match kind {
         Kind::Bad => RecoverAnswer::Refused(Cause::BadFile),
@@ -95,7 +95,7 @@ pub fn rebuild(file: &[u8]) -> TrieGiven
     let Header::Right(size) = file::header_of(file) else {
         return refused(Cause::BadFile);
     };
-    let survey = file::survey_of(file, size);
+    let survey = surveying::survey_of(file, size);
     let kind = survey.kind;
     match kind {
         Kind::Bad => refused(Cause::BadFile),

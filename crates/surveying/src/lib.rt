@@ -1,0 +1,79 @@
+// The look at a whole file that every call but look up begins with.
+//
+// The order of the slots is first guessed and the guess checked, which tells that a file is sound. Where it does not, `file`
+// sorts the slots and decides.
+ghost use mathlib.Core.Path.{_≡_};
+ghost use Prim.Native.Nat.{_≤_};
+ghost use lib.ListN.{length};
+ghost use Rattle.file.specs.Sizes.{Sized};
+ghost use Rattle.file.specs.Surveys.{Surveyed};
+ghost use Rattle.surveying.specs.Rows.{TallyTold};
+use bucket::Form;
+use bucket::Vacancy;
+use digits::usize_of_u32;
+use file::Kind;
+use file::Size;
+use file::Survey;
+
+mod row;
+
+// The used slots as a map, where each slot is free or well formed.
+pub enum Tally {
+    Well(u64),
+    Ill,
+}
+
+// Each slot on its own, from the last to the first.
+fn tally_of(file: &[u8], size: Size) -> Tally
+    requires { ⌜ Sized (length (now file)) size ⌝ }
+    ensures { λ r. ⌜ TallyTold r (now (file .entry)) size ⌝ }
+{
+    let mut used = 0u64;
+    let mut k = size.slots;
+    while 0 < k {
+        k -= 1;
+        let slot = file::slot_at(file, size, k);
+        let vacancy = bucket::vacancy_of(slot);
+        match vacancy {
+            Vacancy::Free => {
+                used = file::with_next(used, 0);
+            }
+            Vacancy::Taken => {
+                let form = bucket::form_of(slot, size.layout);
+                let Form::Well(_) = form else {
+                    return Tally::Ill;
+                };
+                used = file::with_next(used, 1);
+            }
+        }
+    }
+    Tally::Well(used)
+}
+
+// How many slots a map has.
+fn count_of(used: u64) -> usize
+    ensures { λ r. ⌜ r ≤ 64 ⌝ }
+{
+    usize_of_u32(u64::count_ones(used))
+}
+
+// The whole file.
+pub fn survey_of(file: &[u8], size: Size) -> Survey
+    requires { ⌜ Sized (length (now file)) size ⌝ }
+    ensures { λ r. ⌜ Surveyed r (now (file .entry)) size ⌝ }
+{
+    let Tally::Well(used) = tally_of(file, size) else {
+        return file::survey_of(file, size);
+    };
+    let count = count_of(used);
+    let guess = row::guessed(file, size, count);
+    let order = guess.order;
+    let places = guess.places;
+    if !row::is_row(file, size, &order, count) {
+        return file::survey_of(file, size);
+    }
+    if !row::is_all(file, size, &order, count, &places) {
+        return file::survey_of(file, size);
+    }
+    file::found(Kind::Sound, used, count, &order, 0)
+}
