@@ -270,10 +270,10 @@ fn mark(slot: &[u8], at: usize) -> usize
     ensures { λ r. ⌜ r < 256 ⌝ }
 {
     let x = digits::little_endian(slot, at)
-        ^ (digits::little_endian(slot, at + 8) >> 1)
-        ^ (digits::little_endian(slot, at + 16) >> 2);
-    let y = (x >> 32) ^ x;
-    ((y >> 16) ^ y) as usize % 251
+        ^ (digits::little_endian(slot, at + 8) >> 3)
+        ^ (digits::little_endian(slot, at + 16) >> 5);
+    let y = (x >> 29) ^ x;
+    ((y >> 15) ^ y) as usize % 256
 }
 
 pub fn lower_mark(slot: &[u8]) -> usize
