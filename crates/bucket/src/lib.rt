@@ -158,7 +158,7 @@ fn is_clear(slot: &[u8], end: usize) -> bool
 
 // A used slot as it is read, or that it is not well formed, with entries of e bytes and room for b of them.
 fn form_by(slot: &[u8], e: usize, b: usize) -> Form
-    requires { ⌜ (length (now slot) ≡ 64 + e * b) × (b ≤ 16) × (24 ≤ e) × (e ≤ 40) ⌝ }
+    requires { ⌜ (length (now slot) ≡ 64 + e * b) × (b ≤ 16) × (32 ≤ e) × (e ≤ 40) ⌝ }
     ensures { λ r. ⌜ ((y : Layout) → entry-length y ≡ e → y .b ≡ b → Formed y (now (slot .entry)) r) ⌝ }
 {
     if slot[0] != 1 {
