@@ -1,5 +1,5 @@
 -- What gathering keeps: one name more, and the whole row, read in both directions.
-use Rattle.model.proofs.Prelude.{List, [], _&&_, _*_, _+_, _-_, _/_, _<_, _^_, _∙_, _∷_, _≡_, _≤_, _⊎_, ap, arith, drop, drop-cons, drop-drop, eqb, eqb-true, getD, getD-drop, getD-replicate, getD-set-other, getD-set-same, getD-take, length, mul-le-mul-left, not, refl, replicate, set, suc, sym, take, true, zero, ℕ, ℕ-discrete, ⊎-elim}
+use Rattle.model.proofs.Prelude.{List, [], _&&_, _*_, _+_, _-_, _/_, _<_, _^_, _∙_, _∷_, _≡_, _≤_, _⊎_, ap, arith, drop, drop-cons, drop-drop, eqb, getD, getD-drop, getD-replicate, getD-set-other, getD-set-same, getD-take, length, not, refl, replicate, set, suc, sym, take, true, zero, ℕ, ℕ-discrete, ⊎-elim}
 use native.Mathlib.Nat.{mul-suc}
 use lib.Bits.{and-le-l, and-le-r, and-shr, bitAnd}
 use Rattle.model.specs.Names.{Digits, are-digits, first-digit, is-blank-digit, is-legal-filled}

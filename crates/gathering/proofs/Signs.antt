@@ -1,7 +1,5 @@
 -- The order of two keys by the sign of their difference.
 use Rattle.model.proofs.Prelude.{_%_, _*_, _+_, _<_, _^_, _≡_, _≤_, add-zero, arith, ℕ}
-use Rattle.digits.specs.declared.Key.{Key}
-use Rattle.digits.specs.Keys.{key-value}
 
 -- One borrow: t is that of c - z.
 carry : (p q c z t : ℕ) → z ≤ c + t * 2 ^ 64 → c + t * 2 ^ 64 < z + 2 ^ 64 → (p < q + t → p * 2 ^ 64 + c < q * 2 ^ 64 + z) × (p * 2 ^ 64 + c < q * 2 ^ 64 + z → p < q + t)

@@ -123,6 +123,8 @@ pub fn faults(seen: Seen) -> u64
     let least = seen.least;
     let above = above_faults(&most, 0) | above_faults(&most, 8) | above_faults(&most, 16);
     let first = under_faults(&least, 0, 0x2020_2020_2020_2021);
-    let under = first | under_faults(&least, 8, 0x2020_2020_2020_2020) | under_faults(&least, 16, 0x2020_2020_2020_2020);
+    let under = first
+        | under_faults(&least, 8, 0x2020_2020_2020_2020)
+        | under_faults(&least, 16, 0x2020_2020_2020_2020);
     above | under | (1 - (seen.ascents >> 63))
 }

@@ -1,5 +1,5 @@
 -- `entries::are_entries` meets its contract.
-use Rattle.model.proofs.Prelude.{_*_, _<_, _∙_, _≡_, _≤_, ap, arith, false, ltb, needs, not, not-false, not-true, sym, take, true, ℕ}
+use Rattle.model.proofs.Prelude.{_<_, _∙_, _≡_, ap, arith, false, ltb, needs, not, not-false, not-true, sym, take, true, ℕ}
 use Rattle.digits.specs.Keys.{key-value, value}
 use Rattle.entries.proofs.Products.{part-least}
 use Rattle.entries.proofs.Searches.{entries-all, entries-faulty, entries-low, entries-none}
