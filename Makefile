@@ -54,8 +54,9 @@ install: library
 notebook:
 	@examples/render.sh
 
+# The benchmark. BEFORE is an earlier commit to compare with; its library is built once, proved, and kept in build/before.
 bench: library
-	@bench/run.sh
+	@BEFORE="$(BEFORE)" ROUNDS="$(ROUNDS)" VERSIONS="$(VERSIONS)" bench/run.sh
 
 clean:
 	rm -rf target build python/palhavento/libpalhavento.so python/palhavento/*.abi3.so

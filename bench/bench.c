@@ -1,489 +1,150 @@
-/* Measures Palhavento beside SQLite, LMDB and a sorted array, round by round, and prints tables. */
+/*
+ * Measures two builds of the library, their rivals and the floor, round by round, and prints each time taken.
+ *
+ * One line a fact, with tabs between its words; bench/figures.py reads them:
+ *   contestant  TITLE  WHAT-IT-IS
+ *   scene       TITLE  VERSION  B  SLOTS  BYTES  HELD  USED  CELLS  ENDED-BY  TENTH
+ *   lap         ROUND  SCENE  OPERATION  CONTESTANT  NS-AN-OPERATION
+ */
 #include "bench.h"
 
 #include <lmdb.h>
 #include <sqlite3.h>
 #include <string.h>
-#include <time.h>
 
-/* What was timed: how long, and how many operations that were. */
-struct lap {
-    uint64_t ns, operations;
+static const struct sqlite_kind in_memory = {NULL}, rollback = {"DELETE"}, wal = {"WAL"};
+static const struct lmdb_kind unsynced = {MDB_NOSYNC | MDB_NOMETASYNC | MDB_WRITEMAP}, synced = {0};
+
+enum { MOST_CONTESTANTS = 9, MOST_OPERATIONS = 32 };
+
+/* One scene with everyone who takes part in it, and how often each does each operation in a turn. */
+struct field {
+    const struct scene *scene;
+    struct contestant contestants[MOST_CONTESTANTS];
+    unsigned passes[MOST_OPERATIONS][MOST_CONTESTANTS];
+    int count;
 };
 
-static uint64_t now(void)
+static void enter(struct field *field, const char *title, const struct engine *engine, const void *with, bool waits)
 {
-    struct timespec t;
-    clock_gettime(CLOCK_MONOTONIC, &t);
-    return (uint64_t)t.tv_sec * 1000000000u + (uint64_t)t.tv_nsec;
+    void *self = engine->start(field->scene, with);
+    if (!self)
+        return;
+    field->contestants[field->count] = (struct contestant){title, engine, with, self, waits};
+    compare_lists(&field->contestants[field->count++], field->scene);
 }
 
-/* What reading the clock costs by itself; taken off where single operations are timed. */
-static uint64_t clock_cost;
-
-static void measure_clock(void)
+static struct field make_field(const struct setting *setting, const struct scene *scene)
 {
-    clock_cost = UINT64_MAX;
-    for (int i = 0; i < 1000; i++) {
-        uint64_t from = now(), took = now() - from;
-        if (took < clock_cost)
-            clock_cost = took;
+    struct field field = {.scene = scene};
+    enter(&field, "now", &palhavento, &setting->now, false);
+    if (setting->has_before)
+        enter(&field, "before", &palhavento, &setting->before, false);
+    enter(&field, "LMDB", &lmdb, &unsynced, false);
+    enter(&field, "LMDB, sync", &lmdb, &synced, true);
+    enter(&field, "SQLite", &sqlite, &in_memory, false);
+    enter(&field, "SQLite, rollback", &sqlite, &rollback, true);
+    enter(&field, "SQLite, WAL", &sqlite, &wal, true);
+    enter(&field, "array", &array, NULL, false);
+    enter(&field, "reads", &reading, NULL, false);
+    return field;
+}
+
+static void end_field(struct field *field)
+{
+    for (int c = 0; c < field->count; c++) {
+        compare_lists(&field->contestants[c], field->scene);
+        field->contestants[c].engine->end(field->contestants[c].self);
     }
 }
 
-static uint64_t single(uint64_t from, uint64_t to)
+/*
+ * So many passes that a turn takes long enough for the clock; none where there is no such operation. The best of some tries
+ * counts, or one that was interrupted would make all turns too short.
+ */
+static unsigned passes_for(const struct operation *o, const struct contestant *c, const struct scene *s, uint64_t lap_ns)
 {
-    uint64_t took = to - from;
-    return took > clock_cost ? took - clock_cost : 0;
-}
-
-static void begin_reads(const struct engine *e)
-{
-    if (e->begin_reads)
-        e->begin_reads();
-}
-
-static void end_reads(const struct engine *e)
-{
-    if (e->end_reads)
-        e->end_reads();
-}
-
-/* The operations. Each does its work `passes` times and leaves the engine as it was. */
-
-static struct lap look_up(const struct engine *e, bool (*lookup)(const struct name *, uint64_t *),
-                          const struct name *const *names, bool held, unsigned passes)
-{
-    begin_reads(e);
-    uint64_t from = now();
-    for (unsigned p = 0; p < passes; p++) {
-        for (size_t i = 0; i < DRAWS; i++) {
-            uint64_t value;
-            bool found = lookup(names[i], &value);
-            EXPECT(found == held && (!held || value == names[i]->value));
-        }
+    enum { TRIES = 4 }; /* the first warms up */
+    uint64_t best = UINT64_MAX;
+    for (int try = 0; try < TRIES; try++) {
+        if (run_operation(o, c, s, 1) == 0)
+            return 0;
+        uint64_t took = stopwatch_ns() + 1;
+        if (took < best)
+            best = took;
+        if (c->waits && took >= lap_ns)
+            break;
     }
-    struct lap lap = {now() - from, (uint64_t)passes * DRAWS};
-    end_reads(e);
-    return lap;
+    return best >= lap_ns ? 1 : (unsigned)(lap_ns / best);
 }
 
-static struct lap hit(const struct engine *e, const struct scene *s, unsigned passes)
+static void set_passes(struct field *field, uint64_t lap_ns)
 {
-    return look_up(e, e->lookup, s->hits, true, passes);
-}
-
-static struct lap hit_latest(const struct engine *e, const struct scene *s, unsigned passes)
-{
-    return look_up(e, e->lookup, s->latest, true, passes);
-}
-
-static struct lap hit_rebuilt(const struct engine *e, const struct scene *s, unsigned passes)
-{
-    return e->lookup_rebuilt ? look_up(e, e->lookup_rebuilt, s->hits, true, passes) : (struct lap){0, 0};
-}
-
-static struct lap miss(const struct engine *e, const struct scene *s, unsigned passes)
-{
-    return look_up(e, e->lookup, s->misses, false, passes);
-}
-
-/* Forth and back, so that each put changes the value and the file ends as it began. */
-static struct lap replace(const struct engine *e, const struct scene *s, unsigned passes)
-{
-    size_t count = s->held_count < 32 ? s->held_count : 32;
-    uint64_t from = now();
-    for (unsigned p = 0; p < passes; p++) {
-        for (size_t i = 0; i < count; i++)
-            e->replace(&s->held[i], s->held[i].value ^ 1);
-        for (size_t i = 0; i < count; i++)
-            e->replace(&s->held[i], s->held[i].value);
+    EXPECT(operation_count <= MOST_OPERATIONS);
+    for (int o = 0; o < operation_count; o++) {
+        for (int c = 0; c < field->count; c++)
+            field->passes[o][c] = passes_for(&operations[o], &field->contestants[c], field->scene, lap_ns);
     }
-    return (struct lap){now() - from, 2 * count * passes};
 }
 
-static void add_all(const struct engine *e, const struct scene *s)
+/* Everyone does an operation in turn before the next one begins; nobody always comes first. */
+static void run_round(const struct field *field, unsigned round)
 {
-    for (size_t i = 0; i < s->add_count; i++)
-        e->add(s->adds[i]);
-}
-
-static void remove_all(const struct engine *e, const struct scene *s)
-{
-    for (size_t i = 0; i < s->add_count; i++)
-        e->remove(s->adds[i]);
-}
-
-static struct lap add(const struct engine *e, const struct scene *s, unsigned passes)
-{
-    struct lap lap = {0, passes * s->add_count};
-    for (unsigned p = 0; p < passes; p++) {
-        uint64_t from = now();
-        add_all(e, s);
-        lap.ns += single(from, now());
-        if (e->restore)
-            e->restore();
-        else
-            remove_all(e, s);
-    }
-    return lap;
-}
-
-static struct lap remove_added(const struct engine *e, const struct scene *s, unsigned passes)
-{
-    struct lap lap = {0, passes * s->add_count};
-    for (unsigned p = 0; p < passes; p++) {
-        add_all(e, s);
-        uint64_t from = now();
-        remove_all(e, s);
-        lap.ns += single(from, now());
-        if (e->restore)
-            e->restore();
-    }
-    return lap;
-}
-
-/* Each split is made in a fresh copy of its prepared state. The others just add again. */
-static struct lap add_with_split(const struct engine *e, const struct scene *s, unsigned passes)
-{
-    if (!e->split)
-        return add(e, s, passes);
-    struct lap lap = {0, passes * s->split_count};
-    for (unsigned p = 0; p < passes; p++) {
-        for (size_t i = 0; i < s->split_count; i++) {
-            e->prepare_split(&s->splits[i]);
-            uint64_t from = now();
-            e->split(&s->splits[i]);
-            lap.ns += single(from, now());
-        }
-    }
-    return lap;
-}
-
-static uint8_t output[MOST_HELD * PAL_ENTRY_BYTES];
-
-/* The first and the last of all legal names. */
-static struct name least, greatest;
-
-static void make_edges(void)
-{
-    memset(least.bytes, 0x20, NAME_DIGITS);
-    least.bytes[0] = 0x21;
-    least.length = 1;
-    memset(greatest.bytes, 0x7D, NAME_DIGITS);
-    greatest.length = NAME_DIGITS;
-}
-
-static struct lap list_all(const struct engine *e, const struct scene *s, unsigned passes)
-{
-    begin_reads(e);
-    uint64_t from = now();
-    for (unsigned p = 0; p < passes; p++)
-        EXPECT(e->list(&least, &greatest, output) == s->held_count);
-    struct lap lap = {now() - from, passes};
-    end_reads(e);
-    return lap;
-}
-
-enum { TENTHS = 8 }; /* places in the file where a tenth is listed */
-
-static size_t tenth(const struct scene *s)
-{
-    return (s->held_count + 5) / 10;
-}
-
-static size_t list_one_tenth(const struct engine *e, const struct scene *s, size_t place, size_t *first)
-{
-    size_t count = tenth(s);
-    *first = (s->held_count - count) * place / (TENTHS - 1);
-    return e->list(&s->ascending[*first], &s->ascending[*first + count - 1], output);
-}
-
-static struct lap list_tenth(const struct engine *e, const struct scene *s, unsigned passes)
-{
-    begin_reads(e);
-    size_t first;
-    uint64_t from = now();
-    for (unsigned p = 0; p < passes; p++) {
-        for (size_t i = 0; i < TENTHS; i++)
-            EXPECT(list_one_tenth(e, s, i, &first) == tenth(s));
-    }
-    struct lap lap = {now() - from, (uint64_t)passes * TENTHS};
-    end_reads(e);
-    return lap;
-}
-
-static struct lap open_and_look_up(const struct engine *e, const struct scene *s, unsigned passes)
-{
-    struct lap lap = {0, passes};
-    for (unsigned p = 0; p < passes; p++) {
-        const struct name *n = s->hits[p % DRAWS];
-        uint64_t value, from = now();
-        bool found = e->open(n, &value);
-        lap.ns += single(from, now());
-        EXPECT(found && value == n->value);
-        if (e->close)
-            e->close();
-    }
-    return lap;
-}
-
-static struct lap repeat(void (*call)(void), unsigned passes)
-{
-    if (!call)
-        return (struct lap){0, 0};
-    uint64_t from = now();
-    for (unsigned p = 0; p < passes; p++)
-        call();
-    return (struct lap){now() - from, passes};
-}
-
-static struct lap check(const struct engine *e, const struct scene *s, unsigned passes)
-{
-    (void)s;
-    return repeat(e->check, passes);
-}
-
-static struct lap rebuild(const struct engine *e, const struct scene *s, unsigned passes)
-{
-    (void)s;
-    return repeat(e->rebuild, passes);
-}
-
-static struct lap recover(const struct engine *e, const struct scene *s, unsigned passes)
-{
-    (void)s;
-    return repeat(e->recover, passes);
-}
-
-static struct lap copy(const struct engine *e, const struct scene *s, unsigned passes)
-{
-    (void)s;
-    return repeat(e->copy, passes);
-}
-
-static const struct operation {
-    const char *title;
-    struct lap (*run)(const struct engine *, const struct scene *, unsigned passes);
-} operations[] = {
-    {"look up, any name held", hit},
-    {"look up, latest name", hit_latest},
-    {"look up, held, trie rebuilt", hit_rebuilt},
-    {"look up, absent", miss},
-    {"put, replaces", replace},
-    {"put, adds", add},
-    {"put, adds and splits", add_with_split},
-    {"remove", remove_added},
-    {"list a tenth", list_tenth},
-    {"list everything", list_all},
-    {"check", check},
-    {"rebuild", rebuild},
-    {"recover, sound file", recover},
-    {"open and first look up", open_and_look_up},
-    {"memcpy of the whole file", copy},
-};
-static const struct engine *const engines[] = {&palhavento, &sqlite, &lmdb, &array};
-static const struct size {
-    unsigned b, slots;
-} sizes[] = {{4, 8}, {16, 16}, {16, 32}, {16, 64}};
-
-enum {
-    OPERATIONS = sizeof operations / sizeof *operations,
-    COPY = OPERATIONS - 1,
-    ENGINES = sizeof engines / sizeof *engines,
-    OURS = 0,
-    SQLITE = 1,
-    SIZES = sizeof sizes / sizeof *sizes,
-    MOST_ROUNDS = 21,
-    FEWEST_ROUNDS = 3
-};
-
-/* How long to measure. */
-static unsigned rounds = MOST_ROUNDS;
-static uint64_t lap_ns = 4000000, size_ns = 13000000000u;
-
-/* Times of one operation by one engine in ns; none where it has no such operation. */
-struct times {
-    double best, median;
-    bool any;
-};
-static struct times results[SIZES][OPERATIONS][ENGINES];
-
-static int by_number(const void *a, const void *b)
-{
-    double x = *(const double *)a, y = *(const double *)b;
-    return (x > y) - (x < y);
-}
-
-/* All engines hold the same: every list is, byte for byte, the held names in order. */
-static void compare_lists(const struct engine *e, const struct scene *s)
-{
-    static uint8_t expected[sizeof output];
-    for (size_t i = 0; i < s->held_count; i++) {
-        memcpy(expected + PAL_ENTRY_BYTES * i, s->ascending[i].bytes, NAME_DIGITS);
-        memcpy(expected + PAL_ENTRY_BYTES * i + NAME_DIGITS, &s->ascending[i].value, sizeof(uint64_t));
-    }
-    begin_reads(e);
-    EXPECT(e->list(&least, &greatest, output) == s->held_count);
-    EXPECT(memcmp(output, expected, PAL_ENTRY_BYTES * s->held_count) == 0);
-    for (size_t i = 0; i < TENTHS; i++) {
-        size_t first;
-        EXPECT(list_one_tenth(e, s, i, &first) == tenth(s));
-        EXPECT(memcmp(output, expected + PAL_ENTRY_BYTES * first, PAL_ENTRY_BYTES * tenth(s)) == 0);
-    }
-    end_reads(e);
-}
-
-/* So many passes that a lap takes long enough for the clock. */
-static unsigned passes_for(const struct operation *o, const struct engine *e, const struct scene *s)
-{
-    o->run(e, s, 1);
-    uint64_t from = now();
-    if (o->run(e, s, 1).operations == 0)
-        return 0;
-    uint64_t took = now() - from + 1;
-    return took >= lap_ns ? 1 : (unsigned)(lap_ns / took);
-}
-
-static unsigned measure_rounds(const struct scene *s, struct times times[OPERATIONS][ENGINES])
-{
-    static double laps[OPERATIONS][ENGINES][MOST_ROUNDS];
-    static unsigned passes[OPERATIONS][ENGINES];
-    uint64_t from = now();
-    for (int o = 0; o < OPERATIONS; o++) {
-        for (int e = 0; e < ENGINES; e++)
-            passes[o][e] = passes_for(&operations[o], engines[e], s);
-    }
-    unsigned round = 0;
-    while (round < rounds && (round < FEWEST_ROUNDS || now() - from < size_ns)) {
-        for (int o = 0; o < OPERATIONS; o++) {
-            for (int turn = 0; turn < ENGINES; turn++) {
-                int e = (turn + (int)round) % ENGINES; /* no engine always comes first */
-                if (passes[o][e] == 0)
-                    continue;
-                struct lap lap = operations[o].run(engines[e], s, passes[o][e]);
-                laps[o][e][round] = (double)lap.ns / (double)lap.operations;
-            }
-        }
-        round++;
-    }
-    for (int o = 0; o < OPERATIONS; o++) {
-        for (int e = 0; e < ENGINES; e++) {
-            if (passes[o][e] == 0)
+    for (int o = 0; o < operation_count; o++) {
+        for (int turn = 0; turn < field->count; turn++) {
+            int at = (turn + (int)round) % field->count;
+            const struct contestant *c = &field->contestants[at];
+            if (field->passes[o][at] == 0)
                 continue;
-            qsort(laps[o][e], round, sizeof(double), by_number);
-            times[o][e] = (struct times){laps[o][e][0], laps[o][e][round / 2], true};
+            uint64_t done = run_operation(&operations[o], c, field->scene, field->passes[o][at]);
+            printf("lap\t%u\t%s\t%s\t%s\t%.3f\n", round, field->scene->title, operations[o].title, c->title,
+                   (double)stopwatch_ns() / (double)done);
         }
     }
-    return round;
 }
 
-static void print_times(struct times t)
+static void print_contestants(const struct setting *setting)
 {
-    if (t.any)
-        printf(" %10.*f %9.*f", t.best < 100, t.best, t.median < 100, t.median);
-    else
-        printf(" %10s %9s", "", "-");
+    printf("contestant\tnow\tthis library\n");
+    if (setting->has_before)
+        printf("contestant\tbefore\tthis library, built from an earlier commit\n");
+    printf("contestant\tLMDB\tLMDB %d.%d.%d without sync, its map written in place\n", MDB_VERSION_MAJOR, MDB_VERSION_MINOR,
+           MDB_VERSION_PATCH);
+    printf("contestant\tLMDB, sync\tthe same as LMDB is by itself: each change waits for the disk\n");
+    printf("contestant\tSQLite\tSQLite %s in memory, prepared statements\n", sqlite3_libversion());
+    printf("contestant\tSQLite, rollback\tthe same on disk with its rollback journal; each change waits for the disk\n");
+    printf("contestant\tSQLite, WAL\tthe same on disk with its write-ahead log; each change waits for the disk\n");
+    printf("contestant\tarray\ta sorted array in memory, binary search and memmove\n");
+    printf("contestant\treads\tone read of the file, a sum over its words: the floor\n");
 }
 
-static void print_ratio(double ours, double theirs)
+static void print_scene(const struct scene *s)
 {
-    printf(" %8.2f", theirs / ours);
-}
-
-static void print_table(const struct scene *s, unsigned round_count,
-                        struct times times[OPERATIONS][ENGINES])
-{
-    unsigned places = s->b * s->slots;
-    printf("\nb = %u, %u slots: a file of %zu bytes, %zu of %u entries (%.0f %%), %u slots used, %u cells\n",
-           s->b, s->slots, s->file_length, s->held_count, places,
-           100.0 * (double)s->held_count / places, s->used, s->cells);
-    if (s->ended_by)
-        printf("Refusal %u ended the filling before 70 %%.\n", (unsigned)s->ended_by);
-    printf("ns an operation, best and median of %u rounds; a tenth is %zu entries\n\n", round_count, tenth(s));
-    printf("%-27s", "");
-    for (int e = 0; e < ENGINES; e++)
-        printf(" %20s", engines[e]->title);
-    printf(" %17s %8s\n", "SQLite / ours", "copies");
-    for (int o = 0; o < OPERATIONS; o++) {
-        struct times ours = times[o][OURS], other = times[o][SQLITE];
-        printf("%-27s", operations[o].title);
-        for (int e = 0; e < ENGINES; e++)
-            print_times(times[o][e]);
-        if (other.any) {
-            print_ratio(ours.best, other.best);
-            print_ratio(ours.median, other.median);
-        } else {
-            printf(" %8s %8s", "", "-");
-        }
-        print_ratio(times[COPY][OURS].best, ours.best);
-        printf("\n");
-    }
-    fflush(stdout);
-}
-
-static void measure_size(int size, const struct name *names, size_t count)
-{
-    struct scene *s = make_scene(sizes[size].b, sizes[size].slots, names, count);
-    for (int e = 0; e < ENGINES; e++) {
-        engines[e]->start(s);
-        compare_lists(engines[e], s);
-    }
-    unsigned round_count = measure_rounds(s, results[size]);
-    for (int e = 0; e < ENGINES; e++) {
-        compare_lists(engines[e], s);
-        engines[e]->end();
-    }
-    print_table(s, round_count, results[size]);
-    free_scene(s);
-}
-
-/* From 16 to 64 slots: a cost that does not depend on the file grows by 1, one that reads it all by 4. */
-static void print_growth(void)
-{
-    enum { FROM = 1, TO = SIZES - 1 };
-    printf("\nGrowth with slots at b = 16: best ns an operation, and how many times more %u slots cost than %u\n\n",
-           sizes[TO].slots, sizes[FROM].slots);
-    printf("%-27s", "");
-    for (int z = FROM; z <= TO; z++)
-        printf(" %4u slots", sizes[z].slots);
-    for (int e = 0; e < ENGINES; e++)
-        printf(" %10s", engines[e]->title);
-    printf("\n");
-    for (int o = 0; o < OPERATIONS; o++) {
-        printf("%-27s", operations[o].title);
-        for (int z = FROM; z <= TO; z++)
-            printf(" %10.*f", results[z][o][OURS].best < 100, results[z][o][OURS].best);
-        for (int e = 0; e < ENGINES; e++) {
-            if (results[FROM][o][e].any)
-                printf(" %9.1fx", results[TO][o][e].best / results[FROM][o][e].best);
-            else
-                printf(" %10s", "-");
-        }
-        printf("\n");
-    }
+    printf("scene\t%s\t%u\t%u\t%u\t%zu\t%zu\t%u\t%u\t%u\t%zu\n", s->title, s->version, s->b, s->slots, s->file_length,
+           s->held_count, s->used, s->cells, (unsigned)s->ended_by, tenth(s));
 }
 
 int main(int argc, char **argv)
 {
-    if (argc == 2 && strcmp(argv[1], "--quick") == 0) {
-        rounds = FEWEST_ROUNDS;
-        lap_ns = 300000;
-        size_ns = 0;
-    } else if (argc != 1) {
-        fprintf(stderr, "usage: %s [--quick]\n", argv[0]);
-        return 2;
+    static struct field fields[MOST_SCENES];
+    struct setting setting = make_setting(argc, argv);
+    set_scratch(setting.folder);
+    set_stopwatch();
+    print_contestants(&setting);
+    for (int f = 0; f < setting.scene_count; f++) {
+        print_scene(setting.scenes[f]);
+        fields[f] = make_field(&setting, setting.scenes[f]);
+        set_passes(&fields[f], setting.lap_ns);
     }
-    measure_clock();
-    make_edges();
-    printf("Palhavento beside SQLite %s (in memory, prepared statements), LMDB %d.%d.%d (no sync)\n"
-           "and a sorted array. SQLite / ours: above 1 we are faster (best, median).\n"
-           "copies: our best time in memcpys of the whole file.\n",
-           sqlite3_libversion(), MDB_VERSION_MAJOR, MDB_VERSION_MINOR, MDB_VERSION_PATCH);
-    size_t count;
-    const struct name *names = all_names(&count);
-    for (int size = 0; size < SIZES; size++)
-        measure_size(size, names, count);
-    print_growth();
+    for (unsigned round = 0; round < setting.rounds; round++) {
+        fprintf(stderr, "bench: round %u of %u\n", round + 1, setting.rounds);
+        for (int f = 0; f < setting.scene_count; f++)
+            run_round(&fields[f], round);
+        EXPECT(fflush(stdout) == 0);
+    }
+    for (int f = 0; f < setting.scene_count; f++) {
+        end_field(&fields[f]);
+        free_scene(setting.scenes[f]);
+    }
     return 0;
 }

@@ -1,45 +1,19 @@
-/* LMDB as an engine: a map in a temporary folder, never synced; each change is a transaction. */
+/* LMDB as an engine: a map in a temporary folder, synced or not; each change is a transaction. */
 #include "bench.h"
 
 #include <lmdb.h>
 #include <string.h>
-#include <unistd.h>
 
 enum { MAP_BYTES = 4 << 20 };
 
 /* One folder for the map in use and one for the copy to open: a process must not open a map twice. */
-static char folder[512], copy_folder[512];
-static MDB_env *kept, *opened;
-static MDB_txn *reads, *opened_reads;
-static MDB_dbi table;
-
-static void new_folder(char *path, size_t room)
-{
-    const char *parent = getenv("TMPDIR");
-    int length = snprintf(path, room, "%s/lmdb-XXXXXX", parent && *parent ? parent : P_tmpdir);
-    EXPECT(length > 0 && (size_t)length < room);
-    EXPECT(mkdtemp(path) != NULL);
-}
-
-static void remove_folder(char *path)
-{
-    char file[sizeof folder + 16];
-    if (!*path)
-        return;
-    snprintf(file, sizeof file, "%s/data.mdb", path);
-    unlink(file);
-    snprintf(file, sizeof file, "%s/lock.mdb", path);
-    unlink(file);
-    rmdir(path);
-    *path = 0;
-}
-
-/* Also after a surprise nothing stays behind. */
-static void remove_folders(void)
-{
-    remove_folder(folder);
-    remove_folder(copy_folder);
-}
+struct state {
+    char *folder, *copy_folder;
+    MDB_env *kept, *opened;
+    MDB_txn *reads, *opened_reads;
+    MDB_dbi table;
+    unsigned flags;
+};
 
 static MDB_env *open_folder(const char *path, unsigned flags)
 {
@@ -62,55 +36,64 @@ static MDB_val key_of(const struct name *n)
     return (MDB_val){n->length, (void *)n->bytes};
 }
 
-static void put(const struct name *n, uint64_t value, unsigned flags)
+static void put_in(MDB_txn *txn, MDB_dbi table, const struct name *n, uint64_t value, unsigned flags)
 {
     MDB_val key = key_of(n), data = {sizeof value, &value};
-    MDB_txn *txn = begin(kept, 0);
     EXPECT(mdb_put(txn, table, &key, &data, flags) == 0);
+}
+
+static void put(const struct state *self, const struct name *n, uint64_t value, unsigned flags)
+{
+    MDB_txn *txn = begin(self->kept, 0);
+    put_in(txn, self->table, n, value, flags);
     EXPECT(mdb_txn_commit(txn) == 0);
 }
 
-static void add(const struct name *n)
+static void add(void *state, const struct name *n)
 {
-    put(n, n->value, MDB_NOOVERWRITE);
+    put(state, n, n->value, MDB_NOOVERWRITE);
 }
 
-static void replace(const struct name *n, uint64_t value)
+static void replace(void *state, const struct name *n, uint64_t value)
 {
-    put(n, value, 0);
+    put(state, n, value, 0);
 }
 
-static void start(const struct scene *s)
+static void *start(const struct scene *s, const void *with)
 {
-    static bool registered;
-    if (!registered)
-        EXPECT(atexit(remove_folders) == 0);
-    registered = true;
-    new_folder(folder, sizeof folder);
-    new_folder(copy_folder, sizeof copy_folder);
-    kept = open_folder(folder, MDB_NOSYNC | MDB_NOMETASYNC | MDB_WRITEMAP);
-    MDB_txn *txn = begin(kept, 0);
-    EXPECT(mdb_dbi_open(txn, NULL, 0, &table) == 0);
-    EXPECT(mdb_txn_commit(txn) == 0);
+    struct state *self = room(sizeof *self);
+    self->folder = new_folder();
+    self->copy_folder = new_folder();
+    self->flags = ((const struct lmdb_kind *)with)->flags;
+    self->kept = open_folder(self->folder, self->flags);
+    MDB_txn *txn = begin(self->kept, 0);
+    EXPECT(mdb_dbi_open(txn, NULL, 0, &self->table) == 0);
     for (size_t i = 0; i < s->held_count; i++)
-        add(&s->held[i]);
-    EXPECT(mdb_env_copy(kept, copy_folder) == 0);
+        put_in(txn, self->table, &s->held[i], s->held[i].value, MDB_NOOVERWRITE);
+    EXPECT(mdb_txn_commit(txn) == 0);
+    EXPECT(mdb_env_copy(self->kept, self->copy_folder) == 0);
+    return self;
 }
 
-static void end(void)
+static void end(void *state)
 {
-    mdb_env_close(kept);
-    remove_folders();
+    struct state *self = state;
+    mdb_env_close(self->kept);
+    free(self->folder);
+    free(self->copy_folder);
+    free(self);
 }
 
-static void begin_reads(void)
+static void begin_reads(void *state)
 {
-    reads = begin(kept, MDB_RDONLY);
+    struct state *self = state;
+    self->reads = begin(self->kept, MDB_RDONLY);
 }
 
-static void end_reads(void)
+static void end_reads(void *state)
 {
-    mdb_txn_abort(reads);
+    struct state *self = state;
+    mdb_txn_abort(self->reads);
 }
 
 static bool get(MDB_txn *txn, MDB_dbi from, const struct name *n, uint64_t *value)
@@ -123,28 +106,31 @@ static bool get(MDB_txn *txn, MDB_dbi from, const struct name *n, uint64_t *valu
     return answer == 0;
 }
 
-static bool lookup(const struct name *n, uint64_t *value)
+static bool lookup(void *state, const struct name *n, uint64_t *value)
 {
-    return get(reads, table, n, value);
+    const struct state *self = state;
+    return get(self->reads, self->table, n, value);
 }
 
-static void removed(const struct name *n)
+static void removed(void *state, const struct name *n)
 {
+    const struct state *self = state;
     MDB_val key = key_of(n);
-    MDB_txn *txn = begin(kept, 0);
-    EXPECT(mdb_del(txn, table, &key, NULL) == 0);
+    MDB_txn *txn = begin(self->kept, 0);
+    EXPECT(mdb_del(txn, self->table, &key, NULL) == 0);
     EXPECT(mdb_txn_commit(txn) == 0);
 }
 
-static size_t list(const struct name *first, const struct name *second, uint8_t *output)
+static size_t list(void *state, const struct name *first, const struct name *second, uint8_t *output)
 {
+    const struct state *self = state;
     MDB_val key = key_of(first), last = key_of(second), data;
     MDB_cursor *cursor;
     size_t count = 0;
-    EXPECT(mdb_cursor_open(reads, table, &cursor) == 0);
+    EXPECT(mdb_cursor_open(self->reads, self->table, &cursor) == 0);
     int answer = mdb_cursor_get(cursor, &key, &data, MDB_SET_RANGE);
-    while (answer == 0 && mdb_cmp(reads, table, &key, &last) <= 0) {
-        uint8_t *entry = output + PAL_ENTRY_BYTES * count++;
+    while (answer == 0 && mdb_cmp(self->reads, self->table, &key, &last) <= 0) {
+        uint8_t *entry = output + LISTED_BYTES * count++;
         memset(entry, 0x20, NAME_DIGITS);
         memcpy(entry, key.mv_data, key.mv_size);
         memcpy(entry + NAME_DIGITS, data.mv_data, sizeof(uint64_t));
@@ -155,23 +141,25 @@ static size_t list(const struct name *first, const struct name *second, uint8_t 
     return count;
 }
 
-static bool opened_lookup(const struct name *n, uint64_t *value)
+/* Opened for changes too, as ours is. */
+static bool opened_lookup(void *state, const struct name *n, uint64_t *value)
 {
+    struct state *self = state;
     MDB_dbi from;
-    opened = open_folder(copy_folder, MDB_RDONLY);
-    opened_reads = begin(opened, MDB_RDONLY);
-    EXPECT(mdb_dbi_open(opened_reads, NULL, 0, &from) == 0);
-    return get(opened_reads, from, n, value);
+    self->opened = open_folder(self->copy_folder, self->flags);
+    self->opened_reads = begin(self->opened, MDB_RDONLY);
+    EXPECT(mdb_dbi_open(self->opened_reads, NULL, 0, &from) == 0);
+    return get(self->opened_reads, from, n, value);
 }
 
-static void closed(void)
+static void closed(void *state)
 {
-    mdb_txn_abort(opened_reads);
-    mdb_env_close(opened);
+    struct state *self = state;
+    mdb_txn_abort(self->opened_reads);
+    mdb_env_close(self->opened);
 }
 
 const struct engine lmdb = {
-    .title = "LMDB",
     .start = start,
     .end = end,
     .begin_reads = begin_reads,

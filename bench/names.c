@@ -32,6 +32,9 @@ const struct name *all_names(size_t *count)
 {
     static struct name names[NAMES];
     uint64_t state = 1983;
+    *count = NAMES;
+    if (names[0].length)
+        return names;
     for (size_t i = 0; i < NAMES; i++) {
         char text[64];
         unsigned quarter = (unsigned)(i % QUARTERS);
@@ -50,7 +53,6 @@ const struct name *all_names(size_t *count)
         names[i] = names[other];
         names[other] = moved;
     }
-    *count = NAMES;
     return names;
 }
 

@@ -1,134 +1,161 @@
-/* Palhavento as an engine, through its C interface; every answer number is checked. */
+/* Palhavento as an engine, through the C interface of one build; every answer number is checked. */
 #include "bench.h"
 
 #include <string.h>
 
 /* The file in use and its trie as grown. The scene's own bytes stay as they are. */
-static uint8_t *file, *trie;
-static const struct scene *scene;
-static size_t length;
+struct state {
+    const struct library *library;
+    const struct scene *scene;
+    size_t length;
+    uint8_t *file, *trie;
+    uint8_t *split_file, *split_trie; /* where a prepared state is split */
+    uint8_t *fresh_trie;              /* where a trie is rebuilt */
+};
 
-/* Where a prepared state is split, where a trie is rebuilt, where a file is copied. */
-static uint8_t *split_file, *split_trie, *fresh_trie, *copied;
-
-static void start(const struct scene *s)
+/* An earlier build does not know the newest versions of a file: it takes them for bad. */
+static void *start(const struct scene *s, const void *library)
 {
-    scene = s;
-    length = s->file_length;
-    file = memcpy(room(length), s->file, length);
-    trie = memcpy(room(PAL_TRIE_BYTES), s->grown, PAL_TRIE_BYTES);
-    split_file = room(length);
-    copied = room(length);
-    split_trie = room(PAL_TRIE_BYTES);
-    fresh_trie = room(PAL_TRIE_BYTES);
+    struct state *self = room(sizeof *self);
+    self->library = library;
+    self->scene = s;
+    self->length = s->file_length;
+    if (self->library->check(s->file, s->file_length) == PAL_BAD) {
+        free(self);
+        return NULL;
+    }
+    self->file = memcpy(room(self->length), s->file, self->length);
+    self->trie = memcpy(room(PAL_TRIE_BYTES), s->grown, PAL_TRIE_BYTES);
+    self->split_file = room(self->length);
+    self->split_trie = room(PAL_TRIE_BYTES);
+    self->fresh_trie = room(PAL_TRIE_BYTES);
+    return self;
 }
 
-static void end(void)
+static void end(void *state)
 {
-    free(file);
-    free(trie);
-    free(split_file);
-    free(copied);
-    free(split_trie);
-    free(fresh_trie);
+    struct state *self = state;
+    free(self->file);
+    free(self->trie);
+    free(self->split_file);
+    free(self->split_trie);
+    free(self->fresh_trie);
+    free(self);
 }
 
-static void restore(void)
+static void restore(void *state)
 {
-    memcpy(file, scene->file, length);
-    memcpy(trie, scene->grown, PAL_TRIE_BYTES);
+    struct state *self = state;
+    memcpy(self->file, self->scene->file, self->length);
+    memcpy(self->trie, self->scene->grown, PAL_TRIE_BYTES);
 }
 
-static inline bool lookup_with(const uint8_t *with, const struct name *n, uint64_t *value)
+static inline bool lookup_with(const struct state *self, const uint8_t *trie, const struct name *n, uint64_t *value)
 {
     uint64_t out[4] = {0};
-    uint64_t answer =
-        pal_lookup(file, length, with, PAL_TRIE_BYTES, n->bytes, n->length, out);
+    uint64_t answer = self->library->lookup(self->file, self->length, trie, PAL_TRIE_BYTES, n->bytes, n->length, out);
     EXPECT(answer == PAL_FOUND || answer == PAL_ABSENT);
     *value = out[0];
     return answer == PAL_FOUND;
 }
 
-static bool lookup(const struct name *n, uint64_t *value)
+static bool lookup(void *state, const struct name *n, uint64_t *value)
 {
-    return lookup_with(trie, n, value);
+    const struct state *self = state;
+    return lookup_with(self, self->trie, n, value);
 }
 
-static bool lookup_rebuilt(const struct name *n, uint64_t *value)
+static bool lookup_rebuilt(void *state, const struct name *n, uint64_t *value)
 {
-    return lookup_with(scene->rebuilt, n, value);
+    const struct state *self = state;
+    return lookup_with(self, self->scene->rebuilt, n, value);
 }
 
-static void replace(const struct name *n, uint64_t value)
+static inline uint64_t put(const struct state *self, uint8_t *file, uint8_t *trie, const struct name *n, uint64_t value,
+                           uint64_t out[4])
 {
+    return self->library->put(file, self->length, trie, PAL_TRIE_BYTES, n->bytes, n->length, value, 0, 2, out);
+}
+
+static void replace(void *state, const struct name *n, uint64_t value)
+{
+    const struct state *self = state;
     uint64_t out[4];
-    EXPECT(pal_put(file, length, trie, PAL_TRIE_BYTES, n->bytes, n->length, value, 0, 2, out) == PAL_REPLACED);
+    EXPECT(put(self, self->file, self->trie, n, value, out) == PAL_REPLACED);
     EXPECT((out[0] ^ 1) == value);
 }
 
-static void add(const struct name *n)
+static void add(void *state, const struct name *n)
 {
+    const struct state *self = state;
     uint64_t out[4];
-    EXPECT(pal_put(file, length, trie, PAL_TRIE_BYTES, n->bytes, n->length, n->value, 0, 2, out) == PAL_ADDED);
+    EXPECT(put(self, self->file, self->trie, n, n->value, out) == PAL_ADDED);
 }
 
-static void removed(const struct name *n)
+static void removed(void *state, const struct name *n)
 {
+    const struct state *self = state;
     uint64_t out[4];
-    EXPECT(pal_remove(file, length, trie, PAL_TRIE_BYTES, n->bytes, n->length, 2, out) == PAL_REMOVED);
+    EXPECT(self->library->remove(self->file, self->length, self->trie, PAL_TRIE_BYTES, n->bytes, n->length, 2, out) ==
+           PAL_REMOVED);
 }
 
-static size_t list(const struct name *first, const struct name *second, uint8_t *output)
+static size_t list(void *state, const struct name *first, const struct name *second, uint8_t *output)
 {
+    const struct state *self = state;
     uint64_t out[4];
-    EXPECT(pal_list(file, length, trie, PAL_TRIE_BYTES, first->bytes, first->length, second->bytes,
-                    second->length, output, MOST_HELD * PAL_ENTRY_BYTES, out) == PAL_LISTED);
+    EXPECT(self->library->list(self->file, self->length, self->trie, PAL_TRIE_BYTES, first->bytes, first->length,
+                               second->bytes, second->length, output, MOST_HELD * MOST_ENTRY, out) == PAL_LISTED);
     return out[0];
 }
 
-static void check(void)
+static size_t entry_bytes(void *state)
 {
-    EXPECT(pal_check(file, length) == PAL_SOUND);
+    const struct state *self = state;
+    return self->scene->entry_bytes;
 }
 
-static void rebuild(void)
+static void check(void *state)
 {
-    EXPECT(pal_rebuild(file, length, fresh_trie, PAL_TRIE_BYTES) == PAL_REBUILT);
+    const struct state *self = state;
+    EXPECT(self->library->check(self->file, self->length) == PAL_SOUND);
 }
 
-static void recover(void)
+static void rebuild(void *state)
 {
+    const struct state *self = state;
+    EXPECT(self->library->rebuild(self->file, self->length, self->fresh_trie, PAL_TRIE_BYTES) == PAL_REBUILT);
+}
+
+static void recover(void *state)
+{
+    const struct state *self = state;
     uint64_t out[4];
-    EXPECT(pal_recover(file, length, 2, out) == PAL_NOTHING_TO_DO);
+    EXPECT(self->library->recover(self->file, self->length, 2, out) == PAL_NOTHING_TO_DO);
 }
 
-static bool opened(const struct name *n, uint64_t *value)
+static bool opened(void *state, const struct name *n, uint64_t *value)
 {
-    rebuild();
-    return lookup_with(fresh_trie, n, value);
+    const struct state *self = state;
+    rebuild(state);
+    return lookup_with(self, self->fresh_trie, n, value);
 }
 
-static void prepare_split(const struct split *s)
+static void prepare_split(void *state, const struct split *s)
 {
-    memcpy(split_file, s->file, length);
-    memcpy(split_trie, s->trie, PAL_TRIE_BYTES);
+    const struct state *self = state;
+    memcpy(self->split_file, s->file, self->length);
+    memcpy(self->split_trie, s->trie, PAL_TRIE_BYTES);
 }
 
-static void split(const struct split *s)
+static void split(void *state, const struct split *s)
 {
+    const struct state *self = state;
     uint64_t out[4];
-    EXPECT(pal_put(split_file, length, split_trie, PAL_TRIE_BYTES, s->name->bytes, s->name->length,
-                   s->name->value, 0, 2, out) == PAL_ADDED);
-}
-
-static void copy(void)
-{
-    memcpy(copied, file, length);
-    __asm__ volatile("" : : "r"(copied) : "memory"); /* or the compiler sees that nobody reads it */
+    EXPECT(put(self, self->split_file, self->split_trie, s->name, s->name->value, out) == PAL_ADDED);
 }
 
 const struct engine palhavento = {
-    .title = "palhavento",
     .start = start,
     .end = end,
     .lookup = lookup,
@@ -137,6 +164,7 @@ const struct engine palhavento = {
     .remove = removed,
     .restore = restore,
     .list = list,
+    .entry_bytes = entry_bytes,
     .check = check,
     .open = opened,
     .lookup_rebuilt = lookup_rebuilt,
@@ -144,5 +172,4 @@ const struct engine palhavento = {
     .split = split,
     .rebuild = rebuild,
     .recover = recover,
-    .copy = copy,
 };

@@ -1,6 +1,7 @@
 /*
  * Keeps names in a file on disk, through kills: puts each line `name value` of standard input, and says the line again
- * when it is on disk. With -l it lists what the file holds. A name may have blanks: the value is behind the last one.
+ * when it is on disk. With -l it lists what the file holds. A name may have blanks: the value is behind the last one. Its
+ * puts are of run 0: in a file of version 3, which keeps runs, a name that a run has written is refused.
  *
  *     cc examples/keep.c $(pkg-config --cflags --libs palhavento) -o keep
  *     echo gdp.de 4329 | ./keep rates.tkf
@@ -22,13 +23,13 @@
 #include <unistd.h>
 #include "palhavento.h"
 
-enum { B = 16, SLOTS = 7, LONGEST_FILE = PAL_FILE_BYTES(16, 64), MOST_ENTRIES = 16 * 64 };
+enum { VERSION = 1, B = 16, SLOTS = 7 };
 
 static const char *path;
 static int disk;
 static size_t length;
 /* One byte more than any file has, so that a longer one is seen to be bad. */
-static uint8_t file[LONGEST_FILE + 1], trie[PAL_TRIE_BYTES];
+static uint8_t file[PAL_LARGEST_FILE + 1], trie[PAL_TRIE_BYTES];
 
 static void fail(const char *what)
 {
@@ -72,8 +73,8 @@ static void create(void)
         errno = ENAMETOOLONG;
         fail("create");
     }
-    length = PAL_FILE_BYTES(B, SLOTS);
-    if (pal_create(file, length, 1, B, SLOTS, trie, sizeof trie) != PAL_CREATED)
+    length = PAL_FILE_BYTES_OF(VERSION, B, SLOTS);
+    if (pal_create(file, length, VERSION, B, SLOTS, trie, sizeof trie) != PAL_CREATED)
         abort();
     int new = open(beside, O_WRONLY | O_CREAT | O_TRUNC | O_CLOEXEC, 0666);
     if (new < 0 || write_whole(new, file, length, 0) != 0 || fsync(new) != 0 || close(new) != 0)
@@ -90,8 +91,8 @@ static void create(void)
 /* Makes the one store between the file and what it is to be next: at most one slot differs. */
 static void store(const uint8_t *next)
 {
-    size_t slot_bytes = PAL_FILE_BYTES(file[5], 1) - PAL_FILE_BYTES(file[5], 0);
-    for (size_t slot = PAL_FILE_BYTES(file[5], 0); slot < length; slot += slot_bytes)
+    size_t header = PAL_FILE_BYTES_OF(file[3], file[5], 0), slot_bytes = PAL_FILE_BYTES_OF(file[3], file[5], 1) - header;
+    for (size_t slot = header; slot < length; slot += slot_bytes)
         if (memcmp(file + slot, next + slot, slot_bytes) != 0) {
             lock(F_WRLCK);
             if (write_whole(disk, next + slot, slot_bytes, (off_t)slot) != 0) {
@@ -162,7 +163,8 @@ static uint64_t put(const char *name, uint64_t value)
 
 static void list(void)
 {
-    static uint8_t entries[MOST_ENTRIES * PAL_ENTRY_BYTES];
+    static uint8_t entries[PAL_LARGEST_LIST];
+    size_t size = PAL_ENTRY_BYTES_OF(file[3]);
     uint8_t last[24];
     uint64_t out[4];
     memset(last, '}', sizeof last);
@@ -170,7 +172,7 @@ static void list(void)
                                entries, sizeof entries, out);
     if (answer != PAL_LISTED)
         refuse(answer);
-    for (uint8_t *entry = entries; entry < entries + out[0] * PAL_ENTRY_BYTES; entry += PAL_ENTRY_BYTES) {
+    for (uint8_t *entry = entries; entry < entries + out[0] * size; entry += size) {
         int digits = 24;
         uint64_t value = 0;
         while (digits > 0 && entry[digits - 1] == ' ')

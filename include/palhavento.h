@@ -2,7 +2,7 @@
  * palhavento.h: an ordered file of names in lent bytes, and the trie that addresses it.
  *
  * A name has 1 to 24 bytes, each 0x20 to 0x7D, with no blank (0x20) first or last, and carries a
- * 64-bit value. A file keeps the names in buckets of up to b entries, one bucket a slot; its trie
+ * 64-bit value, in files of version 3 also the 64-bit number of the run that wrote it. A file keeps the names in buckets of up to b entries, one bucket a slot; its trie
  * leads each name to the one bucket whose range holds it. The file is what lasts. The trie can be
  * rebuilt from it at any time.
  *
@@ -57,7 +57,7 @@ extern "C" {
 /* The version, as numbers for #if and as text. A program built with one version runs with every later
  * one of the same major number. */
 #define PALHAVENTO_VERSION_MAJOR 1
-#define PALHAVENTO_VERSION_MINOR 3
+#define PALHAVENTO_VERSION_MINOR 4
 #define PALHAVENTO_VERSION_PATCH 0
 #define PALHAVENTO_VERSION PAL_DOTTED_(PALHAVENTO_VERSION_MAJOR, PALHAVENTO_VERSION_MINOR, PALHAVENTO_VERSION_PATCH)
 #define PAL_DOTTED_(major, minor, patch) PAL_TEXT_(major) "." PAL_TEXT_(minor) "." PAL_TEXT_(patch)
@@ -69,11 +69,20 @@ extern "C" {
 #define PAL_TRIE_BYTES 1540
 
 /* The bytes of an entry in pal_list's output: the name filled to 24 with 0x20, then the value (8,
- * little-endian). The name ends where the blanks at the end begin: it may have others inside. */
+ * little-endian), and of a file of version 3 the run (8, little-endian). The name ends where the
+ * blanks at the end begin: it may have others inside. PAL_ENTRY_BYTES is that of versions 1 and 2; a
+ * file's version is its byte 3. */
 #define PAL_ENTRY_BYTES 32
+#define PAL_ENTRY_BYTES_OF(version) ((version) == 3 ? (size_t)40 : (size_t)PAL_ENTRY_BYTES)
 
-/* The bytes of a file with bucket capacity b, 2 to 16, and slots, 1 to 64. */
-#define PAL_FILE_BYTES(b, slots) (16 + (size_t)(slots) * (64 + 32 * (size_t)(b)))
+/* The bytes of a file with bucket capacity b, 2 to 16, and slots, 1 to 64: of version 1 or 2, and of
+ * any version. */
+#define PAL_FILE_BYTES(b, slots) PAL_FILE_BYTES_OF(1, b, slots)
+#define PAL_FILE_BYTES_OF(version, b, slots) (16 + (size_t)(slots) * (64 + PAL_ENTRY_BYTES_OF(version) * (size_t)(b)))
+
+/* Room for every file, and for what pal_list writes of any: 64 slots of 16 entries in version 3. */
+#define PAL_LARGEST_FILE 45072
+#define PAL_LARGEST_LIST 40960
 
 /* What out[0] is where the trie is stale and no digit of a name tells how far off it was. */
 #define PAL_NO_DIGIT 255
@@ -81,8 +90,8 @@ extern "C" {
 /*
  * Answers. 1 to 99 is a refusal, 255 a malformed call; every other answer says what was done.
  *
- * A refusal carries the first cause that holds, in the order 8, 1, 2, 3, 4, 5, 6, 7 (pal_lookup has
- * its own), and changes no file, trie or output. Only pal_create and pal_rebuild, whose trie is a
+ * A refusal carries the first cause that holds, in the order 8, 1, 2, 3, 4, 12, 5, 6, 7 (pal_lookup
+ * has its own), and changes no file, trie or output. Only pal_create and pal_rebuild, whose trie is a
  * result, then give the empty trie: an image of zeros.
  *
  * PAL_STALE_TRIE is the one refusal that says more, in out[0] of every call that takes out. Where
@@ -106,7 +115,7 @@ extern "C" {
     ANSWER(PAL_FOUND,            100, "The file holds the name.") \
     ANSWER(PAL_ABSENT,           101, "The file does not hold the name.") \
     ANSWER(PAL_ADDED,            110, "The name is new in the file.") \
-    ANSWER(PAL_REPLACED,         111, "The name was held and has the new value.") \
+    ANSWER(PAL_REPLACED,         111, "The name was held and has the new value and run.") \
     ANSWER(PAL_STOPPED,          112, "The limit was too low for the last store; the trie is unchanged.") \
     ANSWER(PAL_REMOVED,          120, "The name was held and is gone.") \
     ANSWER(PAL_FREED,            130, "The file was cut and is sound again: one slot was freed.") \
@@ -136,9 +145,12 @@ static inline const char *pal_answer_text(uint64_t answer)
 
 /*
  * Write a new file without names over the whole buffer, and its trie.
- * version is 1, 2 or 3: where a bucket splits, at the middle or, in versions 2 and 3, by the shortest
- * of three strings about it (rule R7.3); and whether entries keep the run, as those of version 3 do. All other calls read it from the file. Releases before 1.3 take a file of version 2
- * for a bad one. file_length is PAL_FILE_BYTES(b, slots).
+ *
+ * version is 1, 2 or 3. It says where a bucket splits: at the middle, or in versions 2 and 3 by the
+ * shortest of three strings about it (rule R7.3); and whether entries keep the run that wrote them, as
+ * those of version 3 do. All other calls read it from the file. Releases before 1.3 take a file of
+ * version 2 for a bad one, and releases before 1.4 one of version 3. file_length is
+ * PAL_FILE_BYTES_OF(version, b, slots).
  *
  * PAL_CREATED. Refusals: 8.
  */
@@ -174,8 +186,8 @@ uint64_t pal_rebuild(const uint8_t *file, size_t file_length,
  * Look up a name. Reads the header and one bucket. With a sound file and any trie at all the answer
  * is true or the trie is refused as stale.
  *
- * PAL_FOUND (out[0]: the value, out[1]: its run, 0 in versions 1 and 2), PAL_ABSENT. Refusals: 1, 2, 4 (out[0]: where
- * the name left the range, or PAL_NO_DIGIT).
+ * PAL_FOUND (out[0]: the value, out[1]: the run, 0 in versions 1 and 2), PAL_ABSENT. Refusals: 1, 2, 4
+ * (out[0]: where the name left the range, or PAL_NO_DIGIT).
  */
 uint64_t pal_lookup(const uint8_t *file, size_t file_length,
                     const uint8_t *trie, size_t trie_length,
@@ -183,8 +195,9 @@ uint64_t pal_lookup(const uint8_t *file, size_t file_length,
                     uint64_t out[4]);
 
 /*
- * Put a name with a value, and keep the trie in step with the file. Files of version 3 keep
- * run, and refuse a put on a name that is held with a higher one; versions 1 and 2 ignore it.
+ * Put a name with a value and a run, and keep the trie in step with the file. A file of version 3
+ * keeps the run: a put on a name that it holds with a higher one is refused, and one with the same or
+ * with a higher run than the held one replaces. Files of versions 1 and 2 ignore the run.
  *
  * limit, 0 to 2, is how many stores the call may make, each of one whole slot; 2 is always enough.
  * A lower one stops the call where a kill could. After a stop or a kill discard the trie, recover
@@ -194,8 +207,8 @@ uint64_t pal_lookup(const uint8_t *file, size_t file_length,
  * the lent file is as its first stores leave it, each whole, but for the store under way. For the
  * order in which the machine sees the writes of one call, the compiler is trusted.
  *
- * PAL_ADDED, PAL_REPLACED (out[0]: the old value, out[1]: its run, 0 in versions 1 and 2), PAL_STOPPED (out[0]:
- * stores made). Refusals: 8, 1, 2, 3, 4 (out[0]: PAL_NO_DIGIT), 12, 5, 6.
+ * PAL_ADDED, PAL_REPLACED (out[0]: the old value, out[1]: the old run, 0 in versions 1 and 2),
+ * PAL_STOPPED (out[0]: stores made). Refusals: 8, 1, 2, 3, 4 (out[0]: PAL_NO_DIGIT), 12, 5, 6.
  */
 uint64_t pal_put(uint8_t *file, size_t file_length,
                  uint8_t *trie, size_t trie_length,
@@ -203,7 +216,8 @@ uint64_t pal_put(uint8_t *file, size_t file_length,
                  uint64_t value, uint64_t run, uint64_t limit, uint64_t out[4]);
 
 /*
- * Remove a name, within the store limit as for pal_put. An emptied bucket keeps its range.
+ * Remove a name, within the store limit as for pal_put. An emptied bucket keeps its range, and nothing
+ * keeps the run: a later put of the name may be of any run.
  *
  * PAL_REMOVED, PAL_ABSENT, PAL_STOPPED (out[0]: stores made). Refusals: 8, 1, 2, 3, 4 (out[0]:
  * PAL_NO_DIGIT).
@@ -214,8 +228,9 @@ uint64_t pal_remove(uint8_t *file, size_t file_length,
                     uint64_t limit, uint64_t out[4]);
 
 /*
- * Write the entries whose names lie from first to second, both included, ascending, PAL_ENTRY_BYTES
- * each, to the beginning of output, and nothing behind them. First above second gives no entries.
+ * Write the entries whose names lie from first to second, both included, ascending, 32 bytes each, in
+ * version 3 40 (PAL_ENTRY_BYTES_OF), to the beginning of output, and nothing behind them.
+ * PAL_LARGEST_LIST bytes are always enough. First above second gives no entries.
  *
  * PAL_LISTED (out[0]: entries written). Refusals: 1, 2, 3, 4 (out[0]: PAL_NO_DIGIT), 7.
  */

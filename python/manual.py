@@ -13,14 +13,15 @@ PAGE = Path(__file__).resolve().parent / "man" / "palhavento.1"
 
 DESCRIPTION = """\
 A store is one file: names of 1 to 24 bytes in ascending order, each byte from the blank to }, with no blank first or last, and
-for each name a number from 0 to 18446744073709551615. It has room for up to 1,024 names, in up to 64 buckets of up to 16. A
+for each name a number from 0 to 18446744073709551615; in a store of version 3 also the number of the run that wrote it. It has room for up to 1,024 names, in up to 64 buckets of up to 16. A
 change is on disk when its command ends. One process at a time writes a store, and any number read it beside."""
 
 JSON = """\
 With --json a command prints one object on one line, also where it cannot be done: then with the keys error, a sentence, and
-status; of status 4 also digit, the number of the digit, from 0, at which a name left its bucket's range, or null. A value is
-there as a number and, since many readers of JSON change a number above 2^53, as text too: value and value_text, old and old_text
-(null where the name is new), entries and entries_text. What check prints has the worst word under check, and under files for
+status; of status 4 also digit, the number of the digit, from 0, at which a name left its bucket's range, or null; of status 12
+also run and held, the run that was given and the higher one. A value is there as a number and, since many readers of JSON change a
+number above 2^53, as text too: value and value_text, old and old_text (null where the name is new), entries and entries_text. So is
+its run, which is 0 where the store keeps none: run, old_run, and runs in the order of entries. What check prints has the worst word under check, and under files for
 each file its store, check, reason and faults, each of these with its rule in docs/RULES.md, its slot and what it says."""
 
 

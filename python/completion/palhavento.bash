@@ -13,7 +13,7 @@ _palhavento() {
         word=${words[at]}
         if ((options)) && [[ $word == -- ]]; then
             options=0
-        elif ((options)) && [[ $word == --b || $word == --slots || $word == --version ]]; then
+        elif ((options)) && [[ $word == --b || $word == --slots || $word == --version || $word == --run ]]; then
             ((at++))
         elif ((!options)) || [[ $word != -?* ]]; then
             given+=("$word")
@@ -22,7 +22,8 @@ _palhavento() {
     if ((options)) && [[ $cur == -* ]]; then
         case $command in
             create | compact) _palhavento_words --b --slots --version ;;
-            import) _palhavento_words --no-sync ;;
+            put) _palhavento_words --run ;;
+            import) _palhavento_words --run --no-sync ;;
             draw) _palhavento_words --trie ;;
         esac
         _palhavento_words --json --help

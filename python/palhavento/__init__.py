@@ -25,6 +25,7 @@ from palhavento.errors import (
     IllegalName,
     Locked,
     Malformed,
+    OlderRun,
     PalhaventoError,
     ShortOutput,
     StaleTrie,
@@ -33,19 +34,22 @@ from palhavento.errors import (
     WrongSize,
 )
 from palhavento.layout import Bucket, Cell, Stats, Trie
+from palhavento.library import Content
 from palhavento.store import Store
 
-__version__ = "1.3.0"
+__version__ = "1.4.0"
 
 __all__ = [
     "BadFile",
     "Bucket",
     "Cell",
+    "Content",
     "CutFile",
     "FileFull",
     "IllegalName",
     "Locked",
     "Malformed",
+    "OlderRun",
     "PalhaventoError",
     "ShortOutput",
     "StaleTrie",
@@ -60,7 +64,6 @@ __all__ = [
 ]
 
 
-
 def open(
     path: disk.Path,
     b: int = 16,
@@ -69,12 +72,15 @@ def open(
     sync: bool = True,
     readonly: bool = False,
     timeout: float = 0.0,
-    version: int = library.NEWEST,
+    version: int = library.USUAL,
+    run: int = 0,
 ) -> Store:
     """Open a file, or create it where there is none; a file that is there keeps its own version, b and slots.
 
     A new file is of version 2, whose buckets split by the shortest of three strings, so that it has fewer; releases before 1.3
-    take such a file for a bad one, and create those of version 1 alone.
+    take such a file for a bad one, and create those of version 1 alone. A file of version 3 keeps with each value the number of
+    the run that wrote it, and refuses a put by an older run; releases before 1.4 take it for a bad one. `run` is the run of all
+    puts through this store that give none of their own.
 
     One process at a time has a file open for writing, and any number read it beside (`readonly=True`), which create
     nothing. While another process writes it, `open` waits for so many seconds as `timeout` says. To open it a second time
@@ -94,6 +100,13 @@ def open(
     71
     >>> open("old.tkf", version=1).version, open("old.tkf").version, open("prices.tkf").version
     (1, 1, 2)
+    >>> with open("runs.tkf", version=3, run=8) as store:
+    ...     store["gdp"] = 4330
+    ...     store.entry("gdp")
+    Content(value=4330, run=8)
+    >>> open("runs.tkf", run=7)["gdp"] = 4328
+    Traceback (most recent call last):
+    palhavento.errors.OlderRun: 'gdp': The name is held with a higher run: run 8 wrote it, and this put is of run 7.
     >>> open("missing.tkf", create=False)
     Traceback (most recent call last):
     FileNotFoundError: [Errno 2] No such file or directory: 'missing.tkf'
@@ -102,4 +115,4 @@ def open(
         # Another process may be first to create it; then its file is opened.
         with contextlib.suppress(FileExistsError):
             disk.create(path, library.create(b, slots, version)[0])
-    return Store(path, readonly, sync, timeout)
+    return Store(path, readonly, sync, timeout, run)

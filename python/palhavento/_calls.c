@@ -18,7 +18,7 @@
 
 #include "palhavento.h"
 
-enum { NAME_BYTES = 24, MOST_ENTRIES = 16 * 64 };
+enum { NAME_BYTES = 24, VALUE_BYTES = 8, VERSION_AT = 3, B_AT = 5 };
 /* What out is before a call. A refusal leaves it as it is, but for its first word where the trie is stale. */
 #define UNSAID {PAL_NO_DIGIT}
 static const uint8_t LOWEST[] = {'!'}, HIGHEST[NAME_BYTES + 1] = "}}}}}}}}}}}}}}}}}}}}}}}}";
@@ -122,20 +122,33 @@ static PyObject *refused(uint64_t answer, const uint64_t out[4], PyObject *first
     return NULL;
 }
 
-static PyObject *look_up(PyObject *self, PyObject *const *given, Py_ssize_t count)
+/* What a look up finds: the value alone, or with its run. */
+static PyObject *found(const char *function, PyObject *const *given, Py_ssize_t count, int with_run)
 {
     struct lent file, trie, name;
     uint64_t out[4] = UNSAID;
-    if (!wants("look_up", count, 3) || !lend(given[0], &file) || !lend(given[1], &trie) || !lend_name(given[2], &name))
+    if (!wants(function, count, 3) || !lend(given[0], &file) || !lend(given[1], &trie) || !lend_name(given[2], &name))
         return NULL;
     uint64_t answer = lookup_in(file.at, file.length, trie.at, trie.length, name.at, name.length, out);
     Py_DecRef(name.made);
+    if (answer == PAL_FOUND && with_run)
+        return Py_BuildValue("KK", (unsigned long long)out[0], (unsigned long long)out[1]);
     if (answer == PAL_FOUND)
         return PyLong_FromUnsignedLongLong(out[0]);
     if (answer != PAL_ABSENT)
         return refused(answer, out, given[2], NULL);
     Py_IncRef(Py_None);
     return Py_None;
+}
+
+static PyObject *look_up(PyObject *self, PyObject *const *given, Py_ssize_t count)
+{
+    return found("look_up", given, count, 0);
+}
+
+static PyObject *content(PyObject *self, PyObject *const *given, Py_ssize_t count)
+{
+    return found("content", given, count, 1);
 }
 
 static uint8_t *bytes_in(PyObject *made)
@@ -177,14 +190,14 @@ static PyObject *outcome(uint64_t answer, const uint64_t out[4], PyObject *made[
 static PyObject *put(PyObject *self, PyObject *const *given, Py_ssize_t count)
 {
     struct lent file, trie, name;
-    uint64_t value, limit, out[4] = UNSAID, answer = 0;
+    uint64_t value, run, limit, out[4] = UNSAID, answer = 0;
     PyObject *made[2];
-    if (!wants("put", count, 5) || !lend(given[0], &file) || !lend(given[1], &trie) || !number_of(given[3], &value)
-        || !number_of(given[4], &limit) || !lend_name(given[2], &name))
+    if (!wants("put", count, 6) || !lend(given[0], &file) || !lend(given[1], &trie) || !number_of(given[3], &value)
+        || !number_of(given[4], &run) || !number_of(given[5], &limit) || !lend_name(given[2], &name))
         return NULL;
     if (copies(&file, &trie, made))
         answer = put_in(bytes_in(made[0]), file.length, bytes_in(made[1]), trie.length,
-                        name.at, name.length, value, 0, limit, out);
+                        name.at, name.length, value, run, limit, out);
     Py_DecRef(name.made);
     return outcome(answer, out, made, given[2]);
 }
@@ -204,38 +217,48 @@ static PyObject *remove_(PyObject *self, PyObject *const *given, Py_ssize_t coun
     return outcome(answer, out, made, given[2]);
 }
 
-/* One entry of a list, as (name, value). */
-static PyObject *pair(const uint8_t *entry)
+static unsigned long long number_at(const uint8_t *at)
 {
-    Py_ssize_t length = NAME_BYTES;
-    uint64_t value = 0;
-    while (length && entry[length - 1] == ' ')
-        length--;
-    for (int at = PAL_ENTRY_BYTES - 1; at >= NAME_BYTES; at--)
-        value = value << 8 | entry[at];
-    return Py_BuildValue("s#K", (const char *)entry, length, (unsigned long long)value);
+    unsigned long long number = 0;
+    for (int place = VALUE_BYTES - 1; place >= 0; place--)
+        number = number << 8 | at[place];
+    return number;
 }
 
-static PyObject *entries(PyObject *self, PyObject *const *given, Py_ssize_t count)
+/* One entry of a list, as (name, value), or as (name, value, run), where a file without runs has 0. */
+static PyObject *row(const uint8_t *entry, size_t size, int with_run)
+{
+    Py_ssize_t length = NAME_BYTES;
+    while (length && entry[length - 1] == ' ')
+        length--;
+    const unsigned long long value = number_at(entry + NAME_BYTES);
+    if (!with_run)
+        return Py_BuildValue("s#K", (const char *)entry, length, value);
+    const unsigned long long run = size > NAME_BYTES + VALUE_BYTES ? number_at(entry + NAME_BYTES + VALUE_BYTES) : 0;
+    return Py_BuildValue("s#KK", (const char *)entry, length, value, run);
+}
+
+static PyObject *listed_in(const char *function, PyObject *const *given, Py_ssize_t count, int with_run)
 {
     struct lent file, trie, first, second;
     uint64_t out[4] = UNSAID;
-    if (!wants("entries", count, 4) || !lend(given[0], &file) || !lend(given[1], &trie) || !lend_name(given[2], &first))
+    if (!wants(function, count, 4) || !lend(given[0], &file) || !lend(given[1], &trie) || !lend_name(given[2], &first))
         return NULL;
     if (!lend_name(given[3], &second)) {
         Py_DecRef(first.made);
         return NULL;
     }
-    uint8_t output[PAL_ENTRY_BYTES * MOST_ENTRIES];
+    uint8_t output[PAL_LARGEST_LIST];
     uint64_t answer = list_in(file.at, file.length, trie.at, trie.length, first.at, first.length,
                                second.at, second.length, output, sizeof output, out);
     Py_DecRef(first.made);
     Py_DecRef(second.made);
     if (is_refused(answer))
         return refused(answer, out, given[2], given[3]);
+    const size_t size = PAL_ENTRY_BYTES_OF(file.at[VERSION_AT]);
     PyObject *listed = PyList_New((Py_ssize_t)out[0]);
     for (Py_ssize_t at = 0; listed && at < (Py_ssize_t)out[0]; at++) {
-        PyObject *entry = pair(output + PAL_ENTRY_BYTES * at);
+        PyObject *entry = row(output + size * at, size, with_run);
         if (!entry || PyList_SetItem(listed, at, entry) < 0) {
             Py_DecRef(listed);
             return NULL;
@@ -244,13 +267,23 @@ static PyObject *entries(PyObject *self, PyObject *const *given, Py_ssize_t coun
     return listed;
 }
 
+static PyObject *entries(PyObject *self, PyObject *const *given, Py_ssize_t count)
+{
+    return listed_in("entries", given, count, 0);
+}
+
+static PyObject *rows(PyObject *self, PyObject *const *given, Py_ssize_t count)
+{
+    return listed_in("rows", given, count, 1);
+}
+
 static PyObject *count_of(PyObject *self, PyObject *const *given, Py_ssize_t count)
 {
     struct lent file, trie;
     uint64_t out[4] = UNSAID;
     if (!wants("count", count, 2) || !lend(given[0], &file) || !lend(given[1], &trie))
         return NULL;
-    uint8_t output[PAL_ENTRY_BYTES * MOST_ENTRIES];
+    uint8_t output[PAL_LARGEST_LIST];
     uint64_t answer = list_in(file.at, file.length, trie.at, trie.length, LOWEST, sizeof LOWEST,
                                HIGHEST, NAME_BYTES, output, sizeof output, out);
     return is_refused(answer) ? refused(answer, out, NULL, NULL) : PyLong_FromUnsignedLongLong(out[0]);
@@ -265,7 +298,8 @@ static PyObject *changed(PyObject *self, PyObject *const *given, Py_ssize_t coun
         PyErr_SetString(PyExc_ValueError, "the files are not of one length, or too short");
         return NULL;
     }
-    const Py_ssize_t header = PAL_FILE_BYTES(0, 0), size = PAL_FILE_BYTES(before.at[5], 1) - header;
+    const Py_ssize_t header = PAL_FILE_BYTES(0, 0);
+    const Py_ssize_t size = PAL_FILE_BYTES_OF(before.at[VERSION_AT], before.at[B_AT], 1) - header;
     for (Py_ssize_t at = header; at + size <= before.length; at += size)
         if (memcmp(before.at + at, after.at + at, size))
             return Py_BuildValue("ny#", at, (const char *)after.at + at, size);
@@ -309,8 +343,8 @@ static PyObject *load(PyObject *self, PyObject *given)
 #define FAST(name, function) {name, (PyCFunction)(void (*)(void))function, METH_FASTCALL, NULL}
 
 static PyMethodDef functions[] = {
-    FAST("look_up", look_up), FAST("put", put),          FAST("remove", remove_),
-    FAST("entries", entries), FAST("count", count_of),   FAST("changed", changed),
+    FAST("look_up", look_up), FAST("content", content), FAST("put", put),        FAST("remove", remove_),
+    FAST("entries", entries), FAST("rows", rows),       FAST("count", count_of), FAST("changed", changed),
     {"load", load, METH_VARARGS, NULL},
     {NULL, NULL, 0, NULL},
 };

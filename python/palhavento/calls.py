@@ -4,9 +4,11 @@ Both ways lend the bytes to the same proved library, and both raise the same. A 
 
     >>> from palhavento import calls, library
     >>> file, trie = library.create(b=4, slots=8)
-    >>> answer, changed_file, trie = calls.put(file, trie, "gdp.de", 42, 2)
+    >>> answer, changed_file, trie = calls.put(file, trie, "gdp.de", 42, 0, 2)
     >>> calls.look_up(changed_file, trie, "gdp.de"), calls.look_up(file, trie, b"gdp.de")
     (42, None)
+    >>> calls.content(changed_file, trie, "gdp.de")
+    (42, 0)
     >>> offset, slot = calls.changed(file, changed_file)
     >>> offset, len(slot), calls.changed(file, file)
     (16, 192, None)
@@ -22,6 +24,7 @@ from palhavento.errors import PalhaventoError, illegal, refusal
 
 Name = Union[str, bytes]
 Entry = tuple[str, int]
+Row = tuple[str, int, int]
 Change = tuple[int, bytes, bytes]
 
 LOWEST = b"!"
@@ -48,22 +51,22 @@ def bytes_of(name: Name) -> bytes:
         raise illegal(name) from None
 
 
-def value_of(value: int) -> int:
-    """A value that fits eight bytes, from whatever counts as an int.
+def value_of(value: int, what: str = "value") -> int:
+    """A value, or a run, that fits eight bytes, from whatever counts as an int.
 
     >>> value_of(-1)
     Traceback (most recent call last):
     OverflowError: a value is 0 to 2**64 - 1, not -1
-    >>> value_of(1.5)
+    >>> value_of(1.5, "run")
     Traceback (most recent call last):
-    TypeError: a value is an int, not float
+    TypeError: a run is an int, not float
     """
     try:
         number = operator.index(value)
     except TypeError:
-        raise TypeError(f"a value is an int, not {type(value).__name__}") from None
+        raise TypeError(f"a {what} is an int, not {type(value).__name__}") from None
     if not 0 <= number <= LARGEST_VALUE:
-        raise OverflowError(f"a value is 0 to 2**64 - 1, not {number}")
+        raise OverflowError(f"a {what} is 0 to 2**64 - 1, not {number}")
     return number
 
 
@@ -78,13 +81,20 @@ class ByCtypes:
     @staticmethod
     def look_up(file: bytes, trie: bytes, name: Name) -> int | None:
         """The value of a name, or None where it is absent."""
-        return library.look_up(file, trie, bytes_of(name))
+        found = library.look_up(file, trie, bytes_of(name))
+        return None if found is None else found.value
 
     @staticmethod
-    def put(file: bytes, trie: bytes, name: Name, value: int, limit: int) -> Change:
-        """The answer, the file and the trie after a put within a limit."""
-        number = value_of(value)
-        return library.put(file, trie, bytes_of(name), number, limit)[:3]
+    def content(file: bytes, trie: bytes, name: Name) -> tuple[int, int] | None:
+        """The value and the run of a name, or None where it is absent."""
+        found = library.look_up(file, trie, bytes_of(name))
+        return None if found is None else tuple(found)
+
+    @staticmethod
+    def put(file: bytes, trie: bytes, name: Name, value: int, run: int, limit: int) -> Change:
+        """The answer, the file and the trie after a put by a run within a limit."""
+        numbers = value_of(value), value_of(run)
+        return library.put(file, trie, bytes_of(name), *numbers, limit)[:3]
 
     @staticmethod
     def remove(file: bytes, trie: bytes, name: Name, limit: int) -> Change:
@@ -94,17 +104,23 @@ class ByCtypes:
     @staticmethod
     def entries(file: bytes, trie: bytes, first: Name, second: Name) -> list[Entry]:
         """The entries whose names lie from the first to the second, both included."""
+        return [(name, value) for name, value, _ in ByCtypes.rows(file, trie, first, second)]
+
+    @staticmethod
+    def rows(file: bytes, trie: bytes, first: Name, second: Name) -> list[Row]:
+        """The same entries, each with its run."""
         listed = library.entries(file, trie, bytes_of(first), bytes_of(second), library.MOST_ENTRIES)
+        # No run is behind the value where the file keeps none, and no bytes are the number 0.
         return [
-            (listed[at : at + 24].rstrip(b" ").decode("ascii"), int.from_bytes(listed[at + 24 : at + 32], "little"))
-            for at in range(0, len(listed), library.ENTRY_BYTES)
+            (entry[:24].rstrip(b" ").decode("ascii"), int.from_bytes(entry[24:32], "little"), int.from_bytes(entry[32:], "little"))
+            for entry in _cut(listed, library.entry_bytes(file[3]))
         ]
 
     @staticmethod
     def count(file: bytes, trie: bytes) -> int:
         """How many entries there are."""
         try:
-            return len(library.entries(file, trie, LOWEST, HIGHEST, library.MOST_ENTRIES)) // library.ENTRY_BYTES
+            return len(ByCtypes.rows(file, trie, LOWEST, HIGHEST))
         except PalhaventoError as refused:
             # About no names: nobody has given any.
             raise refusal(refused.number) from None
@@ -112,14 +128,19 @@ class ByCtypes:
     @staticmethod
     def changed(before: bytes, after: bytes) -> tuple[int, bytes] | None:
         """The first slot that differs between two states of a file: its offset, and its bytes in the second."""
-        if len(before) != len(after) or len(before) < library.file_bytes(2, 1):
+        if len(before) != len(after) or len(before) < library.SMALLEST_FILE:
             raise ValueError("the files are not of one length, or too short")
-        size = library.slot_bytes(before[5])
+        size = library.slot_bytes_in(before)
         for offset in range(library.HEADER_BYTES, len(before) - size + 1, size):
             slot = after[offset : offset + size]
             if slot != before[offset : offset + size]:
                 return offset, slot
         return None
+
+
+def _cut(listed: bytes, size: int) -> list[bytes]:
+    """A list's output, entry by entry."""
+    return [listed[at : at + size] for at in range(0, len(listed), size)]
 
 
 try:
@@ -129,8 +150,8 @@ except ImportError:
 else:
     used.load(str(library.PATH), _refuse, bytes_of, value_of)
 
-look_up, put, remove, entries, count, changed = (
-    used.look_up, used.put, used.remove, used.entries, used.count, used.changed
+look_up, content, put, remove, entries, rows, count, changed = (
+    used.look_up, used.content, used.put, used.remove, used.entries, used.rows, used.count, used.changed
 )
 
 _EMPTY = library.create(b=2, slots=1)

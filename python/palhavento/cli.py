@@ -20,7 +20,7 @@ from typing import Any, NamedTuple, NoReturn
 
 import palhavento
 from palhavento import compacting, disk, library, reasons
-from palhavento.errors import BadFile, CutFile, FileFull, IllegalName, PalhaventoError, StaleTrie, TrieFull
+from palhavento.errors import BadFile, CutFile, FileFull, IllegalName, OlderRun, PalhaventoError, StaleTrie, TrieFull
 from palhavento.starting import INTERRUPTED, NO_ACCESS, begin, complain, hush
 
 # Beside the refusal numbers (docs/RULES.md, section 10): the library's own answer for an absent name, and what sysexits.h has
@@ -38,6 +38,7 @@ exit status:
   5    a split is needed and there is no free slot
   6    the store would have more than 256 strings
   8    no file has that version, that b or that many slots
+  12   the name is held with a higher run
   64   bad arguments
   70   a fault of this program itself
   74   a file, or standard input or output, cannot be read or written
@@ -59,10 +60,12 @@ examples:
   palhavento ls rates.tkf gdp.a gdp.z           # the names from gdp.a to gdp.z, in order
   palhavento create copy.tkf
   palhavento ls rates.tkf | palhavento import copy.tkf -
+  palhavento create runs.tkf --version 3        # a store that keeps the run that wrote each value
+  palhavento put runs.tkf gdp.de 42 --run 7     # refused if a later run than 7 has written gdp.de
   palhavento draw rates.tkf rates.svg           # the buckets as a picture; --trie for the trie
   palhavento compact rates.tkf small.tkf        # the same names, in as few buckets as they fit
   palhavento check *.tkf                        # whether each is sound, and why not
-  palhavento get --json rates.tkf gdp.de        # {"name": "gdp.de", "value": 42, "value_text": "42"}
+  palhavento get --json rates.tkf gdp.de        # {"name": "gdp.de", "value": 42, "value_text": "42", ...}
 
 palhavento COMMAND --help says more about one command."""
 
@@ -100,9 +103,9 @@ class Parser(argparse.ArgumentParser):
         super().__init__(allow_abbrev=False, **how)
         self.commands: dict[str, Parser] = {}
 
-    def options(self) -> set[str]:
-        """Every option, as it is written."""
-        return {option for action in self._actions for option in action.option_strings}
+    def options(self) -> dict[str, bool]:
+        """Every option, as it is written, and whether a word of its own follows it."""
+        return {option: action.nargs != 0 for action in self._actions for option in action.option_strings}
 
     def error(self, message: str) -> NoReturn:
         command = self.prog.removeprefix("palhavento").lstrip()
@@ -123,35 +126,52 @@ def hint(words: Sequence[str]) -> str:
     """What to say beside wrong arguments where one of them looks like an option, and may be meant as a name; or where several
     may be meant as one name, which the shell has parted at its blanks, for want of quotes.
 
-    >>> hint(["put", "rates.tkf", "-x", "3", "--json"])
-    '; if -x is no option: palhavento put rates.tkf --json -- -x 3'
-    >>> hint(["put", "rates.tkf", "GDP", "real", "3"])
-    "; if 'GDP real' is one name: palhavento put rates.tkf 'GDP real' 3"
+    >>> hint(["put", "rates.tkf", "-x", "3", "--json", "--run", "7"])
+    '; if -x is no option: palhavento put rates.tkf --json --run 7 -- -x 3'
+    >>> hint(["put", "--run", "7", "rates.tkf", "GDP", "real", "3"])
+    "; if 'GDP real' is one name: palhavento put --run 7 rates.tkf 'GDP real' 3"
     >>> hint(["put", "rates.tkf", "--", "-x"]), hint(["put", "--json"]), hint(["-x"])
     ('', '', '')
     """
     top = parser()
-    known = top.options().union(*(command.options() for command in top.commands.values()))
+    known = top.options()
+    for command in top.commands.values():
+        # `--version` takes a word behind a command, and none before it.
+        known |= command.options()
     place = next((place for place, word in enumerate(words)
                   if word == "--" or word[:1] == "-" != word and word.split("=")[0] not in known), 0)
     if not place:
-        return _quoted([word for word in words if word not in known])
+        return _quoted(*_parted(words, known))
     if words[place] == "--":
         return ""
-    behind = words[place:]
-    options = [word for word in behind if word in known]
-    said = [*words[:place], *options, "--", *(word for word in behind if word not in known)]
-    return f"; if {words[place]} is no option: palhavento {shlex.join(said)}"
+    options, others = _parted(words[place:], known)
+    return f"; if {words[place]} is no option: palhavento {shlex.join([*words[:place], *options, '--', *others])}"
 
 
-def _quoted(words: Sequence[str]) -> str:
+def _parted(words: Sequence[str], known: dict[str, bool]) -> tuple[list[str], list[str]]:
+    """The options among these words, each with the word that it takes, and the other words."""
+    options: list[str] = []
+    others: list[str] = []
+    rest = iter(words)
+    for word in rest:
+        if word.split("=")[0] not in known:
+            others.append(word)
+            continue
+        options.append(word)
+        if known.get(word):
+            options += [following for following in (next(rest, None),) if following is not None]
+    return options, others
+
+
+def _quoted(options: Sequence[str], words: Sequence[str]) -> str:
     """The hint that several of these words, which are no options, are one name; nothing where they cannot be."""
     end = {"put": -1, "get": len(words), "rm": len(words)}.get(words[0], 0) if words else 0
     parts = words[2:end]
     if len(parts) < 2:
         return ""
     name = " ".join(parts)
-    return f"; if {name!r} is one name: palhavento {shlex.join([*words[:2], name, *words[end:]])}"
+    said = [words[0], *(option for option in options if option != "--json"), words[1], name, *words[end:]]
+    return f"; if {name!r} is one name: palhavento {shlex.join(said)}"
 
 
 def told(error: BaseException, path: str) -> tuple[int, str]:
@@ -174,18 +194,22 @@ def beside(error: BaseException) -> dict[str, object]:
 
     >>> beside(palhavento.errors.stale(4)), beside(palhavento.errors.stale(255)), beside(KeyboardInterrupt())
     ({'digit': 4}, {'digit': None}, {})
+    >>> beside(palhavento.errors.older("gdp.de", 6, 7))
+    {'run': 6, 'run_text': '6', 'held': 7, 'held_text': '7'}
     """
     match error:
         case StaleTrie():
             return {"digit": error.digit}
+        case OlderRun():
+            return {**in_json("run", error.run), **in_json("held", error.held)}
         case Trouble():
             return error.data
         case _:
             return {}
 
 
-def value_of(text: str | bytes) -> int:
-    """A value, written as a decimal number.
+def value_of(text: str | bytes, what: str = "value") -> int:
+    """A value, or a run, written as a decimal number.
 
     >>> value_of("42"), value_of(b"18446744073709551615")
     (42, 18446744073709551615)
@@ -197,7 +221,25 @@ def value_of(text: str | bytes) -> int:
     # The length comes first: Python refuses to read very long numbers.
     if plain.isascii() and plain.isdigit() and len(plain) <= 20 and int(plain) < 2**64:
         return int(plain)
-    raise argparse.ArgumentTypeError(f"{plain!r} is no value: a value is a number from 0 to {2**64 - 1}")
+    raise argparse.ArgumentTypeError(f"{plain!r} is no {what}: a {what} is a number from 0 to {2**64 - 1}")
+
+
+def run_of(text: str) -> int:
+    """A run, written as a decimal number."""
+    return value_of(text, "run")
+
+
+def shown(content: palhavento.Content, runs: bool) -> str:
+    """A value in a line; behind it, where runs are kept, the run that wrote it.
+
+    >>> shown(palhavento.Content(42, 7), runs=True), shown(palhavento.Content(42, 0), runs=False)
+    ('42@7', '42')
+    """
+    return f"{content.value}@{content.run}" if runs else str(content.value)
+
+
+def keeps_runs(store: palhavento.Store) -> bool:
+    return store.version == library.WITH_RUNS
 
 
 def in_json(key: str, value: int | None) -> dict[str, object]:
@@ -227,18 +269,20 @@ def create(arguments: argparse.Namespace) -> Report:
 
 def put(arguments: argparse.Namespace) -> Report:
     with writing(arguments) as store:
-        old = store.get(arguments.name)
-        store[arguments.name] = arguments.value
-    data = {"name": arguments.name, **in_json("value", arguments.value), **in_json("old", old)}
-    return Report(data, ["added" if old is None else f"replaced {old}"])
+        runs = keeps_runs(store)
+        old = store.put(arguments.name, arguments.value, arguments.run)
+    data = {"name": arguments.name, **in_json("value", arguments.value), **in_json("run", arguments.run if runs else 0),
+            **in_json("old", old and old.value), **in_json("old_run", old and old.run)}
+    return Report(data, ["added" if old is None else f"replaced {shown(old, runs)}"])
 
 
 def get(arguments: argparse.Namespace) -> Report:
     with reading(arguments) as store:
-        value = store.get(arguments.name)
-    if value is None:
-        raise Trouble(ABSENT, f"{arguments.name}: absent")
-    return Report({"name": arguments.name, **in_json("value", value)}, [str(value)])
+        try:
+            value, run = store.entry(arguments.name)
+        except KeyError:
+            raise Trouble(ABSENT, f"{arguments.name}: absent") from None
+    return Report({"name": arguments.name, **in_json("value", value), **in_json("run", run)}, [str(value)])
 
 
 def rm(arguments: argparse.Namespace) -> Report:
@@ -253,9 +297,12 @@ def ls(arguments: argparse.Namespace) -> Report:
     if len(arguments.range) not in (0, 2):
         raise Trouble(USAGE, "ls wants a first and a second name, or neither")
     with reading(arguments) as store:
-        entries = list(store.range(*arguments.range) if arguments.range else store.items())
-    texts = [(name, str(value)) for name, value in entries]
-    return Report({"entries": entries, "entries_text": texts}, [" ".join(entry) for entry in texts])
+        runs = keeps_runs(store)
+        entries = store.entries(*arguments.range)
+    data = {"entries": [(name, content.value) for name, content in entries],
+            "entries_text": [(name, str(content.value)) for name, content in entries],
+            "runs": [content.run for _, content in entries], "runs_text": [str(content.run) for _, content in entries]}
+    return Report(data, [f"{name} {shown(content, runs)}" for name, content in entries])
 
 
 class Progress:
@@ -284,21 +331,23 @@ class Progress:
             complain("\r\x1b[K", end="")
 
 
-def entries_of(text: bytes, origin: str) -> list[tuple[bytes, int]]:
-    """The lines `name value` of a text; the first line that is none is told by its number.
+def entries_of(text: bytes, origin: str, run: int = 0) -> list[tuple[bytes, int, int]]:
+    """The lines `name value` or `name value@run` of a text, the run being this one where a line has none; the first line that is
+    neither is told by its number.
 
     The value is behind the last blank: a name may have blanks, though none first or last.
 
-    >>> entries_of(b"GDP real 42\\n  oil  71\\n", "lines.txt")
-    [(b'GDP real', 42), (b'oil', 71)]
+    >>> entries_of(b"GDP real 42\\n  oil  71@8\\n", "lines.txt", 7)
+    [(b'GDP real', 42, 7), (b'oil', 71, 8)]
     """
     entries = []
     for number, line in enumerate(text.splitlines(), 1):
         fields = line.strip().rsplit(None, 1)
         if len(fields) != 2:
             raise Trouble(USAGE, f"{origin}:{number}: want a name and a value; nothing was changed")
+        value, at, own = fields[1].partition(b"@")
         try:
-            entries.append((fields[0], value_of(fields[1])))
+            entries.append((fields[0], value_of(value), value_of(own, "run") if at else run))
         except argparse.ArgumentTypeError as error:
             raise Trouble(USAGE, f"{origin}:{number}: {error}; nothing was changed") from None
     return entries
@@ -327,19 +376,19 @@ def named(path: str) -> Iterator[None]:
 
 def import_(arguments: argparse.Namespace) -> Report:
     origin, text = text_of(arguments.lines)
-    entries = entries_of(text, origin)
+    entries = entries_of(text, origin, arguments.run)
     progress = Progress(len(entries))
     with writing(arguments, sync=arguments.sync) as store:
         # An illegal name is found here, before anything is put.
-        for number, (name, _) in enumerate(entries, 1):
+        for number, (name, *_) in enumerate(entries, 1):
             try:
                 store.get(name)
             except IllegalName as refused:
                 raise Trouble(refused.number, f"{origin}:{number}: {refused} Nothing was changed.") from None
         number = 1
         try:
-            for number, (name, value) in enumerate(entries, 1):
-                store[name] = value
+            for number, entry in enumerate(entries, 1):
+                store.put(*entry)
                 progress.reach(number)
         except (PalhaventoError, OSError, KeyboardInterrupt) as error:
             status, sentence = told(error, arguments.store)
@@ -465,25 +514,32 @@ def parser() -> Parser:
             added.add_argument("stores", metavar="STORE", nargs="+", help="a file that is a store")
         else:
             added.add_argument("store", metavar="STORE", help="the file that is the store")
-        added.set_defaults(run=run, store="")
+        added.set_defaults(does=run, store="")
         top.commands[name] = added
         return added
 
     new = command("create", create, "write a new store, where no file is yet", "rates.tkf --b 16 --slots 64")
     new.add_argument("--b", type=int, default=16, help="names that a bucket holds, 2 to 16 (default 16)")
     new.add_argument("--slots", type=int, default=64, help="buckets that the store has room for, 1 to 64 (default 64)")
-    new.add_argument("--version", type=int, default=library.NEWEST,
-                     help="1 or 2 (default 2): how buckets are split; releases before 1.3 read no other than 1")
+    new.add_argument("--version", type=int, default=library.USUAL,
+                     help="1, 2 or 3 (default 2): how buckets are split, and in 3 whether values keep their runs; releases before "
+                          "1.3 read no other than 1, releases before 1.4 no 3")
     change = command("put", put, "put a name with a value, or replace its value", "rates.tkf gdp.de 42")
     change.add_argument("name", metavar="NAME", help="1 to 24 of the characters from blank to }, no blank first or last; in quotes "
                                                      "where it has blanks")
     change.add_argument("value", metavar="VALUE", type=value_of, help="0 to 18446744073709551615")
+    change.add_argument("--run", type=run_of, default=0,
+                        help="the run that puts it (default 0): a store of version 3 keeps it, and refuses the put if the name is held "
+                             "with a higher one; other stores ignore it")
     for name, run, says in (("get", get, "print the value of a name"), ("rm", rm, "remove a name")):
         command(name, run, says, "rates.tkf gdp.de").add_argument("name", metavar="NAME")
-    listing = command("ls", ls, "list names and values in name order", "rates.tkf gdp.a gdp.z")
+    listing = command("ls", ls, "list names and values in name order, a value with its run as value@run where the store keeps runs",
+                      "rates.tkf gdp.a gdp.z")
     listing.add_argument("range", metavar="FIRST SECOND", nargs="*", help="only the names between, both included")
-    lines = command("import", import_, "put every line `name value` of a file", "rates.tkf rates.txt")
-    lines.add_argument("lines", metavar="LINES", help="the file of lines, each a name, a blank and a value; - is standard input")
+    lines = command("import", import_, "put every line `name value` or `name value@run` of a file", "rates.tkf rates.txt")
+    lines.add_argument("lines", metavar="LINES", help="the file of lines, each a name, a blank and a value, as ls prints them; - is "
+                                                      "standard input")
+    lines.add_argument("--run", type=run_of, default=0, help="the run of the lines that have none (default 0)")
     lines.add_argument("--no-sync", dest="sync", action="store_false",
                        help="faster: wait for the disk once, at the end; a power loss before may leave a bad file")
     command("check", check, "say whether files are sound, cut (also while the writer is in a split) or bad, and why",
@@ -494,7 +550,7 @@ def parser() -> Parser:
     anew.add_argument("new", metavar="NEW", help="the new store, where no file is yet")
     anew.add_argument("--b", type=int, help="names that a bucket of it holds (default: as the old one)")
     anew.add_argument("--slots", type=int, help="buckets that it has room for (default: as the old one)")
-    anew.add_argument("--version", type=int, help="its version, 1 or 2 (default: as the old one)")
+    anew.add_argument("--version", type=int, help="its version, 1, 2 or 3 (default: as the old one); a run is kept where both are 3")
     picture = command("draw", draw, "draw the store as an SVG", "rates.tkf rates.svg --trie")
     picture.add_argument("picture", metavar="FILE.svg", help="where the picture goes")
     picture.add_argument("--trie", action="store_true", help="draw the trie in place of the buckets")
@@ -510,7 +566,7 @@ def report_of(words: Sequence[str]) -> Report:
         except Trouble as wrong:
             raise Trouble(wrong.status, f"{wrong}{hint(words)}") from None
         store = arguments.store
-        return arguments.run(arguments)
+        return arguments.does(arguments)
     except Asked as asked:
         return asked.report
     except (PalhaventoError, Trouble, OSError, KeyboardInterrupt) as error:

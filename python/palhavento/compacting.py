@@ -37,8 +37,9 @@ def compact(
 ) -> layout.Stats:
     """Write the names of an old store into a new one, where no file is yet, and give the new one's counts.
 
-    The new store has the old one's version, b and slots unless others are given. Where b and slots stay and no way is better, it
-    is the old one's copy; where they do not, and the names fit by no way that is tried, nothing is written. What a writer puts
+    The new store has the old one's version, b and slots unless others are given. Each name has its value there, and its run if
+    both stores keep runs; in a store of version 3 made from another the runs are 0. Where b and slots stay and no way is better,
+    it is the old one's copy; where they do not, and the names fit by no way that is tried, nothing is written. What a writer puts
     into the old store meanwhile is not in the new one.
 
     >>> with palhavento.open("four.tkf", b=4, slots=2) as store:
@@ -49,41 +50,55 @@ def compact(
     """
     with Store(old, readonly=True) as store:
         file, trie = store._agreed()
-    values = {name.encode("ascii"): value for name, value in calls.entries(file, trie, calls.LOWEST, calls.HIGHEST)}
+    contents = {name.encode("ascii"): (value, run) for name, value, run in calls.rows(file, trie, calls.LOWEST, calls.HIGHEST)}
     had = (*layout.sizes(file), layout.version(file))
     sizes = tuple(now if wanted is None else wanted for now, wanted in zip(had, (b, slots, version)))
     empty = library.create(*sizes)
-    # The versions differ in where a bucket is split, and the header says which it is: the old slots are sound in both.
-    made = [(empty[0][: library.HEADER_BYTES] + file[library.HEADER_BYTES :], trie)] if sizes[:2] == had[:2] else []
+    made = [(_of_version(file, sizes[2]), trie)] if sizes[:2] == had[:2] else []
     refused = (0, 0)
-    for steps in _ways(list(values), sizes[0], sizes[2]):
+    for steps in _ways(list(contents), sizes[0], sizes[2]):
         try:
-            made.append(_filled(empty, steps, values))
+            made.append(_filled(empty, steps, contents))
         except _Full as full:
             refused = max(refused, full.args)
     if not made:
         furthest, number = refused
-        raise refusal(number, f"{os.fsdecode(new)}: of {len(values)} names {furthest} fit at best")
+        raise refusal(number, f"{os.fsdecode(new)}: of {len(contents)} names {furthest} fit at best")
     best = max(made, key=_room)
     disk.create(new, best[0])
     return layout.stats(*best)
 
 
-# A name, and whether it is put or removed.
+def _of_version(file: bytes, version: int) -> bytes:
+    """A sound file with another version in its header, and its entries as that one has them; runs that are new are 0.
+
+    Where a bucket is split depends on the version, but every arrangement is sound in all of them.
+    """
+    old, new = (library.entry_bytes(number) for number in (layout.version(file), version))
+    size = library.slot_bytes_in(file)
+    made = [file[:3], bytes([version]), file[4 : library.HEADER_BYTES]]
+    for slot in range(library.HEADER_BYTES, len(file), size):
+        made.append(file[slot : slot + 64])
+        made += [file[entry : entry + old][:new].ljust(new, b"\0") for entry in range(slot + 64, slot + size, old)]
+    return b"".join(made)
+
+
+# A name, and whether it is put or removed; and the contents, value and run, of names.
 _Step = tuple[bytes, bool]
+_Contents = dict[bytes, tuple[int, int]]
 
 
 class _Full(Exception):
     """A way that does not fit: how many names were in the file, and the number that refused the next."""
 
 
-def _filled(empty: tuple[bytes, bytes], steps: Iterable[_Step], values: dict[bytes, int]) -> tuple[bytes, bytes]:
+def _filled(empty: tuple[bytes, bytes], steps: Iterable[_Step], contents: _Contents) -> tuple[bytes, bytes]:
     """A new file after these steps, and its trie."""
     file, trie = empty
     for name, is_put in steps:
         try:
             if is_put:
-                _, file, trie = calls.put(file, trie, name, values.get(name, 0), 2)
+                _, file, trie = calls.put(file, trie, name, *contents.get(name, (0, 0)), 2)
             else:
                 _, file, trie = calls.remove(file, trie, name, 2)
         except PalhaventoError as error:
@@ -149,7 +164,7 @@ def _packed(names: list[bytes], b: int, version: int, weight: float) -> list[_St
 def _below(bound: bytes, lower: list[bytes], b: int, version: int) -> int | None:
     """How many of the names below a split key are to be there for it to be one, the next ones; None where it cannot be one.
 
-    Version 1 takes the key at the middle. Version 2 asks the one before it too, and takes that if its string is shorter. So the
+    Version 1 takes the key at the middle. The others ask the one before it too, and take that if its string is shorter. So the
     key stands there, and a filler in the middle: that has more digits in common with the last one. Only where the key's string
     has all 24 digits no string is longer; then the key stands in the middle, and must follow a name with as long a string.
     """

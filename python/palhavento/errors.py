@@ -1,4 +1,4 @@
-"""The refusals as exceptions, one class a number: rules R10.1 to R10.8 of docs/RULES.md.
+"""The refusals as exceptions, one class a number: rules R10.1 to R10.8 and R10.14 of docs/RULES.md.
 
     >>> from palhavento import errors
     >>> errors.refusal(5)
@@ -69,16 +69,25 @@ class TrieFull(PalhaventoError):
 
 
 class ShortOutput(PalhaventoError):
-    """The output is too short: it needs 32 bytes for each entry."""
+    """The output is too short: it needs 32 bytes for each entry, in version 3 40."""
 
     number = 7
 
 
 # A ValueError too, for the same reason as an illegal name.
 class WrongSize(PalhaventoError, ValueError):
-    """No file is such: the version is 1 or 2, b is 2 to 16, and slots is 1 to 64."""
+    """No file is such: the version is 1, 2 or 3, b is 2 to 16, and slots is 1 to 64."""
 
     number = 8
+
+
+class OlderRun(PalhaventoError):
+    """The name is held with a higher run."""
+
+    number = 12
+    # The run that was given, and the higher one with which the name is held; None where only the library was asked.
+    run: int | None = None
+    held: int | None = None
 
 
 class Malformed(PalhaventoError):
@@ -141,6 +150,20 @@ def stale(word: int, about: str = "") -> PalhaventoError:
         return plain
     refused = StaleTrie(plain.number, f"{plain} The name left the bucket's range at digit number {word}, from 0.")
     refused.digit = word
+    return refused
+
+
+def older(name: str | bytes, run: int, held: int) -> PalhaventoError:
+    """The refusal of a put by an older run, with both runs, the one that was given and the one that is held.
+
+    >>> older("gdp.de", 6, 7)
+    OlderRun(12, "'gdp.de': The name is held with a higher run: run 7 wrote it, and this put is of run 6.")
+    >>> older("gdp.de", 6, 7).run, older("gdp.de", 6, 7).held
+    (6, 7)
+    """
+    plain = str(refusal(OlderRun.number, shown(name))).rstrip(".")
+    refused = OlderRun(OlderRun.number, f"{plain}: run {held} wrote it, and this put is of run {run}.")
+    refused.run, refused.held = run, held
     return refused
 
 

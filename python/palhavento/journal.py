@@ -29,7 +29,7 @@ import struct
 import zlib
 from typing import NamedTuple
 
-from palhavento.library import HEADER_BYTES, LARGEST_FILE, slot_bytes
+from palhavento.library import HEADER_BYTES, LARGEST_FILE, WITH_RUNS, slot_bytes, slot_bytes_in
 
 SECTOR, PAGE = 512, 4096
 # How many records a half has.
@@ -73,16 +73,16 @@ def _up(count: int, unit: int) -> int:
 
 
 class Layout:
-    """Where things are in the journal of a file with this b and this length.
+    """Where things are in the journal of a file with slots of so many bytes and this length.
 
-    >>> layout = Layout(16, 36_880)
+    >>> layout = Layout(slot_bytes(16, 2), 36_880)
     >>> layout.stride, layout.half, layout.records, layout.whole
     (1024, 106496, (40960, 147456), 212992)
     """
 
-    def __init__(self, b: int, length: int) -> None:
+    def __init__(self, slot: int, length: int) -> None:
         # From one record to the next: whole sectors, so that no sector has bytes of two.
-        self.stride = _up(_SLOT_AT + slot_bytes(b), SECTOR)
+        self.stride = _up(_SLOT_AT + slot, SECTOR)
         # A half has a head, a copy of the file, and the records.
         behind = _up(SECTOR + length, PAGE)
         self.half = _up(behind + PLACES * self.stride, PAGE)
@@ -90,7 +90,7 @@ class Layout:
         self.whole = 2 * self.half
 
 
-LARGEST = Layout(16, LARGEST_FILE).whole
+LARGEST = Layout(slot_bytes(16, WITH_RUNS), LARGEST_FILE).whole
 
 
 def _head(identity: bytes, first: int, content: bytes) -> bytes:
@@ -147,7 +147,7 @@ def found(journal: bytes, file: bytes) -> Found | None:
     begins = _head_at(journal, 0)
     if begins and len(begins.content) != len(file):
         raise Unfit(_OTHER_FILE)
-    layout = Layout(file[5] if len(file) > 5 else 0, len(file))
+    layout = Layout(slot_bytes_in(file) if len(file) >= HEADER_BYTES else 0, len(file))
     heads = [head for head in (begins, _head_at(journal, layout.half)) if head]
     places = [begin + place * layout.stride for begin in layout.records for place in range(PLACES)]
     records = [record for place in places if (record := _record_at(journal, place))]
@@ -172,7 +172,7 @@ def found(journal: bytes, file: bytes) -> Found | None:
 
 def _finished(content: bytes, records: list[_Record], file: bytes) -> bytes:
     """The file after all stores of the records. Each byte of it now must be one that it had at some time since."""
-    size = slot_bytes(content[5])
+    size = slot_bytes_in(content)
     versions: dict[int, list[bytes]] = {}
     for record in records:
         versions.setdefault(record.number, []).append(record.slot)
@@ -198,7 +198,7 @@ class Journal:
     def __init__(self, file: int, identity: bytes, content: bytes) -> None:
         self.file = file
         self._identity = identity
-        self._layout = Layout(content[5], len(content))
+        self._layout = Layout(slot_bytes_in(content), len(content))
         # The number of the record that is written next, and of the first one in the half in use.
         self.next = self._first = 1
         self._half = 0

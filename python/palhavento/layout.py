@@ -3,7 +3,7 @@
     >>> from palhavento import layout, library
     >>> file, trie = library.create(b=2, slots=3)
     >>> for name in (b"rate1", b"rate2", b"rate3"):
-    ...     _, file, trie, _ = library.put(file, trie, name, 0, limit=2)
+    ...     _, file, trie, *_ = library.put(file, trie, name, 0, 0, limit=2)
     >>> for bucket in layout.buckets(file):
     ...     print(bucket)
     Bucket(slot=0, lower='', upper='rate2', entries=2)
@@ -18,7 +18,7 @@ import struct
 from dataclasses import dataclass
 from typing import Literal
 
-from palhavento.library import ENTRY_BYTES, HEADER_BYTES, slot_bytes
+from palhavento.library import HEADER_BYTES, entry_bytes, slot_bytes_in
 
 Side = tuple[Literal["slot", "cell"], int]
 Entry = tuple[str, int]
@@ -74,16 +74,16 @@ def sizes(file: bytes) -> tuple[int, int]:
 
 
 def version(file: bytes) -> int:
-    """The version of a file that is not bad: by which rule its buckets are split (R7.3)."""
+    """The version of a file that is not bad: by which rule its buckets are split (R7.3), and whether it keeps runs (R3.13)."""
     return file[3]
 
 
 def buckets(file: bytes) -> list[Bucket]:
     """The buckets of a sound file, in range order."""
-    b, slots = sizes(file)
+    size = slot_bytes_in(file)
     found = []
-    for slot in range(slots):
-        start = HEADER_BYTES + slot * slot_bytes(b)
+    for slot in range(sizes(file)[1]):
+        start = HEADER_BYTES + slot * size
         used, count, lower, upper = file[start : start + 4]
         if used:
             bounds = file[start + 8 : start + 8 + lower], file[start + 32 : start + 32 + upper]
@@ -94,12 +94,14 @@ def buckets(file: bytes) -> list[Bucket]:
 
 def contents(file: bytes) -> list[tuple[Bucket, list[Entry]]]:
     """The buckets of a sound file, in range order, each with its entries."""
-    size = slot_bytes(sizes(file)[0])
+    size, entry = slot_bytes_in(file), entry_bytes(version(file))
+    # A run, where there is one, stands behind the value.
+    name_and_value = struct.Struct(f"<24sQ{entry - 32}x")
 
     def entries(bucket: Bucket) -> list[Entry]:
         start = HEADER_BYTES + bucket.slot * size + 64
-        listed = file[start : start + ENTRY_BYTES * bucket.entries]
-        return [(name.decode("ascii").rstrip(" "), value) for name, value in struct.iter_unpack("<24sQ", listed)]
+        listed = file[start : start + entry * bucket.entries]
+        return [(name.decode("ascii").rstrip(" "), value) for name, value in name_and_value.iter_unpack(listed)]
 
     return [(bucket, entries(bucket)) for bucket in buckets(file)]
 

@@ -4,7 +4,7 @@
     >>> store = palhavento.open("rates.tkf")
     >>> opened.of("rates.tkf", readonly=False, sync=True, timeout=0) is store._opened
     True
-    >>> store._opened.change(calls.put, "gdp.de", 42), store._opened.ask(calls.look_up, "gdp.de")
+    >>> store._opened.put("gdp.de", 42, run=0), store._opened.ask(calls.look_up, "gdp.de")
     (110, 42)
 
 A writer is alone with its file and knows its bytes. A reader reads the file anew for every call, so it sees another
@@ -28,7 +28,7 @@ from collections.abc import Callable
 from typing import Any, TypeVar
 
 from palhavento import calls, disk, layout, library, reasons
-from palhavento.errors import BadFile, CutFile, Locked, PalhaventoError, StaleTrie, refusal
+from palhavento.errors import BadFile, CutFile, Locked, OlderRun, PalhaventoError, StaleTrie, older, refusal
 
 try:
     from palhavento import _system
@@ -64,6 +64,8 @@ class Opened:
         # What a writer knows, file and trie, and until when it need not look whether the file is in its place.
         self._now: tuple[bytes, bytes, float] | None = None
         self._forked = False
+        # Whether it was said that a run is ignored.
+        self._ignored = False
         # A reader's short cut, for where the extension was compiled.
         self._request: object = None
         self.disk = disk.Disk(path, readonly, sync, timeout)
@@ -233,6 +235,23 @@ class Opened:
             self.trie = trie
             self._know(file)
             return answer
+
+    def put(self, name: calls.Name, value: int, run: int) -> int:
+        """Put a name by a run; where it is held with a higher one, the refusal tells both."""
+        with self.alone:
+            try:
+                return self.change(calls.put, name, value, run)
+            except OlderRun:
+                raise older(name, run, self.ask(calls.content, name)[1]) from None
+
+    def keeps(self, run: int) -> int:
+        """The run that is kept of one that was given: 0 where the file keeps none, which is said once."""
+        if run and self.version != library.WITH_RUNS:
+            if not self._ignored:
+                self._ignored = True
+                _log.warning("%s: is of version %d, which keeps no runs; run %d is ignored", self.path, self.version, run)
+            return 0
+        return run
 
     def _store(self, before: bytes, after: bytes) -> None:
         """Make on disk the one store between two states. A slot that stays as it was has nothing to be written."""

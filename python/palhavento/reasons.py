@@ -91,28 +91,31 @@ def _header(file: bytes) -> Iterator[Fault]:
         return
     version, b, slots = int.from_bytes(file[3:5], "little"), file[5], file[6]
     if version not in library.VERSIONS:
-        yield Fault("R2.3", None, f"header: the version is {version}, and may be {' or '.join(map(str, library.VERSIONS))}")
+        yield Fault("R2.3", None, f"header: the version is {version}, and may be 1, 2 or 3")
     if not 2 <= b <= 16:
         yield Fault("R2.4", None, f"header: b is {b}, and may be 2 to 16")
     if not 1 <= slots <= 64:
         yield Fault("R2.5", None, f"header: the number of slots is {slots}, and may be 1 to 64")
     if place := _not_zero(file, 7, 16):
         yield Fault("R2.6", None, f"header: byte {place} is not zero")
-    wanted = library.file_bytes(b, slots)
-    if 2 <= b <= 16 and 1 <= slots <= 64 and len(file) != wanted:
+    wanted = library.file_bytes(b, slots, version)
+    if version in library.VERSIONS and 2 <= b <= 16 and 1 <= slots <= 64 and len(file) != wanted:
         has = len(file) if len(file) <= library.LARGEST_FILE else f"more than {library.LARGEST_FILE}"
-        yield Fault("R2.7", None, f"length: it has {has} bytes, and {slots} slots with b = {b} take {wanted}")
+        sizes = f"{slots} slots with b = {b} of version {version}"
+        yield Fault("R2.7", None, f"length: it has {has} bytes, and {sizes} take {wanted}")
 
 
 def _slots(file: bytes) -> Iterator[Fault]:
     """The first broken rule of each slot that is neither free nor well formed."""
     for number, slot in enumerate(_pieces(file)):
-        if any(slot) and (broken := next(_slot(slot, file[5]), None)):
+        if any(slot) and (broken := next(_slot(slot, file[5], library.entry_bytes(file[3])), None)):
             yield Fault(broken[0], number, broken[1])
 
 
-def _slot(slot: bytes, b: int) -> Iterator[tuple[str, str]]:
-    """The broken rules of a slot that is not all zero; each is looked at only where those before it hold."""
+def _slot(slot: bytes, b: int, entry: int) -> Iterator[tuple[str, str]]:
+    """The broken rules of a slot that is not all zero, with entries of so many bytes; each is looked at only where those before
+    it hold.
+    """
     used, count, lower, upper = slot[:4]
     if used == 0:
         yield "R3.1", f"byte 0 says that it is free, but byte {_not_zero(slot, 0, len(slot))} is not zero"
@@ -137,7 +140,7 @@ def _slot(slot: bytes, b: int) -> Iterator[tuple[str, str]]:
     low, high = slot[8 : 8 + lower], slot[32 : 32 + upper]
     if low and high and _key(low) >= _key(high):
         yield "R3.12", f"the lower bound {_shown(low)} is not below the upper bound {_shown(high)}"
-    names = [entry[:24] for entry in _in_use(slot)]
+    names = [used[:24] for used in _in_use(slot, entry)]
     for place, name in enumerate(names):
         if fault := _illegal(name):
             yield "R3.13", f"entry {place}: {fault}"
@@ -149,7 +152,7 @@ def _slot(slot: bytes, b: int) -> Iterator[tuple[str, str]]:
             yield "R3.15", f"entry {place}: the name {_shown(name.rstrip())} is not within the upper bound {_shown(high)}"
         if low and name[: len(low)] <= low:
             yield "R3.16", f"entry {place}: the name {_shown(name.rstrip())} is within the lower bound {_shown(low)}"
-    if place := _not_zero(slot, 64 + library.ENTRY_BYTES * count, len(slot)):
+    if place := _not_zero(slot, 64 + entry * count, len(slot)):
         yield "R3.17", f"byte {place} is not zero, behind the last of {count} entries"
 
 
@@ -185,25 +188,25 @@ def _nearly_cut(used: list[_Bucket], old: _Bucket, new: _Bucket, b: int) -> Faul
         return Fault("R4.11", new.slot, f"{split} that one has {len(old.entries)} entries, not {b}")
     kept = [entry for entry in new.entries if entry in old.entries]
     if kept != [entry for entry in old.entries if entry[: len(new.lower)] > new.lower]:
-        return Fault("R4.13", new.slot, f"{split} lacks entries of that one's, or has them with other values")
+        return Fault("R4.13", new.slot, f"{split} lacks entries of that one's, or has them with other values or runs")
     return Fault("R4.13", new.slot, f"{split} has {len(new.entries) - len(kept)} entries that are not in that one")
 
 
 def _pieces(file: bytes) -> Iterator[bytes]:
-    size = library.slot_bytes(file[5])
+    size = library.slot_bytes_in(file)
     return (file[at : at + size] for at in range(library.HEADER_BYTES, len(file), size))
 
 
-def _in_use(slot: bytes) -> list[bytes]:
-    """The entries in use, each a filled name and a value."""
-    size = library.ENTRY_BYTES
+def _in_use(slot: bytes, size: int) -> list[bytes]:
+    """The entries in use, of so many bytes, each a filled name with its content."""
     return [slot[at : at + size] for at in range(64, 64 + size * slot[1], size)]
 
 
 def _buckets(file: bytes) -> list[_Bucket]:
     """The used slots of a file in range order; of two with one upper bound, the one with the lower lower bound first."""
+    entry = library.entry_bytes(file[3])
     found = [
-        _Bucket(number, slot[8 : 8 + slot[2]], slot[32 : 32 + slot[3]], _in_use(slot))
+        _Bucket(number, slot[8 : 8 + slot[2]], slot[32 : 32 + slot[3]], _in_use(slot, entry))
         for number, slot in enumerate(_pieces(file)) if slot[0]
     ]
     return sorted(found, key=lambda bucket: (_key(bucket.upper), _key(bucket.lower) if bucket.lower else b""))

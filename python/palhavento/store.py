@@ -26,6 +26,7 @@ from typing import Any, NoReturn, TypeVar, Union, cast, overload
 from palhavento import calls, disk, drawing, layout, library, opened, reasons
 from palhavento.calls import HIGHEST, LOWEST, Entry, Name
 from palhavento.errors import PalhaventoError
+from palhavento.library import Content
 
 Given = TypeVar("Given")
 Other = TypeVar("Other")
@@ -175,7 +176,10 @@ class Store(MutableMapping[str, int]):
     ValueError: results.tkf: the store is closed
     """
 
-    def __init__(self, path: disk.Path, readonly: bool = False, sync: bool = True, timeout: float = 0.0) -> None:
+    def __init__(
+        self, path: disk.Path, readonly: bool = False, sync: bool = True, timeout: float = 0.0, run: int = 0
+    ) -> None:
+        run = calls.value_of(run, "run")
         self._opened = opened.of(path, readonly, sync, timeout)
         # Another thread may close its store of the file at this moment, and so the file.
         while not self._opened.share(self):
@@ -183,6 +187,8 @@ class Store(MutableMapping[str, int]):
         self.path = os.fsdecode(path)
         self.readonly = readonly
         self.version, self.b, self.slots = self._opened.version, self._opened.b, self._opened.slots
+        # The run of every put that gives none of its own.
+        self.run = self._opened.keeps(run)
 
     # The mapping.
 
@@ -212,7 +218,7 @@ class Store(MutableMapping[str, int]):
         return self._opened.look_up(cast(Name, name)) is not None
 
     def __setitem__(self, name: Name, value: int) -> None:
-        self._opened.change(calls.put, name, value)
+        self._opened.put(name, value, self.run)
 
     def __delitem__(self, name: Name) -> None:
         if self._opened.change(calls.remove, name) == library.ABSENT:
@@ -242,6 +248,56 @@ class Store(MutableMapping[str, int]):
     def values(self) -> ValuesView[int]:
         """The values in the order of their names."""
         return _Values(self)
+
+    # Values with their runs.
+
+    def entry(self, name: Name) -> Content:
+        """The value of a name and the run that wrote it; the run is 0 in a store of version 1 or 2, which keeps none.
+
+        >>> store = palhavento.open("results.tkf", version=3)
+        >>> store.put("gdp", 4329, run=7)
+        >>> store.entry("gdp")
+        Content(value=4329, run=7)
+        >>> store.entry("cpi")
+        Traceback (most recent call last):
+        KeyError: 'cpi'
+        """
+        content = self._opened.ask(calls.content, name)
+        if content is None:
+            raise KeyError(name)
+        return Content(*content)
+
+    def entries(self, first: Name = LOWEST, second: Name = HIGHEST) -> list[tuple[str, Content]]:
+        """The entries that `range` gives, each value with its run.
+
+        >>> with palhavento.open("results.tkf", version=3, run=7) as store:
+        ...     store.update(gdp=4329, cpi=2)
+        ...     store.entries("c", "d")
+        [('cpi', Content(value=2, run=7))]
+        """
+        return [(name, Content(value, run)) for name, value, run in self._opened.ask(calls.rows, first, second)]
+
+    def put(self, name: Name, value: int, run: int | None = None) -> Content | None:
+        """Put a name by a run, the store's own unless one is given, and give the value and run that it had; None where it is new.
+
+        In a store of version 3 a name that is held with a higher run is left as it is, and `OlderRun` tells both runs; an equal
+        run replaces, and a removal forgets the run. A store of version 1 or 2 keeps no runs: it ignores the one that is given,
+        gives 0, and says so once in the log.
+
+        >>> store = palhavento.open("results.tkf", version=3)
+        >>> store.put("gdp", 4329, run=7), store.put("gdp", 4330, run=8)
+        (None, Content(value=4329, run=7))
+        >>> store.put("gdp", 4328, run=7)
+        Traceback (most recent call last):
+        palhavento.errors.OlderRun: 'gdp': The name is held with a higher run: run 8 wrote it, and this put is of run 7.
+        """
+        file = self._opened
+        file.must_write()
+        kept = self.run if run is None else file.keeps(calls.value_of(run, "run"))
+        with file.alone:
+            old = file.ask(calls.content, name)
+            file.put(name, value, kept)
+            return None if old is None else Content(*old)
 
     # Readings.
 
@@ -318,7 +374,7 @@ class Store(MutableMapping[str, int]):
         file.must_write()
         with file.alone:
             total = (file.look_up(name) or 0) + operator.index(by)
-            file.change(calls.put, name, total)
+            file.put(name, total, self.run)
             return total
 
     @overload
@@ -362,7 +418,7 @@ class Store(MutableMapping[str, int]):
         with file.alone:
             value = file.look_up(name)
             if value is None:
-                file.change(calls.put, name, default)
+                file.put(name, default, self.run)
                 value = calls.value_of(default)
             return value
 
@@ -388,7 +444,7 @@ class Store(MutableMapping[str, int]):
         with file.alone:
             for done, entry in enumerate(entries):
                 try:
-                    file.change(calls.put, *entry)
+                    file.put(*entry, self.run)
                 except BaseException as error:
                     _tell(error, done, len(entries))
                     raise

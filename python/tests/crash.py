@@ -35,7 +35,7 @@ from unittest import mock
 
 import support  # noqa: F401  (gives the package's place)
 
-from palhavento import PalhaventoError, disk, journal, library
+from palhavento import PalhaventoError, calls, disk, journal, layout, library
 
 SECTOR, PAGE = 512, 4096
 FOLDER = 0
@@ -316,14 +316,16 @@ class Plain:
         disk.os.close(self._file)
 
 
-def entries(content: bytes) -> dict[bytes, int]:
-    """Every name with its value, of a file that is sound or cut."""
+Contents = dict[bytes, tuple[int, int]]
+
+
+def entries(content: bytes) -> Contents:
+    """Every name with its value and its run, of a file that is sound or cut."""
     sound = library.recover(content, limit=1).file
-    listed = library.entries(sound, library.rebuild(sound), b"!", b"}" * 24, room=library.MOST_ENTRIES)
-    return {name.rstrip(b" "): value for name, value in struct.iter_unpack("<24sQ", listed)}
+    return {name.encode(): (value, run) for name, value, run in calls.rows(sound, library.rebuild(sound), b"!", b"}" * 24)}
 
 
-def a_call(content: bytes, letters: str, chance: random.Random) -> tuple[list[bytes], dict[bytes, int]]:
+def a_call(content: bytes, letters: str, chance: random.Random) -> tuple[list[bytes], Contents]:
     """The file after each store of a random call, and what it then holds; a cut file is recovered."""
     file = library.recover(content, limit=1).file
     held = entries(file)
@@ -336,18 +338,20 @@ def a_call(content: bytes, letters: str, chance: random.Random) -> tuple[list[by
     if name in held and chance.random() < 0.3:
         del held[name]
         return [library.remove(file, trie, name, limit=1).file], held
-    value = chance.getrandbits(64)
+    # Some runs are older than what is held.
+    value, run = chance.getrandbits(64), held.get(name, (0, 0))[1] + chance.randint(-1, 4)
+    run = run if 0 <= run < 2**64 else 2**64 - 1
     try:
-        outcomes = [library.put(file, trie, name, value, limit) for limit in (1, 2)]
+        outcomes = [library.put(file, trie, name, value, run, limit) for limit in (1, 2)]
     except PalhaventoError:
         return [], held
-    held[name] = value
+    held[name] = value, run if layout.version(file) == library.WITH_RUNS else 0
     return [outcome.file for outcome in outcomes[: 2 if outcomes[0].answer == library.STOPPED else 1]], held
 
 
 def changed(before: bytes, after: bytes) -> tuple[int, bytes]:
     """The one slot in which two files differ: its place and its bytes."""
-    size = library.slot_bytes(before[5])
+    size = library.slot_bytes_in(before)
     for at in range(library.HEADER_BYTES, len(before), size):
         if before[at : at + size] != after[at : at + size]:
             return at, after[at : at + size]

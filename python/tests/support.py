@@ -31,14 +31,14 @@ class InFolder(unittest.TestCase):
 
 
 def sound_file(names: list[str], b: int, slots: int, version: int = 1) -> bytes:
-    """A file with these names, each with its place, from 1, as its value."""
+    """A file with these names, each with its place, from 1, as its value, and a hundred times that as its run."""
     file, trie = library.create(b, slots, version)
     for place, name in enumerate(names, start=1):
-        _, file, trie, _ = library.put(file, trie, name.encode(), place, 2)
+        _, file, trie, *_ = library.put(file, trie, name.encode(), place, 100 * place, 2)
     return file
 
 
-def cut_file() -> bytes:
+def cut_file(version: int = 1) -> bytes:
     """A file of b = 2 with rate1 and rate2, cut in the put of rate3; its new slot is 1."""
-    file = sound_file(["rate1", "rate2"], b=2, slots=3)
-    return library.put(file, library.rebuild(file), b"rate3", 3, 1).file
+    file = sound_file(["rate1", "rate2"], 2, 3, version)
+    return library.put(file, library.rebuild(file), b"rate3", 3, 300, 1).file

@@ -90,12 +90,14 @@ class CommandLine(InFolder):
 
         self.assertEqual(said("create", self.store), (0, {"created": str(self.store), "version": 2, "b": 16, "slots": 64}))
         largest = 2**64 - 1
-        new = {"name": "oil", "value": 71, "value_text": "71", "old": None, "old_text": None}
+        no_run = {"run": 0, "run_text": "0"}
+        new = {"name": "oil", "value": 71, "value_text": "71", **no_run, "old": None, "old_text": None, "old_run": None, "old_run_text": None}
         self.assertEqual(said("put", self.store, "oil", 71), (0, new))
-        replaced = {"name": "oil", "value": largest, "value_text": str(largest), "old": 71, "old_text": "71"}
+        replaced = {"name": "oil", "value": largest, "value_text": str(largest), **no_run, "old": 71, "old_text": "71", "old_run": 0,
+                    "old_run_text": "0"}
         self.assertEqual(said("put", self.store, "oil", largest), (0, replaced))
-        self.assertEqual(said("get", self.store, "oil"), (0, {"name": "oil", "value": largest, "value_text": str(largest)}))
-        entries = {"entries": [["oil", largest]], "entries_text": [["oil", str(largest)]]}
+        self.assertEqual(said("get", self.store, "oil"), (0, {"name": "oil", "value": largest, "value_text": str(largest), **no_run}))
+        entries = {"entries": [["oil", largest]], "entries_text": [["oil", str(largest)]], "runs": [0], "runs_text": ["0"]}
         self.assertEqual(said("ls", self.store), (0, entries))
         sound = {"store": str(self.store), "check": "sound", "reason": None, "faults": []}
         self.assertEqual(said("check", self.store), (0, {"check": "sound", "files": [sound]}))
@@ -315,7 +317,7 @@ class CommandLine(InFolder):
 
     def test_sizes(self):
         sizes = (["--b", 1], ["--b", 17], ["--slots", 0], ["--slots", 65], ["--b", -1], ["--slots", 10**30],
-                 ["--version", 0], ["--version", 3], ["--version", 257], ["--version", 2**64 + 1])
+                 ["--version", 0], ["--version", 4], ["--version", 257], ["--version", 2**64 + 1])
         self.all_refused(8, [["create", self.store, *size] for size in sizes])
 
     def test_locked(self):
@@ -334,6 +336,7 @@ class CommandLine(InFolder):
             ["put", self.store, "oil", "-1"], ["put", self.store, "oil", 2**64], ["get", self.store],
             ["put", self.store, "oil", "9" * 5000], ["get", self.store, "a", "b"], ["check"],
             ["create", self.folder / "new.tkf", "--b", "four"], ["ls", self.store, "--xml"], ["ls", self.store, "--js"],
+            ["put", self.store, "oil", 1, "--run", "-1"], ["put", self.store, "oil", 1, "--run", 2**64], ["put", self.store, "oil", 1, "--run"],
         ])
 
     def test_a_name_like_an_option_is_told_how_to_be_one(self):
@@ -347,6 +350,7 @@ class CommandLine(InFolder):
     def test_a_name_without_its_quotes_is_told_how_to_be_one(self):
         self.nine_words()
         for words, line in ((["put", self.store, "GDP", "real", 3], f"put {self.store} 'GDP real' 3"),
+                            (["put", self.store, "GDP", "real", 3, "--run", 7], f"put --run 7 {self.store} 'GDP real' 3"),
                             (["get", "--json", self.store, "a", "b", "c"], f"get {self.store} 'a b c'"),
                             (["rm", self.store, "a", "b"], f"rm {self.store} 'a b'")):
             said = self.run_(*words)
@@ -361,7 +365,7 @@ class CommandLine(InFolder):
         cut.write_bytes(cut_file())
         bad.write_bytes(sound.read_bytes()[:-1])
         lines = [f"{sound}: sound\n", f"{cut}: cut: slot 1: is left of a split that was stopped; to recover frees it (R4.8)\n",
-                 f"{bad}: bad: length: it has 1551 bytes, and 8 slots with b = 4 take 1552 (R2.7)\n"]
+                 f"{bad}: bad: length: it has 1551 bytes, and 8 slots with b = 4 of version 1 take 1552 (R2.7)\n"]
         for files, status in (([sound, sound], 0), ([cut, sound], 3), ([sound, cut, bad], 2), ([bad, cut], 2)):
             ended = self.run_("check", *files)
             self.assertEqual((ended.returncode, ended.stderr), (status, ""))
@@ -392,6 +396,57 @@ class CommandLine(InFolder):
 
     def test_version(self):
         self.assertEqual(self.done("--version"), f"palhavento {palhavento.__version__}\n")
+
+    def test_runs(self):
+        self.done("create", self.store, "--b", 4, "--slots", 8, "--version", 3)
+        self.assertEqual(self.done("put", self.store, "oil", 71, "--run", 7), "added\n")
+        self.assertEqual(self.done("put", "--run", 2**64 - 1, self.store, "oil", 72), "replaced 71@7\n")
+        self.assertEqual(self.done("put", self.store, "gas", 1), "added\n")
+        self.assertEqual(self.done("get", self.store, "oil"), "72\n")
+        self.assertEqual(self.done("ls", self.store), f"gas 1@0\noil 72@{2**64 - 1}\n")
+        for words, run in (([], 0), (["--run", 7], 7)):
+            said = self.refused(12, "put", self.store, "oil", 9, *words)
+            held = f"The name is held with a higher run: run {2**64 - 1} wrote it, and this put is of run {run}."
+            self.assertEqual(said, f"palhavento: 'oil': {held}\n")
+        ended = self.run_("put", "--json", self.store, "oil", 9, "--run", 7)
+        told = json.loads(ended.stdout)
+        self.assertEqual((ended.returncode, told["status"], told["run"], told["run_text"], told["held"], told["held_text"]),
+                         (12, 12, 7, "7", 2**64 - 1, str(2**64 - 1)))
+        told = json.loads(self.done("put", "--json", self.store, "gas", 2, "--run", 3))
+        self.assertEqual((told["run"], told["old"], told["old_run"], told["old_run_text"]), (3, 1, 0, "0"))
+        told = json.loads(self.done("ls", "--json", self.store))
+        self.assertEqual((told["entries"], told["runs"], told["runs_text"]),
+                         ([["gas", 2], ["oil", 72]], [3, 2**64 - 1], ["3", str(2**64 - 1)]))
+        told = json.loads(self.done("get", "--json", self.store, "gas"))
+        self.assertEqual((told["value"], told["run"], told["run_text"]), (2, 3, "3"))
+        self.assertEqual(self.done("rm", self.store, "oil"), "removed\n")
+        self.assertEqual(self.done("put", self.store, "oil", 9), "added\n")
+
+    def test_lines_with_runs_go_round(self):
+        self.store.write_bytes(sound_file(BLANKS, 2, 16, 3))
+        listed = self.done("ls", self.store)
+        self.assertEqual(listed, "".join(f"{name} {value}@{100 * value}\n" for name, value in sorted(zip(BLANKS, range(1, 99)))))
+        copy = self.folder / "copy.tkf"
+        self.done("create", copy, "--b", 3, "--version", 3)
+        self.done("import", copy, "-", input=listed)
+        self.assertEqual(self.done("ls", copy), listed)
+        # A line without a run has the one that is given for all.
+        self.assertEqual(self.done("import", copy, "-", "--run", 7, input="oil 71\ngas 72@8\n"), "imported 2\n")
+        self.assertEqual(self.done("ls", copy, "gas", "oil"), "gas 72@8\noil 71@7\n")
+        said = self.run_("import", copy, "-", "--run", 6, input="coal 1\noil 2\n")
+        self.assertEqual((said.returncode, said.stderr.count("\n")), (12, 1))
+        self.assertIn("standard input:2: 'oil': The name is held with a higher run: run 7 wrote it, and this put is of run 6. "
+                      "The line before it is in the store.", said.stderr)
+        for line in ("a 1@", "a @1", "a 1@-1", "a 1@2@3", f"a 1@{2**64}", "a 1@x", "a 1 @2"):
+            self.assertIn("nothing was changed", self.refused(64, "import", copy, "-", input=f"b 1\n{line}\n"))
+        # A store without runs ignores them, and that is said once.
+        self.done("create", self.folder / "two.tkf")
+        ended = self.run_("import", self.folder / "two.tkf", "-", input=listed)
+        self.assertEqual((ended.returncode, ended.stdout), (0, f"imported {len(BLANKS)}\n"))
+        self.assertEqual(ended.stderr, f"palhavento: {self.folder / 'two.tkf'}: is of version 2, which keeps no runs; run "
+                                       f"{100 * min(range(1, len(BLANKS) + 1), key=lambda place: BLANKS[place - 1])} is ignored\n")
+        self.assertEqual(self.done("ls", self.folder / "two.tkf").replace("\n", "@\n"),
+                         "".join(line.rpartition("@")[0] + "@\n" for line in listed.splitlines()))
 
     def test_a_stores_version(self):
         for version in (1, 2):
@@ -468,7 +523,7 @@ class CommandLine(InFolder):
                                capture_output=True, timeout=60, env={**os.environ, "PATH": path})
         self.assertEqual((ended.returncode, ended.stderr), (0, ""))
         self.assertIn('\n42\n', ended.stdout)
-        self.assertIn('{"name": "gdp.de", "value": 42, "value_text": "42"}', ended.stdout)
+        self.assertIn('{"name": "gdp.de", "value": 42, "value_text": "42", "run": 0, "run_text": "0"}', ended.stdout)
         with ThreadPoolExecutor() as side_by_side:
             all_said = list(side_by_side.map(lambda command: self.done(command, "--help"), COMMANDS))
         for command, said in zip(COMMANDS, all_said):

@@ -42,6 +42,8 @@ class Compacting(InFolder):
         self.assertEqual(self.path.read_bytes(), file)
         with palhavento.open(self.path, readonly=True) as old, palhavento.open(self.new, readonly=True) as new:
             self.assertEqual((new.check(), new.range()), ("sound", old.range()))
+            kept = old.entries() if new.version == 3 else [(name, palhavento.Content(value, 0)) for name, value in old.range()]
+            self.assertEqual(new.entries(), kept)
             self.assertEqual((new.stats().used, new.stats().strings), (stats.used, stats.strings))
         return stats
 
@@ -67,7 +69,7 @@ class Compacting(InFolder):
             plain = sorted(name.encode() for name in names)
             for version in library.VERSIONS:
                 empty = library.create(b, slots, version)
-                file, trie = compacting._filled(empty, compacting._packed(plain, b, version, 0.0), dict.fromkeys(plain, 7))
+                file, trie = compacting._filled(empty, compacting._packed(plain, b, version, 0.0), dict.fromkeys(plain, (7, 8)))
                 stats = layout.stats(file, trie)
                 self.assertEqual((stats.entries, stats.used, library.check(file)), (b * slots, slots, library.SOUND))
                 # No other order comes near.
@@ -82,6 +84,8 @@ class Compacting(InFolder):
                           words(60, b, "a  ", 24), ["a" + " " * length + "b" for length in range(23)],
                           ["}" * 23 + chr(digit) for digit in range(0x60, 0x7E)], [f"run.{number}" for number in range(9 * b)]):
                 plain = sorted(name.encode() for name in names)
+                # Version 3 splits as version 2, so its ways are the same.
+                self.assertEqual(list(compacting._ways(plain, b, 3)), list(compacting._ways(plain, b, 2)))
                 for steps in [*compacting._ways(plain, b, 1), *compacting._ways(plain, b, 2)]:
                     held: set[bytes] = set()
                     for name, is_put in steps:
@@ -93,10 +97,10 @@ class Compacting(InFolder):
         for seed in range(8):
             chance = random.Random(seed)
             b, slots = chance.randrange(2, 17), chance.randrange(4, 65)
-            file, trie = library.create(b, slots, seed % 2 + 1)
+            file, trie = library.create(b, slots, seed % 3 + 1)
             for name in shuffled(words(200, seed, "abcd ", 12), seed):
                 try:
-                    _, file, trie, _ = library.put(file, trie, name.encode(), chance.getrandbits(64), 2)
+                    _, file, trie, *_ = library.put(file, trie, name.encode(), chance.getrandbits(64), chance.getrandbits(64), 2)
                 except palhavento.PalhaventoError:
                     break
             self.assertLessEqual(self.compacted(file).used, layout.stats(file, trie).used)
@@ -124,8 +128,21 @@ class Compacting(InFolder):
                     self.assertEqual(self.compacted(file, version=other).version, other)
                     with palhavento.open(self.new, readonly=True) as store:
                         self.assertEqual(store.version, other)
-        with self.assertRaisesRegex(palhavento.WrongSize, "version = 3, b = 2, slots = 64"):
-            palhavento.compact(self.path, self.folder / "other.tkf", version=3)
+        with self.assertRaisesRegex(palhavento.WrongSize, "version = 4, b = 2, slots = 64"):
+            palhavento.compact(self.path, self.folder / "other.tkf", version=4)
+
+    def test_a_file_as_another_version_has_it(self) -> None:
+        for names, b in ((BLANKS, 2), (NUMBERED[:40], 5), ([], 16)):
+            files = {version: sound_file(names, b, 32, version) for version in library.VERSIONS}
+            for version, file in files.items():
+                self.assertEqual(compacting._of_version(file, version), file)
+                for other in library.VERSIONS:
+                    turned = compacting._of_version(file, other)
+                    self.assertEqual((len(turned), library.check(turned)), (len(files[other]), library.SOUND))
+                    self.assertEqual(layout.buckets(turned), layout.buckets(file))
+                    # Versions 2 and 3 split alike, so the names alone decide where they are.
+                    if (version, other) == (3, 2):
+                        self.assertEqual(turned, files[2])
 
     def test_what_does_not_fit_writes_nothing(self) -> None:
         self.path.write_bytes(sound_file(NUMBERED[:100], b=16, slots=64))

@@ -103,7 +103,7 @@ class Stores(InFolder):
         with palhavento.open(self.path) as store:
             store["rate2"] = 7
             before = self.path.read_bytes()
-            states = [library.put(before, library.rebuild(before), b"rate3", 3, limit).file for limit in (0, 1)]
+            states = [library.put(before, library.rebuild(before), b"rate3", 3, 0, limit).file for limit in (0, 1)]
             with mock.patch("os.fdatasync", lambda file: seen.append(self.path.read_bytes())):
                 store["rate3"] = 3
                 self.assertEqual(seen, states)

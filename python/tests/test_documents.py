@@ -148,19 +148,31 @@ class Documents(InFolder):
             self.assertNotEqual(ended.returncode, 0, ended.stdout)
             self.assertNotIn("sound", ended.stdout)
 
+    def test_readmes_late_run(self):
+        _, story = re.findall(r"```sh\n(.*?)```", (PROJECT / "README.md").read_text(encoding="utf-8"), re.DOTALL)
+        ended = subprocess.run(["bash", "-c", story], cwd=PROJECT, capture_output=True, text=True,
+                               env={**os.environ, "TMPDIR": str(self.folder)}, timeout=60)
+        self.assertEqual((ended.returncode, ended.stderr), (0, ""))
+        refused = "'gdp.de': The name is held with a higher run: run 2 wrote it, and this put is of run 1."
+        self.assertEqual(ended.stdout.splitlines()[1:], ["run 2 saved 4330", f"run 1 came late: {refused}", "gdp.de 4330@2"])
+
     def test_readmes_refusals(self):
         readme = (PROJECT / "README.md").read_text(encoding="utf-8")
-        for number, kind in re.findall(r"^\| (\d) \| .* \| `(\w+)` \|$", readme, re.MULTILINE):
+        refusals = re.findall(r"^\| (\d+) \| .* \| `(\w+)` \|$", readme, re.MULTILINE)
+        self.assertEqual([int(number) for number, _ in refusals], [*range(1, 9), 12])
+        for number, kind in refusals:
             self.assertEqual(getattr(palhavento, kind).number, int(number))
 
     def test_what_is_left_of_a_bad_file(self):
         operations = (PROJECT / "docs/OPERATIONS.md").read_text(encoding="utf-8")
         program = re.search(r"```python\n(.*?)```", operations, re.DOTALL)
-        file = bytearray(self.path.read_bytes())
-        file[16 + 192 * 2 + 4] = 1
-        self.path.write_bytes(file)
-        printed = subprocess.check_output([sys.executable, "-c", program[1], str(self.path)], text=True)
-        self.assertEqual(sorted(printed.split()[::2]), sorted(WORDS))
+        for version, size in ((1, 192), (3, 224)):
+            file = bytearray(sound_file(WORDS, 4, 8, version))
+            file[16 + size * 2 + 4] = 1
+            self.path.write_bytes(file)
+            printed = subprocess.check_output([sys.executable, "-c", program[1], str(self.path)], text=True)
+            found = {name: int(value) for name, value in map(str.split, printed.splitlines())}
+            self.assertEqual(found, {word: place for place, word in enumerate(WORDS, 1)})
 
 
 if __name__ == "__main__":

@@ -24,6 +24,7 @@ NUMBERS = {
     errors.TrieFull: 6,
     errors.ShortOutput: 7,
     errors.WrongSize: 8,
+    errors.OlderRun: 12,
     errors.Locked: 254,
     errors.Malformed: 255,
 }
@@ -48,6 +49,8 @@ class Classes(unittest.TestCase):
             back = pickle.loads(pickle.dumps(refused))
             self.assertEqual((type(back), back.args), (type(refused), refused.args))
         self.assertEqual([pickle.loads(pickle.dumps(errors.stale(word))).digit for word in (0, 24, 255)], [0, 24, None])
+        back = pickle.loads(pickle.dumps(errors.older("a", 6, 7)))
+        self.assertEqual((back.run, back.held, str(back)), (6, 7, str(errors.older("a", 6, 7))))
 
 
 class Raised(InFolder):
@@ -194,7 +197,7 @@ class Raised(InFolder):
 
     def test_a_limit_above_two(self) -> None:
         file, trie = library.create(2, 1)
-        self.refused(errors.WrongSize, library.put, file, trie, b"a", 1, 3)
+        self.refused(errors.WrongSize, library.put, file, trie, b"a", 1, 0, 3)
 
     def test_malformed(self) -> None:
         file, trie = library.create(2, 1)

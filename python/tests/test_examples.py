@@ -67,7 +67,7 @@ class Header(InFolder):
         header = (PROJECT / "include/palhavento.h").read_text(encoding="ascii")
         numbers = {int(number) for number in re.findall(r"ANSWER\(PAL_[A-Z_]+, +(\d+),", header)}
         done = 100, 101, 110, 111, 112, 120, 130, 131, 140, 141, 142, 150, 151, 152
-        self.assertEqual(numbers, {*range(1, 9), *done, 255})
+        self.assertEqual(numbers, {*range(1, 9), 12, *done, 255})
         for number, sentence in enumerate(sentences):
             self.assertRegex(sentence, r"^[A-Z].*[^.]\.$")
             self.assertEqual(sentence == "No call gives this answer.", number not in numbers, number)
@@ -152,6 +152,23 @@ class Keep(InFolder):
         lines = "".join(f"{name} {value}\n" for value, name in enumerate(BLANKS))
         self.assertEqual(subprocess.check_output([self.build(), str(self.path)], input=lines, text=True), lines)
         self.assertEqual(self.listed(), dict(zip(BLANKS, range(99))))
+
+    def test_files_of_every_version(self):
+        keep = self.build()
+        for version, length in ((1, 36880), (2, 36880), (3, 45072)):
+            with palhavento.open(self.path, version=version) as store:
+                store.update({f"name {place}": 2**64 - 1 - place for place in range(300)})
+            self.assertEqual(len(self.path.read_bytes()), length)
+            lines = "new name 7\nname 1 8\n"
+            self.assertEqual(subprocess.check_output([keep, str(self.path)], input=lines, text=True), lines)
+            with palhavento.open(self.path) as store:
+                self.assertEqual((store.check(), store["new name"], store["name 1"]), ("sound", 7, 8))
+                kept = dict(store.items())
+                store.put("name 1", 8, run=3)
+            self.assertEqual(self.listed(), kept)
+            ended = subprocess.run([keep, str(self.path)], input="name 1 9\n", text=True, capture_output=True)
+            self.assertEqual((ended.returncode, self.listed()["name 1"]), (12, 8) if version == 3 else (0, 9), ended.stderr)
+            self.path.unlink()
 
     def test_it_recovers_and_refuses(self):
         keep = self.build()

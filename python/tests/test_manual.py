@@ -28,7 +28,7 @@ class Page(unittest.TestCase):
         top = cli.parser()
         for name, command in top.commands.items():
             self.assertIn(f".SS \\fB{name}\\fR \\fISTORE\\fR", page)
-            for option in command.options() | top.options():
+            for option in {*command.options(), *top.options()}:
                 self.assertIn(f"\\fB{option}\\fR", page)
         self.assertIn("\n  254  another process has the file open for writing\n", page)
 
@@ -55,7 +55,7 @@ class Completion(InFolder):
         self.assertEqual(set(self.offered("palhavento ")), {*top.commands, *top.options()} - {"-h"})
         self.assertEqual(self.offered("palhavento re"), ["recover"])
         for name, command in top.commands.items():
-            self.assertEqual(set(self.offered(f"palhavento {name} -")), command.options() - {"-h"})
+            self.assertEqual(set(self.offered(f"palhavento {name} -")), {*command.options()} - {"-h"})
 
     def test_names_and_files(self) -> None:
         names = ["gdp.at", "gdp.de", "cpi:at", "cpi:de", "$x", "`id`", "GDP  real 1"]

@@ -15,7 +15,7 @@ from palhavento import library, reasons
 
 PROJECT = Path(__file__).resolve().parent.parent.parent
 B, SLOTS = 4, 8
-SIZE = library.slot_bytes(B)
+SIZE = library.slot_bytes(B, 1)
 # The nine words: slot 0 holds a, and, i up to "i "; 3 in, is up to "i"; 2 of up to "o"; 1 that, the, to.
 NINE = sound_file(WORDS, B, SLOTS)
 
@@ -25,7 +25,7 @@ def at(slot: int, place: int = 0) -> int:
 
 
 def entry(slot: int, number: int) -> int:
-    return at(slot, 64 + library.ENTRY_BYTES * number)
+    return at(slot, 64 + library.entry_bytes(1) * number)
 
 
 def edited(*edits: tuple[int, bytes], file: bytes = NINE) -> bytes:
@@ -45,7 +45,8 @@ BROKEN: list[tuple[str, int | None, bytes]] = [
     ("R2.1", None, NINE[:15]),
     ("R2.2", None, b"name,value\nab,1\n" * 9),
     ("R2.3", None, edited((3, b"\x00"))),
-    ("R2.3", None, edited((3, b"\x03"))),
+    ("R2.3", None, edited((3, b"\x04"))),
+    ("R2.7", None, edited((3, b"\x03"))),
     ("R2.3", None, edited((4, b"\x01"))),
     ("R2.4", None, edited((5, b"\x01"))),
     ("R2.4", None, edited((5, b"\x11"))),
@@ -90,12 +91,13 @@ BROKEN: list[tuple[str, int | None, bytes]] = [
 ]
 
 
-def full_and_new(*moved: tuple[bytes, int]) -> bytes:
-    """A file of b = 2 with rate1 and rate2, and in slot 1 what a split at "rate1" has moved, or should have."""
-    file = bytearray(sound_file(["rate1", "rate2"], b=2, slots=3))
-    names = b"".join(name.ljust(24) + value.to_bytes(8, "little") for name, value in moved)
+def full_and_new(*moved: tuple[bytes, int], version: int = 1, run: int = 200) -> bytes:
+    """A file of b = 2 with rate1 and rate2, and in slot 1 what a split at "rate1" has moved, or should have, by this run."""
+    file = bytearray(sound_file(["rate1", "rate2"], 2, 3, version))
+    size, more = library.slot_bytes(2, version), run.to_bytes(8, "little") if version == 3 else b""
+    names = b"".join(name.ljust(24) + value.to_bytes(8, "little") + more for name, value in moved)
     new = bytes([1, len(moved), 5, 0]) + bytes(4) + b"rate1".ljust(24, b"\0") + bytes(32) + names
-    file[16 + 128 : 16 + 256] = new.ljust(128, b"\0")
+    file[16 + size : 16 + 2 * size] = new.ljust(size, b"\0")
     return bytes(file)
 
 
@@ -116,9 +118,15 @@ class Reasons(unittest.TestCase):
             ([], "R4.13"),
             ([(b"rate3", 3), (b"rate4", 4)], "R4.13"),
         ):
-            state = reasons.state(full_and_new(*moved))
-            self.assertEqual(state, "bad" if rule else "cut", moved)
-            self.assertEqual((state.faults[0].rule, state.faults[0].slot), (rule or "R4.8", 1), state.reason)
+            for version in library.VERSIONS:
+                state = reasons.state(full_and_new(*moved, version=version))
+                self.assertEqual(state, "bad" if rule else "cut", moved)
+                self.assertEqual((state.faults[0].rule, state.faults[0].slot), (rule or "R4.8", 1), state.reason)
+
+    def test_an_entry_that_was_moved_has_its_value_and_its_run(self) -> None:
+        moved = full_and_new((b"rate2", 2), version=3, run=201)
+        self.assertEqual((reasons.state(moved), reasons.state(moved).faults[0].rule), ("bad", "R4.13"))
+        self.assertIn("has them with other values or runs", reasons.state(moved).reason)
 
     def test_sound_and_cut_files(self) -> None:
         self.assertEqual((reasons.state(NINE), reasons.state(NINE).reason, reasons.state(NINE).faults), ("sound", "", ()))
@@ -143,10 +151,11 @@ class Reasons(unittest.TestCase):
         seen = set()
         for _ in range(4000):
             names = ["".join(chance.choices("abc ", k=chance.randrange(1, 5))).strip() or "a" for _ in range(chance.randrange(12))]
-            size = library.slot_bytes(2)
+            version = chance.choice(library.VERSIONS)
+            size = library.slot_bytes(2, version)
             try:
-                file = bytearray(sound_file(names, b=2, slots=6))
-            except palhavento.FileFull:
+                file = bytearray(sound_file(names, 2, 6, version))
+            except (palhavento.FileFull, palhavento.OlderRun):
                 continue
             for _ in range(chance.randrange(3)):
                 one, other, place = chance.randrange(6), chance.randrange(6), chance.randrange(len(file))

@@ -5,6 +5,7 @@ ghost use Prim.Native.Nat.{_≤_, _<_, _+_};
 ghost use lib.ListN.{length, take};
 ghost use Rattle.model.specs.Calls.{put-of, remove-of};
 ghost use Rattle.model.specs.Format.{kept-run};
+ghost use Rattle.digits.specs.Keys.{key-value, value as digits-value};
 ghost use Rattle.slots.specs.Spots.{Spotted};
 ghost use Rattle.file.specs.Plans.{Fits};
 ghost use Rattle.file.specs.Sizes.{Sized};
@@ -18,6 +19,7 @@ ghost use Rattle.changing.specs.Homes.{HomeTold};
 use checking::Checked;
 use checking::Verdict;
 use checking::checks_of;
+use digits::Key;
 use digits::Naming;
 use digits::u16_of_usize;
 use digits::usize_of_u8;
@@ -224,11 +226,12 @@ fn put_plan(
     file: &[u8],
     checked: Checked,
     name: &[u8; 24],
+    key: Key,
     value: u64,
     run: u64,
     trie: Trie,
 ) -> PutPlan
-    requires { ⌜ Agreed checked (now file) trie ⌝ }
+    requires { ⌜ (Agreed checked (now file) trie) × (key-value key ≡ digits-value (now name)) ⌝ }
     ensures { λ r. ⌜ (Fits (r .plan) (checked .size))
         × (PutTold r (now (file .entry)) trie (checked .size) (now (name .entry)) value run) ⌝ }
 {
@@ -238,7 +241,6 @@ fn put_plan(
         value,
         run: kept_run(layout, run),
     };
-    let key = digits::key_at(name, 0);
     let k = home_of(file, checked, name);
     let slot = file::slot_at(file, size, k);
     let spot = slots::spot_in(slot, layout, key);
@@ -259,7 +261,8 @@ pub fn put(file: &mut [u8], trie: Trie, name: &[u8], value: u64, run: u64, limit
     if 2 < limit {
         return refused(Cause::WrongSize, trie);
     }
-    let Naming::Legal = digits::named(name) else {
+    let filled = digits::filled(name);
+    let Naming::Legal(key) = digits::naming_of(name, &filled) else {
         return refused(Cause::IllegalName, trie);
     };
     let checked = checks_of(file, trie);
@@ -267,8 +270,7 @@ pub fn put(file: &mut [u8], trie: Trie, name: &[u8], value: u64, run: u64, limit
     match verdict {
         Verdict::Refused(cause) => refused(cause, trie),
         Verdict::Fine => {
-            let filled = digits::filled(name);
-            let change = put_plan(file, checked, &filled, value, run, trie);
+            let change = put_plan(file, checked, &filled, key, value, run, trie);
             let plan = change.plan;
             let answer = change.answer;
             if file::commit(file, checked.size, plan, limit) {
@@ -280,12 +282,11 @@ pub fn put(file: &mut [u8], trie: Trie, name: &[u8], value: u64, run: u64, limit
 }
 
 // R7.10: remove from a file that passed the checks. A bucket that becomes empty keeps its range; an absent name needs no store.
-fn remove_plan(file: &[u8], checked: Checked, name: &[u8; 24]) -> Plan
-    requires { ⌜ Ready checked (now file) ⌝ }
+fn remove_plan(file: &[u8], checked: Checked, name: &[u8; 24], key: Key) -> Plan
+    requires { ⌜ (Ready checked (now file)) × (key-value key ≡ digits-value (now name)) ⌝ }
     ensures { λ r. ⌜ (Fits r (checked .size)) × (RemoveTold r (now (file .entry)) (checked .size) (now (name .entry))) ⌝ }
 {
     let size = checked.size;
-    let key = digits::key_at(name, 0);
     let k = home_of(file, checked, name);
     let slot = file::slot_at(file, size, k);
     let spot = slots::spot_in(slot, size.layout, key);
@@ -303,7 +304,8 @@ pub fn remove(file: &mut [u8], trie: Trie, name: &[u8], limit: u64) -> RemoveAns
     if 2 < limit {
         return RemoveAnswer::Refused(Cause::WrongSize);
     }
-    let Naming::Legal = digits::named(name) else {
+    let filled = digits::filled(name);
+    let Naming::Legal(key) = digits::naming_of(name, &filled) else {
         return RemoveAnswer::Refused(Cause::IllegalName);
     };
     let checked = checks_of(file, trie);
@@ -311,8 +313,7 @@ pub fn remove(file: &mut [u8], trie: Trie, name: &[u8], limit: u64) -> RemoveAns
     match verdict {
         Verdict::Refused(cause) => RemoveAnswer::Refused(cause),
         Verdict::Fine => {
-            let filled = digits::filled(name);
-            let plan = remove_plan(file, checked, &filled);
+            let plan = remove_plan(file, checked, &filled, key);
             if file::commit(file, checked.size, plan, limit) {
                 return RemoveAnswer::Stopped(limit);
             }

@@ -1,10 +1,10 @@
 -- What the answers of the crates below say, once it is known which answer was given.
-use Rattle.model.proofs.Prelude.{Bool, List, _∙_, _≡_, ap, arith, clash, drop, false, refl, subst, take, take-all, true, ℕ}
-use Rattle.model.specs.Order.{Str}
-use Rattle.model.specs.Names.{Legal}
-use Rattle.model.proofs.Names.{legal-length}
-use Rattle.digits.specs.declared.Naming.the-variants.{Illegal, Legal as LegalName}
-use Rattle.digits.specs.Keys.{naming, value}
+use Rattle.model.proofs.Prelude.{List, _≡_, false, subst, ℕ}
+use Rattle.model.specs.Names.{is-legal-name}
+use Rattle.digits.specs.declared.Key.{Key}
+use Rattle.digits.specs.declared.Naming.{Naming}
+use Rattle.digits.specs.declared.Naming.the-variants.{Illegal, Legal}
+use Rattle.digits.specs.Keys.{NamingTold}
 use Rattle.checking.specs.declared.Checked.{Checked}
 use Rattle.checking.specs.declared.Verdict.{Verdict}
 use Rattle.checking.specs.declared.Verdict.the-variants.{Fine, Refused}
@@ -24,14 +24,9 @@ pub refused-looked : (c : Checked) {cause : Cause} (xs : List ℕ) (t : Trie) �
 refused-looked c {cause} xs t e h = subst (λ (x : Verdict). AgreedWhere x c xs t) e h
 
 -- which way the test of a name went
-pub naming-legal : (t : Bool) → LegalName ≡ naming t → t ≡ true
-naming-legal true e = refl
-naming-legal false e = clash cc
+module _ (r : Naming) (n x : List ℕ) (h : NamingTold r n x) where
+  pub naming-legal : {k : Key} → r ≡ Legal k → NamingTold (Legal k) n x
+  naming-legal e = subst (λ (z : Naming). NamingTold z n x) e h
 
-pub naming-illegal : (t : Bool) → Illegal ≡ naming t → t ≡ false
-naming-illegal true e = clash cc
-naming-illegal false e = refl
-
--- the key of a name of 24 digits
-pub key-whole : (n : Str) (v : ℕ) → Legal n → v ≡ value (take 24 (drop 0 n)) → v ≡ value n
-key-whole n v g e = e ∙ ap value (take-all 24 n (omega (arith, legal-length g)))
+  pub naming-illegal : r ≡ Illegal → is-legal-name n ≡ false
+  naming-illegal e = subst (λ (z : Naming). NamingTold z n x) e h

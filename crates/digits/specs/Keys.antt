@@ -1,9 +1,11 @@
 -- Strings of digits as numbers, as the code compares them.
 use mathlib.Core.Bool.{Bool, _&&_, false, true}
 use mathlib.Core.List.{List, [], _++_, _∷_}
+use mathlib.Core.Path.{_≡_}
 use Prim.Native.Nat.{_*_, _+_, _^_, ℕ}
 use lib.Dec.{eqb}
 use lib.ListN.{length, replicate, take}
+use Rattle.model.specs.Names.{is-legal-name}
 use Rattle.model.specs.Order.{Low, at, none}
 use Rattle.digits.specs.declared.Key.{Key}
 use Rattle.digits.specs.declared.Naming.{Naming}
@@ -26,9 +28,10 @@ unfoldable pub is-all-zero : List ℕ → Bool
 is-all-zero [] = true
 is-all-zero (d ∷ x) = eqb d 0 && is-all-zero x
 
-abbrev pub naming : Bool → Naming
-naming true = Legal
-naming false = Illegal
+-- What is said of a name, and of the digits that its key is made of.
+abbrev pub NamingTold : Naming → List ℕ → List ℕ → Type 0
+NamingTold (Legal k) n x = (is-legal-name n ≡ true) × (key-value k ≡ value x)
+NamingTold Illegal n x = is-legal-name n ≡ false
 
 -- A lower limit as it is compared. What is above none is above zero.
 unfoldable pub low-value : Low → ℕ

@@ -13,7 +13,7 @@ ghost use Rattle.model.specs.Format.{AreBytes, value-of};
 ghost use Rattle.model.specs.Names as names;
 ghost use Rattle.model.specs.Order.{Str, diff};
 ghost use Rattle.digits.specs.Words.{Word};
-ghost use Rattle.digits.specs.Keys.{continued, is-all-zero, key-value, naming, value};
+ghost use Rattle.digits.specs.Keys.{NamingTold, continued, is-all-zero, key-value, value};
 
 mod numbers;
 
@@ -39,9 +39,9 @@ pub struct Comparison {
     pub first: usize,
 }
 
-// What stands before a name is looked for: whether it is one.
+// What stands before a name is looked for: whether it is one, and the key that it is looked for with.
 pub enum Naming {
-    Legal,
+    Legal(Key),
     Illegal,
 }
 
@@ -292,9 +292,10 @@ fn are_digits(s: &[u8]) -> bool
     most == 0
 }
 
-// R1.2 and R1.3: a legal name.
-pub fn named(name: &[u8]) -> Naming
-    ensures { λ r. ⌜ r ≡ naming (names.is-legal-name (now (name .entry))) ⌝ }
+// R1.2 and R1.3: whether a name is legal. It comes with the digits that it is filled to, of which the key is made: so a call
+// fills a name once and makes its key once.
+pub fn naming_of(name: &[u8], filled: &[u8; 24]) -> Naming
+    ensures { λ r. ⌜ NamingTold r (now (name .entry)) (now (filled .entry)) ⌝ }
 {
     if name.len() == 0 {
         return Naming::Illegal;
@@ -311,7 +312,7 @@ pub fn named(name: &[u8]) -> Naming
     if !are_digits(name) {
         return Naming::Illegal;
     }
-    Naming::Legal
+    Naming::Legal(key_at(filled, 0))
 }
 
 // R1.4: the name, filled with blanks to 24 digits.
@@ -328,39 +329,6 @@ pub fn filled(name: &[u8]) -> [u8; 24]
         i += 1;
     }
     digits
-}
-
-// Whether the eight bytes of a word are digits, 0x20 to 0x7D. Of a byte below 0x80 the highest bit says, when 2 is added,
-// whether it is above 0x7D, and when 0x60 is added, whether it is 0x20 or above; and no sum reaches the next byte.
-fn is_of_digits(word: u64) -> bool
-    ensures { λ r. ⌜ ((x : Str) → Word x → word ≡ value x → r ≡ names.are-digits 0x20 x) ⌝ }
-{
-    if word & 0x8080_8080_8080_8080 != 0 {
-        return false;
-    }
-    let above = std::num::wrapping_add_u64(word, 0x0202_0202_0202_0202);
-    if above & 0x8080_8080_8080_8080 != 0 {
-        return false;
-    }
-    let from = std::num::wrapping_add_u64(word, 0x6060_6060_6060_6060);
-    from & 0x8080_8080_8080_8080 == 0x8080_8080_8080_8080
-}
-
-// Whether these 24 bytes are a legal name, filled: digits, of which the first is no blank. Eight bytes at a time: no other function has as large a part in a put.
-pub fn is_filled_name(s: &[u8]) -> bool
-    requires { ⌜ length (now s) ≡ 24 ⌝ }
-    ensures { λ r. ⌜ r ≡ names.is-legal-filled (now (s .entry)) ⌝ }
-{
-    if s[0] == 0x20 {
-        return false;
-    }
-    if !is_of_digits(word(s, 0)) {
-        return false;
-    }
-    if !is_of_digits(word(s, 8)) {
-        return false;
-    }
-    is_of_digits(word(s, 16))
 }
 
 // Whether these 24 bytes are a bound of `len` digits: each 0x20 to 0x7D, and zero behind them.

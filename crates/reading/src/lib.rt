@@ -36,9 +36,9 @@ use model::Trie;
 use trie::Place;
 use trie::Walk;
 
-// What one slot answers to a name.
-fn answer_of(slot: &[u8], layout: Layout, name: &[u8; 24]) -> LookUpAnswer
-    requires { ⌜ OfSize (now slot) layout ⌝ }
+// What one slot answers to a name, which comes with its key.
+fn answer_of(slot: &[u8], layout: Layout, name: &[u8; 24], key: Key) -> LookUpAnswer
+    requires { ⌜ (OfSize (now slot) layout) × (key-value key ≡ value (now name)) ⌝ }
     ensures { λ r. ⌜ (Legal (now (name .entry)) → r ≡ slot-answer (layout .b) (now (name .entry)) (read-slot layout (now (slot .entry)))) ⌝ }
 {
     let Vacancy::Taken = bucket::vacancy_of(slot) else {
@@ -51,7 +51,6 @@ fn answer_of(slot: &[u8], layout: Layout, name: &[u8; 24]) -> LookUpAnswer
     match range {
         Range::Lacks(digit) => LookUpAnswer::Refused(Cause::StaleTrie(digit)),
         Range::Holds => {
-            let key = digits::key_at(name, 0);
             let Held::Holds(content) = slots::held_in(slot, layout, key) else {
                 return LookUpAnswer::Absent;
             };
@@ -60,12 +59,13 @@ fn answer_of(slot: &[u8], layout: Layout, name: &[u8; 24]) -> LookUpAnswer
     }
 }
 
-// Look up where the walk of the filled name is known: it reads one bucket, and goes through section 11 of the rules from the
+// Look up where the filled name and its walk are known: it reads one bucket, and goes through section 11 of the rules from the
 // top.
-pub fn look_up_from(file: &[u8], walk: Walk, name: &[u8]) -> LookUpAnswer
+pub fn look_up_from(file: &[u8], walk: Walk, name: &[u8], digits: &[u8; 24]) -> LookUpAnswer
+    requires { ⌜ now digits ≡ filled (now name) ⌝ }
     ensures { λ r. ⌜ r ≡ looked-up-from (now (file .entry)) (walk .place) (now (name .entry)) ⌝ }
 {
-    let Naming::Legal = digits::named(name) else {
+    let Naming::Legal(key) = digits::naming_of(name, digits) else {
         return LookUpAnswer::Refused(Cause::IllegalName);
     };
     let Header::Right(size) = file::header_of(file) else {
@@ -79,8 +79,7 @@ pub fn look_up_from(file: &[u8], walk: Walk, name: &[u8]) -> LookUpAnswer
     if size.slots <= k {
         return LookUpAnswer::Refused(Cause::StaleTrie(NO_DIGIT));
     }
-    let filled = digits::filled(name);
-    answer_of(file::slot_at(file, size, k), size.layout, &filled)
+    answer_of(file::slot_at(file, size, k), size.layout, digits, key)
 }
 
 // Looks up a name. Whatever the name is, it can be walked with.
@@ -88,7 +87,7 @@ pub fn look_up(file: &[u8], trie: Trie, name: &[u8]) -> LookUpAnswer
     ensures { λ r. ⌜ r ≡ look-up-of (now (file .entry)) trie (now (name .entry)) ⌝ }
 {
     let filled = digits::filled(name);
-    look_up_from(file, trie::walk_of(trie, &filled), name)
+    look_up_from(file, trie::walk_of(trie, &filled), name, &filled)
 }
 
 // How many bytes the entries take that are to be listed, from the bucket at the place `from` to that at `to`.
@@ -144,15 +143,17 @@ fn write_between(
     }
 }
 
-// Lists the entries of a file that passed the checks.
+// Lists the entries of a file that passed the checks, from one name to another, each with its key.
 fn list_checked(
     file: &[u8],
     checked: Checked,
     first: &[u8; 24],
     second: &[u8; 24],
+    low: Key,
+    high: Key,
     output: &mut [u8],
 ) -> ListAnswer
-    requires { ⌜ Ready checked (now file) ⌝ }
+    requires { ⌜ (Ready checked (now file)) × (key-value low ≡ value (now first)) × (key-value high ≡ value (now second)) ⌝ }
     ensures { λ r. ⌜ ((R : Ready checked (now (file .entry))) → Legal (now (first .entry)) → Legal (now (second .entry))
         → listed r (now (output .exit)) ≡ list-entries (entry-length (checked .size .layout))
         (between (now (first .entry)) (now (second .entry)) (entries-in (R .slots) (order-of (R .slots)))) (now (output .entry))) ⌝ }
@@ -162,8 +163,6 @@ fn list_checked(
     let order = survey.order;
     let from = file::holder(file, size, &order, survey.count, first);
     let to = file::holder(file, size, &order, survey.count, second);
-    let low = digits::key_at(first, 0);
-    let high = digits::key_at(second, 0);
     let bytes = bytes_between(file, size, &order, from, to, low, high);
     if output.len() < bytes {
         return ListAnswer::Refused(Cause::ShortOutput);
@@ -177,20 +176,18 @@ pub fn list(file: &[u8], trie: Trie, first: &[u8], second: &[u8], output: &mut [
     ensures { λ r.
         ⌜ listed r (now (output .exit)) ≡ list-of (now (file .entry)) trie (now (first .entry)) (now (second .entry)) (now (output .entry)) ⌝ }
 {
-    let Naming::Legal = digits::named(first) else {
+    let lowest = digits::filled(first);
+    let highest = digits::filled(second);
+    let Naming::Legal(low) = digits::naming_of(first, &lowest) else {
         return ListAnswer::Refused(Cause::IllegalName);
     };
-    let Naming::Legal = digits::named(second) else {
+    let Naming::Legal(high) = digits::naming_of(second, &highest) else {
         return ListAnswer::Refused(Cause::IllegalName);
     };
     let checked = checks_of(file, trie);
     let verdict = checked.verdict;
     match verdict {
         Verdict::Refused(cause) => ListAnswer::Refused(cause),
-        Verdict::Fine => {
-            let low = digits::filled(first);
-            let high = digits::filled(second);
-            list_checked(file, checked, &low, &high, output)
-        }
+        Verdict::Fine => list_checked(file, checked, &lowest, &highest, low, high, output),
     }
 }

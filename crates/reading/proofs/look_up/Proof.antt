@@ -7,9 +7,9 @@ use Rattle.reading.proofs.look_up.Tie as tie
 
 returns : tie.Need-returns
 returns c =
-    let a = c .before .before .before .before .before .before .args in let w = c .before .walk-of in
+    let a = c .before .before .before .before .before .before .before .args in let w = c .before .before .walk-of in
     c .look-up-from .ensures
-    ∙ walked-looked (a .file .now) (a .trie) (a .name .now) (w .result) (subst (λ (n : List ℕ). Walks (w .result) (walk-of (a .trie) n)) (c .before .before .before .filled .ensures) (w .ensures .1))
+    ∙ walked-looked (a .file .now) (a .trie) (a .name .now) (w .result) (subst (λ (n : List ℕ). Walks (w .result) (walk-of (a .trie) n)) (c .before .before .before .before .filled .ensures) (w .ensures .1))
 
 pub look-up-spec : {M : Type 1} → Rattle.reading.proofs.look_up.Statement.statement M
 look-up-spec = tie.close (tie.spec (λ c κs. search needs) (λ c κs. search needs) (λ c κs. search needs) returns)
