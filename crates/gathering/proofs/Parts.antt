@@ -1,5 +1,6 @@
 -- A part of a bound in one word: k digits, and zeros behind them.
-use Rattle.model.proofs.Prelude.{List, [], _%_, _*_, _++_, _+_, _-_, _/_, _<_, _^_, _∙_, _∷_, _≡_, _≤_, ap, arith, drop, eq-eqb, getD, length, length-append, length-replicate, mul-comm, mul-suc, mul-zero, pow-suc, refl, replicate, suc, sym, take, take-all, true, zero, ℕ}
+use Rattle.model.proofs.Prelude.{List, [], _%_, _*_, _++_, _+_, _-_, _/_, _<_, _^_, _∙_, _∷_, _≡_, _≤_, ap, arith, drop, eq-eqb, getD, length, length-append, length-replicate, pow-suc, refl, replicate, suc, sym, take, take-all, true, zero, ℕ}
+use native.Mathlib.Nat.{mul-comm, mul-suc, mul-zero}
 use lib.Bits.{bitAnd, bitOr, or-shifted-r}
 use lib.Pow.{pow-add}
 use Rattle.model.specs.Names.{Digits}
