@@ -121,6 +121,7 @@ module _ (s : List ℕ) (at k : ℕ) (room : at + 8 ≤ length s) (fits : k ≤ 
 
   pub part-digits : (v r t : ℕ) → v ≡ bitOr w (0x2020202020202020 * 2 ^ (4 * k) % 2 ^ 64 * 2 ^ (4 * k) % 2 ^ 64) → v < 2 ^ 64 → bitAnd v 0x8080808080808080 ≡ 0
       → r ≡ (v + 0x0202020202020202) % 2 ^ 64 → bitAnd r 0x8080808080808080 ≡ 0 → (t + 0x2020202020202020) % 2 ^ 64 ≡ v → t < 2 ^ 64 → bitAnd t 0x8080808080808080 ≡ 0 → Digits 0x20 p
+  unfolding value-of
   part-digits v r t f m a b c d n g =
       let o : v ≡ value-of (take 8 (drop 0 made)) = f ∙ value-made ∙ ap value-of (sym (take-all 8 made (omega (arith, length-made)))) in
       let room′ : 0 + 8 ≤ length made = omega (arith, length-made) in
