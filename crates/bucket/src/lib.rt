@@ -8,7 +8,6 @@ ghost use Prim.Native.Nat.{_≤_, _<_, _+_, _-_, _*_};
 ghost use lib.Dec.{eqb, leb};
 ghost use lib.ListN.{drop, getD, length, take};
 ghost use Rattle.model.specs.Names.{is-legal-bound};
-ghost use Rattle.entries.specs.Rows.{are-entries};
 ghost use Rattle.model.specs.Format.{entry-length, slot-size};
 ghost use Rattle.model.proofs.Format.{EntrySize};
 ghost use Rattle.model.specs.declared.Layout.{Layout};
@@ -172,17 +171,6 @@ fn is_bound(s: &[u8], len: usize) -> bool
     digits::is_bound(s, len)
 }
 
-// Whether names are legal, strictly ascending and in the range. Nearly always they are, and are found so all at once.
-fn are_entries(entries: &[u8], e: usize, count: usize, low: Key, high: Key) -> bool
-    requires { ⌜ (e * count ≤ length (now entries)) × (count ≤ 17) × (32 ≤ e) × (e ≤ 40) ⌝ }
-    ensures { λ r. ⌜ r ≡ are-entries e count (now (entries .entry)) (key-value low) (key-value high) ⌝ }
-{
-    if gathering::are_rising(entries, e, count, low, high) {
-        return true;
-    }
-    entries::are_entries(entries, e, count, low, high)
-}
-
 // A used slot as it is read, or that it is not well formed, with entries of e bytes and room for b of them.
 fn form_by(slot: &[u8], e: usize, b: usize) -> Form
     requires { ⌜ (length (now slot) ≡ 64 + e * b) × (b ≤ 16) × (32 ≤ e) × (e ≤ 40) ⌝ }
@@ -212,7 +200,7 @@ fn form_by(slot: &[u8], e: usize, b: usize) -> Form
     if !digits::is_below(low, high) {
         return Form::Ill;
     }
-    if !are_entries(&slot[64..], e, count, low, high) {
+    if !entries::are_entries(&slot[64..], e, count, low, high) {
         return Form::Ill;
     }
     Form::Well(Bucket { low, high })

@@ -4,7 +4,8 @@ use lib.Bits.{and-le-l, and-le-r, bitOr, or-add-and, or-shifted, or-shifted-r}
 use Rattle.model.specs.Format.{AreBytes, value-of}
 use Rattle.model.proofs.Format.{bytes-drop, bytes-take}
 use Rattle.digits.specs.Keys.{is-all-zero, value}
-use Rattle.digits.proofs.Keys.{length-part, value-append, zero-append}
+use Rattle.digits.specs.Words.{Word}
+use Rattle.digits.proofs.Keys.{bytes-part, length-part, value-append, zero-append}
 
 -- `a | b << k` and `b << k | a`.
 pub or-above : (k a b : ℕ) → a < 2 ^ k → b * 2 ^ k < 2 ^ 64 → bitOr a (b * 2 ^ k % 2 ^ 64) ≡ b * 2 ^ k + a
@@ -12,6 +13,10 @@ or-above k a b h l = rw (mod-eq-of-lt l) (or-shifted-r b k a h)
 
 pub or-below : (k a b : ℕ) → a < 2 ^ k → b * 2 ^ k < 2 ^ 64 → bitOr (b * 2 ^ k % 2 ^ 64) a ≡ b * 2 ^ k + a
 or-below k a b h l = rw (mod-eq-of-lt l) (or-shifted b k a h)
+
+-- The eight bytes from `at` on are a word.
+pub word-part : (s : List ℕ) (at : ℕ) → at + 8 ≤ length s → ((i : ℕ) → getD s i 0 < 256) → Word (take 8 (drop at s))
+word-part s at h f = record { bytes = bytes-part s 8 at f; eight = length-part s at 8 h }
 
 -- `a | b` is zero where both are.
 pub or-zero : (a b : ℕ) → bitOr a b ≡ 0 → (a ≡ 0) × (b ≡ 0)

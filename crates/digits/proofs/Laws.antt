@@ -214,10 +214,6 @@ legal-name n h k f l =
     rw (le-leb 1 (length n) h, le-leb (length n) 24 k, no-blank (first-digit n) f, no-blank (last-of n) l, and-true (are-digits 0x20 n)) (and-true (are-digits 0x20 n))
 
 -- 24 bytes are a filled name where the first is no blank and all are digits.
-pub not-blank : (s : List ℕ) → first-digit s ≡ 0x20 → is-legal-filled s ≡ false
-unfolding is-legal-filled
-not-blank s e = rw (eq-eqb (first-digit s) 0x20 e) (and-false (eqb (length s) 24 && are-digits 0x20 s))
-
 pub filled-name : (s : List ℕ) → (first-digit s ≡ 0x20 → ⊥) → length s ≡ 24 → is-legal-filled s ≡ are-digits 0x20 s
 unfolding is-legal-filled
 filled-name s e h = rw (eq-eqb (length s) 24 h, no-blank (first-digit s) e) (and-true (are-digits 0x20 s))

@@ -331,39 +331,6 @@ pub fn filled(name: &[u8]) -> [u8; 24]
     digits
 }
 
-// Whether the eight bytes of a word are digits, 0x20 to 0x7D. Of a byte below 0x80 the highest bit says, when 2 is added,
-// whether it is above 0x7D, and when 0x60 is added, whether it is 0x20 or above; and no sum reaches the next byte.
-fn is_of_digits(word: u64) -> bool
-    ensures { λ r. ⌜ ((x : Str) → Word x → word ≡ value x → r ≡ names.are-digits 0x20 x) ⌝ }
-{
-    if word & 0x8080_8080_8080_8080 != 0 {
-        return false;
-    }
-    let above = std::num::wrapping_add_u64(word, 0x0202_0202_0202_0202);
-    if above & 0x8080_8080_8080_8080 != 0 {
-        return false;
-    }
-    let from = std::num::wrapping_add_u64(word, 0x6060_6060_6060_6060);
-    from & 0x8080_8080_8080_8080 == 0x8080_8080_8080_8080
-}
-
-// Whether these 24 bytes are a legal name, filled: digits, of which the first is no blank. Eight bytes at a time: no other function has as large a part in a put.
-pub fn is_filled_name(s: &[u8]) -> bool
-    requires { ⌜ length (now s) ≡ 24 ⌝ }
-    ensures { λ r. ⌜ r ≡ names.is-legal-filled (now (s .entry)) ⌝ }
-{
-    if s[0] == 0x20 {
-        return false;
-    }
-    if !is_of_digits(word(s, 0)) {
-        return false;
-    }
-    if !is_of_digits(word(s, 8)) {
-        return false;
-    }
-    is_of_digits(word(s, 16))
-}
-
 // Whether these 24 bytes are a bound of `len` digits: each 0x20 to 0x7D, and zero behind them.
 pub fn is_bound(s: &[u8], len: usize) -> bool
     requires { ⌜ length (now s) ≡ 24 ⌝ }

@@ -1,9 +1,11 @@
--- What the code counts and finds in entries of e bytes, entry by entry: going down for a name and for a string, going up to test the names.
-use Rattle.model.proofs.Prelude.{List, [], _&&_, _*_, _++_, _+_, _-_, _<_, _∙_, _∷_, _≡_, _≤_, ap, arith, drop, drop-drop, eqb, false, le-ltb, length, lt-ltb, ltb, not, nothing, refl, some, sub-zero, suc, take, true, zero, ℕ}
+-- What the code counts and finds in entries of e bytes, entry by entry: going down for a name and for a string, and which rows of names pass.
+use Rattle.model.proofs.Prelude.{Bool, List, [], _&&_, _*_, _++_, _+_, _-_, _<_, _∙_, _∷_, _≡_, _≤_, and-false, ap, arith, drop, drop-drop, eqb, false, le-ltb, length, lt-ltb, ltb, ltb-true, not, nothing, refl, some, suc, take, true, zero, ℕ}
 use native.Mathlib.Nat.{mul-zero}
 use Rattle.model.specs.Format.{value-of}
 use Rattle.model.specs.Names.{is-legal-filled}
+use Rattle.model.proofs.Names.{both-true}
 use Rattle.digits.specs.Keys.{value}
+use Rattle.gathering.specs.Names.{Rising, last-value, names}
 use Rattle.entries.specs.Rows.{are-entries, below, held-at, is-not-above, values}
 use Rattle.entries.proofs.Products.{next-is}
 
@@ -84,34 +86,46 @@ module _ (e i j : ℕ) (xs : List ℕ) (count v : ℕ) (q : i ≡ j) where
   unfolding held-at
   held-here h t = rw (← q, lt-ltb i count h, t)
 
--- The test of the names: all are left, none are left, and the entry i and those behind it.
-pub entries-start : (e count : ℕ) (xs : List ℕ) (last high : ℕ) → are-entries e count xs last high ≡ are-entries e (count - 0) (drop (e * 0) xs) last high
-entries-start e count xs last high = rw (sub-zero, mul-zero e)
+-- The test of the names: those of a row that rises pass where the last is not above the upper limit, and no others.
+rising-entries : (e n : ℕ) (xs : List ℕ) (last high : ℕ) → Rising last (names e n xs) → are-entries e n xs last high ≡ not (ltb high (last-value last (names e n xs)))
+unfolding are-entries names
+rising-entries e zero xs last high r = refl
+rising-entries e (suc n) xs last high r = rw (r .0, lt-ltb last (value (take 24 xs)) (r .1)) (rising-entries e n (drop e xs) (value (take 24 xs)) high (r .2))
 
-pub entries-end : (e count i : ℕ) (xs : List ℕ) (last high : ℕ) → count ≤ i → are-entries e (count - i) xs last high ≡ not (ltb high last)
+entries-rising : (e n : ℕ) (xs : List ℕ) (last high : ℕ) → are-entries e n xs last high ≡ true → Rising last (names e n xs)
+unfolding are-entries names
+entries-rising e zero xs last high h = tt
+entries-rising e (suc n) xs last high h =
+    let x = take 24 xs in
+    let p = both-true (is-legal-filled x && ltb last (value x)) (are-entries e n (drop e xs) (value x) high) h in
+    let q = both-true (is-legal-filled x) (ltb last (value x)) (p .0) in
+    (q .0, ltb-true last (value x) (q .1), entries-rising e n (drop e xs) (value x) high (p .1))
+
+pub entries-none : (e count : ℕ) (xs : List ℕ) (low high : ℕ) → count ≡ 0 → are-entries e count xs low high ≡ not (ltb high low)
 unfolding are-entries
-entries-end e count i xs last high h = let z : count - i ≡ 0 = omega arith in rw z
+entries-none e count xs low high z = rw z
 
-module _ (e count i : ℕ) (xs : List ℕ) (h : i < count) (last high : ℕ) where
-  abbrev tested : List ℕ
-  tested = take 24 (drop (e * i) xs)
+pub entries-low : (e count : ℕ) (xs : List ℕ) (low high : ℕ) → 0 < count → ltb low (value (take 24 xs)) ≡ false → are-entries e count xs low high ≡ false
+unfolding are-entries
+entries-low e zero xs low high h t = absurd (omega arith)
+entries-low e (suc n) xs low high h t = rw (t, and-false (is-legal-filled (take 24 xs)))
 
-  entries-next : are-entries e (count - i) (drop (e * i) xs) last high
-      ≡ (is-legal-filled tested && ltb last (value tested) && are-entries e (count - (i + 1)) (drop (e * (i + 1)) xs) (value tested) high)
-  unfolding are-entries
-  entries-next =
-      let o : count - i ≡ suc (count - (i + 1)) = omega arith in
-      let n : e * i + e ≡ e * (i + 1) = omega arith in
-      ap (λ (n : ℕ). are-entries e n (drop (e * i) xs) last high) o
-      ∙ ap (λ (ys : List ℕ). is-legal-filled tested && ltb last (value tested) && are-entries e (count - (i + 1)) ys (value tested) high)
-      (drop-drop e (e * i) xs ∙ ap (λ (n : ℕ). drop n xs) n)
+lowered : (e n : ℕ) (xs : List ℕ) (low : ℕ) → Rising low (names e n xs) → Rising 0 (names e n xs)
+unfolding names
+lowered e zero xs low r = tt
+lowered e (suc n) xs low r = (r .0, omega (arith, r .1), r .2)
 
-  pub entries-illegal : is-legal-filled tested ≡ false → are-entries e (count - i) (drop (e * i) xs) last high ≡ false
-  entries-illegal f = entries-next ∙ rw f
+pub entries-faulty : (e count : ℕ) (xs : List ℕ) (low high : ℕ) → (Rising 0 (names e count xs) → ⊥) → are-entries e count xs low high ≡ false
+entries-faulty e count xs low high n = go (are-entries e count xs low high) refl
+  where
+    go : (b : Bool) → are-entries e count xs low high ≡ b → b ≡ false
+    go true h = absurd (n (lowered e count xs low (entries-rising e count xs low high h)))
+    go false h = refl
 
-  pub entries-low : is-legal-filled tested ≡ true → ltb last (value tested) ≡ false → are-entries e (count - i) (drop (e * i) xs) last high ≡ false
-  entries-low f g = entries-next ∙ rw (f, g)
-
-  pub entries-step : (k : ℕ) → k ≡ value tested → is-legal-filled tested ≡ true → ltb last (value tested) ≡ true
-      → are-entries e (count - i) (drop (e * i) xs) last high ≡ are-entries e (count - (i + 1)) (drop (e * (i + 1)) xs) k high
-  entries-step k q f g = entries-next ∙ rw (f, g, q)
+pub entries-all : (e count : ℕ) (xs : List ℕ) (low high : ℕ) → 0 < count → ltb low (value (take 24 xs)) ≡ true → Rising 0 (names e count xs)
+    → are-entries e count xs low high ≡ not (ltb high (last-value 0 (names e count xs)))
+unfolding names
+entries-all e zero xs low high h t r = absurd (omega arith)
+entries-all e (suc n) xs low high h t r =
+    let s : Rising low (names e (suc n) xs) = (r .0, ltb-true low (value (take 24 xs)) t, r .2) in
+    rising-entries e (suc n) xs low high s

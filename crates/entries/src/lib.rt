@@ -79,27 +79,22 @@ pub fn not_above(entries: &[u8], e: usize, count: usize, string: Key) -> usize
     0
 }
 
-// Names are legal, strictly ascending and in the range: each is above the one before it, the first above the lower limit.
+// Names are legal, strictly ascending and in the range: the first is above the lower limit, the last not above the upper one.
 pub fn are_entries(entries: &[u8], e: usize, count: usize, low: Key, high: Key) -> bool
-    requires { ⌜ (e * count ≤ length (now entries)) × (count ≤ 17) × (24 ≤ e) × (e ≤ 40) ⌝ }
+    requires { ⌜ (e * count ≤ length (now entries)) × (count ≤ 17) × (32 ≤ e) × (e ≤ 40) ⌝ }
     ensures { λ r. ⌜ r ≡ are-entries e count (now (entries .entry)) (key-value low) (key-value high) ⌝ }
 {
-    let mut last = low;
-    let mut i = 0;
-    while i < count {
-        let at = whole_at(e, i, count);
-        let end = at + 24;
-        if !digits::is_filled_name(&entries[at..end]) {
-            return false;
-        }
-        let name = digits::key_at(entries, at);
-        if !digits::is_below(last, name) {
-            return false;
-        }
-        last = name;
-        i += 1;
+    if count == 0 {
+        return !digits::is_below(high, low);
     }
-    !digits::is_below(high, last)
+    if !digits::is_below(low, digits::key_at(entries, 0)) {
+        return false;
+    }
+    let seen = gathering::seen_of(entries, e, count);
+    if gathering::faults(seen) != 0 {
+        return false;
+    }
+    !digits::is_below(high, seen.last)
 }
 
 // The content of entry i of so many.

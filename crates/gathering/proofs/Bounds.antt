@@ -1,6 +1,7 @@
 -- A bound in three words: its digits and the zeros behind them, word by word.
 use mathlib.Core.Bool.{_&&_, true}
-use mathlib.Core.List.{List, _++_}
+use Rattle.model.proofs.Prelude.{and-assoc}
+use mathlib.Core.List.{List, [], _++_, _∷_}
 use mathlib.Core.Path.{_∙_, _≡_, ap, refl, sym}
 use Prim.Native.Nat.{_+_, _-_, _≤_, ℕ}
 use native.Mathlib.Omega.{arith}
@@ -13,8 +14,12 @@ use Rattle.model.proofs.Names.{digits-are-digits}
 use Rattle.digits.specs.Keys.{is-all-zero}
 use Rattle.digits.proofs.Keys.{zero-append}
 use Rattle.digits.proofs.Laws.{legal-part}
-use Rattle.digits.proofs.Words.{digits-append}
 use Rattle.gathering.specs.Names.{BoundIn}
+
+digits-append : (x y : List ℕ) → are-digits 0x20 (x ++ y) ≡ (are-digits 0x20 x && are-digits 0x20 y)
+unfolding are-digits
+digits-append [] y = refl
+digits-append (d ∷ x) y = rw (digits-append x y) (sym (and-assoc (leb 0x20 d && leb d 0x7D) (are-digits 0x20 x) (are-digits 0x20 y)))
 
 module _ (s : List ℕ) (at m n : ℕ) where
   parts : take (m + n) (drop at s) ≡ take m (drop at s) ++ take n (drop (at + m) s)

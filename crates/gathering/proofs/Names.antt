@@ -1,179 +1,219 @@
--- What gathering keeps: laws read backwards, from what was gathered at the end to each name.
-use mathlib.Core.Path.{_∙_, _≡_, ap, refl, subst, sym}
-use mathlib.Core.List.{List, [], _∷_}
-use Prim.Native.Nat.{_*_, _+_, _-_, _<_, _^_, _≤_, suc, zero, ℕ}
-use native.Mathlib.Decide.{ℕ-discrete}
-use native.Mathlib.Nat.{mul-le-mul-left, mul-suc}
-use native.Mathlib.Omega.{arith}
-use lib.Bits.{and-le-l, and-le-r, bitAnd}
-use lib.ListN.{drop, getD, length, length-drop, length-take, set, take}
-use lib.Seq.{drop-cons, drop-drop, getD-drop, getD-set-other, getD-set-same, getD-take}
-use mathlib.Core.Bool.{true}
-use Rattle.model.specs.Names.{Digits, is-legal-filled}
-use Rattle.model.proofs.Names.{digits-are-digits}
+-- What gathering keeps: one name more, and the whole row, read in both directions.
+use Rattle.model.proofs.Prelude.{List, [], _&&_, _*_, _+_, _-_, _/_, _<_, _^_, _∙_, _∷_, _≡_, _≤_, _⊎_, ap, arith, drop, drop-cons, drop-drop, eqb, getD, getD-drop, getD-replicate, getD-set-other, getD-set-same, getD-take, length, not, refl, replicate, set, suc, sym, take, true, zero, ℕ, ℕ-discrete, ⊎-elim}
+use native.Mathlib.Nat.{mul-suc}
+use lib.Bits.{and-le-l, and-le-r, and-shr, bitAnd}
+use Rattle.model.specs.Names.{Digits, are-digits, first-digit, is-blank-digit, is-legal-filled}
+use Rattle.model.proofs.Names.{are-digits-digits, blank-no, both-true, digits-are-digits}
+use Rattle.digits.specs.declared.Key.{Key}
+use Rattle.digits.specs.Keys.{key-value, value}
+use Rattle.digits.proofs.Keys.{bytes-part, length-part, value-lt}
 use Rattle.digits.proofs.Laws.{filled-name}
-use Rattle.model.specs.Format.{AreBytes}
-use Rattle.digits.specs.Keys.{value}
-use Rattle.digits.proofs.Keys.{bytes-part, length-part, value-lt, value-words}
-use Rattle.gathering.specs.Names.{Clean, RisingTo, Small, names, three}
+use Rattle.gathering.specs.Names.{Clean, Rising, Small, WordsAt, last-value, names}
 
 -- The first i bytes from `at` on are gathered.
 pub record Grown (s : List ℕ) (at i : ℕ) (most₀ least₀ most least : List ℕ) : Type 0 where
   pub above-before : (j : ℕ) → getD most₀ j 0 ≤ getD most j 0
   pub above-new : (j : ℕ) → j < i → getD s (at + j) 0 ≤ getD most j 0
+  pub above-all : (j k : ℕ) → getD most₀ j 0 ≤ k → (j < i → getD s (at + j) 0 ≤ k) → getD most j 0 ≤ k
   pub under-before : (j : ℕ) → getD least j 0 ≤ getD least₀ j 0
   pub under-new : (j : ℕ) → j < i → getD least j 0 ≤ getD s (at + j) 0
+  pub under-all : (j k : ℕ) → k ≤ getD least₀ j 0 → (j < i → k ≤ getD s (at + j) 0) → k ≤ getD least j 0
 
 pub grown-none : (s : List ℕ) (at : ℕ) (most least : List ℕ) → Grown s at 0 most least most least
 grown-none s at most least = record {
   above-before = λ j. omega arith;
   above-new = λ j h. absurd (omega arith);
+  above-all = λ j k h f. h;
   under-before = λ j. omega arith;
   under-new = λ j h. absurd (omega arith);
+  under-all = λ j k h f. h;
 }
 
--- A store that raises the byte at i.
-raised : (k : ℕ) (m : List ℕ) (i r j : ℕ) → i < length m → getD m i 0 ≤ r → k ≤ getD m j 0 → k ≤ getD (set m i r) j 0
-raised k m i r j l h g = elim (ℕ-discrete j i) [
-  | yes e ↦ omega (arith, rw e at g, ap (λ (n : ℕ). getD (set m i r) n 0) e, getD-set-same m i r 0 l)
-  | no n ↦ omega (arith, getD-set-other m i j r 0 n)
-]
-
-lowered : (k : ℕ) (m : List ℕ) (i r j : ℕ) → i < length m → r ≤ getD m i 0 → getD m j 0 ≤ k → getD (set m i r) j 0 ≤ k
-lowered k m i r j l h g = elim (ℕ-discrete j i) [
-  | yes e ↦ omega (arith, rw e at g, ap (λ (n : ℕ). getD (set m i r) n 0) e, getD-set-same m i r 0 l)
-  | no n ↦ omega (arith, getD-set-other m i j r 0 n)
-]
-
-raised-new : (s : List ℕ) (at : ℕ) (m : List ℕ) (i r j : ℕ) → i < length m → getD m i 0 ≤ r → getD s (at + i) 0 ≤ r → (j < i → getD s (at + j) 0 ≤ getD m j 0) → j < i + 1
-    → getD s (at + j) 0 ≤ getD (set m i r) j 0
-raised-new s at m i r j l h k f t = elim (ℕ-discrete j i) [
-  | yes e ↦ omega (arith, ap (λ (n : ℕ). getD s (at + n) 0) e, ap (λ (n : ℕ). getD (set m i r) n 0) e, getD-set-same m i r 0 l)
-  | no n ↦ omega (arith, getD-set-other m i j r 0 n, f (omega (arith, n)))
-]
-
-lowered-new : (s : List ℕ) (at : ℕ) (m : List ℕ) (i r j : ℕ) → i < length m → r ≤ getD m i 0 → r ≤ getD s (at + i) 0 → (j < i → getD m j 0 ≤ getD s (at + j) 0) → j < i + 1
-    → getD (set m i r) j 0 ≤ getD s (at + j) 0
-lowered-new s at m i r j l h k f t = elim (ℕ-discrete j i) [
-  | yes e ↦ omega (arith, ap (λ (n : ℕ). getD s (at + n) 0) e, ap (λ (n : ℕ). getD (set m i r) n 0) e, getD-set-same m i r 0 l)
-  | no n ↦ omega (arith, getD-set-other m i j r 0 n, f (omega (arith, n)))
+-- A store at i changes no other byte.
+stored : (P : ℕ → ℕ → Type 0) (m : List ℕ) (i r : ℕ) → i < length m → P i r → (j : ℕ) → ((j ≡ i → ⊥) → P j (getD m j 0)) → P j (getD (set m i r) j 0)
+stored P m i r l h j f = elim (ℕ-discrete j i) [
+  | yes e ↦ rw (e, getD-set-same m i r 0 l) h
+  | no n ↦ rw (getD-set-other m i j r 0 n) (f n)
 ]
 
 pub grown-next : (s : List ℕ) (at i : ℕ) (most₀ least₀ most least : List ℕ) (p q : ℕ) → Grown s at i most₀ least₀ most least → i < length most → i < length least
-    → (getD most i 0 ≤ p) × (getD s (at + i) 0 ≤ p) → (q ≤ getD least i 0) × (q ≤ getD s (at + i) 0) → Grown s at (i + 1) most₀ least₀ (set most i p) (set least i q)
+    → (getD most i 0 ≤ p) × (getD s (at + i) 0 ≤ p) × ((p ≡ getD most i 0) ⊎ (p ≡ getD s (at + i) 0))
+    → (q ≤ getD least i 0) × (q ≤ getD s (at + i) 0) × ((k : ℕ) → k ≤ getD least i 0 → k ≤ getD s (at + i) 0 → k ≤ q)
+    → Grown s at (i + 1) most₀ least₀ (set most i p) (set least i q)
 grown-next s at i most₀ least₀ most least p q G l m f g = record {
-  above-before = λ j. raised (getD most₀ j 0) most i p j l (f .0) (G .above-before j);
-  above-new = λ j h. raised-new s at most i p j l (f .0) (f .1) (G .above-new j) h;
-  under-before = λ j. lowered (getD least₀ j 0) least i q j m (g .0) (G .under-before j);
-  under-new = λ j h. lowered-new s at least i q j m (g .0) (g .1) (G .under-new j) h;
+  above-before = λ j. stored (λ n v. getD most₀ n 0 ≤ v) most i p l (omega (arith, G .above-before i, f .0)) j (λ n. G .above-before j);
+  above-new = λ j h. stored (λ n v. n < i + 1 → getD s (at + n) 0 ≤ v) most i p l (λ t. f .1) j (λ n t. G .above-new j (omega (arith, n))) h;
+  above-all = λ j k h t.
+      stored (λ n v. getD most₀ n 0 ≤ k → (n < i + 1 → getD s (at + n) 0 ≤ k) → v ≤ k) most i p l
+      (λ a b. ⊎-elim (λ e. omega (arith, e, G .above-all i k a (λ o. absurd (omega arith)))) (λ e. omega (arith, e, b (omega arith))) (f .2))
+      j (λ n a b. G .above-all j k a (λ o. b (omega arith))) h t;
+  under-before = λ j. stored (λ n v. v ≤ getD least₀ n 0) least i q m (omega (arith, G .under-before i, g .0)) j (λ n. G .under-before j);
+  under-new = λ j h. stored (λ n v. n < i + 1 → v ≤ getD s (at + n) 0) least i q m (λ t. g .1) j (λ n t. G .under-new j (omega (arith, n))) h;
+  under-all = λ j k h t.
+      stored (λ n v. k ≤ getD least₀ n 0 → (n < i + 1 → k ≤ getD s (at + n) 0) → k ≤ v) least i q m
+      (λ a b. g .2 k (G .under-all i k a (λ o. absurd (omega arith))) (b (omega arith)))
+      j (λ n a b. G .under-all j k a (λ o. b (omega arith))) h t;
 }
 
-pub grown-all : {s : List ℕ} {at : ℕ} (i : ℕ) {most₀ least₀ most least : List ℕ} → 32 ≤ i → Grown s at i most₀ least₀ most least → Grown s at 32 most₀ least₀ most least
-grown-all i h G = record {
-  above-before = G .above-before;
-  above-new = λ j l. G .above-new j (omega arith);
-  under-before = G .under-before;
-  under-new = λ j l. G .under-new j (omega arith);
+-- The 24 bytes from `at` on are a name, byte by byte.
+pub record NameAt (s : List ℕ) (at : ℕ) : Type 0 where
+  pub above : (j : ℕ) → j < 24 → getD s (at + j) 0 ≤ 0x7D
+  pub under : (j : ℕ) → j < 24 → 0x20 ≤ getD s (at + j) 0
+  pub begun : 0x21 ≤ getD s (at + 0) 0
+
+pub digits-each : (lo : ℕ) (x : List ℕ) → ((j : ℕ) → j < length x → (lo ≤ getD x j 0) × (getD x j 0 ≤ 0x7D)) → Digits lo x
+digits-each lo [] f = tt
+digits-each lo (d ∷ x) f = let h = f 0 (omega arith) in (h .0, h .1, digits-each lo x (λ j l. f (suc j) (omega arith)))
+
+each-digit : (lo : ℕ) (x : List ℕ) → Digits lo x → (j : ℕ) → j < length x → (lo ≤ getD x j 0) × (getD x j 0 ≤ 0x7D)
+each-digit lo [] f j h = absurd (omega arith)
+each-digit lo (d ∷ x) f zero h = (f .0, f .1)
+each-digit lo (d ∷ x) f (suc j) h = each-digit lo x (f .2) j (omega arith)
+
+module _ (s : List ℕ) (at : ℕ) (room : at + 24 ≤ length s) where
+  abbrev part : List ℕ
+  part = take 24 (drop at s)
+
+  full : length part ≡ 24
+  full = length-part s at 24 room
+
+  part-at : (j : ℕ) → j < 24 → getD part j 0 ≡ getD s (at + j) 0
+  part-at j h = getD-take 24 (drop at s) j 0 h ∙ getD-drop at s j 0
+
+  pub name-legal : NameAt s at → is-legal-filled part ≡ true
+  name-legal N =
+      filled-name part (λ e. omega (arith, e, part-at 0 (omega arith), N .begun)) full
+      ∙ digits-are-digits 0x20 part
+      (digits-each 0x20 part (λ j h. (omega (arith, full, part-at j (omega (arith, full)), N .under j (omega (arith, full))), omega (arith, full, part-at j (omega (arith, full)), N .above j (omega (arith, full))))))
+
+  pub legal-name : is-legal-filled part ≡ true → NameAt s at
+  unfolding is-legal-filled
+  legal-name e =
+      let p = both-true (eqb (length part) 24 && are-digits 0x20 part) (not (is-blank-digit (first-digit part))) e in
+      let q = both-true (eqb (length part) 24) (are-digits 0x20 part) (p .0) in
+      let d = each-digit 0x20 part (are-digits-digits 0x20 part (q .1)) in
+      let n : getD part 0 0 ≡ 0x20 → ⊥ = blank-no (first-digit part) (p .1) in
+      record {
+        above = λ j h. omega (arith, part-at j h, d j (omega (arith, full)) .1);
+        under = λ j h. omega (arith, part-at j h, d j (omega (arith, full)) .0);
+        begun = omega (arith, part-at 0 (omega arith), d 0 (omega (arith, full)) .0, n);
+      }
+
+  module _ (bytes : (i : ℕ) → getD s i 0 < 256) where
+    word-small : (k : ℕ) → k + 8 ≤ 24 → getD s (at + k) 0 ≤ 0x7D → value (take 8 (drop (at + k) s)) < 2 ^ 63
+    unfolding value
+    word-small k h g =
+        let n : length (take 7 (drop (suc (at + k)) s)) ≡ 7 = length-part s (suc (at + k)) 7 (omega arith) in
+        let v : value (take 7 (drop (suc (at + k)) s)) < 256 ^ 7 = rw n at (value-lt (take 7 (drop (suc (at + k)) s)) (bytes-part s 7 (suc (at + k)) bytes)) in
+        rw (drop-cons s (at + k) 0 (omega arith), n) (omega arith)
+
+    pub name-small : {k : Key} → WordsAt k at s → NameAt s at → Small k
+    name-small W N =
+        let z : at + 0 ≡ at = omega arith in
+        record {
+          first = rw (W .first) (rw z at (word-small 0 (omega arith) (N .above 0 (omega arith))));
+          second = rw (W .second) (word-small 8 (omega arith) (N .above 8 (omega arith)));
+          third = rw (W .third) (word-small 16 (omega arith) (N .above 16 (omega arith)));
+        }
+
+-- Two numbers with the highest bit.
+both-high : (a b : ℕ) → a < 2 ^ 64 → b < 2 ^ 64 → 2 ^ 63 ≤ a → 2 ^ 63 ≤ b → 2 ^ 63 ≤ bitAnd a b
+both-high a b f g h k =
+    let p : a / 2 ^ 63 ≡ 1 = omega arith in
+    let q : b / 2 ^ 63 ≡ 1 = omega arith in
+    let r : bitAnd a b / 2 ^ 63 ≡ 1 = and-shr a b 63 ∙ rw (p, q) refl in
+    omega (arith, r)
+
+-- One name gathered: all is clean where all before was, and the name is one and ascends.
+module _ {s : List ℕ} {at i : ℕ} (most₀ least₀ most least : List ℕ) (G : Grown s at i most₀ least₀ most least) (whole : 24 ≤ i) (ascents up : ℕ) where
+  pub clean-parts : Clean most least (bitAnd ascents up) → Clean most₀ least₀ ascents × NameAt s at × (2 ^ 63 ≤ up)
+  clean-parts C = (
+    record {
+      above = λ j h. omega (arith, G .above-before j, C .above j h);
+      under = λ j h. omega (arith, G .under-before j, C .under j h);
+      begun = omega (arith, G .under-before 0, C .begun);
+      rising = omega (arith, C .rising, and-le-l ascents up);
+    },
+    record {
+      above = λ j h. omega (arith, G .above-new j (omega arith), C .above j h);
+      under = λ j h. omega (arith, G .under-new j (omega arith), C .under j h);
+      begun = omega (arith, G .under-new 0 (omega arith), C .begun);
+    },
+    omega (arith, C .rising, and-le-r ascents up),
+  )
+
+  pub clean-both : ascents < 2 ^ 64 → up < 2 ^ 64 → Clean most₀ least₀ ascents → NameAt s at → 2 ^ 63 ≤ up → Clean most least (bitAnd ascents up)
+  clean-both f g C N h = record {
+    above = λ j l. G .above-all j 0x7D (C .above j l) (λ o. N .above j l);
+    under = λ j l. G .under-all j 0x20 (C .under j l) (λ o. N .under j l);
+    begun = G .under-all 0 0x21 (C .begun) (λ o. N .begun);
+    rising = both-high ascents up f g (C .rising) h;
+  }
+
+-- The row as far as it is gathered: what is left of it, above the last name, is as good as the whole.
+pub record Held (s : List ℕ) (e count : ℕ) (most least : List ℕ) (ascents : ℕ) (last : Key) (at left : ℕ) : Type 0 where
+  pub sound : Clean most least ascents → Small last × (Rising (key-value last) (names e left (drop at s)) → Rising 0 (names e count s))
+  pub complete : Rising 0 (names e count s) → Clean most least ascents × Small last × Rising (key-value last) (names e left (drop at s))
+  pub ends : last-value (key-value last) (names e left (drop at s)) ≡ last-value 0 (names e count s)
+  pub lowest : (j : ℕ) → getD least j 0 ≤ 0x7D
+
+clean-start : Clean (replicate 32 0) (replicate 32 0x7D) 18446744073709551615
+clean-start = record {
+  above = λ j h. omega (arith, getD-replicate {A = ℕ} 32 j 0 0 (omega arith));
+  under = λ j h. omega (arith, getD-replicate {A = ℕ} 32 j 0x7D 0 (omega arith));
+  begun = omega arith;
+  rising = omega arith;
 }
 
-pub digits-each : (lo : ℕ) (x : List ℕ) → ((j : ℕ) → j < length x → lo ≤ getD x j 0) → ((j : ℕ) → j < length x → getD x j 0 ≤ 0x7D) → Digits lo x
-digits-each lo [] f g = tt
-digits-each lo (d ∷ x) f g = (f 0 (omega arith), g 0 (omega arith), digits-each lo x (λ j h. f (suc j) (omega arith)) (λ j h. g (suc j) (omega arith)))
+replicate-most : (n c j : ℕ) → getD (replicate n c) j 0 ≤ c
+replicate-most zero c j = omega arith
+replicate-most (suc n) c zero = omega arith
+replicate-most (suc n) c (suc j) = replicate-most n c j
 
-word-small : (s : List ℕ) (at : ℕ) → at + 8 ≤ length s → ((i : ℕ) → getD s i 0 < 256) → getD s at 0 ≤ 0x7D → value (take 8 (drop at s)) < 2 ^ 63
-unfolding value
-word-small s at h f g =
-    let n : length (take 7 (drop (suc at) s)) ≡ 7 = length-part s (suc at) 7 (omega arith) in
-    let v : value (take 7 (drop (suc at) s)) < 256 ^ 7 = rw n at (value-lt (take 7 (drop (suc at) s)) (bytes-part s 7 (suc at) f)) in
-    rw (drop-cons s at 0 (omega arith), n) (omega arith)
-
--- What the whole loop has gathered, read backwards.
-abbrev pub Held : (s : List ℕ) (e count : ℕ) (most least : List ℕ) (ascends a b c at left : ℕ) → Type 0
-Held s e count most least ascends a b c at left =
-    Clean most least ascends → Small a b c × ((high : ℕ) → RisingTo (three a b c) high (names e left (drop at s)) → RisingTo 0 high (names e count s))
-
-pub held-none : (s : List ℕ) (e count : ℕ) (most least : List ℕ) (ascends : ℕ) → Held s e count most least ascends 0 0 0 0 count
-unfolding three
-held-none s e count most least ascends C = (record { first = omega arith; second = omega arith; third = omega arith }, λ high R. R)
-
-pub held-all : (s : List ℕ) (e count : ℕ) (most least : List ℕ) (ascends a b c at left : ℕ) → left ≡ 0
-    → Held s e count most least ascends a b c at left → Clean most least ascends → (high : ℕ) → three a b c ≤ high → RisingTo 0 high (names e count s)
-unfolding names
-held-all s e count most least ascends a b c at zero z H C high h = H C .1 high h
-held-all s e count most least ascends a b c at (suc n) z H C high h = absurd (omega arith)
+pub held-none : (s : List ℕ) (e count : ℕ) → Held s e count (replicate 32 0) (replicate 32 0x7D) 18446744073709551615 (record { a = 0; b = 0; c = 0 }) 0 count
+unfolding key-value
+held-none s e count =
+    let S : Small (record { a = 0; b = 0; c = 0 }) = record { first = omega arith; second = omega arith; third = omega arith } in
+    record {
+      sound = λ C. (S, λ R. R);
+      complete = λ R. (clean-start, S, R);
+      ends = refl;
+      lowest = replicate-most 32 0x7D;
+    }
 
 pub left-entry : (e left : ℕ) → 0 < left → e * left ≡ e + e * (left - 1)
 left-entry e zero h = absurd (omega arith)
 left-entry e (suc n) h = let q : suc n - 1 ≡ n = omega arith in rw q (omega (arith, mul-suc e n))
 
--- One entry.
-module _ (s : List ℕ) (at : ℕ) (room : at + 24 ≤ length s) (bytes : (i : ℕ) → getD s i 0 < 256) {most₀ least₀ most least : List ℕ} (G : Grown s at 32 most₀ least₀ most least) (ascends up : ℕ) (C : Clean most least (bitAnd ascends up)) where
-  pub clean-before : Clean most₀ least₀ ascends
-  clean-before = record {
-    above = λ j h. omega (arith, G .above-before j, C .above j h);
-    under = λ j h. omega (arith, G .under-before j, C .under j h);
-    first = omega (arith, G .under-before 0, C .first);
-    rising = omega (arith, C .rising, and-le-l ascends up);
-  }
-
-  pub rises : 2 ^ 63 ≤ up
-  rises = omega (arith, C .rising, and-le-r ascends up)
-
-  at-most : (j : ℕ) → j < 24 → getD s (at + j) 0 ≤ 0x7D
-  at-most j h = omega (arith, G .above-new j (omega arith), C .above j h)
-
-  at-least : (j : ℕ) → j < 24 → 0x20 ≤ getD s (at + j) 0
-  at-least j h = omega (arith, G .under-new j (omega arith), C .under j h)
-
-  part-at : (j : ℕ) → j < 24 → getD (take 24 (drop at s)) j 0 ≡ getD s (at + j) 0
-  part-at j h = getD-take 24 (drop at s) j 0 h ∙ getD-drop at s j 0
-
-  digits-at : Digits 0x20 (take 24 (drop at s))
-  digits-at =
-      let n : length (take 24 (drop at s)) ≡ 24 = length-part s at 24 room in
-      digits-each 0x20 (take 24 (drop at s))
-      (λ j h. omega (arith, part-at j (omega arith), at-least j (omega arith)))
-      (λ j h. omega (arith, part-at j (omega arith), at-most j (omega arith)))
-
-  pub legal-at : is-legal-filled (take 24 (drop at s)) ≡ true
-  legal-at =
-      filled-name (take 24 (drop at s)) (λ e. omega (arith, e, part-at 0 (omega arith), G .under-new 0 (omega arith), C .first)) (length-part s at 24 room)
-      ∙ digits-are-digits 0x20 (take 24 (drop at s)) digits-at
-
-  pub small-at : Small (value (take 8 (drop at s))) (value (take 8 (drop (at + 8) s))) (value (take 8 (drop (at + 16) s)))
-  small-at =
-      let z : getD s (at + 0) 0 ≡ getD s at 0 = ap (λ (n : ℕ). getD s n 0) (omega arith) in
-      record {
-        first = word-small s at (omega arith) bytes (omega (arith, z, at-most 0 (omega arith)));
-        second = word-small s (at + 8) (omega arith) bytes (at-most 8 (omega arith));
-        third = word-small s (at + 16) (omega arith) bytes (at-most 16 (omega arith));
-      }
-
-pub three-words : (s : List ℕ) (at : ℕ) → at + 24 ≤ length s → value (take 24 (drop at s)) ≡ three (value (take 8 (drop at s))) (value (take 8 (drop (at + 8) s))) (value (take 8 (drop (at + 16) s)))
-unfolding three
-three-words s at h = value-words s at h
-
-rising-next : (e n at : ℕ) (s : List ℕ) (low high v : ℕ) → is-legal-filled (take 24 (drop at s)) ≡ true → value (take 24 (drop at s)) ≡ v → low < v
-    → RisingTo v high (names e n (drop (at + e) s)) → RisingTo low high (names e (suc n) (drop at s))
+pub held-all : (s : List ℕ) (e count : ℕ) (most least : List ℕ) (ascents : ℕ) (last : Key) (at left : ℕ) → left ≡ 0 → Held s e count most least ascents last at left
+    → (Clean most least ascents → Rising 0 (names e count s)) × (Rising 0 (names e count s) → Clean most least ascents)
+    × ((j : ℕ) → getD least j 0 ≤ 0x7D) × (key-value last ≡ last-value 0 (names e count s))
 unfolding names
-rising-next e n at s low high v D q h R = (D, rw q h, rw (q, drop-drop e at s) R)
+held-all s e count most least ascents last at zero z H = (λ C. H .sound C .1 tt, λ R. H .complete R .0, H .lowest, H .ends)
+held-all s e count most least ascents last at (suc n) z H = absurd (omega arith)
 
-pub held-next : (s : List ℕ) (e count : ℕ) (most least : List ℕ) (ascends a b c at left : ℕ) (most₁ least₁ : List ℕ) (x y z up : ℕ)
-    → Held s e count most least ascends a b c at left
-    → 0 < left → at + 24 ≤ length s → ((i : ℕ) → getD s i 0 < 256) → Grown s at 32 most least most₁ least₁
-    → x ≡ value (take 8 (drop at s)) → y ≡ value (take 8 (drop (at + 8) s)) → z ≡ value (take 8 (drop (at + 16) s))
-    → (Small a b c → Small x y z → 2 ^ 63 ≤ up → three a b c < three x y z)
-    → Held s e count most₁ least₁ (bitAnd ascends up) x y z (at + e) (left - 1)
-held-next s e count most least ascends a b c at zero most₁ least₁ x y z up H l room bytes G ex ey ez f C = absurd (omega arith)
-held-next s e count most least ascends a b c at (suc n) most₁ least₁ x y z up H l room bytes G ex ey ez f C =
-    let h = H (clean-before s at room bytes G ascends up C) in
-    let T : Small x y z = rw (ex, ey, ez) (small-at s at room bytes G ascends up C) in
-    let v : value (take 24 (drop at s)) ≡ three x y z = rw (ex, ey, ez) (three-words s at room) in
+pub held-next : (s : List ℕ) (e count : ℕ) (most₀ least₀ : List ℕ) (ascents : ℕ) (last : Key) (at left i : ℕ) (most least : List ℕ) (name : Key) (up : ℕ)
+    → Held s e count most₀ least₀ ascents last at left → 0 < left → at + 24 ≤ length s → ((i : ℕ) → getD s i 0 < 256) → ascents < 2 ^ 64 → up < 2 ^ 64
+    → Grown s at i most₀ least₀ most least → 24 ≤ i → WordsAt name at s
+    → (Small last → Small name → (2 ^ 63 ≤ up → key-value last < key-value name) × (key-value last < key-value name → 2 ^ 63 ≤ up))
+    → Held s e count most least (bitAnd ascents up) name (at + e) (left - 1)
+unfolding names
+held-next s e count most₀ least₀ ascents last at zero i most least name up H l room bytes fa fu G h W f = absurd (omega arith)
+held-next s e count most₀ least₀ ascents last at (suc n) i most least name up H l room bytes fa fu G h W f =
     let m : suc n - 1 ≡ n = omega arith in
-    rw m (T, λ high R. h .1 high (rising-next e n at s (three a b c) high (three x y z) (legal-at s at room bytes G ascends up C) v (f (h .0) T (rises s at room bytes G ascends up C)) R))
-
--- Another limit below the first name.
-pub rising-above : (e n : ℕ) (s : List ℕ) (low high : ℕ) → 0 < n → low < value (take 24 s) → RisingTo 0 high (names e n s) → RisingTo low high (names e n s)
-unfolding names
-rising-above e zero s low high p h R = absurd (omega arith)
-rising-above e (suc n) s low high p h R = (R .0, h, R .2)
+    let v : value (take 24 (drop at s)) ≡ key-value name = sym (W .whole) in
+    let d : drop (at + e) s ≡ drop e (drop at s) = sym (drop-drop e at s) in
+    rw m record {
+      sound = λ C.
+          let p = clean-parts most₀ least₀ most least G h ascents up C in
+          let t = H .sound (p .0) in
+          let S = name-small s at room bytes W (p .1) in
+          (S, λ R. t .1 (name-legal s at room (p .1), rw v (f (t .0) S .0 (p .2)), rw v (rw d at R)));
+      complete = λ R.
+          let t = H .complete R in
+          let N = legal-name s at room (t .2 .0) in
+          let S = name-small s at room bytes W N in
+          (clean-both most₀ least₀ most least G h ascents up fa fu (t .0) N (f (t .1) S .1 (rw v at (t .2 .1))), S, rw d (rw v at (t .2 .2)));
+      ends = rw d (ap (λ (k : ℕ). last-value k (names e n (drop e (drop at s)))) (sym v) ∙ H .ends);
+      lowest = λ j. omega (arith, G .under-before j, H .lowest j);
+    }

@@ -1,20 +1,38 @@
-// Checks that gather: names by their largest and smallest bytes, bounds by words. They do not stop at the first fault, which is
-// fast, and each is proved in one direction: where it finds no fault, there is none.
-ghost use mathlib.Core.Bool.{true, _&&_};
+// The names of a row of entries, tested together: the largest and the smallest byte at each place are gathered, and in one bit
+// whether the names ascend. The test of what was gathered is exact, and costs the same for one name and for sixteen.
+ghost use mathlib.Core.Bool.{_&&_, true};
 ghost use mathlib.Core.Path.{_≡_};
 ghost use Prim.Native.Nat.{_≤_, _<_, _+_, _*_, _-_, _^_, ℕ};
 ghost use lib.Dec.{leb};
 ghost use lib.ListN.{drop, getD, length, take};
 ghost use Rattle.model.specs.Names.{Digits, is-legal-bound};
+ghost use Rattle.model.specs.Format.{value-of};
+ghost use Rattle.model.specs.Order.{Str};
 ghost use Rattle.digits.specs.Keys.{is-all-zero, key-value};
-ghost use Rattle.gathering.specs.Names.{BoundIn, Fine, RisingTo, Small, names, three};
+ghost use Rattle.gathering.specs.Names.{AreLow, BoundIn, Fine, Lowest, Rising, Small, WordsAt, last-value, names};
 use digits::Key;
-
-const ALL: u64 = 0xFFFF_FFFF_FFFF_FFFF;
 
 const BLANKS: u64 = 0x2020_2020_2020_2020;
 
 const HIGH: u64 = 0x8080_8080_8080_8080;
+
+// What is gathered: the largest and the smallest byte at each place, whether all names ascend, in the highest bit, and the last
+// name.
+pub struct Seen {
+    pub most: [u8; 32],
+    pub least: [u8; 32],
+    pub ascents: u64,
+    pub last: Key,
+}
+
+fn smaller(x: u8, y: u8) -> u8
+    ensures { λ r. ⌜ (r ≤ x) × (r ≤ y) × ((k : ℕ) → k ≤ x → k ≤ y → k ≤ r) ⌝ }
+{
+    if y < x {
+        return y;
+    }
+    x
+}
 
 // The borrow of x - y - t.
 fn borrow(x: u64, y: u64, t: u64) -> u64
@@ -25,43 +43,39 @@ fn borrow(x: u64, y: u64, t: u64) -> u64
     std::num::wrapping_sub_u64(std::num::wrapping_sub_u64(x, y), t) >> 63
 }
 
-// The highest bit says that (a, b, c) is below (x, y, z), six numbers below 2^63.
-fn ascent(a: u64, b: u64, c: u64, x: u64, y: u64, z: u64) -> u64
-    ensures { λ r. ⌜ (Small a b c → Small x y z → 2 ^ 63 ≤ r → three a b c < three x y z) ⌝ }
+// The highest bit says whether x is below y, where all words are below 2^63: no branch, as `digits::is_below` has.
+fn ascent(x: Key, y: Key) -> u64
+    ensures { λ r.
+        ⌜ (Small x → Small y → (2 ^ 63 ≤ r → key-value x < key-value y) × (key-value x < key-value y → 2 ^ 63 ≤ r)) ⌝ }
 {
-    let t = borrow(c, z, 0);
-    let u = borrow(b, y, t);
-    std::num::wrapping_sub_u64(std::num::wrapping_sub_u64(a, x), u)
+    let t = borrow(x.c, y.c, 0);
+    let u = borrow(x.b, y.b, t);
+    std::num::wrapping_sub_u64(std::num::wrapping_sub_u64(x.a, y.a), u)
 }
 
-fn smaller(x: u8, y: u8) -> u8
-    ensures { λ r. ⌜ (r ≤ x) × (r ≤ y) ⌝ }
+// As `digits::key_at`, and what its words are.
+fn name_at(s: &[u8], at: usize) -> Key
+    requires { ⌜ at + 24 ≤ length (now s) ⌝ }
+    ensures { λ r. ⌜ WordsAt r at (now (s .entry)) ⌝ }
 {
-    if y < x {
-        return y;
+    Key {
+        a: digits::word(s, at),
+        b: digits::word(s, at + 8),
+        c: digits::word(s, at + 16),
     }
-    x
 }
 
-// What is gathered of names: their largest and smallest bytes by place, in the highest bit whether all ascend, and the last.
-pub struct Seen {
-    pub most: [u8; 32],
-    pub least: [u8; 32],
-    pub ascends: u64,
-    pub last: Key,
-}
-
-// Gathers so many names that stand e bytes apart.
-fn gathered(s: &[u8], e: usize, count: usize) -> Seen
+// Gathers the names of `count` entries of e bytes each. The compiler keeps the two arrays in four registers, since they have 32
+// bytes, eight of them behind the name, and since both loops are in one function.
+pub fn seen_of(s: &[u8], e: usize, count: usize) -> Seen
     requires { ⌜ (32 ≤ e) × (e * count ≤ length (now s)) ⌝ }
-    ensures { λ r. ⌜ (Fine r → (high : ℕ) → key-value (r .last) ≤ high → RisingTo 0 high (names e count (now (s .entry)))) ⌝ }
+    ensures { λ r. ⌜ (Fine r → Rising 0 (names e count (now (s .entry)))) × (Rising 0 (names e count (now (s .entry))) → Fine r)
+        × Lowest r × (key-value (r .last) ≡ last-value 0 (names e count (now (s .entry)))) ⌝ }
 {
     let mut most = [0u8; 32];
     let mut least = [0x7Du8; 32];
-    let mut ascends = ALL;
-    let mut a = 0u64;
-    let mut b = 0u64;
-    let mut c = 0u64;
+    let mut ascents = 0xFFFF_FFFF_FFFF_FFFFu64;
+    let mut last = Key { a: 0, b: 0, c: 0 };
     let mut at = 0usize;
     let mut left = count;
     while 0 < left {
@@ -71,73 +85,53 @@ fn gathered(s: &[u8], e: usize, count: usize) -> Seen
             least[i] = smaller(least[i], s[at + i]);
             i += 1;
         }
-        let x = digits::word(s, at);
-        let y = digits::word(s, at + 8);
-        let z = digits::word(s, at + 16);
-        ascends = ascends & ascent(a, b, c, x, y, z);
-        a = x;
-        b = y;
-        c = z;
+        let name = name_at(s, at);
+        ascents = ascents & ascent(last, name);
+        last = name;
         at += e;
         left -= 1;
     }
     Seen {
         most,
         least,
-        ascends,
-        last: Key { a, b, c },
+        ascents,
+        last,
     }
 }
 
 // High bits where one of the eight bytes from `at` on is above 0x7D, else 0.
 fn above_faults(s: &[u8], at: usize) -> u64
     requires { ⌜ at + 8 ≤ length (now s) ⌝ }
-    ensures { λ r. ⌜ (r ≡ 0 → (j : ℕ) → j < 8 → getD (now (s .entry)) (at + j) 0 ≤ 0x7D) ⌝ }
+    ensures { λ r. ⌜ (r ≡ 0 → (j : ℕ) → j < 8 → getD (now (s .entry)) (at + j) 0 ≤ 0x7D)
+        × (((j : ℕ) → j < 8 → getD (now (s .entry)) (at + j) 0 ≤ 0x7D) → r ≡ 0) ⌝ }
 {
     let w = digits::little_endian(s, at);
     (w & HIGH) | (std::num::wrapping_add_u64(w, 0x0202_0202_0202_0202) & HIGH)
 }
 
-// High bits where one of them is below 0x20, else 0.
-fn under_faults(s: &[u8], at: usize) -> u64
+// High bits where one of them is below that of the word `from`, else 0; of bytes below 0x80.
+fn under_faults(s: &[u8], at: usize, from: u64) -> u64
     requires { ⌜ at + 8 ≤ length (now s) ⌝ }
-    ensures { λ r. ⌜ (r ≡ 0 → (j : ℕ) → j < 8 → 0x20 ≤ getD (now (s .entry)) (at + j) 0) ⌝ }
+    ensures { λ r.
+        ⌜ ((y : Str) → AreLow y → length y ≡ 8 → from ≡ value-of y
+        → (r ≡ 0 → (j : ℕ) → j < 8 → getD y j 0 ≤ getD (now (s .entry)) (at + j) 0)
+        × (((j : ℕ) → j < 8 → (getD y j 0 ≤ getD (now (s .entry)) (at + j) 0) × (getD (now (s .entry)) (at + j) 0 < 0x80)) → r ≡ 0)) ⌝ }
 {
-    std::num::wrapping_sub_u64(digits::little_endian(s, at), 0x2020_2020_2020_2020) & HIGH
+    std::num::wrapping_sub_u64(digits::little_endian(s, at), from) & HIGH
 }
 
-// 0 where nothing is wrong with what was seen, if no name begins with a blank.
-fn seen_faults(seen: Seen) -> u64
-    ensures { λ r. ⌜ (r ≡ 0 → 0x20 < getD (seen .least) 0 0 → Fine seen) ⌝ }
+// 0 where nothing is wrong with what was gathered: no byte of a name is above 0x7D, none is below 0x20 and no first one below 0x21.
+pub fn faults(seen: Seen) -> u64
+    ensures { λ r. ⌜ (r ≡ 0 → Fine seen) × (Fine seen → Lowest seen → r ≡ 0) ⌝ }
 {
     let most = seen.most;
     let least = seen.least;
     let above = above_faults(&most, 0) | above_faults(&most, 8) | above_faults(&most, 16);
-    let under = under_faults(&least, 0) | under_faults(&least, 8) | under_faults(&least, 16);
-    above | under | (1 - (seen.ascends >> 63))
-}
-
-// Names that stand e bytes apart are legal, strictly ascending and in the range.
-pub fn are_rising(s: &[u8], e: usize, count: usize, low: Key, high: Key) -> bool
-    requires { ⌜ (32 ≤ e) × (e * count ≤ length (now s)) ⌝ }
-    ensures { λ r. ⌜ (r ≡ true → RisingTo (key-value low) (key-value high) (names e count (now (s .entry)))) ⌝ }
-{
-    if count == 0 {
-        return false;
-    }
-    let seen = gathered(s, e, count);
-    let least = seen.least;
-    let last = seen.last;
-    if least[0] <= 0x20 {
-        return false;
-    }
-    if seen_faults(seen) != 0 {
-        return false;
-    }
-    if digits::is_below(high, last) {
-        return false;
-    }
-    digits::is_below(low, digits::key_at(s, 0))
+    let first = under_faults(&least, 0, 0x2020_2020_2020_2021);
+    let under = first
+        | under_faults(&least, 8, 0x2020_2020_2020_2020)
+        | under_faults(&least, 16, 0x2020_2020_2020_2020);
+    above | under | (1 - (seen.ascents >> 63))
 }
 
 // 0 where the first k of the eight bytes from `at` on are digits and the others are zero: a part of a bound. Blanks stand in

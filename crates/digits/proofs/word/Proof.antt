@@ -1,6 +1,6 @@
 -- `digits::word` meets its contract.
 use Rattle.model.proofs.Prelude.{arith, drop, needs, take}
-use Rattle.digits.proofs.Words.{word-part}
+use Rattle.digits.proofs.Bytes.{word-part}
 use Rattle.digits.proofs.word.Tie as tie
 
 returns : tie.Need-returns

@@ -4,7 +4,7 @@ use mathlib.Core.Path.{refl}
 use native.Mathlib.Omega.{arith}
 use lib.Bits.{bitAnd, bitOr, or-lt}
 use Rattle.digits.proofs.Bytes.{or-zero}
-use Rattle.gathering.proofs.Faults.{part-digits, part-zero}
+use Rattle.gathering.proofs.Parts.{part-digits, part-zero}
 use borrow.Author.Needs.{needs}
 use Rattle.gathering.proofs.part_faults.Statement.{statement}
 use Rattle.gathering.proofs.part_faults.Tie as tie
