@@ -128,6 +128,7 @@ module _ (s : List ℕ) (at k : ℕ) (room : at + 8 ≤ length s) (fits : k ≤ 
       let z : (j : ℕ) → getD made (0 + j) 0 ≡ getD made j 0 = λ j. ap (λ (i : ℕ). getD made i 0) (omega arith) in
       digits-each 0x20 p (λ j h.
       let l : j < 8 = omega (arith, length-p) in
-      let y = getD-first p (replicate (8 - k) 0x20) j h in
-      (omega (arith, y, z j, blank-at 8 j l, none-under made 0 room′ made-bytes v o m blanks blanks-low refl 0x2020202020202020 refl (omega arith) t d n g j l),
-      omega (arith, y, z j, none-above made 0 room′ made-bytes v o m r b a c j l)))
+      let y = getD-first p (replicate (8 - k) 0x20) j h in (
+        omega (arith, y, z j, blank-at 8 j l, none-under made 0 room′ made-bytes v o m blanks blanks-low refl 0x2020202020202020 refl (omega arith) t d n g j l),
+        omega (arith, y, z j, none-above made 0 room′ made-bytes v o m r b a c j l),
+      ))
