@@ -5,6 +5,7 @@ use lib.Bits.{bitAnd, bitOr, or-shifted-r}
 use lib.Pow.{pow-add}
 use Rattle.model.specs.Names.{Digits}
 use Rattle.model.specs.Format.{AreBytes, value-of}
+use Rattle.model.proofs.Format.{bytes-append, bytes-same}
 use Rattle.digits.specs.Keys.{is-all-zero}
 use Rattle.digits.proofs.Bytes.{value-of-append, value-of-split}
 use Rattle.digits.proofs.Keys.{bytes-part, length-part}
@@ -58,14 +59,6 @@ no-multiple : (a m v : ℕ) → a + m * v < m → v ≡ 0
 no-multiple a m zero h = refl
 no-multiple a m (suc v) h = absurd (omega (arith, mul-suc m v))
 
-bytes-replicate : (n c : ℕ) → c < 256 → AreBytes (replicate n c)
-bytes-replicate zero c h = tt
-bytes-replicate (suc n) c h = (h, bytes-replicate n c h)
-
-bytes-append : (x y : List ℕ) → AreBytes x → AreBytes y → AreBytes (x ++ y)
-bytes-append [] y f g = g
-bytes-append (d ∷ x) y f g = (f .0, bytes-append x y (f .1) g)
-
 byte-at : (x : List ℕ) → AreBytes x → (i : ℕ) → getD x i 0 < 256
 byte-at [] f i = omega arith
 byte-at (d ∷ x) f zero = f .0
@@ -108,7 +101,7 @@ module _ (s : List ℕ) (at k : ℕ) (room : at + 8 ≤ length s) (fits : k ≤ 
   length-made = omega (arith, length-append p (replicate (8 - k) 0x20), length-p, length-replicate {A = ℕ} (8 - k) 0x20)
 
   bytes-made : AreBytes made
-  bytes-made = bytes-append p (replicate (8 - k) 0x20) (bytes-part s k at bytes) (bytes-replicate (8 - k) 0x20 (omega arith))
+  bytes-made = bytes-append p (replicate (8 - k) 0x20) (bytes-part s k at bytes) (bytes-same (8 - k) 0x20 (omega arith))
 
   made-bytes : (i : ℕ) → getD made i 0 < 256
   made-bytes i = byte-at made bytes-made i

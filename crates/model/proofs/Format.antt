@@ -445,11 +445,11 @@ contents-read-file xs {y} {fs} k e B = elim (decLt B (length fs)) [
 ]
 
 -- What is written is bytes.
-bytes-append : (xs ys : List ℕ) → AreBytes xs → AreBytes ys → AreBytes (xs ++ ys)
+pub bytes-append : (xs ys : List ℕ) → AreBytes xs → AreBytes ys → AreBytes (xs ++ ys)
 bytes-append [] ys h k = k
 bytes-append (x ∷ xs) ys h k = (h .0, bytes-append xs ys (h .1) k)
 
-bytes-same : (k x : ℕ) → x < 256 → AreBytes (replicate k x)
+pub bytes-same : (k x : ℕ) → x < 256 → AreBytes (replicate k x)
 bytes-same zero x h = tt
 bytes-same (suc k) x h = (h, bytes-same k x h)
 

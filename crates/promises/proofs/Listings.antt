@@ -9,11 +9,8 @@ use Rattle.model.specs.Deciding.{over}
 use Rattle.model.proofs.Order.{le-refl, le-trans, low-at, low-lower, lt-le}
 use Rattle.model.proofs.Names.{both-true, is-at-most-le, le-is-at-most}
 use Rattle.model.proofs.Files.{order-right, slot-row, well-head}
+use Rattle.model.proofs.Merging.{row-lower}
 use Rattle.promises.specs.Demand1.{Listing}
-
-row-lower : {l m : Low} {u : Str} {es : List Entry} → l ⊴ m → Row m es u → Row l es u
-row-lower h no-entries = no-entries
-row-lower h (entry g a c r) = entry g (low-lower h a) c r
 
 row-append : {l : Low} {u w : Str} {es gs : List Entry} → Row l es u → l ⊴ at u → u ⊑ w → Row (at u) gs w → Row l (es ++ gs) w
 row-append no-entries h k s = row-lower h s

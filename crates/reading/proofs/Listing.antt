@@ -19,6 +19,7 @@ use Rattle.model.proofs.Format.{bytes-bytes-at-slot, entry-size, length-bytes-o
 use Rattle.model.proofs.Names.{le-is-at-most, legal-length, lt-is-at-most}
 use Rattle.model.proofs.Entries.{row-at}
 use Rattle.model.proofs.Files.{slot-row, used-inside}
+use Rattle.model.proofs.Removals.{entries-in-append}
 use Rattle.digits.specs.Keys.{value}
 use Rattle.slots.specs.Parts.{part-of}
 use Rattle.slots.proofs.Spots.{part-listed}
@@ -70,12 +71,6 @@ between-length z h n m (entry {e = e} {es = es} g a c r) = go (is-at-most n (e .
         → length (bytes-of-entries z (cond t (e ∷ between n m es) (between n m es))) ≡ z * length (cond t (e ∷ between n m es) (between n m es))
     go true i = omega (arith, length-append (bytes-of-entry z e) (bytes-of-entries z (between n m es)), length-bytes-of-entry z h e (legal-length g))
     go false i = i
-
-entries-in-append : (fs : List Slot) (Bs Cs : List ℕ) → entries-in fs (Bs ++ Cs) ≡ entries-in fs Bs ++ entries-in fs Cs
-unfolding entries-in
-entries-in-append fs [] Cs = refl
-entries-in-append fs (B ∷ Bs) Cs =
-    ap (λ (x : List Entry). entries-of (slot-at fs B) ++ x) (entries-in-append fs Bs Cs) ∙ sym (append-assoc (entries-of (slot-at fs B)) (entries-in fs Bs) (entries-in fs Cs))
 
 in-none : (n m : Str) (fs : List Slot) (Bs : List ℕ) → ((i : ℕ) → i < length Bs → between n m (entries-of (slot-at fs (getD Bs i 0))) ≡ []) → between n m (entries-in fs Bs) ≡ []
 unfolding entries-in between
