@@ -2,9 +2,9 @@
  * palhavento.h: an ordered file of names in lent bytes, and the trie that addresses it.
  *
  * A name has 1 to 24 bytes, each 0x20 to 0x7D, with no blank (0x20) first or last, and carries a
- * 64-bit value, in files of version 3 also the 64-bit number of the run that wrote it. A file keeps the names in buckets of up to b entries, one bucket a slot; its trie
- * leads each name to the one bucket whose range holds it. The file is what lasts. The trie can be
- * rebuilt from it at any time.
+ * 64-bit value, in files of version 3 also the 64-bit number of the run that wrote it. A file keeps
+ * the names in buckets of up to b entries, one bucket a slot; its trie leads each name to the one
+ * bucket whose range holds it. The file is what lasts. The trie can be rebuilt from it at any time.
  *
  *     uint8_t  file[PAL_FILE_BYTES(4, 8)], trie[PAL_TRIE_BYTES];
  *     uint64_t out[4];
@@ -196,12 +196,12 @@ uint64_t pal_lookup(const uint8_t *file, size_t file_length,
 
 /*
  * Put a name with a value and a run, and keep the trie in step with the file. A file of version 3
- * keeps the run: a put on a name that it holds with a higher one is refused, and one with the same or
- * with a higher run than the held one replaces. Files of versions 1 and 2 ignore the run.
+ * keeps the run: a put on a name that it holds with a higher run is refused; a put with the same run
+ * or a higher one replaces. Files of versions 1 and 2 ignore the run.
  *
  * limit, 0 to 2, is how many stores the call may make, each of one whole slot; 2 is always enough.
  * A lower one stops the call where a kill could. After a stop or a kill discard the trie, recover
- * and rebuild: a call that was stopped before its last store then counts as never made.
+ * and rebuild: a put that was stopped before its last store then counts as never made.
  *
  * The stores and their order do not depend on the limit. Whatever instant the call is stopped at,
  * the lent file is as its first stores leave it, each whole, but for the store under way. For the

@@ -3,7 +3,7 @@
     python3 python/removals.py         # some seconds; nothing is timed, so every run prints the same
 
 A file is filled as in `versions.py`, until a put is refused. Then half of its names are removed, one after the other: at random, every
-other one in order, or the lower half, as when an old vintage goes. Before removals merged buckets (R7.10) every slot kept its range,
+other one in order, or the lower half, as when an old vintage goes. Before removals merged buckets (R7.14) every slot kept its range,
 so the slots used were those of the full file; the file itself tells both figures. Last, all names are removed.
 """
 

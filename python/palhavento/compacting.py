@@ -139,7 +139,7 @@ def _packed(names: list[bytes], b: int, version: int, weight: float) -> list[_St
     name (R7.3, R7.4). The key is the last name that the bucket shall have, those below it are names of the bucket too, and
     those behind it are fillers that share with the key no less than the next name does. The last name of a bucket is chosen
     so that the bucket has many names and its bound few new strings. A bucket has more than b/2 names, or it would merge with
-    the next one when that has no filler left (R7.10).
+    the next one when that has no filler left (R7.14).
     """
     steps: list[_Step] = []
     strings: set[bytes] = set()

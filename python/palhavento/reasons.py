@@ -72,7 +72,7 @@ def state(file: bytes) -> State:
 
 
 def _cut(file: bytes) -> Fault:
-    """What a split or a merge that was stopped has left in a cut file; the bytes do not always tell which it was."""
+    """What a split or a merge that was stopped has left in a cut file; to recover is the same for both."""
     left = library.recover(file, limit=1).word
     return Fault("R4.8", left, "is left of a split or a merge that was stopped; to recover frees it")
 

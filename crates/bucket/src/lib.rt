@@ -278,7 +278,7 @@ pub fn upper_mark(slot: &[u8]) -> usize
     mark(slot, 32)
 }
 
-// R4.10 and R4.13: whether N is a copy, not yet cut out, of the upper part of A.
+// R4.10 and R4.13: whether N is a copy of the upper part of A, as a split or a merge leaves it that was stopped half way.
 pub fn is_copy_of(n: &[u8], a: &[u8], layout: Layout) -> bool
     requires { ⌜ (OfSize (now n) layout) × (OfSize (now a) layout) ⌝ }
     ensures { λ r. ⌜ CopyTold layout (now (n .entry)) (now (a .entry)) r ⌝ }

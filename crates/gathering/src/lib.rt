@@ -173,7 +173,7 @@ fn long_faults(s: &[u8], len: usize) -> u64
     part_faults(s, 0, 8) | part_faults(s, 8, 8) | part_faults(s, 16, len - 16)
 }
 
-// Whether these 24 bytes are a bound of `len` digits.
+// Whether these 24 bytes are seen to be a bound of `len` digits; nothing is promised of a no.
 pub fn is_plain(s: &[u8], len: usize) -> bool
     requires { ⌜ length (now s) ≡ 24 ⌝ }
     ensures { λ r.

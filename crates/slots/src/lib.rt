@@ -1,5 +1,5 @@
 // One slot as its bounds and its entries: the place of a name and what is held there, the slot with a name put in or taken out, the two
-// halves of a split, and the part that a list gives out.
+// halves of a split, two neighbours as one, and the part that a list gives out.
 ghost use mathlib.Core.Path.{_≡_};
 ghost use Prim.Native.Nat.{_*_, _+_, _/_, _<_, _^_, _≤_};
 ghost use lib.ListN.{drop, length, take};

@@ -1,4 +1,4 @@
-// The look at a whole file that every call but look up begins with.
+// The look at a whole file, which all calls but create and look up take.
 //
 // The order of the slots is first guessed and the guess checked, which tells that a file is sound. Where it does not, `file`
 // sorts the slots and decides.
