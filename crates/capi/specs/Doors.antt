@@ -2,18 +2,15 @@
 use mathlib.Core.Bool.{cond}
 use mathlib.Core.List.{List}
 use Prim.Native.Nat.{ℕ}
-use lib.Dec.{eqb, ltb}
+use lib.Dec.{eqb}
 use lib.ListN.{length}
 use lib.Seq.{sets}
-use Rattle.model.specs.declared.PutAnswer.{PutAnswer}
-use Rattle.model.specs.declared.PutAnswer.the-variants.{Added, Refused as PutRefused, Replaced, Stopped as PutStopped}
-use Rattle.model.specs.declared.RemoveAnswer.{RemoveAnswer}
-use Rattle.model.specs.declared.RemoveAnswer.the-variants.{Absent as NotHeld, Refused as RemoveRefused, Removed, Stopped as RemoveStopped}
-use Rattle.model.specs.declared.Trie.{Trie}
 use Rattle.model.specs.Answers.{Saying, said-by-check, said-by-create, said-by-list, said-by-look-up, said-by-put, said-by-rebuild, said-by-recover, said-by-remove}
 use Rattle.model.specs.Calls.{create-of, list-of, look-up-of, put-of, rebuild-of, recover-of, remove-of}
 use Rattle.model.specs.Format.{check-file}
 use Rattle.image.specs.Images.{image-length, image-of, trie-from}
+use Rattle.putting.specs.Outcomes.{image-after}
+use Rattle.removing.specs.Outcomes.{image-removed}
 
 -- An image that is not exactly 1,540 bytes long is a malformed call, which comes before every refusal and changes
 -- nothing: then the second, else the first.
@@ -56,26 +53,12 @@ pal-look-up-of file image name out =
     let s = said-by-look-up (look-up-of file (trie-from image) name) in
     whole image (s .0, out-after s out) (malformed, out)
 
--- A refused or stopped call leaves every byte of the image; a replaced value leaves the trie.
-abbrev pub image-after : PutAnswer → Trie → List ℕ → List ℕ
-image-after Added t image = image-of t
-image-after (Replaced v r) t image = image
-image-after (PutStopped n) t image = image
-image-after (PutRefused c) t image = image
-
 -- The number, the file, the image, `out`.
 unfoldable pub pal-put-of : List ℕ → List ℕ → List ℕ → ℕ → ℕ → ℕ → List ℕ → ℕ × List ℕ × List ℕ × List ℕ
 pal-put-of file image name value run limit out =
     let o = put-of file (trie-from image) name value run limit in
     let s = said-by-put (o .answer) in
     whole image (s .0, o .file, image-after (o .answer) (o .trie) image, out-after s out) (malformed, file, image, out)
-
--- Two stores are a merge, after which the image is that of the rebuilt trie; else every byte of it is left.
-abbrev pub image-removed : RemoveAnswer → Trie → List ℕ → List ℕ
-image-removed (Removed stores) t image = cond (ltb 1 stores) (image-of t) image
-image-removed NotHeld t image = image
-image-removed (RemoveStopped n) t image = image
-image-removed (RemoveRefused c) t image = image
 
 -- The number, the file, the image, `out`.
 unfoldable pub pal-remove-of : List ℕ → List ℕ → List ℕ → ℕ → List ℕ → ℕ × List ℕ × List ℕ × List ℕ

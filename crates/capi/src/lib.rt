@@ -140,13 +140,9 @@ pub extern "C" fn pal_put(
     if trie.len() != image::BYTES {
         return MALFORMED;
     }
-    let given = changing::put(file, image::decoded(trie), name, value, run, limit);
-    let answer = given.answer;
+    let answer = putting::put(file, trie, name, value, run, limit);
     match answer {
-        PutAnswer::Added => {
-            image::encode(trie, given.trie);
-            110
-        }
+        PutAnswer::Added => 110,
         PutAnswer::Replaced(old, run) => {
             out[0] = old;
             out[1] = run;
@@ -175,16 +171,9 @@ pub extern "C" fn pal_remove(
     if trie.len() != image::BYTES {
         return MALFORMED;
     }
-    let given = changing::remove(file, image::decoded(trie), name, limit);
-    let answer = given.answer;
+    let answer = removing::remove(file, trie, name, limit);
     match answer {
-        RemoveAnswer::Removed(stores) => {
-            if stores < 2 {
-                return 120;
-            }
-            image::encode(trie, given.trie);
-            120
-        }
+        RemoveAnswer::Removed(_) => 120,
         RemoveAnswer::Absent => 101,
         RemoveAnswer::Stopped(stores) => {
             out[0] = stores;
@@ -210,7 +199,7 @@ pub extern "C" fn pal_list(
     if trie.len() != image::BYTES {
         return MALFORMED;
     }
-    let answer = reading::list(file, image::decoded(trie), first, second, output);
+    let answer = reading::list(file, trie, first, second, output);
     match answer {
         ListAnswer::Listed(entries) => {
             out[0] = entries;

@@ -1,9 +1,9 @@
--- The checks that put, remove and list make alike: what a sound file's survey, strings and agreement say together.
-use Rattle.model.proofs.Prelude.{Bool, List, _∙_, _≡_, _≤_, ap, arith, cond, false, length, some, sym, true, ℕ}
+-- The checks that put, remove and list make alike: what a sound file's survey and agreement say together.
+use Rattle.model.proofs.Prelude.{Bool, List, _∙_, _≡_, ap, arith, cond, false, some, sym, true, ℕ}
 use Rattle.model.specs.declared.Cause.the-variants.{BadFile, CutFile}
 use Rattle.model.specs.declared.Layout.{Layout}
 use Rattle.model.specs.declared.Trie.{Trie}
-use Rattle.model.specs.Files.{Slot, strings-of}
+use Rattle.model.specs.Files.{Slot}
 use Rattle.model.specs.Checks.{is-bad, is-cut, is-sound}
 use Rattle.model.specs.Agreeing.{is-agreeing}
 use Rattle.model.specs.Format.{check-file, read-file}
@@ -14,13 +14,10 @@ use Rattle.file.specs.declared.Size.{Size}
 use Rattle.file.specs.declared.survey.Survey.{Survey}
 use Rattle.file.specs.Sizes.{Saying}
 use Rattle.file.specs.Surveys.{Surveyed}
-use Rattle.trie.specs.declared.Strings.{Strings}
-use Rattle.strings.specs.Arrays.{Listed}
-use Rattle.agreement.specs.declared.Agreement.{Agreement}
-use Rattle.agreement.specs.Decides.{Decided, Decides}
 use Rattle.agreement.proofs.Laws.{agreed-count}
 use Rattle.file.proofs.Surveying.{Read, sound-read}
-use Rattle.strings.proofs.Surveyed.{counted, strung}
+use Rattle.strings.proofs.Surveyed.{counted}
+use Rattle.agreeing.specs.Told.{AgreeingTold}
 use Rattle.checking.specs.declared.Checked.{Checked}
 use Rattle.checking.specs.Ready.{Agreed}
 
@@ -39,22 +36,21 @@ unfolding looked-of looked-at-by
 looked-by xs t e f = rw (e, f)
 
 -- The agreement with a sound file.
-module _ (xs : List ℕ) (t : Trie) (s : Size) (v : Survey) (g : Strings) (a : Agreement)
-    (h : Saying s xs) (e : check-file xs ≡ is-sound) (z : Surveyed v xs s) (l : Listed g xs s (v .order) (v .count)) (d : Decides t g a) where
+module _ (xs : List ℕ) (t : Trie) (s : Size) (v : Survey) (a : Bool)
+    (h : Saying s xs) (e : check-file xs ≡ is-sound) (z : Surveyed v xs s) (d : AgreeingTold a xs s (v .order) (v .count) t) where
   R : Read s xs
   R = sound-read xs s h e
 
-  decided : Decided (R .slots) t a
-  decided = d (s .layout .b) (R .slots) (R .sound) (strung R z l)
+  decided : a ≡ is-agreeing (R .slots) t
+  decided = d (R .slots) (R .listed) (R .sound) (counted R z .0) (counted R z .1)
 
-  pub agreed-not : a .agrees ≡ false → looked-of xs t ≡ refusing stale-trie
-  agreed-not f = looked-by xs t e (R .is) ∙ ap (λ (x : Bool). cond x (fine (s .layout) (R .slots)) (refusing stale-trie)) (sym (decided .agrees-is) ∙ f)
+  pub agreed-not : a ≡ false → looked-of xs t ≡ refusing stale-trie
+  agreed-not f = looked-by xs t e (R .is) ∙ ap (λ (x : Bool). cond x (fine (s .layout) (R .slots)) (refusing stale-trie)) (sym decided ∙ f)
 
-  pub agreed-all : (c : Checked) → a .agrees ≡ true → c .size ≡ s → c .survey ≡ v → c .strings ≡ g → c .places ≡ a .places → Agreed c xs t
-  agreed-all c f p q r u =
-      let y : is-agreeing (R .slots) t ≡ true = sym (decided .agrees-is) ∙ f in
+  pub agreed-all : (c : Checked) → a ≡ true → c .size ≡ s → c .survey ≡ v → Agreed c xs t
+  agreed-all c f p q =
+      let y : is-agreeing (R .slots) t ≡ true = sym decided ∙ f in
       let A = is-agreeing-agrees (s .layout .b) (R .sound) t y in
-      let few : length (strings-of (R .slots)) ≤ 256 = omega (arith, agreed-count (s .layout .b) (R .sound) t A, A .few) in
       record {
         ready = record {
           said = rw p h;
@@ -66,11 +62,8 @@ module _ (xs : List ℕ) (t : Trie) (s : Size) (v : Survey) (g : Strings) (a : A
           count-is = rw q (counted R z .0);
           order-is = rw q (counted R z .1);
           used-is = rw q (z .used-is (R .listed) (R .sound));
-          strings-most = rw r (l .count-most);
-          few = few;
-          strings-held = rw r (strung R z l .holds few);
+          few = omega (arith, agreed-count (s .layout .b) (R .sound) t A, A .few);
         };
         agrees = A;
-        placed = rw u (decided .placed f);
         looked = rw p (looked-by xs t e (R .is) ∙ ap (λ (x : Bool). cond x (fine (s .layout) (R .slots)) (refusing stale-trie)) y);
       }

@@ -1,2 +1,4 @@
 pub mod Laws
 pub mod Checking
+pub mod Ready
+pub mod Plans

@@ -5,21 +5,17 @@ use mathlib.Core.List.{List}
 use Prim.Native.Nat.{_≤_, ℕ}
 use lib.ListN.{length, take}
 use Rattle.model.specs.declared.Trie.{Trie}
-use Rattle.model.specs.Order.{none}
 use Rattle.model.specs.Files.{Slot, Sound, order-of, strings-of}
 use Rattle.model.specs.Tries.{Agrees}
-use Rattle.model.specs.Agreeing.{slots-between}
 use Rattle.model.specs.Format.{read-file}
 use Rattle.model.specs.Calls.{fine, looked-of, refusing}
 use Rattle.file.specs.Sizes.{Below, Saying}
 use Rattle.file.specs.Maps.{map-of}
-use Rattle.trie.specs.Places.{Placed}
-use Rattle.trie.specs.Strung.{Holds}
 use Rattle.checking.specs.declared.Checked.{Checked}
 use Rattle.checking.specs.declared.Verdict.{Verdict}
 use Rattle.checking.specs.declared.Verdict.the-variants.{Fine, Refused}
 
--- The file is sound; its slots are read, in range order and as a map; its strings are known.
+-- The file is sound; its slots are read, in range order and as a map; its strings are not too many.
 pub record Ready (c : Checked) (xs : List ℕ) : Type 0 where
   pub said : Saying (c .size) xs
   pub slots : List Slot
@@ -30,15 +26,12 @@ pub record Ready (c : Checked) (xs : List ℕ) : Type 0 where
   pub count-is : c .survey .count ≡ length (order-of slots)
   pub order-is : take (c .survey .count) (c .survey .order) ≡ order-of slots
   pub used-is : c .survey .used ≡ map-of slots
-  pub strings-most : c .strings .count ≤ 256
   pub few : length (strings-of slots) ≤ 256
-  pub strings-held : Holds (c .strings) (strings-of slots) (slots-between slots none (strings-of slots))
 
--- And the trie agrees with it, with its cells where they are said to stand among the strings.
+-- And the trie agrees with it.
 pub record Agreed (c : Checked) (xs : List ℕ) (t : Trie) : Type 0 where
   pub ready : Ready c xs
   pub agrees : Agrees (ready .slots) t
-  pub placed : Placed t (c .places)
   pub looked : looked-of xs t ≡ fine (c .size .layout) (ready .slots)
 
 abbrev pub AgreedWhere : Verdict → Checked → List ℕ → Trie → Type 0

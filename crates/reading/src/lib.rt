@@ -9,6 +9,7 @@ ghost use Rattle.model.specs.Format.{entry-length, read-slot};
 ghost use Rattle.model.specs.Files.{order-of};
 ghost use Rattle.model.specs.Calls.{between, entries-in, list-entries, list-of, look-up-of, slot-answer};
 ghost use Rattle.digits.specs.Keys.{key-value, value};
+ghost use Rattle.image.specs.Images.{image-length, trie-from};
 ghost use Rattle.file.specs.Sizes.{Sized, Below};
 ghost use Rattle.checking.specs.Ready.{Ready};
 ghost use Rattle.reading.specs.Outcomes.{listed};
@@ -172,9 +173,10 @@ fn list_checked(
 }
 
 // R9.8: writes the entries from the first name to the second, ascending, and leaves what is behind them.
-pub fn list(file: &[u8], trie: Trie, first: &[u8], second: &[u8], output: &mut [u8]) -> ListAnswer
+pub fn list(file: &[u8], image: &[u8], first: &[u8], second: &[u8], output: &mut [u8]) -> ListAnswer
+    requires { ⌜ length (now image) ≡ image-length ⌝ }
     ensures { λ r.
-        ⌜ listed r (now (output .exit)) ≡ list-of (now (file .entry)) trie (now (first .entry)) (now (second .entry)) (now (output .entry)) ⌝ }
+        ⌜ listed r (now (output .exit)) ≡ list-of (now (file .entry)) (trie-from (now (image .entry))) (now (first .entry)) (now (second .entry)) (now (output .entry)) ⌝ }
 {
     let lowest = digits::filled(first);
     let highest = digits::filled(second);
@@ -184,7 +186,7 @@ pub fn list(file: &[u8], trie: Trie, first: &[u8], second: &[u8], output: &mut [
     let Naming::Legal(high) = digits::naming_of(second, &highest) else {
         return ListAnswer::Refused(Cause::IllegalName);
     };
-    let checked = checks_of(file, trie);
+    let checked = checks_of(file, image);
     let verdict = checked.verdict;
     match verdict {
         Verdict::Refused(cause) => ListAnswer::Refused(cause),

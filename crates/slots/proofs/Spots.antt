@@ -1,5 +1,5 @@
 -- A slot that is used and well formed, read: the spot of a name, what is held there, and the entries from one name to another.
-use Rattle.model.proofs.Prelude.{Bool, List, Option, [], _&&_, _*_, _++_, _+_, _-_, _<_, _^_, _∙_, _≡_, _≤_, ap, ap₂, arith, cond, drop, eqb, false, length, ltb, ltb-true, nothing, refl, some, suc, sym, take, true, ℕ}
+use Rattle.model.proofs.Prelude.{Bool, List, Option, [], _&&_, _*_, _++_, _+_, _-_, _<_, _^_, _∙_, _≡_, _≤_, ap, ap₂, arith, clash, cond, drop, eqb, false, length, ltb, ltb-true, nothing, refl, some, suc, sym, take, true, ℕ}
 use Rattle.model.specs.declared.Layout.{Layout}
 use Rattle.model.specs.Order.{Low, Str, at}
 use Rattle.model.specs.Deciding.{over}
@@ -167,3 +167,21 @@ module _ (y : Layout) (xs zs : List ℕ) (size-x : OfSize xs y) (size-z : OfSize
       rw (e, ← both-read)
       (spliced-without z (m + n) both (omega (arith, entry-size y .least)) (entry-size y .most) (omega (arith, some-most, length-padded room (take (z * m) (drop 64 xs) ++ take (z * n) (drop 64 zs)))) some-most both-row x w
       (ap (find x) both-read ∙ f))
+
+-- Whether a name is held, by its spot.
+module _ {s : Spot} {n : Str} {es : List Entry} (P : SpotIn s n es) where
+  pub spot-lost : s .held ≡ false → find n es ≡ nothing
+  unfolding is-some-value
+  spot-lost t = go (find n es) refl
+    where
+      go : (o : Option ℕ) → find n es ≡ o → o ≡ nothing
+      go nothing f = refl
+      go (some w) f = let z : _≡_ {A = Bool} true false = sym (P .held-is ∙ ap is-some-value f) ∙ t in clash cc
+
+  pub spot-held : s .held ≡ true → (w : ℕ) × (find n es ≡ some w)
+  unfolding is-some-value
+  spot-held t = go (find n es) refl
+    where
+      go : (o : Option ℕ) → find n es ≡ o → (w : ℕ) × (find n es ≡ some w)
+      go nothing f = let z : _≡_ {A = Bool} false true = sym (P .held-is ∙ ap is-some-value f) ∙ t in clash cc
+      go (some w) f = (w, f)

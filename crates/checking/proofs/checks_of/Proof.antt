@@ -11,7 +11,7 @@ returns c = looked-refused (c .refused .result) _ _ (c .refused .ensures) (looke
 agreed-requires : tie.Need-agreed-requires
 agreed-requires c κs =
     let at-size = c .before .before .before .before in
-    ((right-said (at-size .size .given .1) (at-size .before .before .header-of .ensures)), c .before .before .survey-of .ensures, (surveyed-is (c .before .before .survey-of .result) (right-said (at-size .size .given .1) (at-size .before .before .header-of .ensures)) (c .before .before .survey-of .ensures) (c .enum-told4 .given .1)))
+    ((right-said (at-size .size .given .1) (at-size .before .before .header-of .ensures)), c .before .before .survey-of .ensures, (surveyed-is (c .before .before .survey-of .result) (right-said (at-size .size .given .1) (at-size .before .before .header-of .ensures)) (c .before .before .survey-of .ensures) (c .enum-told4 .given .1)), at-size .before .before .before .before .before .pre)
 
 returns-2 : tie.Need-returns-2
 returns-2 c = looked-refused (c .refused2 .result) _ _ (c .refused2 .ensures) (looked-bad _ _ (surveyed-is (c .before .before .before .survey-of .result) (right-said (c .before .before .before .before .before .size .given .1) (c .before .before .before .before .before .before .before .header-of .ensures)) (c .before .before .before .survey-of .ensures) (c .before .enum-told2 .given .1)))
