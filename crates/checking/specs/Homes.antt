@@ -4,7 +4,6 @@ use mathlib.Core.Option.{some}
 use mathlib.Core.List.{List}
 use Prim.Native.Nat.{_<_, ℕ}
 use Rattle.model.specs.Order.{Low, Str, _⊑_, _◁_}
-use Rattle.model.specs.Names.{Legal}
 use Rattle.model.specs.Entries.{Entry}
 use Rattle.model.specs.Files.{Slot, first, slot-at, used}
 use Rattle.model.specs.Changes.{holds?}
@@ -21,5 +20,5 @@ pub record Home (A : ℕ) (fs : List Slot) (n : Str) (l : Low) (u : Str) (es : L
 -- Of a file that is read: the slot, its bounds and entries.
 pub record HomeTold (r : ℕ) (size : Size) (xs : List ℕ) (n : Str) : Type 0 where
   pub inside : r < size .slots
-  pub right : (fs : List Slot) → read-file xs ≡ some (size .layout, fs) → Legal n
+  pub right : (fs : List Slot) → read-file xs ≡ some (size .layout, fs)
       → (l : Low) × (u : Str) × (es : List Entry) × Home r fs n l u es

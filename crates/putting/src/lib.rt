@@ -1,10 +1,11 @@
 // Put: a name with its value and the run that writes it. It checks for itself, in the order of refusals R10.9, and then plans its
 // stores, without the limit and without writing, before it commits them.
-ghost use mathlib.Core.Bool.{false};
+ghost use mathlib.Core.Bool.{false, true};
 ghost use mathlib.Core.Path.{_≡_};
 ghost use Prim.Native.Nat.{_≤_, _<_, _+_};
 ghost use lib.ListN.{length};
 ghost use Rattle.model.specs.Calls.{put-of};
+ghost use Rattle.model.specs.Names.{Legal};
 ghost use Rattle.model.specs.Format.{kept-run};
 ghost use Rattle.digits.specs.Keys.{key-value, value as digits-value};
 ghost use Rattle.image.specs.Images.{image-length, trie-from};
@@ -49,7 +50,7 @@ fn planned(plan: Plan, answer: PutAnswer) -> PutPlan
 
 // The slot whose range holds a name, in a file that passed the checks.
 fn home_of(file: &[u8], checked: Checked, name: &[u8; 24]) -> usize
-    requires { ⌜ Ready checked (now file) ⌝ }
+    requires { ⌜ (Ready checked (now file)) × (Legal (now name)) ⌝ }
     ensures { λ r. ⌜ HomeTold r (checked .size) (now (file .entry)) (now (name .entry)) ⌝ }
 {
     let survey = checked.survey;
@@ -235,6 +236,16 @@ fn kept_run(layout: Layout, run: u64) -> u64
     0
 }
 
+// Whether a name is new and finds no room where it should stand.
+fn is_full(spot: Spot, b: usize) -> bool
+    ensures { λ r. ⌜ (r ≡ true → (spot .held ≡ false) × (b ≤ spot .count)) × (r ≡ false → spot .held ≡ false → spot .count < b) ⌝ }
+{
+    if spot.held {
+        return false;
+    }
+    b <= spot.count
+}
+
 // Put into a file that passed the checks.
 fn put_checked(
     file: &mut [u8],
@@ -246,7 +257,7 @@ fn put_checked(
     run: u64,
     limit: u64,
 ) -> PutAnswer
-    requires { ⌜ (length (now image) ≡ image-length) × (Agreed checked (now file) (trie-from (now image))) × (key-value key ≡ digits-value (now name)) ⌝ }
+    requires { ⌜ (length (now image) ≡ image-length) × (Agreed checked (now file) (trie-from (now image))) × (Legal (now name)) × (key-value key ≡ digits-value (now name)) ⌝ }
     ensures { λ r. ⌜ PutTold (r, now (file .exit), now (image .exit)) (now (file .entry)) (now (image .entry)) (checked .size) (now (name .entry)) value run limit ⌝ }
 {
     let size = checked.size;
@@ -258,11 +269,9 @@ fn put_checked(
     let k = home_of(file, checked, name);
     let slot = file::slot_at(file, size, k);
     let spot = slots::spot_in(slot, layout, key);
-    if !spot.held {
-        if layout.b <= spot.count {
-            let row = slots::overfull(slot, layout, spot, name, content);
-            return split(file, image, checked, k, &row, limit);
-        }
+    if is_full(spot, layout.b) {
+        let row = slots::overfull(slot, layout, spot, name, content);
+        return split(file, image, checked, k, &row, limit);
     }
     put_one(file, size, k, spot, name, content, limit)
 }

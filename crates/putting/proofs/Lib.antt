@@ -1,0 +1,3 @@
+pub mod Homes
+pub mod Putting
+pub mod Dividing
