@@ -25,9 +25,8 @@ use Rattle.checking.specs.declared.Checked.{Checked}
 use Rattle.checking.specs.Ready.{Ready}
 use Rattle.removing.specs.declared.RemovePlan.{RemovePlan}
 use Rattle.removing.specs.Merges.{Beside, CountTold, Joined, LeftTold, MergeTold, RemovePlanned, RightTold, having, lacking}
-use Rattle.checking.proofs.Plans.{OneStore}
+use Rattle.checking.proofs.Plans.{OneStore, TwoStores}
 use Rattle.checking.proofs.Ready.{ready-count, ready-ordered, ready-sound, slot-read}
-use Rattle.checking.proofs.Plans.{TwoStores}
 
 -- A list about a place, up to its end, and without the next place.
 about : (xs : List ℕ) (p : ℕ) → suc p < length xs → xs ≡ take p xs ++ (getD xs p 0 ∷ getD xs (suc p) 0 ∷ drop (suc (suc p)) xs)

@@ -5,7 +5,6 @@ use Rattle.model.specs.declared.Cause.the-variants.{IllegalName, WrongSize}
 use Rattle.model.specs.declared.Layout.{Layout}
 use Rattle.model.specs.declared.RemoveAnswer.{RemoveAnswer}
 use Rattle.model.specs.declared.RemoveAnswer.the-variants.{Absent, Refused, Removed, Stopped}
-use Rattle.model.specs.declared.RemoveGiven.{RemoveGiven}
 use Rattle.model.specs.declared.Trie.{Trie}
 use Rattle.model.specs.Order.{Low, Str}
 use Rattle.model.specs.Names.{Legal, filled, is-legal-name}
@@ -15,10 +14,11 @@ use Rattle.model.specs.Rebuilding.{rebuilt-trie}
 use Rattle.model.specs.Changes.{Result, call, refuse, removal, remove, remove-in, stored, stores, stores-if, trie-removed}
 use Rattle.model.specs.Format.{AreBytes, read-file, read-slots}
 use Rattle.model.specs.Places.{place-of}
-use Rattle.model.specs.Calls.{fine, looked-of, refusing, remove-by-stores, remove-of, remove-on-looked, stores-bytes}
-use Rattle.model.proofs.Calls.{Answered, is-made}
+use Rattle.model.specs.Calls.{RemoveDone, looked-of, refusing, remove-by-stores, remove-of, remove-on-looked, stores-bytes}
+use Rattle.model.proofs.Calls.{Answered, is-made, remove-right}
 use Rattle.model.proofs.Format.{headed-header-of, read-file-read}
 use Rattle.model.proofs.Stores.{read-stored}
+use Rattle.image.specs.Images.{image-of, trie-from}
 use Rattle.trie.specs.declared.Strings.{Strings}
 use Rattle.strings.specs.Arrays.{Listed}
 use Rattle.rebuilding.specs.Runs.{rebuilt-of}
@@ -26,10 +26,10 @@ use Rattle.rebuilding.proofs.Right.{rebuilt-right}
 use Rattle.file.specs.Holders.{HolderTold}
 use Rattle.file.specs.Plans.{Committed}
 use Rattle.checking.specs.declared.Checked.{Checked}
-use Rattle.checking.specs.Ready.{Ready}
+use Rattle.checking.specs.Ready.{Agreed, Ready}
 use Rattle.removing.specs.declared.RemovePlan.{RemovePlan}
-use Rattle.removing.specs.Merges.{RemovePlanned, TrieTold}
-use Rattle.removing.specs.Outcomes.{removed}
+use Rattle.removing.specs.Merges.{RemovePlanned, RemoveTold, TrieTold}
+use Rattle.removing.specs.Outcomes.{remove-left}
 use Rattle.checking.specs.Homes.{Home}
 use Rattle.checking.proofs.Ready.{ready-ordered}
 
@@ -52,7 +52,7 @@ pub home-place : {c : Checked} {xs : List ℕ} (R : Ready c xs) {n : Str} {r : �
 home-place R g h = omega (arith, h .found (R .slots) (ready-ordered R (R .is)) g .inside, R .count-is)
 
 -- The place that a merge frees is one of the order too.
-pub freed-place : (p : RemovePlan) (y : Layout) (fs : List Slot) (a : Result) → RemovePlanned p y fs a → 2 ≤ p .plan .stores → p .right < length (order-of fs)
+freed-place : (p : RemovePlan) (y : Layout) (fs : List Slot) (a : Result) → RemovePlanned p y fs a → 2 ≤ p .plan .stores → p .right < length (order-of fs)
 freed-place p y fs (refuse c) q h = absurd q
 freed-place p y fs (stores []) q h = absurd (omega (arith, h, q .0))
 freed-place p y fs (stores (v ∷ [])) q h = absurd (omega (arith, h, q .0 .0))
@@ -70,84 +70,126 @@ trie-told c xs g rest right r h l o q fs e S n m i few =
     let order : take (c .survey .count - 1) rest ≡ order-of fs = o ∙ sym (i ∙ ap (λ (ys : List ℕ). ys ++ drop (suc right) (take (c .survey .count) (c .survey .order))) before) in
     q ∙ rebuilt-right S g (l .strung fs listed S count order .holds few) few
 
--- What the code gives: an answer and a trie.
-abbrev pub Gives : RemoveGiven → RemoveAnswer → Trie → Type 0
-Gives g a t = (g .answer ≡ a) × (g .trie ≡ t)
+-- What a remove leaves, by its parts, and what it is to leave.
+abbrev leaving : RemoveAnswer → List ℕ → Trie → RemoveDone
+leaving a ys t = record { answer = a; file = ys; trie = t }
 
-few-strings : (c : Checked) {xs : List ℕ} (Z : Ready c xs) (fs : List Slot) → Z .slots ≡ fs → string-count fs ≤ 256
-unfolding string-count
-few-strings c Z fs o = rw (← o) (Z .few)
+abbrev left-of : List ℕ → List ℕ → List ℕ → ℕ → RemoveAnswer × List ℕ × List ℕ
+left-of xs image name limit = remove-left image (remove-of xs (trie-from image) name limit)
 
 -- What is left of a plan that is committed.
-module _ (xs ys : List ℕ) (t : Trie) (y : Layout) (fs : List Slot) (limit : ℕ) (p : RemovePlan) (d : Bool) (C : Committed d xs ys y (p .plan) limit) (g : RemoveGiven) where
-  pub remove-stopped : (a : Result) → RemovePlanned p y fs a → d ≡ true → Gives g (Stopped limit) t → removed g ys ≡ remove-by-stores xs t y fs limit a
+module _ (xs ys : List ℕ) (t : Trie) (c : Checked) (R : Ready c xs) (limit : ℕ) (p : RemovePlan) (d : Bool) (C : Committed d xs ys (c .size .layout) (p .plan) limit) where
+  abbrev y : Layout
+  y = c .size .layout
+
+  abbrev fs : List Slot
+  fs = R .slots
+
+  by-stopped : (a : Result) → RemovePlanned p y fs a → d ≡ true → leaving (Stopped limit) ys t ≡ remove-by-stores xs t y fs limit a
   unfolding remove-by-stores
-  remove-stopped (refuse c) q e s = absurd q
-  remove-stopped (stores ss) q e s =
-      let k = C ss (q .0) in let h : ltb limit (length ss) ≡ true = sym (k .1) ∙ e in rw (h, k .0, s .0, s .1)
+  by-stopped (refuse r) q e = absurd q
+  by-stopped (stores ss) q e =
+      let k = C ss (q .0) in let h : ltb limit (length ss) ≡ true = sym (k .1) ∙ e in rw (h, k .0)
 
-  pub remove-none : (a : Result) → RemovePlanned p y fs a → d ≡ false → p .plan .stores < 1 → Gives g Absent t → removed g ys ≡ remove-by-stores xs t y fs limit a
+  by-none : (a : Result) → RemovePlanned p y fs a → d ≡ false → p .plan .stores < 1 → leaving Absent ys t ≡ remove-by-stores xs t y fs limit a
   unfolding remove-by-stores stores-bytes trie-removed
-  remove-none (refuse c) q e h s = absurd q
-  remove-none (stores []) q e h s = rw (le-ltb limit 0 (omega arith), C [] (q .0) .0, take-nil limit, s .0, s .1)
-  remove-none (stores (v ∷ [])) q e h s = absurd (omega (arith, h, q .0 .0))
-  remove-none (stores (v ∷ w ∷ [])) q e h s = absurd (omega (arith, h, q .0 .0))
-  remove-none (stores (v ∷ w ∷ x ∷ ss)) q e h s = absurd (q .0)
+  by-none (refuse r) q e h = absurd q
+  by-none (stores []) q e h = rw (le-ltb limit 0 (omega arith), C [] (q .0) .0, take-nil limit)
+  by-none (stores (v ∷ [])) q e h = absurd (omega (arith, h, q .0 .0))
+  by-none (stores (v ∷ w ∷ [])) q e h = absurd (omega (arith, h, q .0 .0))
+  by-none (stores (v ∷ w ∷ x ∷ ss)) q e h = absurd (q .0)
 
-  pub remove-one : (a : Result) → RemovePlanned p y fs a → d ≡ false → 1 ≤ p .plan .stores → p .plan .stores < 2 → Gives g (Removed 1) t
-      → removed g ys ≡ remove-by-stores xs t y fs limit a
+  by-one : (a : Result) → RemovePlanned p y fs a → d ≡ false → 1 ≤ p .plan .stores → p .plan .stores < 2 → leaving (Removed 1) ys t ≡ remove-by-stores xs t y fs limit a
   unfolding remove-by-stores trie-removed
-  remove-one (refuse c) q e h k s = absurd q
-  remove-one (stores []) q e h k s = absurd (omega (arith, h, q .0))
-  remove-one (stores (v ∷ [])) q e h k s =
+  by-one (refuse r) q e h k = absurd q
+  by-one (stores []) q e h k = absurd (omega (arith, h, q .0))
+  by-one (stores (v ∷ [])) q e h k =
       let m = C (v ∷ []) (q .0) in let f : ltb limit 1 ≡ false = sym (m .1) ∙ e in
-      rw (f, m .0, take-all limit (v ∷ []) (ltb-false limit 1 f), s .0, s .1)
-  remove-one (stores (v ∷ w ∷ [])) q e h k s = absurd (omega (arith, k, q .0 .0))
-  remove-one (stores (v ∷ w ∷ x ∷ ss)) q e h k s = absurd (q .0)
+      rw (f, m .0, take-all limit (v ∷ []) (ltb-false limit 1 f))
+  by-one (stores (v ∷ w ∷ [])) q e h k = absurd (omega (arith, k, q .0 .0))
+  by-one (stores (v ∷ w ∷ x ∷ ss)) q e h k = absurd (q .0)
+
+  few-strings : string-count fs ≤ 256
+  unfolding string-count
+  few-strings = R .few
 
   -- A merge: the trie is the rebuilt one.
-  pub remove-merged : (a : Result) → RemovePlanned p y fs a → d ≡ false → 2 ≤ p .plan .stores → (n : Str) → Answered (y .b) (place-of y) fs (remove n) a → AreBytes xs
-      → (c : Checked) (Z : Ready c xs) → c .size .layout ≡ y → Z .slots ≡ fs → TrieTold (g .trie) c ys (p .right) → g .answer ≡ Removed 2
-      → removed g ys ≡ remove-by-stores xs t y fs limit a
+  by-merge : (a : Result) → RemovePlanned p y fs a → d ≡ false → 2 ≤ p .plan .stores → (n : Str) → Answered (y .b) (place-of y) fs (remove n) a → AreBytes xs
+      → (r : Trie) → TrieTold r c ys (p .right) → leaving (Removed 2) ys r ≡ remove-by-stores xs t y fs limit a
   unfolding remove-by-stores trie-removed
-  remove-merged (refuse c) q e h n A bytes c′ Z l o T s = absurd q
-  remove-merged (stores []) q e h n A bytes c Z l o T s = absurd (omega (arith, h, q .0))
-  remove-merged (stores (v ∷ [])) q e h n A bytes c Z l o T s = absurd (omega (arith, h, q .0 .0))
-  remove-merged (stores (v ∷ w ∷ x ∷ ss)) q e h n A bytes c Z l o T s = absurd (q .0)
-  remove-merged (stores (v ∷ w ∷ [])) q e h n (is-made z) bytes c Z l o T s =
+  by-merge (refuse r) q e h n A bytes r′ T = absurd q
+  by-merge (stores []) q e h n A bytes r T = absurd (omega (arith, h, q .0))
+  by-merge (stores (v ∷ [])) q e h n A bytes r T = absurd (omega (arith, h, q .0 .0))
+  by-merge (stores (v ∷ w ∷ x ∷ ss)) q e h n A bytes r T = absurd (q .0)
+  by-merge (stores (v ∷ w ∷ [])) q e h n (is-made z) bytes r T =
       let J = q .1 (omega arith) in
       let m = C (v ∷ w ∷ []) (q .0) in
       let f : ltb limit 2 ≡ false = sym (m .1) ∙ e in
-      let i : read-file xs ≡ some (y, fs) = rw (← l, ← o) (Z .is) in
       let left : ys ≡ stores-bytes y (v ∷ w ∷ []) xs = m .0 ∙ ap (λ ss. stores-bytes y ss xs) (take-all limit (v ∷ w ∷ []) (ltb-false limit 2 f)) in
-      let read : read-file ys ≡ some (c .size .layout, stored (v ∷ w ∷ []) fs) = rw (left, l) (read-stored y xs bytes i (place-of y) z tt (J .sound)) in
-      let order : take (c .survey .count) (c .survey .order) ≡ order-of fs = Z .order-is ∙ ap order-of o in
-      let count : c .survey .count ≡ length (order-of fs) = Z .count-is ∙ ap (λ (hs : List Slot). length (order-of hs)) o in
+      let read : read-file ys ≡ some (y, stored (v ∷ w ∷ []) fs) = rw left (read-stored y xs bytes (R .is) (place-of y) z tt (J .sound)) in
       let fewer : c .survey .count ≡ suc (length (order-of (stored (v ∷ w ∷ []) fs))) =
-      omega (arith, ap length (J .order), length-append (take (p .right) (order-of fs)) (drop (suc (p .right)) (order-of fs)), length-take-le (p .right) (order-of fs) (omega (arith, J .inside)), length-drop (suc (p .right)) (order-of fs), J .inside, count) in
+      omega (arith, ap length (J .order), length-append (take (p .right) (order-of fs)) (drop (suc (p .right)) (order-of fs)), length-take-le (p .right) (order-of fs) (omega (arith, J .inside)), length-drop (suc (p .right)) (order-of fs), J .inside, R .count-is) in
       let slots : length fs ≡ c .size .slots =
-      (let k : _≡_ {A = Option (Layout × ℕ)} (some (c .size .layout, c .size .slots)) (some (y, length fs)) = sym (Z .said .header) ∙ headed-header-of (read-file-read xs i .headed) in
-      let j : _≡_ {A = Layout × ℕ} (c .size .layout, c .size .slots) (y, length fs) = cc in
+      (let k : _≡_ {A = Option (Layout × ℕ)} (some (y, c .size .slots)) (some (y, length fs)) = sym (R .said .header) ∙ headed-header-of (read-file-read xs (R .is) .headed) in
+      let j : _≡_ {A = Layout × ℕ} (y, c .size .slots) (y, length fs) = cc in
       sym (ap (λ (x : Layout × ℕ). x .1) j)) in
-      let trie : g .trie ≡ rebuilt-trie (stored (v ∷ w ∷ []) fs) =
-      T (stored (v ∷ w ∷ []) fs) read (rw l (J .sound)) (length-set (set fs (v .0) (v .1)) (w .0) (w .1) ∙ length-set fs (v .0) (v .1) ∙ slots) fewer (rw order (J .order)) (omega (arith, J .few, few-strings c Z fs o)) in
-      rw (f, left, s, trie)
+      let trie : r ≡ rebuilt-trie (stored (v ∷ w ∷ []) fs) =
+      T (stored (v ∷ w ∷ []) fs) read (J .sound) (length-set (set fs (v .0) (v .1)) (w .0) (w .1) ∙ length-set fs (v .0) (v .1) ∙ slots) fewer (rw (R .order-is) (J .order)) (omega (arith, J .few, few-strings)) in
+      rw (f, left, trie)
 
--- Of any file: what is refused before, and the rest.
-module _ (xs : List ℕ) (t : Trie) (name : List ℕ) (limit : ℕ) (g : RemoveGiven) where
-  pub limit-refused : 2 < limit → Gives g (Refused WrongSize) t → removed g xs ≡ remove-of xs t name limit
-  unfolding remove-of
-  limit-refused h s = rw (lt-ltb 2 limit h, s .0, s .1)
+-- A call that is past its refusals and has made its plan.
+pub record Prepared (xs image name : List ℕ) (limit : ℕ) (c : Checked) (p : RemovePlan) : Type 0 where
+  pub bytes : AreBytes xs
+  pub allowed : limit ≤ 2
+  pub legal : is-legal-name name ≡ true
+  pub agreed : Agreed c xs (trie-from image)
+  pub told : RemoveTold p c xs (filled name)
 
-  pub name-refused : limit ≤ 2 → is-legal-name name ≡ false → Gives g (Refused IllegalName) t → removed g xs ≡ remove-of xs t name limit
-  unfolding remove-of
-  name-refused h e s = rw (le-ltb 2 limit h, e, s .0, s .1)
+module _ {xs image name : List ℕ} {limit : ℕ} {c : Checked} {p : RemovePlan} (P : Prepared xs image name limit c p) where
+  abbrev R : Ready c xs
+  R = P .agreed .ready
 
-  pub file-refused : (cause : Cause) → limit ≤ 2 → is-legal-name name ≡ true → looked-of xs t ≡ refusing cause → Gives g (Refused cause) t → removed g xs ≡ remove-of xs t name limit
+  abbrev asked : Result
+  asked = call (c .size .layout .b) (place-of (c .size .layout)) (R .slots) (remove (filled name))
+
+  planned : RemovePlanned p (c .size .layout) (R .slots) asked
+  planned = P .told (R .slots) (R .is)
+
+  pub freed-inside : 2 ≤ p .plan .stores → p .right < c .survey .count
+  freed-inside h = omega (arith, R .count-is, freed-place p (c .size .layout) (R .slots) asked planned h)
+
+  -- What it leaves is what its stores leave.
+  left-by : (r : RemoveDone) → r ≡ remove-by-stores xs (trie-from image) (c .size .layout) (R .slots) limit asked
+      → remove-left image r ≡ left-of xs image name limit
   unfolding remove-of remove-on-looked
-  file-refused cause h e f s = rw (le-ltb 2 limit h, e, f, s .0, s .1)
+  left-by r m = rw (le-ltb 2 limit (P .allowed), P .legal, P .agreed .looked) (ap (λ (x : RemoveDone). remove-left image x) m)
 
-  pub remove-fine : (ys : List ℕ) (y : Layout) (fs : List Slot) → limit ≤ 2 → is-legal-name name ≡ true → looked-of xs t ≡ fine y fs
-      → removed g ys ≡ remove-by-stores xs t y fs limit (call (y .b) (place-of y) fs (remove (filled name))) → removed g ys ≡ remove-of xs t name limit
+  module _ {ys : List ℕ} (d : Bool) (C : Committed d xs ys (c .size .layout) (p .plan) limit) where
+    pub left-stopped : d ≡ true → (Stopped limit, ys, image) ≡ left-of xs image name limit
+    left-stopped e = left-by (leaving (Stopped limit) ys (trie-from image)) (by-stopped xs ys (trie-from image) c R limit p d C asked planned e)
+
+    pub left-absent : d ≡ false → p .plan .stores < 1 → (Absent, ys, image) ≡ left-of xs image name limit
+    left-absent e h = left-by (leaving Absent ys (trie-from image)) (by-none xs ys (trie-from image) c R limit p d C asked planned e h)
+
+    pub left-removed : d ≡ false → 1 ≤ p .plan .stores → p .plan .stores < 2 → (Removed 1, ys, image) ≡ left-of xs image name limit
+    left-removed e h k = left-by (leaving (Removed 1) ys (trie-from image)) (by-one xs ys (trie-from image) c R limit p d C asked planned e h k)
+
+    pub left-merged : d ≡ false → 2 ≤ p .plan .stores → (r : Trie) → TrieTold r c ys (p .right) → {image′ : List ℕ} → image′ ≡ image-of r
+        → (Removed 2, ys, image′) ≡ left-of xs image name limit
+    left-merged e h r T i =
+        rw i (left-by (leaving (Removed 2) ys r) (by-merge xs ys (trie-from image) c R limit p d C asked planned e h (filled name) (remove-right (c .size .layout .b) (place-of (c .size .layout)) (R .slots) (R .sound) (filled name)) (P .bytes) r T))
+
+-- What is refused before that, with no byte changed.
+module _ (xs image name : List ℕ) (limit : ℕ) where
+  pub limit-refused : 2 < limit → (Refused WrongSize, xs, image) ≡ left-of xs image name limit
+  unfolding remove-of
+  limit-refused h = rw (lt-ltb 2 limit h)
+
+  pub name-refused : limit ≤ 2 → is-legal-name name ≡ false → (Refused IllegalName, xs, image) ≡ left-of xs image name limit
+  unfolding remove-of
+  name-refused h e = rw (le-ltb 2 limit h, e)
+
+  pub file-refused : (cause : Cause) → limit ≤ 2 → is-legal-name name ≡ true → looked-of xs (trie-from image) ≡ refusing cause
+      → (Refused cause, xs, image) ≡ left-of xs image name limit
   unfolding remove-of remove-on-looked
-  remove-fine ys y fs h e f m = rw (le-ltb 2 limit h, e, f) m
+  file-refused cause h e f = rw (le-ltb 2 limit h, e, f)
