@@ -30,8 +30,6 @@ use Rattle.file.proofs.Readings.{used-read}
 use Rattle.bucket.specs.Forms.{ReadAs}
 use Rattle.bucket.specs.Slots.{OfSize}
 use Rattle.bucket.proofs.Slots.{read-written}
-use Rattle.checking.specs.declared.Checked.{Checked}
-use Rattle.checking.specs.Ready.{Ready}
 use Rattle.reading.specs.Outcomes.{listed}
 use Rattle.reading.specs.Listings.{Written, parts}
 
@@ -189,10 +187,6 @@ module _ {xs : List ℕ} {s : Size} {order : List ℕ} {count : ℕ} {fs : List 
 
       pub all-length : length (bytes-of-entries z (between n m (entries-in fs (order-of fs)))) ≡ z * length (between n m (entries-in fs (order-of fs)))
       all-length = rw all-between at (parts-length (to + 1 - from) from (omega (arith, P .inside, Q .inside, O .count-is)))
-
--- What passed the checks is in order.
-pub ready-ordered : {c : Checked} {xs : List ℕ} (R : Ready c xs) → Ordered xs (c .size) (c .survey .order) (c .survey .count) (R .slots)
-ready-ordered R = record { is = R .is; sound = R .sound; order-is = R .order-is; count-is = R .count-is }
 
 -- R10.7; else the entries are written over the beginning of the output, and their number is given (R9.8).
 module _ {xs : List ℕ} {s : Size} {order : List ℕ} {count : ℕ} {fs : List Slot} (O : Ordered xs s order count fs) (given : AreBytes xs) (n m : Str) (f : Legal n) (g : Legal m)

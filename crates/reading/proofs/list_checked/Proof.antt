@@ -1,13 +1,14 @@
 -- `list_checked` meets its contract: the buckets from the first name's to the second's have all that is to be listed.
 use Rattle.model.proofs.Prelude.{arith, needs}
 use Rattle.model.proofs.Format.{bytes-each}
-use Rattle.reading.proofs.Listing.{list-all, list-short, ready-ordered}
+use Rattle.checking.proofs.Ready.{ready-ordered}
+use Rattle.reading.proofs.Listing.{list-all, list-short}
 use Rattle.reading.proofs.list_checked.Tie as tie
 
 returns : tie.Need-returns
 returns c R f g =
     let at-holder = c .before .before .before .before .before in let start = at-holder .before .before .before .before .before .before .before in let a = start .args in
-    let O = ready-ordered R in
+    let O = ready-ordered R (R .is) in
     let P = at-holder .holder .ensures .found (R .slots) O f in
     let Q = c .before .before .before .holder2 .ensures .found (R .slots) O g in
     let w = bytes-each (a .file .now) (λ i. omega (arith, at-holder .before .before .before .before .before .before .shared-slice-known .given i)) in
@@ -21,7 +22,7 @@ write-between-requires c κs =
 returns-2 : tie.Need-returns-2
 returns-2 c R f g =
     let at-holder = c .before .before .before .before .before .before .before .before .before .before .before in let start = at-holder .before .before .before .before .before .before .before in let a = start .args in
-    let O = ready-ordered R in
+    let O = ready-ordered R (R .is) in
     let P = at-holder .holder .ensures .found (R .slots) O f in
     let Q = c .before .before .before .before .before .before .before .before .before .holder2 .ensures .found (R .slots) O g in
     let w = bytes-each (a .file .now) (λ i. omega (arith, at-holder .before .before .before .before .before .before .shared-slice-known .given i)) in
