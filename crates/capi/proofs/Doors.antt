@@ -1,13 +1,10 @@
 -- Each call's answer, as a number, with the bytes and words lent: a law for a malformed image, and one for all others.
-use Rattle.model.proofs.Prelude.{List, _<_, _∙_, _≡_, _≤_, ap, eq-eqb, le-ltb, length, lt-ltb, ne-eqb, refl, subst, sym, ℕ}
+use Rattle.model.proofs.Prelude.{List, _∙_, _≡_, ap, eq-eqb, length, ne-eqb, refl, subst, sym, ℕ}
 use Rattle.model.specs.declared.ListAnswer.{ListAnswer}
 use Rattle.model.specs.declared.LookUpAnswer.{LookUpAnswer}
 use Rattle.model.specs.declared.PutAnswer.{PutAnswer}
-use Rattle.model.specs.declared.PutGiven.{PutGiven}
 use Rattle.model.specs.declared.RecoverAnswer.{RecoverAnswer}
 use Rattle.model.specs.declared.RemoveAnswer.{RemoveAnswer}
-use Rattle.model.specs.declared.RemoveAnswer.the-variants.{Removed}
-use Rattle.model.specs.declared.RemoveGiven.{RemoveGiven}
 use Rattle.model.specs.declared.Trie.{Trie}
 use Rattle.model.specs.declared.TrieAnswer.{TrieAnswer}
 use Rattle.model.specs.declared.TrieGiven.{TrieGiven}
@@ -23,11 +20,12 @@ use Rattle.whole.specs.Outcomes.{created, found, rebuilt, recovered}
 use Rattle.reading.specs.Outcomes.{listed}
 use Rattle.reading.specs.Walked.{looked-up-from}
 use Rattle.reading.proofs.LookingUp.{walked-looked}
-use Rattle.changing.specs.Outcomes.{put, removed}
 use Rattle.trie.specs.declared.Walk.{Walk}
 use Rattle.trie.specs.Walks.{Walks}
 use Rattle.image.specs.Images.{image-length, image-of, trie-from}
-use Rattle.capi.specs.Doors.{image-after, image-removed, malformed, out-after, pal-check-of, pal-create-of, pal-list-of, pal-look-up-of, pal-put-of, pal-rebuild-of, pal-recover-of, pal-remove-of}
+use Rattle.putting.specs.Outcomes.{put-left}
+use Rattle.removing.specs.Outcomes.{remove-left}
+use Rattle.capi.specs.Doors.{malformed, out-after, pal-check-of, pal-create-of, pal-list-of, pal-look-up-of, pal-put-of, pal-rebuild-of, pal-recover-of, pal-remove-of}
 
 module _ (image : List ℕ) (ill : length image ≡ image-length → ⊥) where
   pub create-malformed : (file : List ℕ) (version b slots : ℕ) → pal-create-of file version b slots image ≡ (malformed, file, image)
@@ -71,30 +69,25 @@ module _ (image : List ℕ) (well : length image ≡ image-length) where
   unfolding pal-look-up-of
   look-up-said file name out t e s w = rw (eq-eqb (length image) image-length well, ← e, s, w, t)
 
-  pub put-said : (file name : List ℕ) (value run limit : ℕ) (out : List ℕ) (g : PutGiven) {t : Trie} {a : PutAnswer} {ys zs ws : List ℕ} {n : ℕ}
-      → t ≡ trie-from image → g .answer ≡ a → put g ys ≡ put-of file t name value run limit → n ≡ said-by-put a .0 → zs ≡ image-after a (g .trie) image
-      → ws ≡ out-after (said-by-put a) out → pal-put-of file image name value run limit out ≡ (n, ys, zs, ws)
+  pub put-said : (file name : List ℕ) (value run limit : ℕ) (out : List ℕ) {x a : PutAnswer} {ys zs ws : List ℕ} {n : ℕ} → x ≡ a
+      → (x, ys, zs) ≡ put-left image (put-of file (trie-from image) name value run limit) → n ≡ said-by-put a .0 → ws ≡ out-after (said-by-put a) out
+      → pal-put-of file image name value run limit out ≡ (n, ys, zs, ws)
   unfolding pal-put-of
-  put-said file name value run limit out g d t e s z w = rw (eq-eqb (length image) image-length well, ← d, ← e, s, z, w, t)
+  put-said file name value run limit out t e s w =
+      rw (eq-eqb (length image) image-length well, ← ap (λ (o : PutAnswer × List ℕ × List ℕ). o .2) e, ← ap (λ (o : PutAnswer × List ℕ × List ℕ). o .1) e, ← ap (λ (o : PutAnswer × List ℕ × List ℕ). o .0) e, t, s, w)
 
-  pub remove-said : (file name : List ℕ) (limit : ℕ) (out : List ℕ) (g : RemoveGiven) {t : Trie} {a : RemoveAnswer} {ys zs ws : List ℕ} {n : ℕ}
-      → t ≡ trie-from image → g .answer ≡ a → removed g ys ≡ remove-of file t name limit → n ≡ said-by-remove a .0 → zs ≡ image-removed a (g .trie) image
-      → ws ≡ out-after (said-by-remove a) out → pal-remove-of file image name limit out ≡ (n, ys, zs, ws)
+  pub remove-said : (file name : List ℕ) (limit : ℕ) (out : List ℕ) {x a : RemoveAnswer} {ys zs ws : List ℕ} {n : ℕ} → x ≡ a
+      → (x, ys, zs) ≡ remove-left image (remove-of file (trie-from image) name limit) → n ≡ said-by-remove a .0 → ws ≡ out-after (said-by-remove a) out
+      → pal-remove-of file image name limit out ≡ (n, ys, zs, ws)
   unfolding pal-remove-of
-  remove-said file name limit out g d t e s z w = rw (eq-eqb (length image) image-length well, ← d, ← e, s, z, w, t)
+  remove-said file name limit out t e s w =
+      rw (eq-eqb (length image) image-length well, ← ap (λ (o : RemoveAnswer × List ℕ × List ℕ). o .2) e, ← ap (λ (o : RemoveAnswer × List ℕ × List ℕ). o .1) e, ← ap (λ (o : RemoveAnswer × List ℕ × List ℕ). o .0) e, t, s, w)
 
-  pub list-said : (file first second output out : List ℕ) {t : Trie} {x a : ListAnswer} {ys ws : List ℕ} {n : ℕ}
-      → t ≡ trie-from image → x ≡ a → listed x ys ≡ list-of file t first second output → n ≡ said-by-list a .0
+  pub list-said : (file first second output out : List ℕ) {x a : ListAnswer} {ys ws : List ℕ} {n : ℕ}
+      → x ≡ a → listed x ys ≡ list-of file (trie-from image) first second output → n ≡ said-by-list a .0
       → ws ≡ out-after (said-by-list a) out → pal-list-of file image first second output out ≡ (n, ys, ws)
   unfolding pal-list-of
-  list-said file first second output out d t e s w = rw (eq-eqb (length image) image-length well, ← d, ← e, s, w, t)
-
--- The image after a removal, by the number of its stores.
-pub image-left : (stores : ℕ) (t : Trie) (image : List ℕ) → stores ≤ 1 → image ≡ image-removed (Removed stores) t image
-image-left stores t image h = rw (le-ltb 1 stores h)
-
-pub image-written : (stores : ℕ) (t : Trie) (image : List ℕ) → 1 < stores → image-of t ≡ image-removed (Removed stores) t image
-image-written stores t image h = rw (lt-ltb 1 stores h)
+  list-said file first second output out t e s w = rw (eq-eqb (length image) image-length well, ← e, s, w, t)
 
 -- Look up walks over the image itself.
 pub look-up-walked : (image file name : List ℕ) {n : List ℕ} {x : LookUpAnswer} (w : Walk) → n ≡ filled name → Walks w (walk-of (trie-from image) n)
