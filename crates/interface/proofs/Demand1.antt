@@ -21,7 +21,9 @@ use Rattle.promises.specs.Demand1.{Exactly, create-table, list-table, look-up-t
 use Rattle.promises.proofs.Demand1.{demand-1}
 use Rattle.promises.proofs.Where.{where-ours}
 use Rattle.image.specs.Images.{cells-bytes, image-of, number-of-side, trie-from}
-use Rattle.capi.specs.Doors.{image-after, image-removed, out-after, pal-check-of, pal-create-of, pal-list-of, pal-look-up-of, pal-put-of, pal-rebuild-of, pal-recover-of, pal-remove-of}
+use Rattle.putting.specs.Outcomes.{image-after}
+use Rattle.removing.specs.Outcomes.{image-removed}
+use Rattle.capi.specs.Doors.{out-after, pal-check-of, pal-create-of, pal-list-of, pal-look-up-of, pal-put-of, pal-rebuild-of, pal-recover-of, pal-remove-of}
 use Rattle.capi.proofs.Doors.{create-malformed, list-malformed, look-up-is-malformed, put-malformed, rebuild-malformed, remove-malformed}
 use Rattle.interface.specs.Calls.{IsImage, IsOut, our-c-calls}
 use Rattle.interface.specs.Demand1.{Answers, Demand1C, IsRefusal, change-refusal, create-refusal, list-refusal, look-up-refusal, rebuild-refusal, recover-refusal, zero-image}

@@ -14,7 +14,8 @@ use Rattle.model.specs.Calls.{create-of, put-of, rebuild-of}
 use Rattle.promises.specs.Demand2.{LeadsRight, Made, Tells, Truthful, stale, told, true-entry, truly-absent}
 use Rattle.promises.proofs.Demand2.{demand-2}
 use Rattle.image.specs.Images.{image-length, trie-from}
-use Rattle.capi.specs.Doors.{image-after, malformed, out-after, pal-create-of, pal-put-of, pal-rebuild-of}
+use Rattle.putting.specs.Outcomes.{image-after}
+use Rattle.capi.specs.Doors.{malformed, out-after, pal-create-of, pal-put-of, pal-rebuild-of}
 use Rattle.capi.proofs.Doors.{create-malformed, put-malformed, rebuild-malformed}
 use Rattle.interface.specs.Calls.{our-c-calls}
 use Rattle.interface.specs.Demand2.{Demand2C, TellsC, TruthfulC, stale as stale-c, told as told-c, true-entry as true-entry-c, truly-absent as truly-absent-c}

@@ -21,7 +21,9 @@ use Rattle.promises.specs.Calls.{our-calls}
 use Rattle.promises.specs.Demand3.{Event, Holds, Kept, Recovers, State, StoppedAt, after, after-freeing, after-put, after-rebuild, after-recover, after-remove, down, file-of, kill, nothing-to-do, now, put, put-by, put-with, rebuild, recover, remove, remove-by, remove-with, running, step, stopped-at-0}
 use Rattle.promises.proofs.Demand3.{demand-3}
 use Rattle.image.specs.Images.{image-length, image-of, trie-from}
-use Rattle.capi.specs.Doors.{image-after, image-removed, malformed, out-after, pal-create-of, pal-put-of, pal-recover-of, pal-remove-of}
+use Rattle.putting.specs.Outcomes.{image-after}
+use Rattle.removing.specs.Outcomes.{image-removed}
+use Rattle.capi.specs.Doors.{malformed, out-after, pal-create-of, pal-put-of, pal-recover-of, pal-remove-of}
 use Rattle.capi.proofs.Doors.{create-malformed, put-malformed, rebuild-malformed, remove-malformed}
 use Rattle.interface.specs.Calls.{IsImage, our-c-calls}
 use Rattle.interface.specs.Demand1.{IsRefusal, change-refusal, recover-refusal}

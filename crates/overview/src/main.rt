@@ -4,6 +4,7 @@
 ghost use mathlib.Core.Path.{_≡_};
 ghost use Prim.Native.Nat.{_≤_, _<_, _+_};
 ghost use lib.ListN.{length};
+ghost use Rattle.image.specs.Images.{image-length};
 ghost use Rattle.file.specs.Sizes.{Sized, Below};
 ghost use Rattle.bucket.specs.Slots.{OfSize};
 use digits::usize_of_u8;
@@ -13,7 +14,6 @@ use libc::STDIN_FILENO;
 use libc::STDOUT_FILENO;
 use model::Layout;
 use model::PutAnswer;
-use model::Trie;
 use model::cause_number;
 
 // The line that is being read. A name has at most 24 bytes, so a 25th is kept and no further one.
@@ -46,9 +46,8 @@ impl Line {
     }
 }
 
-// The trie, the line under way and its number, and the number of the refusal, if there was one.
+// The line under way and its number, and the number of the refusal, if there was one.
 struct State {
-    trie: Trie,
     line: Line,
     number: u64,
     refused: u64,
@@ -66,39 +65,33 @@ fn refusal_of(answer: PutAnswer) -> u64 {
 // Puts a line's name with the line's number.
 fn put_name(
     file: &mut [u8],
-    trie: Trie,
+    image: &mut [u8],
     bytes: &[u8; 25],
     len: usize,
     number: u64,
-) -> model::PutGiven
-    requires { ⌜ len ≤ 25 ⌝ }
+) -> PutAnswer
+    requires { ⌜ (len ≤ 25) × (length (now image) ≡ image-length) ⌝ }
 {
     let whole = &bytes[..];
-    changing::put(file, trie, &whole[0..len], number, 0, 2)
+    putting::put(file, image, &whole[0..len], number, 0, 2)
 }
 
 // The line under way has ended.
-fn line_ended(file: &mut [u8], state: State) -> State
-    requires { ⌜ state .line .len ≤ 25 ⌝ }
+fn line_ended(file: &mut [u8], image: &mut [u8], state: State) -> State
+    requires { ⌜ (state .line .len ≤ 25) × (length (now image) ≡ image-length) ⌝ }
     ensures { λ r. ⌜ r .line .len ≤ 25 ⌝ }
 {
     let line = state.line;
     let bytes = line.bytes;
-    let trie = state.trie;
-    let given = put_name(file, trie, &bytes, line.len, state.number);
-    let answer = given.answer;
-    let refused = refusal_of(answer);
-    let after = given.trie;
+    let refused = refusal_of(put_name(file, image, &bytes, line.len, state.number));
     if refused != 0 {
         return State {
-            trie: after,
             line: Line::new(),
             number: state.number,
             refused,
         };
     }
     State {
-        trie: after,
         line: Line::new(),
         number: std::num::wrapping_add_u64(state.number, 1),
         refused,
@@ -106,17 +99,15 @@ fn line_ended(file: &mut [u8], state: State) -> State
 }
 
 // One byte more was read.
-fn byte_read(file: &mut [u8], state: State, byte: u8) -> State
-    requires { ⌜ state .line .len ≤ 25 ⌝ }
+fn byte_read(file: &mut [u8], image: &mut [u8], state: State, byte: u8) -> State
+    requires { ⌜ (state .line .len ≤ 25) × (length (now image) ≡ image-length) ⌝ }
     ensures { λ r. ⌜ r .line .len ≤ 25 ⌝ }
 {
     if byte == b'\n' {
-        return line_ended(file, state);
+        return line_ended(file, image, state);
     }
     let line = state.line;
-    let trie = state.trie;
     State {
-        trie,
         line: line.with(byte),
         number: state.number,
         refused: state.refused,
@@ -124,8 +115,8 @@ fn byte_read(file: &mut [u8], state: State, byte: u8) -> State
 }
 
 // Some bytes more were read. After a refusal nothing is put any more.
-fn bytes_read(file: &mut [u8], state: State, bytes: &[u8]) -> State
-    requires { ⌜ state .line .len ≤ 25 ⌝ }
+fn bytes_read(file: &mut [u8], image: &mut [u8], state: State, bytes: &[u8]) -> State
+    requires { ⌜ (state .line .len ≤ 25) × (length (now image) ≡ image-length) ⌝ }
     ensures { λ r. ⌜ r .line .len ≤ 25 ⌝ }
 {
     let mut s = state;
@@ -134,21 +125,21 @@ fn bytes_read(file: &mut [u8], state: State, bytes: &[u8]) -> State
         if s.refused != 0 {
             return s;
         }
-        s = byte_read(file, s, bytes[i]);
+        s = byte_read(file, image, s, bytes[i]);
         i += 1;
     }
     s
 }
 
 // R12.1: the last line may end without a line feed.
-fn input_ended(file: &mut [u8], state: State) -> State
-    requires { ⌜ state .line .len ≤ 25 ⌝ }
+fn input_ended(file: &mut [u8], image: &mut [u8], state: State) -> State
+    requires { ⌜ (state .line .len ≤ 25) × (length (now image) ≡ image-length) ⌝ }
 {
     let line = state.line;
     if line.len == 0 {
         return state;
     }
-    line_ended(file, state)
+    line_ended(file, image, state)
 }
 
 fn say(text: &[u8]) {
@@ -232,8 +223,8 @@ fn print_refusal(refused: u64, number: u64) {
 
 // Reads all input. A proved loop has to end, and nothing says that an input does: so it counts its turns down, from a
 // number that no run uses up.
-fn read_all(file: &mut [u8], state: State) -> State
-    requires { ⌜ state .line .len ≤ 25 ⌝ }
+fn read_all(file: &mut [u8], image: &mut [u8], state: State) -> State
+    requires { ⌜ (state .line .len ≤ 25) × (length (now image) ≡ image-length) ⌝ }
     ensures { λ r. ⌜ r .line .len ≤ 25 ⌝ }
 {
     let mut s = state;
@@ -246,7 +237,7 @@ fn read_all(file: &mut [u8], state: State) -> State
             return s;
         }
         let n = io::count(got, &buffer);
-        s = bytes_read(file, s, &buffer[..n]);
+        s = bytes_read(file, image, s, &buffer[..n]);
         if s.refused != 0 {
             return s;
         }
@@ -258,19 +249,19 @@ fn main() {
     // b = 4 and 8 slots: 16 + 8 × (64 + 32 × 4) bytes.
     let mut file = [0u8; 1552];
     let created = whole::create(&mut file, 1, 4, 8);
-    let empty = created.trie;
+    let mut image = [0u8; image::BYTES];
+    image::encode(&mut image, created.trie);
     let first = State {
-        trie: empty,
         line: Line::new(),
         number: 1,
         refused: 0,
     };
-    let read = read_all(&mut file, first);
+    let read = read_all(&mut file, &mut image, first);
     if read.refused != 0 {
         print_refusal(read.refused, read.number);
         return;
     }
-    let ended = input_ended(&mut file, read);
+    let ended = input_ended(&mut file, &mut image, read);
     if ended.refused != 0 {
         print_refusal(ended.refused, ended.number);
         return;

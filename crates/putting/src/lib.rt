@@ -220,7 +220,7 @@ fn split(
     let after = grown(file, checked, trie, split, a, n);
     let plan = divide(file, size, a, n, row, split);
     if file::commit(file, size, plan, limit) {
-        return PutAnswer::Stopped(limit);
+        return PutAnswer::Stopped(limit); // R8.1: the trie stays.
     }
     image::encode(image, after);
     PutAnswer::Added
