@@ -85,7 +85,7 @@ module _ (xs : List ℕ) (t : Trie) (name : List ℕ) (y : Layout) (fs : List Sl
     }
 
 -- A file reads in one way.
-one-reading : (xs : List ℕ) {y z : Layout} {fs gs : List Slot} → read-file xs ≡ some (y, fs) → read-file xs ≡ some (z, gs) → fs ≡ gs
+pub one-reading : (xs : List ℕ) {y z : Layout} {fs gs : List Slot} → read-file xs ≡ some (y, fs) → read-file xs ≡ some (z, gs) → fs ≡ gs
 one-reading xs {y = y} {z = z} {fs = fs} {gs = gs} d e = let o : _≡_ {A = Option (Layout × List Slot)} (some (y, fs)) (some (z, gs)) = sym d ∙ e in
     let p : _≡_ {A = Layout × List Slot} (y, fs) (z, gs) = cc in ap (λ (f : Layout × List Slot). f .1) p
 

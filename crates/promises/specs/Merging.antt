@@ -74,7 +74,7 @@ pub record Merging (C : Calls) : Type 0 where
   -- A cut file, whose bucket A may now have any number of entries, has one slot to free, and is not sound.
   pub one-cut : (xs : List ℕ) (M N : ℕ) → CutFile xs M → CutFile xs N → M ≡ N
   pub cut-not-sound : (xs : List ℕ) (N : ℕ) → CutFile xs N → ¬ SoundFile xs
-  -- Which stores the removal of a name takes that a bucket holds: nothing but the file's contents decides.
+  -- With a trie that leads right: which stores the removal of a legal name takes that the bucket A holds.
   pub rule : (xs : List ℕ) (t : Trie) (name : List ℕ) (T : LeadsRight xs t) → LegalName name → (A : ℕ) (l : Low) (u : Str) (es : List Entry) (w : ℕ)
       → slot-at (T .file .slots) A ≡ used l u es → find (filled name) es ≡ some w → Rule C xs t name (T .file .layout) (T .file .slots) A l u es
   -- What a removal that was made leaves is sound, and its trie leads every name right;
