@@ -40,7 +40,7 @@ left-of file stopped made y ss xs limit p q = go (ltb limit (length ss)) refl
     go true e = p
     go false e = q ∙ ap (λ (l : List Store). stores-bytes y l xs) (sym (take-all limit ss (ltb-false limit (length ss) e)))
 
-unfoldable asked : Result → List Store
+unfoldable pub asked : Result → List Store
 asked (refuse r) = []
 asked (stores ss) = ss
 
@@ -49,7 +49,7 @@ unfolding put-by-stores stores-bytes asked
 put-left xs t y fs n v limit (refuse r) = rw (take-nil limit)
 put-left xs t y fs n v limit (stores ss) = left-of (λ (d : PutDone). d .file) _ _ y ss xs limit refl refl
 
-remove-left : (xs : List ℕ) (t : Trie) (y : Layout) (fs : List Slot) (limit : ℕ) (r : Result) → remove-by-stores xs t y fs limit r .file ≡ stores-bytes y (take limit (asked r)) xs
+pub remove-left : (xs : List ℕ) (t : Trie) (y : Layout) (fs : List Slot) (limit : ℕ) (r : Result) → remove-by-stores xs t y fs limit r .file ≡ stores-bytes y (take limit (asked r)) xs
 unfolding remove-by-stores stores-bytes asked
 remove-left xs t y fs limit (refuse r) = rw (take-nil limit)
 remove-left xs t y fs limit (stores ss) = left-of (λ (d : RemoveDone). d .file) _ _ y ss xs limit refl refl

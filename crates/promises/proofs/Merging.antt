@@ -1,5 +1,5 @@
 -- A removal that gives a room back: the laws of the model, told of the calls.
-use Rattle.model.proofs.Prelude.{Bool, List, Option, [], _<_, _∙_, _∷_, _≡_, _≤_, ap, arith, clash, false, inl, inr, le-leb, le-ltb, length, ltb, ltb-false, ltb-true, refl, set, some, sym, take, true, ℕ}
+use Rattle.model.proofs.Prelude.{Bool, List, Option, [], _<_, _∙_, _∷_, _≡_, _≤_, ap, arith, clash, false, inl, inr, le-leb, le-ltb, length, lt-ltb, ltb, ltb-false, ltb-true, refl, set, some, sym, take, true, ℕ}
 use Rattle.model.specs.declared.Cause.{Cause}
 use Rattle.model.specs.declared.Cause.the-variants.{BadFile, IllegalName}
 use Rattle.model.specs.declared.Layout.{Layout}
@@ -13,15 +13,16 @@ use Rattle.model.specs.Entries.{Entry, find}
 use Rattle.model.specs.Files.{Cut, Slot, Sound, entries-of, free, slot-at, string-count, used}
 use Rattle.model.specs.Tries.{walk-trie}
 use Rattle.model.specs.Rebuilding.{rebuilt-trie}
-use Rattle.model.specs.Changes.{Map, Result, Store, call, counts, meant, refuse, remove, stored, stores, trie-removed}
+use Rattle.model.specs.Changes.{Map, Result, Store, call, counts, meant, refuse, removal, remove, stored, stores, trie-removed}
 use Rattle.model.specs.Places.{place-of}
 use Rattle.model.specs.Format.{AreBytes, CutFile, SoundFile, entry-length, file-bytes, layout-of, read-file, store-bytes}
 use Rattle.model.specs.Calls.{Looked, RemoveDone, fine, looked-of, rebuild-by, rebuild-of, recover-by, recover-of, refusing, remove-answer, remove-by-stores, remove-of, remove-on-looked, stores-bytes}
+use Rattle.model.proofs.Entries.{find-at, row-at}
 use Rattle.model.proofs.Files.{cut-well, one-range}
 use Rattle.model.proofs.Agreement.{agrees-few, agrees-walk}
 use Rattle.model.proofs.Places.{place-lt}
 use Rattle.model.proofs.Merging.{Removal, ToLeft, ToRight, alone, by-left, by-right, first-not-left, last-not-right, leftward, not-left, not-right, removal-alone, removal-is, rightward}
-use Rattle.model.proofs.Changes.{Change, Fine, absent, change-length, change-made, change-stopped, removal-few, removes}
+use Rattle.model.proofs.Changes.{Change, Fine, absent, change-length, change-made, change-stopped, removal-few, removes, well-a}
 use Rattle.model.proofs.Removals.{removal-entries}
 use Rattle.model.proofs.Calls.{Answered, change-unique, denied-not-made, is-denied, is-made, remove-right}
 use Rattle.model.proofs.Format.{contents-read-file, file-bytes-read-file}
@@ -29,37 +30,62 @@ use Rattle.model.proofs.CheckedFiles.{check-file-cut, check-file-sound, one-cut
 use Rattle.model.proofs.Stores.{Left, Legal as LegalStores, change-legal, left-freed, left-stored, legal-take, trie-removed-is}
 use Rattle.model.proofs.GrownTries.{change-agrees}
 use Rattle.promises.specs.Calls.{our-calls}
+use Rattle.promises.specs.Demand1.{LegalName}
 use Rattle.promises.specs.Demand2.{LeadsRight}
-use Rattle.promises.specs.Merging.{Alone, NameGone, Merging, NotLeft, NotRight, Rule, left-many, no-left, no-right, right-many}
+use Rattle.promises.specs.Merging.{Alone, NameGone, Merging, NotLeft, NotRight, Rule, Takes, left-many, no-left, no-right, right-many}
+use Rattle.promises.proofs.Demand1.{name-legal}
 use Rattle.promises.proofs.Leading.{Passed, leads, looked-passed}
+use Rattle.promises.proofs.Limits.{asked, remove-left}
+use Rattle.promises.proofs.Meanings.{passed-looked}
 
--- Which stores.
-module _ (b : ℕ) (place : List Entry → ℕ) (fs : List Slot) (S : Sound b fs) (n : Str) (A : ℕ) (l : Low) (u : Str) (es : List Entry) (w : ℕ)
-    (is : slot-at fs A ≡ used l u es) (lo : l ◁ n) (up : n ⊑ u) (held : find n es ≡ some w) where
-  not-to-right : NotRight b fs A es → ¬ ToRight b fs n A l u es
-  not-to-right (no-right Xs e) = last-not-right b S A l u es is n lo up held Xs e
-  not-to-right (right-many Xs R Ys e r-is k) = not-right b S A l u es is n lo up held Xs R Ys e r-is k
+-- Which stores, and what is left of them.
+module _ (xs : List ℕ) (t : Trie) (name : List ℕ) (y : Layout) (fs : List Slot) (p : Passed xs t y fs) (legal : LegalName name) where
+  abbrev n : Str
+  n = filled name
 
-  not-to-left : NotLeft b fs A es → ¬ ToLeft b fs n A l u es
-  not-to-left (no-left Ys e) = first-not-left b S A l u es is n lo up held Ys e
-  not-to-left (left-many Xs L Ys e l-is k) = not-left b S A l u es is n lo up held Xs L Ys e l-is k
+  module _ {s : Store} {ss : List Store} (e : call (y .b) (place-of y) fs (remove n) ≡ stores (s ∷ ss)) where
+    made-by : (limit : ℕ) → limit ≤ 2 → remove-of xs t name limit ≡ remove-by-stores xs t y fs limit (stores (s ∷ ss))
+    unfolding remove-of remove-on-looked
+    made-by limit h = rw (le-ltb 2 limit h, name-legal legal, passed-looked xs t y fs (p .is) (p .sound) (p .agrees), e)
 
-  called : {r : Result} → Answered b place fs (remove n) r → {ss : List Store} → Change b place fs (remove n) ss → r ≡ stores ss
-  called (is-made c) d = ap stores (change-unique b place S c d)
-  called (is-denied c) d = absurd (denied-not-made b place S c d)
+    takes : Takes our-calls xs t name y (s ∷ ss)
+    unfolding remove-by-stores asked
+    takes = record {
+      file = λ limit h. rw (made-by limit h) (remove-left xs t y fs limit (stores (s ∷ ss)));
+      made = λ limit h k. rw (made-by limit h, le-ltb limit (length (s ∷ ss)) k);
+      stopped = λ limit h k. rw (made-by limit h, lt-ltb limit (length (s ∷ ss)) k);
+    }
 
-  the-call : {ss : List Store} → Change b place fs (remove n) ss → call b place fs (remove n) ≡ stores ss
-  the-call c = called (remove-right b place fs S n) c
+  module _ (A : ℕ) (l : Low) (u : Str) (es : List Entry) (w : ℕ) (is : slot-at fs A ≡ used l u es) (held : find n es ≡ some w) where
+    inside : (l ◁ n) × (n ⊑ u)
+    inside = let k = find-at n es w held in
+        let r = row-at (well-a (y .b) fs (p .sound) A l u es is .3) (k .0) (k .1) in
+        (rw (k .2) at (r .1), rw (k .2) at (r .2))
 
-  rule : Rule b place fs n A l u es
-  rule = record {
-    right = λ Xs R Ys e r-is k. the-call (removes A is lo up held) ∙ ap stores (by-right b S A l u es is n lo up held Xs R Ys e r-is k);
-    left = λ c Xs L Ys e l-is k. the-call (removes A is lo up held) ∙ ap stores (by-left b S A l u es is n lo up held Xs L Ys e l-is (not-to-right c) k);
-    alone = λ c d. the-call (removes A is lo up held) ∙ ap stores (removal-alone b fs n A l u es (not-to-right c) (not-to-left d));
-  }
+    not-to-right : NotRight (y .b) fs A es → ¬ ToRight (y .b) fs n A l u es
+    not-to-right (no-right Xs e) = last-not-right (y .b) (p .sound) A l u es is n (inside .0) (inside .1) held Xs e
+    not-to-right (right-many Xs R Ys e r-is k) = not-right (y .b) (p .sound) A l u es is n (inside .0) (inside .1) held Xs R Ys e r-is k
+
+    not-to-left : NotLeft (y .b) fs A es → ¬ ToLeft (y .b) fs n A l u es
+    not-to-left (no-left Ys e) = first-not-left (y .b) (p .sound) A l u es is n (inside .0) (inside .1) held Ys e
+    not-to-left (left-many Xs L Ys e l-is k) = not-left (y .b) (p .sound) A l u es is n (inside .0) (inside .1) held Xs L Ys e l-is k
+
+    called : {r : Result} → Answered (y .b) (place-of y) fs (remove n) r → {ss : List Store} → Change (y .b) (place-of y) fs (remove n) ss → r ≡ stores ss
+    called (is-made c) d = ap stores (change-unique (y .b) (place-of y) (p .sound) c d)
+    called (is-denied c) d = absurd (denied-not-made (y .b) (place-of y) (p .sound) c d)
+
+    the-call : call (y .b) (place-of y) fs (remove n) ≡ stores (removal (y .b) fs n A l u es)
+    the-call = called (remove-right (y .b) (place-of y) fs (p .sound) n) (removes A is (inside .0) (inside .1) held)
+
+    rule : Rule our-calls xs t name y fs A l u es
+    rule = record {
+      right = λ Xs R Ys e r-is k. takes (the-call ∙ ap stores (by-right (y .b) (p .sound) A l u es is n (inside .0) (inside .1) held Xs R Ys e r-is k));
+      left = λ c Xs L Ys e l-is k. takes (the-call ∙ ap stores (by-left (y .b) (p .sound) A l u es is n (inside .0) (inside .1) held Xs L Ys e l-is (not-to-right c) k));
+      alone = λ c d. takes (the-call ∙ ap stores (removal-alone (y .b) fs n A l u es (not-to-right c) (not-to-left d)));
+    }
 
 -- A file reads in one way.
-one-reading : (xs : List ℕ) {y z : Layout} {fs gs : List Slot} → read-file xs ≡ some (y, fs) → read-file xs ≡ some (z, gs) → fs ≡ gs
+pub one-reading : (xs : List ℕ) {y z : Layout} {fs gs : List Slot} → read-file xs ≡ some (y, fs) → read-file xs ≡ some (z, gs) → fs ≡ gs
 one-reading xs {y = y} {z = z} {fs = fs} {gs = gs} d e = let o : _≡_ {A = Option (Layout × List Slot)} (some (y, fs)) (some (z, gs)) = sym d ∙ e in
     let p : _≡_ {A = Layout × List Slot} (y, fs) (z, gs) = cc in ap (λ (f : Layout × List Slot). f .1) p
 
@@ -281,7 +307,7 @@ pub merging : Merging our-calls
 merging = record {
   one-cut = λ xs M N C D. one-cut C D;
   cut-not-sound = λ xs N C S. sound-not-cut S C;
-  rule = rule;
+  rule = λ xs t name T g. let S = T .file in rule xs t name (S .layout) (S .slots) (record { is = S .is; sound = S .sound; agrees = T .agrees }) g;
   leads = λ xs t name limit k bytes h e. made-leads xs t name limit bytes h e;
   leaves = λ xs t name limit k bytes h e. made-leaves xs t name limit bytes h e;
   as-before = made-alone;

@@ -1,5 +1,5 @@
--- The public statements rule the wrong versions out: files with two slots are computed, and the rest follows.
-use Rattle.model.proofs.Prelude.{Bool, List, Option, [], _+_, _/_, _∙_, _∷_, _≡_, arith, clash, cond, decLe, decLt, false, length, ltb, ltb-true, nothing, refl, replicate, some, sym, take, true, ℕ, ℕ-discrete}
+-- The public statements rule the wrong versions out: files with two or three slots are computed, and the rest follows.
+use Rattle.model.proofs.Prelude.{Bool, List, Option, [], _++_, _+_, _/_, _∙_, _∷_, _≡_, arith, clash, cond, decLe, decLt, false, length, ltb, ltb-true, nothing, refl, replicate, some, sym, take, true, ℕ, ℕ-discrete}
 use Rattle.model.specs.declared.Side.the-variants.{Slot as slot}
 use Rattle.model.specs.declared.Trie.{Trie}
 use Rattle.model.specs.declared.Layout.{Layout}
@@ -11,19 +11,20 @@ use Rattle.model.specs.declared.ListAnswer.the-variants.{Listed, Refused as Lis
 use Rattle.model.specs.declared.LookUpAnswer.{LookUpAnswer}
 use Rattle.model.specs.declared.RecoverAnswer.{RecoverAnswer}
 use Rattle.model.specs.Tries.{walk-of, walk-run, walk-trie}
-use Rattle.model.proofs.Agreeing.{agrees-is-agreeing}
+use Rattle.model.proofs.Agreeing.{agrees-is-agreeing, is-agreeing-agrees}
+use Rattle.model.proofs.Checks.{is-sound-file-sound}
 use Rattle.model.proofs.Created.{created-left}
 use Rattle.model.proofs.Names.{is-legal-name-legal, never-both}
 use Rattle.model.proofs.Format.{are-legal-sizes-sizes}
 use Rattle.model.specs.declared.LookUpAnswer.the-variants.{Absent as NotFound, Found, Refused as LookUpRefused}
 use Rattle.model.specs.declared.PutAnswer.the-variants.{Added, Refused as PutRefused, Stopped as PutStopped}
 use Rattle.model.specs.declared.RecoverAnswer.the-variants.{Freed, Nothing, Refused as RecoverRefused}
-use Rattle.model.specs.declared.RemoveAnswer.the-variants.{Absent as NotHeld, Refused as RemoveRefused}
-use Rattle.model.specs.Order.{Str}
+use Rattle.model.specs.declared.RemoveAnswer.the-variants.{Absent as NotHeld, Refused as RemoveRefused, Removed}
+use Rattle.model.specs.Order.{Str, at}
 use Rattle.model.specs.Names.{are-digits, filled, is-at-most, is-legal-bound, is-legal-filled, is-legal-name, not-greater, smaller, split-beginning, split-tried, within}
-use Rattle.model.specs.Entries.{chosen, content-from, find, insert, is-older, keep, run-of-content, value-of-content}
-use Rattle.model.specs.Files.{Slot, created, entries-of, first, free, order-from, slot-at, starts?, string-count}
-use Rattle.model.specs.Changes.{Map, Result, call, closes?, free?, holds?, left-of, merged-or, put, put-in, refuse, removal, remove, remove-in, right-of, split-of, split-string, stores, stores-if, trie-removed}
+use Rattle.model.specs.Entries.{chosen, content-from, find, insert, is-older, keep, run-of-content, value-of-content, without}
+use Rattle.model.specs.Files.{Slot, created, entries-of, first, free, order-from, order-of, slot-at, starts?, string-count, used}
+use Rattle.model.specs.Changes.{Map, Result, Store, call, closes?, free?, holds?, left-of, merged-or, put, put-in, refuse, removal, remove, remove-in, right-of, split-of, split-string, stores, stores-if, trie-removed}
 use Rattle.model.specs.Checks.{all-well, are-same-entries, check, cut-among, has-one-more, has-twin, is-above, is-bad, is-chain, is-copied, is-cut-by, is-in, is-legal-low, is-listed, is-row, is-sound-file, is-twin, is-used-slot, is-well-formed, same-low, same-str}
 use Rattle.model.specs.Agreeing.{are-numbers, are-zero-cells, is-agreeing, is-each-once, is-trie-of, join-trees, read-tree, same-side, same-strs, slots-between, times}
 use Rattle.model.specs.Format.{are-legal-sizes, bytes-at-slot, bytes-of-entries, bytes-of-entry, bytes-of-slot, check-file, check-read, digits-of-low, entry-length, file-bytes, file-size, header-bytes, header-of, is-offered, is-right-header, joined, kept-run, laid-out, layout-of, little-endian, low-of, padded, read-by, read-entries, read-file, read-slot, read-slots, read-used-slot, slot-size, slots-bytes, store-bytes, used-of, value-of, version-1}
@@ -35,16 +36,18 @@ use Rattle.model.proofs.Calls.{Answered, is-denied, is-made, put-right, put-tak
 use Rattle.promises.specs.Texts.{bytes, name}
 use Rattle.promises.specs.Growing.{of-cells}
 use Rattle.promises.specs.Situations.{a-cell, entries, i-file, names, rates-slots, rz-slots}
-use Rattle.promises.specs.Calls.{Calls}
+use Rattle.promises.specs.Calls.{Calls, our-calls}
 use Rattle.promises.specs.Demand1.{Demand1, LegalName}
 use Rattle.promises.specs.Demand2.{Demand2, LeadsRight, Made, Truthful, true-entry, truly-absent}
 use Rattle.promises.specs.Demand3.{Demand3, Event, Kept, Recovers, State, after, after-freeing, after-put, after-rebuild, after-recover, after-remove, differing, file-of, nothing-to-do, now, put as put-event, put-by, remove as remove-event, remove-by, replaced, said, start, step, stopped-at-0}
-use Rattle.promises.specs.WrongCalls.{IsRefused, OneResult, RefusesAll, absent-instead, both, both-at-once, by-create, by-list, by-look-up, by-put, by-rebuild, by-recover, by-remove, cuts-first, ends?, exchanged, free-outer, idles, inner-kept, keeps-inner, make, make-looked, make-put, miscounts, removes-nothing, stores-nothing}
-use Rattle.promises.specs.Strength.{StoppedAfter, Strength, bare-cells, five, full-file, one-turned, split-file, stopped-file}
+use Rattle.promises.specs.Merging.{Merging, Takes}
+use Rattle.promises.specs.WrongCalls.{IsRefused, OneResult, RefusesAll, absent-instead, both, both-at-once, by-create, by-list, by-look-up, by-put, by-rebuild, by-recover, by-remove, cuts-first, ends?, exchanged, free-outer, idles, inner-kept, keeps-inner, left-first, left-then-right, make, make-looked, make-put, make-remove, miscounts, never-merges, removes-nothing, stores-nothing, take-from, take-looked, unmerged}
+use Rattle.promises.specs.Strength.{StoppedAfter, Strength, bare-cells, five, full-file, left-merged, one-turned, right-merged, split-file, stopped-file, three-cells, three-file, three-slots}
 use Rattle.promises.proofs.Situations.{situations}
 use Rattle.promises.proofs.Demand1.{demand-1, legal-name, same-slots}
 use Rattle.promises.proofs.Demand2.{demand-2}
-use Rattle.promises.proofs.Leading.{Passed, looked-passed}
+use Rattle.promises.proofs.Leading.{Passed, leads, looked-passed}
+use Rattle.promises.proofs.Merging.{merging, one-reading}
 
 -- What happens in the histories that the wrong calls are put to, in a file with b = 2 and two slots. Any two of the three names fill the
 -- first bucket, so the third is a split; its put may be stopped after its first store.
@@ -132,6 +135,15 @@ record Computed : Type 0 where
   kept-stale : put-of split-file new-trie (bytes "d") 4 0 2 .answer ≡ PutRefused stale-trie
   kept-good : put-of full-file new-trie (bytes "c") 3 0 2 .answer ≡ Added
   recovers : recover-of stopped-file 1 ≡ record { answer = Freed 1; file = full-file }
+  three-read : read-file three-file ≡ some (version-1 2, three-slots)
+  three-sound : is-sound-file 2 three-slots ≡ true
+  three-agree : is-agreeing three-slots three-cells ≡ true
+  three-order : order-of three-slots ≡ 0 ∷ 1 ∷ 2 ∷ []
+  c-held : find (name "c") (entries (("c", 2) ∷ [])) ≡ some 2
+  c-few : length (entries (("c", 2) ∷ [])) + length (entries (("d", 3) ∷ [])) ≡ 2
+  right-first : read-file (remove-of three-file three-cells (bytes "c") 2 .file) ≡ some (version-1 2, right-merged)
+  left-instead : read-file (left-first .remove three-file three-cells (bytes "c") 2 .file) ≡ some (version-1 2, left-merged)
+  one-only : never-merges .remove three-file three-cells (bytes "c") 2 .answer ≡ Removed 1
   inner-bad : check-file (store-bytes (version-1 2) 0 free stopped-file) ≡ is-bad
   last-name : split-of 4 (place-of (version-1 4)) five ≡ bytes "r"
   neighbour : split-string (4 / 2) (4 / 2 + 1) five ≡ bytes "ra "
@@ -159,7 +171,7 @@ unfolding
     looked-of stores-bytes place-of trie-after-put refusal-of put-by-stores put-on-looked put-of remove-by-stores remove-on-looked remove-of entries-in between
     list-entries list-on-looked list-of
     now after-put after-remove after-recover after-rebuild put-by remove-by step after differing
-    make make-looked make-put absent-instead both exchanged ends? free-outer inner-kept
+    make make-looked make-put absent-instead both exchanged ends? free-outer inner-kept take-from take-looked make-remove unmerged left-then-right
     decLe decLt ℕ-discrete
 computed = record {
   create-given = refl;
@@ -197,6 +209,15 @@ computed = record {
   kept-stale = refl;
   kept-good = refl;
   recovers = refl;
+  three-read = refl;
+  three-sound = refl;
+  three-agree = refl;
+  three-order = refl;
+  c-held = refl;
+  c-few = refl;
+  right-first = refl;
+  left-instead = refl;
+  one-only = refl;
   inner-bad = refl;
   last-name = refl;
   neighbour = refl;
@@ -382,6 +403,44 @@ not-inner D =
     let q : TrieRefused BadFile ≡ Given = sym (computed .inner-refused) ∙ freed-given keeps-inner (H .recovery 1 (omega arith)) (computed .inner-freed) in
     clash cc
 
+-- A wrong removal with our stores is ours.
+removal-but-for : (xs : List ℕ) (t : Trie) (name : List ℕ) (limit : ℕ) → make-remove removal xs t name limit ≡ remove-of xs t name limit
+unfolding take-from take-looked make-remove remove-of remove-on-looked call remove-in
+removal-but-for xs t name limit = rw (looked (looked-of xs t))
+  where
+    taken : (y : Layout) (fs : List Slot) (A : ℕ) (x : Slot) → take-from removal y fs (filled name) A x ≡ remove-in (y .b) (place-of y) fs (filled name) A x
+    taken y fs A free = refl
+    taken y fs A (used l u es) = refl
+
+    looked : (l : Looked) → take-looked removal xs t (filled name) limit l ≡ remove-on-looked xs t (filled name) limit l
+    looked (refusing c) = refl
+    looked (fine y fs) = let A = first (holds? (filled name)) fs in rw (taken y fs A (slot-at fs A))
+
+-- What the rule says of the removal of c, whose bucket could merge with either neighbour.
+three-leads : LeadsRight three-file three-cells
+three-leads = let S = is-sound-file-sound 2 three-slots (computed .three-sound) in
+    leads three-file three-cells (record { layout = version-1 2; slots = three-slots; is = computed .three-read; sound = S }) (is-agreeing-agrees 2 S three-cells (computed .three-agree))
+
+abbrev c-stores : List Store
+c-stores = (1, used (at (bytes "b")) [] (without (name "c") (entries (("c", 2) ∷ []) ++ entries (("d", 3) ∷ [])))) ∷ (2, free) ∷ []
+
+c-takes : (C : Calls) → Merging C → Takes C three-file three-cells (bytes "c") (version-1 2) c-stores
+unfolding leads three-leads
+c-takes C D =
+    let c-legal = legal-name (bytes "c") (computed .c-legal) in
+    D .rule three-file three-cells (bytes "c") three-leads c-legal 1 (at (bytes "b")) (bytes "c") (entries (("c", 2) ∷ [])) 2 refl (computed .c-held)
+    .right (0 ∷ []) 2 [] (computed .three-order) refl (omega (arith, computed .c-few))
+
+not-unmerged : ¬ Merging never-merges
+not-unmerged D = let q : Removed 1 ≡ Removed 2 = sym (computed .one-only) ∙ c-takes never-merges D .made 2 (omega arith) (omega arith) in clash cc
+
+not-left-first : ¬ Merging left-first
+not-left-first D =
+    let ours = remove-of three-file three-cells (bytes "c") 2 .file in
+    let e : left-first .remove three-file three-cells (bytes "c") 2 .file ≡ ours = c-takes left-first D .file 2 (omega arith) ∙ sym (c-takes our-calls merging .file 2 (omega arith)) in
+    let q : left-merged ≡ right-merged = one-reading ours (rw e at (computed .left-instead)) (computed .right-first) in
+    clash cc
+
 -- A put that says stopped made the first of its stores, as many as it says.
 module _ (xs : List ℕ) (t : Trie) (name : List ℕ) (v run limit made : ℕ) where
   abbrev n : Str
@@ -437,6 +496,12 @@ strength = record {
   not-idle = not-idle;
   not-cut-first = not-cut-first;
   not-inner = not-inner;
+  removal-but-for = removal-but-for;
+  not-unmerged = not-unmerged;
+  not-left-first = not-left-first;
+  right-first = computed .right-first;
+  left-instead = computed .left-instead;
+  one-only = computed .one-only;
   stopped-after = first-stores;
   stopped-0 = computed .stopped-0;
   stopped-1 = computed .stopped-1;

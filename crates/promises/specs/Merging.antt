@@ -2,20 +2,22 @@
 use mathlib.Core.Path.{_≡_}
 use mathlib.Core.List.{List, [], _++_, _∷_}
 use Prim.Native.Nat.{_+_, _/_, _<_, _≤_, suc, ℕ}
-use lib.ListN.{length}
+use lib.ListN.{length, take}
+use Rattle.model.specs.declared.Layout.{Layout}
 use Rattle.model.specs.declared.RecoverAnswer.the-variants.{Freed}
 use Rattle.model.specs.declared.RemoveAnswer.the-variants.{Removed, Stopped as RemoveStopped}
 use Rattle.model.specs.declared.Trie.{Trie}
 use Rattle.model.specs.declared.TrieAnswer.the-variants.{Given}
 use mathlib.Core.Option.{some}
-use Rattle.model.specs.Order.{Low, Str, _⊑_, _◁_}
+use Rattle.model.specs.Order.{Low, Str}
 use Rattle.model.specs.Names.{filled}
 use Rattle.model.specs.Entries.{Entry, find, without}
-use Rattle.model.specs.Files.{Slot, Sound, free, order-of, slot-at, string-count, used}
-use Rattle.model.specs.Changes.{call, remove, stores}
+use Rattle.model.specs.Files.{Slot, free, order-of, slot-at, string-count, used}
+use Rattle.model.specs.Changes.{Store}
 use Rattle.model.specs.Format.{AreBytes, CutFile, SoundFile, store-bytes}
-use Rattle.model.specs.Calls.{RemoveDone, entries-in}
+use Rattle.model.specs.Calls.{RemoveDone, entries-in, stores-bytes}
 use Rattle.promises.specs.Calls.{Calls}
+use Rattle.promises.specs.Demand1.{LegalName}
 use Rattle.promises.specs.Demand2.{LeadsRight}
 
 -- The entries of a bucket and of its neighbour are counted with the name, which leaves one less than both have: at most b/2
@@ -32,17 +34,25 @@ module _ (b : ℕ) (fs : List Slot) (A : ℕ) (es : List Entry) where
     left-many : (Xs : List ℕ) (L : ℕ) (Ys : List ℕ) {k : Low} {s : Str} {ds : List Entry} → order-of fs ≡ Xs ++ (L ∷ A ∷ Ys) → slot-at fs L ≡ used k s ds
         → suc (b / 2) < length ds + length es → NotLeft
 
--- The stores of the removal of n, which the bucket A of a sound file holds. The rule of split keys says nothing here.
-pub record Rule (b : ℕ) (place : List Entry → ℕ) (fs : List Slot) (n : Str) (A : ℕ) (l : Low) (u : Str) (es : List Entry) : Type 0 where
-  -- With the right neighbour: the left slot takes everything in, without the name, then the right slot is freed.
-  pub right : (Xs : List ℕ) (R : ℕ) (Ys : List ℕ) {m : Low} {v : Str} {gs : List Entry} → order-of fs ≡ Xs ++ (A ∷ R ∷ Ys) → slot-at fs R ≡ used m v gs
-      → length es + length gs ≤ suc (b / 2) → call b place fs (remove n) ≡ stores ((A, used l v (without n (es ++ gs))) ∷ (R, free) ∷ [])
-  -- Only where that does not apply, the same with the left neighbour and the bucket.
-  pub left : NotRight b fs A es → (Xs : List ℕ) (L : ℕ) (Ys : List ℕ) {k : Low} {s : Str} {ds : List Entry} → order-of fs ≡ Xs ++ (L ∷ A ∷ Ys)
-      → slot-at fs L ≡ used k s ds → length ds + length es ≤ suc (b / 2)
-      → call b place fs (remove n) ≡ stores ((L, used k u (without n (ds ++ es))) ∷ (A, free) ∷ [])
-  -- Else one store, as before.
-  pub alone : NotRight b fs A es → NotLeft b fs A es → call b place fs (remove n) ≡ stores ((A, used l u (without n es)) ∷ [])
+module _ (C : Calls) (xs : List ℕ) (t : Trie) (name : List ℕ) (y : Layout) where
+  -- The removal takes the stores ss: it makes all of them where its limit allows that, else the first ones, and is stopped.
+  pub record Takes (ss : List Store) : Type 0 where
+    pub file : (limit : ℕ) → limit ≤ 2 → C .remove xs t name limit .file ≡ stores-bytes y (take limit ss) xs
+    pub made : (limit : ℕ) → limit ≤ 2 → length ss ≤ limit → C .remove xs t name limit .answer ≡ Removed (length ss)
+    pub stopped : (limit : ℕ) → limit ≤ 2 → limit < length ss → C .remove xs t name limit .answer ≡ RemoveStopped limit
+
+  -- The removal of a name that the bucket A holds.
+  pub record Rule (fs : List Slot) (A : ℕ) (l : Low) (u : Str) (es : List Entry) : Type 0 where
+    -- With the right neighbour: the left slot takes everything in, without the name, then the right slot is freed.
+    pub right : (Xs : List ℕ) (R : ℕ) (Ys : List ℕ) {m : Low} {v : Str} {gs : List Entry} → order-of fs ≡ Xs ++ (A ∷ R ∷ Ys)
+        → slot-at fs R ≡ used m v gs → length es + length gs ≤ suc (y .b / 2)
+        → Takes ((A, used l v (without (filled name) (es ++ gs))) ∷ (R, free) ∷ [])
+    -- Only where that does not apply, the same with the left neighbour and the bucket.
+    pub left : NotRight (y .b) fs A es → (Xs : List ℕ) (L : ℕ) (Ys : List ℕ) {k : Low} {s : Str} {ds : List Entry}
+        → order-of fs ≡ Xs ++ (L ∷ A ∷ Ys) → slot-at fs L ≡ used k s ds → length ds + length es ≤ suc (y .b / 2)
+        → Takes ((L, used k u (without (filled name) (ds ++ es))) ∷ (A, free) ∷ [])
+    -- Else one store, as before.
+    pub alone : NotRight (y .b) fs A es → NotLeft (y .b) fs A es → Takes ((A, used l u (without (filled name) es)) ∷ [])
 
 -- A removal without a merge: one store of a slot that keeps its range, and the trie that was given.
 pub record Alone (xs : List ℕ) (t : Trie) (n : Str) (d : RemoveDone) : Type 0 where
@@ -64,9 +74,9 @@ pub record Merging (C : Calls) : Type 0 where
   -- A cut file, whose bucket A may now have any number of entries, has one slot to free, and is not sound.
   pub one-cut : (xs : List ℕ) (M N : ℕ) → CutFile xs M → CutFile xs N → M ≡ N
   pub cut-not-sound : (xs : List ℕ) (N : ℕ) → CutFile xs N → ¬ SoundFile xs
-  -- Which stores a removal takes.
-  pub rule : (b : ℕ) (place : List Entry → ℕ) (fs : List Slot) → Sound b fs → (n : Str) (A : ℕ) (l : Low) (u : Str) (es : List Entry) (w : ℕ)
-      → slot-at fs A ≡ used l u es → l ◁ n → n ⊑ u → find n es ≡ some w → Rule b place fs n A l u es
+  -- With a trie that leads right: which stores the removal of a legal name takes that the bucket A holds.
+  pub rule : (xs : List ℕ) (t : Trie) (name : List ℕ) (T : LeadsRight xs t) → LegalName name → (A : ℕ) (l : Low) (u : Str) (es : List Entry) (w : ℕ)
+      → slot-at (T .file .slots) A ≡ used l u es → find (filled name) es ≡ some w → Rule C xs t name (T .file .layout) (T .file .slots) A l u es
   -- What a removal that was made leaves is sound, and its trie leads every name right;
   pub leads : (xs : List ℕ) (t : Trie) (name : List ℕ) (limit stores : ℕ) → AreBytes xs → limit ≤ 2 → C .remove xs t name limit .answer ≡ Removed stores
       → LeadsRight (C .remove xs t name limit .file) (C .remove xs t name limit .trie)

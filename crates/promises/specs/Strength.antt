@@ -9,18 +9,19 @@ use Rattle.model.specs.declared.Layout.{Layout}
 use Rattle.model.specs.declared.LookUpAnswer.the-variants.{Refused as LookUpRefused}
 use Rattle.model.specs.declared.PutAnswer.the-variants.{Added, Refused as PutRefused, Stopped as PutStopped}
 use Rattle.model.specs.declared.RecoverAnswer.the-variants.{Freed}
+use Rattle.model.specs.declared.RemoveAnswer.the-variants.{Removed}
 use Rattle.model.specs.declared.Side.the-variants.{Cell as further, Slot as slot}
 use Rattle.model.specs.declared.Trie.{Trie}
 use Rattle.model.specs.Order.{at, none}
 use Rattle.model.specs.Names.{filled}
 use Rattle.model.specs.Entries.{Entry, content-from}
 use Rattle.model.specs.Files.{Slot, free, used}
-use Rattle.model.specs.Changes.{Store, call, put, split-of, split-string, stores}
+use Rattle.model.specs.Changes.{Store, call, put, removal, split-of, split-string, stores}
 use Rattle.model.specs.Places.{place-of}
 use Rattle.model.specs.Checks.{is-bad}
 use Rattle.model.specs.Format.{check-file, file-bytes, kept-run, read-file, store-bytes, version-1}
 use Rattle.model.specs.Answers.{stale-trie}
-use Rattle.model.specs.Calls.{new-trie, put-of, recover-of, stores-bytes}
+use Rattle.model.specs.Calls.{new-trie, put-of, recover-of, remove-of, stores-bytes}
 use Rattle.promises.specs.Texts.{bytes}
 use Rattle.promises.specs.Growing.{of-cells}
 use Rattle.promises.specs.Situations.{a-cell, entries, i-file, names, rates-slots, rz-slots}
@@ -28,7 +29,8 @@ use Rattle.promises.specs.Calls.{Calls}
 use Rattle.promises.specs.Demand1.{Demand1}
 use Rattle.promises.specs.Demand2.{Demand2, LeadsRight}
 use Rattle.promises.specs.Demand3.{Demand3}
-use Rattle.promises.specs.WrongCalls.{IsRefused, OneResult, RefusesAll, both-at-once, cuts-first, idles, keeps-inner, make-put, miscounts, removes-nothing, stores-nothing}
+use Rattle.promises.specs.Merging.{Merging}
+use Rattle.promises.specs.WrongCalls.{IsRefused, OneResult, RefusesAll, both-at-once, cuts-first, idles, keeps-inner, left-first, make-put, make-remove, miscounts, never-merges, removes-nothing, stores-nothing}
 
 -- Files with b = 2 and two slots: new; with one full bucket; after the first store of a put of c, and after both.
 abbrev pub full-slot : Slot
@@ -74,6 +76,29 @@ one-turned =
     of-cells (a-cell "r" 0 (further 1) (slot 1) ∷ a-cell "a" 1 (further 2) (slot 1) ∷ a-cell "t" 2 (further 3) (slot 2)
     ∷ a-cell "e" 3 (further 4) (slot 1) ∷ a-cell "2" 4 (slot 0) (slot 1) ∷ [])
 
+-- R7.14, with b = 2: when c is removed, its bucket could merge with either neighbour.
+abbrev pub a-slot : Slot
+a-slot = used none (bytes "b") (entries (("a", 1) ∷ []))
+
+abbrev pub d-slot : Slot
+d-slot = used (at (bytes "c")) [] (entries (("d", 3) ∷ []))
+
+abbrev pub three-slots : List Slot
+three-slots = a-slot ∷ used (at (bytes "b")) (bytes "c") (entries (("c", 2) ∷ [])) ∷ d-slot ∷ []
+
+abbrev pub three-file : List ℕ
+three-file = file-bytes (version-1 2) three-slots
+
+abbrev pub three-cells : Trie
+three-cells = of-cells (a-cell "b" 0 (slot 0) (further 1) ∷ a-cell "c" 0 (slot 1) (slot 2) ∷ [])
+
+-- Merged with the right one, and with the left one.
+abbrev pub right-merged : List Slot
+right-merged = a-slot ∷ used (at (bytes "b")) [] (entries (("d", 3) ∷ [])) ∷ free ∷ []
+
+abbrev pub left-merged : List Slot
+left-merged = used none (bytes "c") (entries (("a", 1) ∷ [])) ∷ free ∷ d-slot ∷ []
+
 pub record Strength : Type 0 where
   -- The wrong versions of section 15 fail the demand that each is about. R15.1: no call refuses everything, whatever
   -- the others do.
@@ -100,6 +125,15 @@ pub record Strength : Type 0 where
   pub not-cut-first : ¬ Demand3 cuts-first
   -- R15.9, against demand 3.
   pub not-inner : ¬ Demand3 keeps-inner
+  -- The wrong removals are ours but for the stores that they take: with our stores, such a removal is ours.
+  pub removal-but-for : (xs : List ℕ) (t : Trie) (name : List ℕ) (limit : ℕ) → make-remove removal xs t name limit ≡ remove-of xs t name limit
+  -- R7.14, against the rule which stores a removal takes: one that never merges, and one that tries the left neighbour first. The bucket of
+  -- c could merge with either neighbour: ours merges it with the right one, the second with the left one, and the first with none.
+  pub not-unmerged : ¬ Merging never-merges
+  pub not-left-first : ¬ Merging left-first
+  pub right-first : read-file (remove-of three-file three-cells (bytes "c") 2 .file) ≡ some (version-1 2, right-merged)
+  pub left-instead : read-file (left-first .remove three-file three-cells (bytes "c") 2 .file) ≡ some (version-1 2, left-merged)
+  pub one-only : never-merges .remove three-file three-cells (bytes "c") 2 .answer ≡ Removed 1
   -- A put that says stopped made the first of its stores, as many as it says.
   pub stopped-after : (xs : List ℕ) (t : Trie) (name : List ℕ) (v run limit made : ℕ)
       → put-of xs t name v run limit .answer ≡ PutStopped made → StoppedAfter xs name v run made (put-of xs t name v run limit .file)

@@ -1,4 +1,4 @@
--- Wrong versions of the calls (section 15 of the rules): each is ours but for one thing.
+-- Wrong versions of the calls (section 15 of the rules, and two of R7.14): each is ours but for one thing.
 use mathlib.Core.Path.{_≡_}
 use mathlib.Core.Bool.{cond}
 use mathlib.Core.Option.{Option, none as nothing, some}
@@ -18,14 +18,14 @@ use Rattle.model.specs.declared.RemoveAnswer.{RemoveAnswer}
 use Rattle.model.specs.declared.RemoveAnswer.the-variants.{Absent as NotHeld, Refused as RemoveRefused, Removed, Stopped as RemoveStopped}
 use Rattle.model.specs.declared.Trie.{Trie}
 use Rattle.model.specs.declared.TrieAnswer.the-variants.{Refused as TrieRefused}
-use Rattle.model.specs.Order.{Str}
+use Rattle.model.specs.Order.{Low, Str}
 use Rattle.model.specs.Names.{filled, is-legal-name}
-use Rattle.model.specs.Entries.{content-from}
+use Rattle.model.specs.Entries.{Entry, content-from, find, without}
 use Rattle.model.specs.Files.{IsUsed, Slot, first, free, head, slot-at, upper-of, used}
-use Rattle.model.specs.Changes.{Result, Store, refuse, stores}
+use Rattle.model.specs.Changes.{Result, Store, holds?, left-of, merged-or, refuse, right-of, stores, stores-if}
 use Rattle.model.specs.Places.{place-of}
 use Rattle.model.specs.Format.{check-file, kept-run, layout-of, read-file, store-bytes}
-use Rattle.model.specs.Calls.{Looked, PutDone, RecoverDone, RemoveDone, create-of, fine, held, list-of, look-up-of, looked-of, put-answer, put-of, put-takes, rebuild-of, recover-of, refusal-of, refusing, remove-of, stores-bytes, trie-after-put}
+use Rattle.model.specs.Calls.{Looked, PutDone, RecoverDone, RemoveDone, create-of, fine, held, list-of, look-up-of, looked-of, put-answer, put-of, put-takes, rebuild-of, recover-of, refusal-of, refusing, remove-by-stores, remove-of, stores-bytes, trie-after-put}
 use Rattle.model.specs.Deciding.{str?}
 use Rattle.promises.specs.Calls.{Calls}
 use Rattle.promises.specs.Demand3.{put, remove}
@@ -148,3 +148,37 @@ inner-kept xs limit = let d = recover-of xs limit in free-outer xs d (d .answer)
 
 abbrev pub keeps-inner : Calls
 keeps-inner = instead inner-kept put-of remove-of
+
+-- Our remove, with another rule for its stores: taken has what `removal` has, b, the file's slots, the name and the bucket that holds it.
+module _ (taken : ℕ → List Slot → Str → ℕ → Low → Str → List Entry → List Store) where
+  unfoldable pub take-from : Layout → List Slot → Str → ℕ → Slot → Result
+  take-from y fs n A free = refuse 2
+  take-from y fs n A (used l u es) = let ss = taken (y .b) fs n A l u es in stores (stores-if (find n es) ss)
+
+  unfoldable pub take-looked : List ℕ → Trie → Str → ℕ → Looked → RemoveDone
+  take-looked xs t n limit (refusing c) = record { answer = RemoveRefused c; file = xs; trie = t }
+  take-looked xs t n limit (fine y fs) = let A = first (holds? n) fs in remove-by-stores xs t y fs limit (take-from y fs n A (slot-at fs A))
+
+  unfoldable pub make-remove : List ℕ → Trie → List ℕ → ℕ → RemoveDone
+  make-remove xs t name limit =
+      let d = take-looked xs t (filled name) limit (looked-of xs t) in
+      cond (ltb 2 limit) (record { answer = RemoveRefused WrongSize; file = xs; trie = t })
+      (cond (is-legal-name name) d (record { answer = RemoveRefused IllegalName; file = xs; trie = t }))
+
+-- R7.14: a removal that never merges,
+unfoldable pub unmerged : ℕ → List Slot → Str → ℕ → Low → Str → List Entry → List Store
+unmerged b fs n A l u es = (A, used l u (without n es)) ∷ []
+
+abbrev pub never-merges : Calls
+never-merges = instead recover-of put-of (make-remove unmerged)
+
+-- and one that tries the left neighbour first, and only else the right one.
+unfoldable pub left-then-right : ℕ → List Slot → Str → ℕ → Low → Str → List Entry → List Store
+left-then-right b fs n A l u es =
+    let L = left-of l fs in
+    let R = right-of u fs in
+    let ss = merged-or b n A (used l u es) R (slot-at fs R) ((A, used l u (without n es)) ∷ []) in
+    merged-or b n L (slot-at fs L) A (used l u es) ss
+
+abbrev pub left-first : Calls
+left-first = instead recover-of put-of (make-remove left-then-right)
