@@ -25,7 +25,7 @@ crash: python
 # The static library for C, Rust and whoever links it, in target/staticlib. The crates below it are checked first, because
 # `rt check` proves side by side what `rt staticlib` would prove one after the other.
 library:
-	@rt check changing reading whole image
+	@rt check putting removing reading whole
 	@rt staticlib capi
 
 # The same as a shared library, in the Python package, and the package's extensions, where Python's headers are.
