@@ -1,20 +1,20 @@
 -- Put into a full bucket: what refuses the split, and its two stores.
-use Rattle.model.proofs.Prelude.{List, Option, [], _+_, _-_, _<_, _∙_, _≡_, _≤_, ap, ap₂, arith, clash, decLe, decLt, le-ltb, length, lt-ltb, some, subst, suc, sym, take, ℕ}
+use Rattle.model.proofs.Prelude.{List, Option, [], _+_, _-_, _<_, _∙_, _≡_, _≤_, ap, ap₂, arith, clash, cond, decLt, le-leb, le-ltb, leb, length, lt-leb, lt-ltb, ltb, some, subst, suc, sym, take, ℕ}
 use Rattle.model.specs.declared.Cause.the-variants.{ManyStrings, NoFreeSlot}
 use Rattle.model.specs.declared.Layout.{Layout}
 use Rattle.model.specs.declared.PutAnswer.the-variants.{Added, Refused}
 use Rattle.model.specs.declared.Trie.{Trie}
 use Rattle.model.specs.Order.{Low, Str, _⊑_, _◁_, diff}
 use Rattle.model.specs.Names.{Legal}
-use Rattle.model.specs.Entries.{Entry, Row, chosen, find, insert, name-at}
-use Rattle.model.specs.Files.{In, Slot, Sound, entries-of, first, head, slot-at, string-count, strings-of, used}
+use Rattle.model.specs.Entries.{Entry, Row, find, insert, name-at}
+use Rattle.model.specs.Files.{In, Slot, Sound, entries-of, first, head, is-free, is-in-range, slot-at, string-count, strings-of, used}
 use Rattle.model.specs.Tries.{Agrees, root, walk-trie}
 use Rattle.model.specs.Growth.{grown-trie}
-use Rattle.model.specs.Changes.{Lowest, Store, call, free?, halves, holds?, put as asked, put-in, refuse, split-of, stored, stores}
+use Rattle.model.specs.Changes.{Lowest, Store, call, halves, put as asked, put-in, refuse, split-of, stored, stores}
 use Rattle.model.specs.Format.{bytes-at-slot, header-of, read-file}
 use Rattle.model.specs.Calls.{put-answer, refusal-of, trie-after-put}
 use Rattle.model.specs.Places.{place-of}
-use Rattle.model.proofs.Entries.{chosen-no, chosen-yes, row-at, row-insert}
+use Rattle.model.proofs.Entries.{row-at, row-insert}
 use Rattle.model.proofs.Files.{well-parts}
 use Rattle.model.proofs.Format.{headed-header-of, read-file-read}
 use Rattle.model.proofs.Calls.{free-lowest}
@@ -110,7 +110,7 @@ module _ (y : Layout) (two : 2 ≤ y .b) (few : y .b ≤ 16) (xs : List ℕ) {fs
       let at-slot : ReadAs y slot l u es = subst (λ (z : List ℕ). ReadAs y z l u es) (sym here) at-a in
       let x = new-slot-is row-all y two length-all D slot row at-slot (F .row-is) new new-is in
       let z = old-slot-is row-all y two length-all D slot row at-slot (F .row-is) old old-is in
-      let a : r .answer ≡ put-answer (find n (entries-of (slot-at fs (first (holds? n) fs)))) = rw (← F .home .slot-is, F .home .is, F .new) (g .1) in
+      let a : r .answer ≡ put-answer (find n (entries-of (slot-at fs (first (is-in-range n) fs)))) = rw (← F .home .slot-is, F .home .is, F .new) (g .1) in
       (rw (g .0) (q .0, (q .1, rw (q .2) x), (q .3, rw (q .4) z)), a, rw (F .home .is) (g .2))
 
   -- The split key is a name of A's range, and its walk over a trie that agrees ends.
@@ -143,19 +143,19 @@ module _ (y : Layout) (two : 2 ≤ y .b) (few : y .b ≤ 16) (xs : List ℕ) {fs
 
   -- What is asked of a full bucket.
   abbrev N : ℕ
-  N = first free? fs
+  N = first is-free fs
 
   abbrev both : List Store
   both = halves (y .b) (place-of y) N A l u ws
 
-  call-split : call (y .b) (place-of y) fs (asked n v) ≡ chosen (decLt N (length fs)) (chosen (decLe (string-count (stored both fs)) 256) (stores both) (refuse 6)) (refuse 5)
+  call-split : call (y .b) (place-of y) fs (asked n v) ≡ cond (ltb N (length fs)) (cond (leb (string-count (stored both fs)) 256) (stores both) (refuse 6)) (refuse 5)
   unfolding call put-in
-  call-split = rw (← F .home .slot-is, F .home .is) (chosen-no (decLe (length ws) (y .b)) (λ h. omega (arith, h, length-all)) _ _)
+  call-split = rw (← F .home .slot-is, F .home .is) (rw (lt-leb (length ws) (y .b) (omega (arith, length-all))))
 
   pub no-room : (r : PutPlan) (p : Plan) → length fs ≤ N → NoStore p → (r .plan ≡ p) × (r .answer ≡ Refused NoFreeSlot) × (r .trie ≡ t) → PutAsked r t y fs n v
   unfolding refusal-of
   no-room r p h q g =
-      let i : call (y .b) (place-of y) fs (asked n v) ≡ refuse 5 = call-split ∙ chosen-no (decLt N (length fs)) (λ k. omega (arith, h, k)) _ _ in
+      let i : call (y .b) (place-of y) fs (asked n v) ≡ refuse 5 = call-split ∙ rw (le-ltb N (length fs) h) in
       subst (PutPlanned r t y fs n v) (sym i) (rw (g .0) (q .0), g .1, g .2)
 
   pub too-many : (r : PutPlan) (p : Plan) → N < length fs → 256 < string-count (stored both fs) → NoStore p
@@ -163,27 +163,27 @@ module _ (y : Layout) (two : 2 ≤ y .b) (few : y .b ≤ 16) (xs : List ℕ) {fs
   unfolding refusal-of
   too-many r p h k q g =
       let i : call (y .b) (place-of y) fs (asked n v) ≡ refuse 6 =
-      call-split ∙ chosen-yes (decLt N (length fs)) h _ _ ∙ chosen-no (decLe (string-count (stored both fs)) 256) (λ i. omega (arith, i, k)) _ _ in
+      call-split ∙ rw (lt-ltb N (length fs) h, lt-leb (string-count (stored both fs)) 256 k) in
       subst (PutPlanned r t y fs n v) (sym i) (rw (g .0) (q .0), g .1, g .2)
 
   pub both-made : N < length fs → string-count (stored both fs) ≤ 256 → call (y .b) (place-of y) fs (asked n v) ≡ stores both
-  both-made h k = call-split ∙ chosen-yes (decLt N (length fs)) h _ _ ∙ chosen-yes (decLe (string-count (stored both fs)) 256) k _ _
+  both-made h k = call-split ∙ rw (lt-ltb N (length fs) h, le-leb (string-count (stored both fs)) 256 k)
 
 -- The room that was found.
-room-full : (fs : List Slot) → room-of fs ≡ NoRoom → length fs ≤ first free? fs
+room-full : (fs : List Slot) → room-of fs ≡ NoRoom → length fs ≤ first is-free fs
 unfolding room-of
-room-full fs e = elim (decLt (first free? fs) (length fs)) [
+room-full fs e = elim (decLt (first is-free fs) (length fs)) [
   | no h ↦ omega arith
-  | yes h ↦ let q : _≡_ {A = Room} (At (first free? fs)) NoRoom = rw (lt-ltb (first free? fs) (length fs) h) at e in
+  | yes h ↦ let q : _≡_ {A = Room} (At (first is-free fs)) NoRoom = rw (lt-ltb (first is-free fs) (length fs) h) at e in
       clash cc
 ]
 
-room-at : (fs : List Slot) (k : ℕ) → room-of fs ≡ At k → (k ≡ first free? fs) × (first free? fs < length fs)
+room-at : (fs : List Slot) (k : ℕ) → room-of fs ≡ At k → (k ≡ first is-free fs) × (first is-free fs < length fs)
 unfolding room-of
-room-at fs k e = elim (decLt (first free? fs) (length fs)) [
-  | yes h ↦ let q : _≡_ {A = Room} (At (first free? fs)) (At k) = rw (lt-ltb (first free? fs) (length fs) h) at e in
-      let p : k ≡ first free? fs = cc in (p, h)
-  | no h ↦ let q : _≡_ {A = Room} NoRoom (At k) = rw (le-ltb (first free? fs) (length fs) (omega arith)) at e in
+room-at fs k e = elim (decLt (first is-free fs) (length fs)) [
+  | yes h ↦ let q : _≡_ {A = Room} (At (first is-free fs)) (At k) = rw (lt-ltb (first is-free fs) (length fs) h) at e in
+      let p : k ≡ first is-free fs = cc in (p, h)
+  | no h ↦ let q : _≡_ {A = Room} NoRoom (At k) = rw (le-ltb (first is-free fs) (length fs) (omega arith)) at e in
       clash cc
 ]
 
@@ -225,12 +225,12 @@ module _ {c : Checked} {xs : List ℕ} {t : Trie} (G : Agreed c xs t) (A : ℕ) 
             let S = known G e .sound in
             f l u (insert n v es) (row-all (c .size .layout) (two G) (few G) xs e S t F) (length-all (c .size .layout) (two G) (few G) xs e S t F) (F .row-is)
 
-        found : (N ≡ first free? fs) × (first free? fs < length fs)
+        found : (N ≡ first is-free fs) × (first is-free fs < length fs)
         found = room-at fs N (sym (lowest G R e) ∙ q)
 
-        counted : string-count (stored (halves (c .size .layout .b) (place-of (c .size .layout)) (first free? fs) A l u (insert n v es)) fs) ≡ t .count + (s .len - s .shared)
+        counted : string-count (stored (halves (c .size .layout .b) (place-of (c .size .layout)) (first is-free fs) A l u (insert n v es)) fs) ≡ t .count + (s .len - s .shared)
         counted =
-            count-after (c .size .layout) (two G) (few G) xs e (known G e .sound) t F (known G e .agrees) divides (first free? fs) (free-lowest fs (found .1))
+            count-after (c .size .layout) (two G) (few G) xs e (known G e .sound) t F (known G e .agrees) divides (first is-free fs) (free-lowest fs (found .1))
 
       pub many-told : {p : Plan} → 256 + s .shared < t .count + s .len → NoStore p → (r .plan ≡ p) × (r .answer ≡ Refused ManyStrings) × (r .trie ≡ t)
           → SplitTold r xs t (c .size) A row

@@ -5,11 +5,11 @@ use Rattle.model.specs.Order.{Low, Str}
 use Rattle.model.specs.declared.PutAnswer.the-variants.{Replaced}
 use Rattle.model.specs.Entries.{Entry, content-from, find, insert, is-older, run-of-content}
 use Rattle.model.specs.Files.{In, Slot, Sound, free, head, order-of, slot-at, used}
-use Rattle.model.specs.Changes.{call, holds?, put as asked, refuse}
+use Rattle.model.specs.Changes.{call, put as asked, refuse}
 use Rattle.model.specs.Calls.{held, put-answer, put-takes}
 use Rattle.model.specs.Places.{place-of}
 use Rattle.model.specs.Format.{Sizes, bytes-at-slot, kept-run, read-file}
-use Rattle.model.proofs.Files.{first-right, one-range, used-inside, well-parts}
+use Rattle.model.proofs.Files.{found-in, one-range, used-inside, well-parts}
 use Rattle.model.proofs.Format.{put-fits, read-slot-read-file}
 use Rattle.entries.specs.declared.Content.{Content}
 use Rattle.entries.specs.Rows.{content-number}
@@ -66,7 +66,7 @@ home-right {b} {fs} S k n h = go (slot-at fs k) refl h
   where
     go : (x : Slot) → slot-at fs k ≡ x → In (head x) n → (l : Low) × (u : Str) × (es : List Entry) × Home k fs n l u es
     go free f p = absurd (p .0)
-    go (used l u es) f p = (l, u, es, record { slot-is = one-range b S n h (first-right (holds? n) fs k h (λ z. z .0)); is = f; above = p .1; within = p .2 })
+    go (used l u es) f p = (l, u, es, record { slot-is = one-range b S n h (found-in n fs k h); is = f; above = p .1; within = p .2 })
 
 -- Whether a name is held, by its spot.
 module _ {s : Spot} {n : Str} {es : List Entry} (P : SpotIn s n es) where
