@@ -1,8 +1,7 @@
 -- A tree that fits the arrays: its shapes and leaves are the arrays', and a tree with the strings that they hold fits them.
 use Rattle.model.proofs.Prelude.{List, List·getD-append, [], _++_, _+_, _-_, _<_, _∙_, _∷_, _≡_, _≤_, add-zero, ap, ap₂, arith, getD, getD-append-add, getD-at, getD-take, length, length-append, length-take-le, refl, suc, sym, take, zero, zero-add, ℕ}
-use Rattle.model.specs.Order.{Str}
+use Rattle.model.specs.Order.{Str, last-digit}
 use Rattle.model.specs.Tries.{NumbersFit, Tree, cell, leaf, leaves, node, size, strings}
-use Rattle.model.specs.Rebuilding.{last-digit}
 use Rattle.model.proofs.Shapes.{shapes}
 use Rattle.model.proofs.Tries.{cell-length}
 use Rattle.trie.specs.declared.Strings.{Strings}

@@ -1,6 +1,6 @@
 -- The places of the cells that have met their strings, and the stack of those that have not.
-use Rattle.model.proofs.Prelude.{List, List·getD-append, [], _++_, _+_, _-_, _<_, _∙_, _∷_, _≡_, _≤_, add-one, arith, decLt, getD, getD-append-seam, getD-replicate, getD-set-other, getD-set-same, length, length-append, length-replicate, length-set, refl, replicate, set, suc, sym, zero, ℕ, ℕ-discrete}
-use Rattle.model.specs.Tries.{occ, one-if}
+use Rattle.model.proofs.Prelude.{Bool, List, List·getD-append, [], _++_, _+_, _-_, _<_, _∙_, _∷_, _≡_, _≤_, add-one, arith, cond, decLt, eqb, eqb-true, false, getD, getD-append-seam, getD-replicate, getD-set-other, getD-set-same, length, length-append, length-replicate, length-set, refl, replicate, set, suc, sym, true, zero, ℕ, ℕ-discrete}
+use Rattle.model.specs.Tries.{occ}
 use Rattle.model.proofs.Cells.{occ-append, one-if-equal}
 use Rattle.agreement.specs.declared.Frame.{Frame}
 
@@ -12,15 +12,15 @@ pub record Stands (k : ℕ) (vs : List ℕ) : Type 0 where
 
 occ-stands : (k : ℕ) (vs : List ℕ) → 0 < occ k vs → Stands k vs
 occ-stands k [] h = absurd (omega arith)
-occ-stands k (v ∷ vs) h = go (ℕ-discrete k v) h (occ-stands k vs)
+occ-stands k (v ∷ vs) h = go (eqb k v) refl h (occ-stands k vs)
   where
-    go : (d : Dec (k ≡ v)) → 0 < one-if d + occ k vs → (0 < occ k vs → Stands k vs) → Stands k (v ∷ vs)
-    go (yes e) h f = record { place = 0; inside = omega arith; is = sym e }
-    go (no e) h f = let r = f (omega arith) in record { place = suc (r .place); inside = omega (arith, r .inside); is = r .is }
+    go : (t : Bool) → eqb k v ≡ t → 0 < cond t 1 0 + occ k vs → (0 < occ k vs → Stands k vs) → Stands k (v ∷ vs)
+    go true e h f = record { place = 0; inside = omega arith; is = sym (eqb-true k v e) }
+    go false e h f = let r = f (omega arith) in record { place = suc (r .place); inside = omega (arith, r .inside); is = r .is }
 
 stands-occ : (vs : List ℕ) (j : ℕ) → j < length vs → 0 < occ (getD vs j 0) vs
 stands-occ [] j h = absurd (omega arith)
-stands-occ (v ∷ vs) zero h = omega (arith, one-if-equal refl (ℕ-discrete v v))
+stands-occ (v ∷ vs) zero h = omega (arith, one-if-equal v v refl)
 stands-occ (v ∷ vs) (suc j) h = omega (arith, stands-occ vs j (omega arith))
 
 -- The array has, under each number of the list, its place there, and 256 under each other number.
@@ -51,7 +51,7 @@ module _ {seen places : List ℕ} (M : Marks seen places) (k : ℕ) where
     where
       unseen : (i : ℕ) → i < 256 → occ i (seen ++ (k ∷ [])) ≡ 0 → getD (set places k d) i 0 ≡ 256
       unseen i l z =
-          getD-set-other places k i d 0 (λ q. omega (arith, occ-append i seen (k ∷ []), one-if-equal q (ℕ-discrete i k)))
+          getD-set-other places k i d 0 (λ q. omega (arith, occ-append i seen (k ∷ []), one-if-equal i k q))
           ∙ M .unseen i l (omega (arith, occ-append i seen (k ∷ [])))
 
       place : (j : ℕ) → j < length (seen ++ (k ∷ [])) → Dec (j < length seen) → getD (set places k d) (getD (seen ++ (k ∷ [])) j 0) 0 ≡ j

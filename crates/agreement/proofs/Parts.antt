@@ -1,5 +1,5 @@
 -- The pass and trees: a pass reads each side as a tree that fits the strings, and over such a tree there is a pass.
-use Rattle.model.proofs.Prelude.{List, [], _++_, _+_, _<_, _∙_, _∷_, _≡_, _≤_, add-one, append-assoc, append-nil, arith, getD, length, length-append, refl, suc, ℕ, ℕ-discrete}
+use Rattle.model.proofs.Prelude.{List, [], _++_, _+_, _<_, _∙_, _∷_, _≡_, _≤_, add-one, append-assoc, append-nil, arith, getD, length, length-append, refl, suc, ℕ}
 use Rattle.model.specs.declared.Cell.{Cell}
 use Rattle.model.specs.declared.Side.{Side}
 use Rattle.model.specs.declared.Side.the-variants.{Cell as further, Slot as slot}
@@ -143,7 +143,7 @@ module _ (cs : List Cell) (s : Strings) (live : List Cell) (live-is : length liv
       let all-is : seen ++ (vs ++ (k ∷ ws)) ≡ ((seen ++ vs) ++ (k ∷ [])) ++ ws = simp append-assoc in
       let o′ : (i : ℕ) → occ i (((seen ++ vs) ++ (k ∷ [])) ++ ws) ≤ 1 = rw all-is at o in
       let once : (i : ℕ) → occ i (seen ++ vs) ≤ 1 = λ i. omega (arith, o′ i, occ-append i ((seen ++ vs) ++ (k ∷ [])) ws, occ-append i (seen ++ vs) (k ∷ [])) in
-      let new : occ k (seen ++ vs) ≡ 0 = omega (arith, o′ k, occ-append k ((seen ++ vs) ++ (k ∷ [])) ws, occ-append k (seen ++ vs) (k ∷ []), one-if-equal refl (ℕ-discrete k k)) in
+      let new : occ k (seen ++ vs) ≡ 0 = omega (arith, o′ k, occ-append k ((seen ++ vs) ++ (k ∷ [])) ws, occ-append k (seen ++ vs) (k ∷ []), one-if-equal k k refl) in
       let n₀ : c .number ≤ len = rw q at (n .0) in
       let n₁ : Numbered (suc (c .number)) L = rw q at (n .1) in
       let l₀ : least ≤ c .number = rw q at (l .0) in

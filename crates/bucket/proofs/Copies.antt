@@ -1,16 +1,14 @@
 -- What the code tests of two slots tells whether the first is a copy of the upper part of the second.
-use Rattle.model.proofs.Prelude.{Bool, List, _&&_, _*_, _+_, _-_, _∙_, _≡_, _≤_, ap, ap₂, arith, clash, drop, false, leb, length, length-drop, length-take-le, ltb, sym, take, take-all, true, ℕ}
+use Rattle.model.proofs.Prelude.{Bool, List, _&&_, _*_, _+_, _-_, _∙_, _≡_, _≤_, ap, ap₂, arith, clash, drop, false, leb, length, length-drop, length-take-le, ltb, not, sym, take, take-all, true, ℕ}
 use Rattle.model.specs.declared.Layout.{Layout}
 use Rattle.model.specs.Order.{Low, Str, _◁_, at}
+use Rattle.model.specs.Tests.{is-at-most, is-legal-bound, is-legal-low}
 use Rattle.model.specs.Entries.{Entry, Row, move}
 use Rattle.model.specs.Files.{Copied}
-use Rattle.model.specs.Checks.{is-legal-low}
 use Rattle.model.specs.Format.{AreBytes, entry-length, read-entries}
-use Rattle.model.specs.Names.{is-legal-bound}
-use Rattle.model.specs.Deciding.{le?, not?}
+use Rattle.model.proofs.Tests.{never-both}
 use Rattle.model.proofs.Entries.{row-keep}
 use Rattle.model.proofs.Format.{Contents, bytes-drop, bytes-take, contents-read-slot, entry-size}
-use Rattle.model.proofs.Names.{never-both}
 use Rattle.digits.specs.Keys.{continued, low-value, value}
 use Rattle.digits.proofs.Bounds.{lower-below, lower-some}
 use Rattle.entries.specs.Rows.{are-among, entries-from, is-not-above, values}
@@ -65,7 +63,7 @@ module _ (e n m : ℕ) (new old : List ℕ) {ns es : List Entry} (least : 24 ≤
 
 -- The entries that move are a row, and their contents have room.
 row-moved : {l : Low} {v : Str} {es : List Entry} → Row l es v → (low : Str) → Row l (move low es) v
-row-moved {l} {v} A low = row-keep (λ x. not? (le? x low)) l v A (λ x p c d. (c, d))
+row-moved {l} {v} A low = row-keep (λ x. not (is-at-most x low)) l v A (λ x p c d. (c, d))
 
 contents-moved : (e : ℕ) {l : Low} {v : Str} {es : List Entry} → Row l es v → (low : Str) → is-legal-bound low ≡ true → Contents e es → Contents e (move low es)
 contents-moved e {es = es} A low h w = rw (moved low h A .0) at (contents-drop e (is-not-above (value (continued low)) (numbers es)) es w)

@@ -1,17 +1,18 @@
 -- A slot of any layout: its parts as they are read, and that the code's tests of a used slot hold exactly of the slots that were written and
 -- are well formed.
 use Rattle.model.proofs.Prelude.{Bool, List, [], _&&_, _*_, _++_, _+_, _-_, _<_, _∙_, _∷_, _≡_, _≤_, ap, append-assoc, ap₂, arith, clash, cond, drop, drop-at, drop-drop, false, getD, le-leb, le-ltb, leb-true, length, length-append, length-drop, length-take-le, ltb, ltb-true, nothing, refl, replicate, some, sym, take, take-add, take-append-drop, take-at, true, ℕ}
-use Rattle.model.specs.Checks.{is-above, is-legal-low, is-row, is-well-formed, same-str}
+use Rattle.model.specs.Checks.{is-row, is-well-formed}
 use Rattle.model.specs.Entries.{Entry}
 use Rattle.model.specs.Files.{Slot, used}
 use Rattle.model.specs.Format.{bytes-of-entries, bytes-of-entry, bytes-of-slot, digits-of-low, entry-length, little-endian, low-of, padded, read-entries, read-used-slot, used-of}
-use Rattle.model.specs.Names.{is-at-most, is-legal-bound, is-legal-filled}
 use Rattle.model.specs.Order.{Low, Str, at}
 use Rattle.model.specs.declared.Layout.{Layout}
-use Rattle.model.proofs.Checks.{Wells, is-above-above, is-row-row, same-str-equal, same-str-self, wells}
+use Rattle.model.specs.Tests.{is-above, is-at-most, is-legal-bound, is-legal-filled, is-legal-low, same-str}
+use Rattle.model.proofs.Tests.{both-true, is-above-above, same-str-equal, same-str-self}
+use Rattle.model.proofs.Checks.{Wells, is-row-row, wells}
 use Rattle.model.proofs.Format.{bytes-drop, bytes-each, entry-size, length-bytes-of-entries, length-little-endian, length-padded, low-of-digits-of-low, padded-front, padded-short}
 use Rattle.model.proofs.Lists.{drop-past}
-use Rattle.model.proofs.Names.{both-true, is-legal-bound-bound, is-legal-filled-legal, legal-length}
+use Rattle.model.proofs.Names.{is-legal-bound-bound, is-legal-filled-legal, legal-length}
 use Rattle.digits.proofs.Bounds.{low-above, low-legal, name-high, name-legal, name-low, name-value}
 use Rattle.digits.specs.Keys.{continued, is-all-zero, key-value, low-value, value}
 use Rattle.entries.proofs.Lists.{bytes-entries, length-read-entries}

@@ -1,11 +1,12 @@
 -- Bounds in their 24 bytes, and zeros.
 use Rattle.model.proofs.Prelude.{Bool, List, [], _&&_, _++_, _+_, _-_, _∙_, _∷_, _≡_, _≤_, ap, ap₂, arith, drop, drop-at, drop-drop, eqb, eqb-true, getD, le-leb, leb, leb-true, length, length-drop, length-take-le, refl, replicate, suc, sym, take, take-append-drop, take-at, take-take, true, zero, ℕ}
 use Rattle.model.specs.Format.{digits-of-low, low-of, padded}
-use Rattle.model.specs.Names.{is-legal-bound}
 use Rattle.model.specs.Order.{Low, Str}
+use Rattle.model.specs.Tests.{is-legal-bound}
+use Rattle.model.proofs.Tests.{both-true}
 use Rattle.model.proofs.Format.{padded-short}
 use Rattle.model.proofs.Lists.{drop-take}
-use Rattle.model.proofs.Names.{both-true, is-legal-bound-bound}
+use Rattle.model.proofs.Names.{is-legal-bound-bound}
 use Rattle.digits.specs.Keys.{is-all-zero}
 
 unfoldable pub is-a-bound : ℕ → List ℕ → Bool

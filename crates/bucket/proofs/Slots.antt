@@ -1,13 +1,15 @@
 -- A slot of any layout as it is read: free, or used and well formed, with its range and its entries.
 use Rattle.model.proofs.Prelude.{Bool, List, [], _&&_, _*_, _++_, _+_, _-_, _∙_, _∷_, _≡_, _≤_, ap, ap₂, arith, clash, cond, drop, eqb, false, getD, length, length-drop, lt-ltb, ne-eqb, not, nothing, refl, replicate, some, suc, sym, take, true, zero, ℕ}
-use Rattle.model.specs.Checks.{is-above, is-legal-low, is-well-formed, same-str}
+use Rattle.model.specs.Checks.{is-well-formed}
 use Rattle.model.specs.Entries.{Entry, Row}
 use Rattle.model.specs.Files.{IsUsed, Slot, Well, entries-of, free, head, lower-of, upper-of, used}
 use Rattle.model.specs.Format.{bytes-of-entries, bytes-of-slot, digits-of-low, entry-length, low-of, padded, read-entries, read-slot, read-used-slot, slot-size, used-of}
-use Rattle.model.specs.Names.{broken, is-at-most, is-legal-bound}
+use Rattle.model.specs.Names.{broken}
 use Rattle.model.specs.Order.{Low, Str, diff}
 use Rattle.model.specs.declared.Layout.{Layout}
-use Rattle.model.proofs.Checks.{is-well-formed-well, same-str-equal, well-is-well-formed, wells}
+use Rattle.model.specs.Tests.{is-above, is-at-most, is-legal-bound, is-legal-low, same-str}
+use Rattle.model.proofs.Tests.{same-str-equal}
+use Rattle.model.proofs.Checks.{is-well-formed-well, well-is-well-formed, wells}
 use Rattle.model.proofs.Files.{well-parts}
 use Rattle.model.proofs.Format.{Contents, bytes-of-slot-read-slot, entries-read, entry-size, length-bytes-of-entries, length-bytes-of-slot, padded-short}
 use Rattle.digits.specs.Keys.{continued, is-all-zero, low-value, value}

@@ -1,6 +1,5 @@
 -- What the answers of the crates below say, once it is known which answer was given.
 use Rattle.model.proofs.Prelude.{List, _≡_, false, subst, ℕ}
-use Rattle.model.specs.Names.{is-legal-name}
 use Rattle.digits.specs.declared.Key.{Key}
 use Rattle.digits.specs.declared.Naming.{Naming}
 use Rattle.digits.specs.declared.Naming.the-variants.{Illegal, Legal}
@@ -11,6 +10,7 @@ use Rattle.checking.specs.declared.Verdict.the-variants.{Fine, Refused}
 use Rattle.model.specs.declared.Cause.{Cause}
 use Rattle.checking.specs.Ready.{Agreed, AgreedWhere, Passed}
 use Rattle.model.specs.declared.Trie.{Trie}
+use Rattle.model.specs.Tests.{is-legal-name}
 use Rattle.model.specs.Calls.{looked-of, refusing}
 
 -- checks whose verdict is fine found a file and a trie that agree, and others the cause

@@ -4,9 +4,8 @@ use Rattle.model.specs.declared.Layout.{Layout}
 use Rattle.model.specs.Order.{Low, Str}
 use Rattle.model.specs.Entries.{Entry}
 use Rattle.model.specs.Files.{In, Slot, Sound, free, head, order-of, slot-at, used}
-use Rattle.model.specs.Changes.{holds?}
 use Rattle.model.specs.Format.{bytes-at-slot, read-file}
-use Rattle.model.proofs.Files.{first-right, one-range, used-inside}
+use Rattle.model.proofs.Files.{first-right, found-in, one-range, used-inside}
 use Rattle.model.proofs.Format.{read-slot-read-file}
 use Rattle.bucket.specs.Forms.{ReadAs}
 use Rattle.file.specs.Holders.{Holder, Ordered}
@@ -54,4 +53,4 @@ home-right {b} {fs} S k n h = go (slot-at fs k) refl h
   where
     go : (x : Slot) → slot-at fs k ≡ x → In (head x) n → (l : Low) × (u : Str) × (es : List Entry) × Home k fs n l u es
     go free f p = absurd (p .0)
-    go (used l u es) f p = (l, u, es, record { slot-is = one-range b S n h (first-right (holds? n) fs k h (λ z. z .0)); is = f; above = p .1; within = p .2 })
+    go (used l u es) f p = (l, u, es, record { slot-is = one-range b S n h (found-in n fs k h); is = f; above = p .1; within = p .2 })

@@ -5,14 +5,13 @@ use mathlib.Core.List.{List}
 use Prim.Native.Nat.{_<_, ℕ}
 use Rattle.model.specs.Order.{Low, Str, _⊑_, _◁_}
 use Rattle.model.specs.Entries.{Entry}
-use Rattle.model.specs.Files.{Slot, first, slot-at, used}
-use Rattle.model.specs.Changes.{holds?}
+use Rattle.model.specs.Files.{Slot, first, is-in-range, slot-at, used}
 use Rattle.model.specs.Format.{read-file}
 use Rattle.file.specs.declared.Size.{Size}
 
 -- Slot A holds the name n in its range, with these bounds and entries.
 pub record Home (A : ℕ) (fs : List Slot) (n : Str) (l : Low) (u : Str) (es : List Entry) : Type 0 where
-  pub slot-is : A ≡ first (holds? n) fs
+  pub slot-is : A ≡ first (is-in-range n) fs
   pub is : slot-at fs A ≡ used l u es
   pub above : l ◁ n
   pub within : n ⊑ u

@@ -1,10 +1,10 @@
 -- Limits and names as numbers, in the order of the model.
 use Rattle.model.proofs.Prelude.{List, [], _<_, _∙_, _∷_, _≡_, ap, arith, clash, false, getD, le-ltb, leb, length, lt-ltb, ltb, not, refl, suc, sym, take, take-all, true, zero, ℕ}
-use Rattle.model.specs.Checks.{is-above, is-legal-low}
 use Rattle.model.specs.Format.{digits-of-low, low-of}
-use Rattle.model.specs.Names.{Digits, Legal, are-digits, is-at-most, is-legal-bound, is-legal-filled}
+use Rattle.model.specs.Names.{Digits, Legal}
 use Rattle.model.specs.Order.{Low, Str, _◁_, at, none}
-use Rattle.model.proofs.Checks.{above-is-above, is-above-above}
+use Rattle.model.specs.Tests.{are-digits, is-above, is-at-most, is-legal-bound, is-legal-filled, is-legal-low}
+use Rattle.model.proofs.Tests.{above-is-above, is-above-above}
 use Rattle.model.proofs.Names.{bound-is-legal-bound, is-legal-bound-bound, is-legal-filled-legal, legal-bound, legal-is-legal-filled, legal-length}
 use Rattle.digits.proofs.Keys.{Under, bound-below, continued-whole, digits-under, name-is-at-most, under-bytes, value-same, value-some}
 use Rattle.digits.specs.Keys.{continued, low-value, value}

@@ -1,11 +1,12 @@
 -- Strings as numbers: a number's parts, and the one order.
 use Rattle.model.proofs.Prelude.{List, [], _%_, _&&_, _*_, _++_, _+_, _-_, _<_, _^_, _∙_, _∷_, _≡_, _≤_, add-mul, and-assoc, ap, arith, cond, decLe, decLt, drop, drop-drop, eq-eqb, eqb, eqb-true, false, getD, le-leb, le-ltb, leb, length, length-append, length-drop, length-take, lt-leb, lt-ltb, ltb, mul-assoc, mul-le-mul-right, ne-eqb, not, one-le-pow, pow-suc, refl, replicate, sub-zero, suc, suc-mul, sym, take, take-add, take-at, take-take, true, unary-clauses, zero, zero-add, zero-mul, ℕ, ℕ-discrete}
+use Rattle.model.specs.Tests.{is-at-most}
 use lib.Pow.{pow-add}
-use Rattle.model.specs.Names.{Digits, is-at-most}
+use Rattle.model.specs.Names.{Digits}
 use Rattle.model.specs.Format.{AreBytes}
 use Rattle.model.proofs.Lists.{drop-take, length-made}
 use Rattle.model.proofs.Order.{le-antisym, le-refl}
-use Rattle.model.proofs.Names.{both-true, is-at-most-le, le-is-at-most}
+use Rattle.model.proofs.Tests.{both-true, is-at-most-le, le-is-at-most}
 use Rattle.model.proofs.Format.{bytes-drop, bytes-each, bytes-made, bytes-take}
 use Rattle.digits.proofs.Laws.{pair-lt}
 use Rattle.digits.specs.Keys.{continued, is-all-zero, value}

@@ -1,7 +1,8 @@
 -- What one turn of each loop does to the definition that its function meets.
-use Rattle.model.proofs.Prelude.{Bool, List, [], _&&_, _*_, _++_, _+_, _<_, _^_, _∙_, _∷_, _≡_, _≤_, _⊎_, add-one, and-false, and-true, append-nil, arith, decLt, drop, drop-cons, drop-of-length-le, eq-eqb, eqb, false, getD, le-leb, le-ltb, leb, length, length-take, lt-leb, lt-ltb, ltb, mul-le-mul-right, ne-eqb, not, paste-suc, refl, replicate, set, suc, suc-mul, sym, take, take-all, take-append-le, take-nil, true, zero-add, ℕ, ℕ-discrete, ⊎-elim}
-use Rattle.model.specs.Names.{are-digits, filled, first-digit, is-blank-digit, is-legal-bound, is-legal-filled, is-legal-name, last-of, not-greater, within}
-use Rattle.model.specs.Order.{diff, diff-at}
+use Rattle.model.proofs.Prelude.{Bool, List, [], _&&_, _*_, _++_, _+_, _<_, _^_, _∙_, _∷_, _≡_, _≤_, _⊎_, add-one, and-false, and-true, append-nil, arith, cond, decLt, drop, drop-cons, drop-of-length-le, eq-eqb, eqb, eqb-true, false, getD, le-leb, le-ltb, leb, length, length-take, lt-leb, lt-ltb, ltb, mul-le-mul-right, ne-eqb, not, paste-suc, refl, replicate, set, suc, suc-mul, sym, take, take-all, take-append-le, take-nil, true, zero-add, ℕ, ℕ-discrete, ⊎-elim}
+use Rattle.model.specs.Names.{filled, not-greater, within}
+use Rattle.model.specs.Order.{diff, first-digit, last-digit}
+use Rattle.model.specs.Tests.{are-digits, is-blank-digit, is-legal-bound, is-legal-filled, is-legal-name}
 use Rattle.model.proofs.Lists.{drop-replicate}
 use Rattle.model.proofs.Order.{diff-apart}
 use Rattle.model.proofs.Names.{filled-short, no-blank}
@@ -63,12 +64,12 @@ within-shared : (n p : List ℕ) → within n p ≡ within (drop (diff n p) n) (
 unfolding within not-greater
 within-shared [] p = refl
 within-shared (a ∷ n) [] = refl
-within-shared (a ∷ n) (b ∷ p) = go (ℕ-discrete a b) (within-shared n p)
+within-shared (a ∷ n) (b ∷ p) = go (eqb a b) refl (within-shared n p)
   where
-    go : (d : Dec (a ≡ b)) → within n p ≡ within (drop (diff n p) n) (drop (diff n p) p)
-        → within (a ∷ n) (b ∷ p) ≡ within (drop (diff-at d (diff n p)) (a ∷ n)) (drop (diff-at d (diff n p)) (b ∷ p))
-    go (yes e) r = rw (le-ltb a b (omega arith), eq-eqb a b e) r
-    go (no m) r = refl
+    go : (t : Bool) → eqb a b ≡ t → within n p ≡ within (drop (diff n p) n) (drop (diff n p) p)
+        → within (a ∷ n) (b ∷ p) ≡ within (drop (cond t (suc (diff n p)) 0) (a ∷ n)) (drop (cond t (suc (diff n p)) 0) (b ∷ p))
+    go true e r = rw (le-ltb a b (omega (arith, eqb-true a b e)), e) r
+    go false m r = refl
 
 -- So the first difference decides.
 module _ (n p : List ℕ) (i : ℕ) (e : i ≡ diff n p) where
@@ -93,18 +94,10 @@ module _ (n p : List ℕ) (i : ℕ) (e : i ≡ diff n p) where
 -- What two strings share, from i on.
 module _ (x y : List ℕ) (i : ℕ) where
   pub diff-differ : i < length x → i < length y → (getD x i 0 ≡ getD y i 0 → ⊥) → diff (drop i x) (drop i y) ≡ 0
-  diff-differ hx hy n = rw (drop-cons x i 0 hx, drop-cons y i 0 hy) (go (ℕ-discrete (getD x i 0) (getD y i 0)))
-    where
-      go : (d : Dec (getD x i 0 ≡ getD y i 0)) → diff-at d (diff (drop (suc i) x) (drop (suc i) y)) ≡ 0
-      go (yes e) = absurd (n e)
-      go (no m) = refl
+  diff-differ hx hy n = rw (drop-cons x i 0 hx, drop-cons y i 0 hy, ne-eqb (getD x i 0) (getD y i 0) n)
 
   pub diff-same : i < length x → i < length y → getD x i 0 ≡ getD y i 0 → i + diff (drop i x) (drop i y) ≡ i + 1 + diff (drop (i + 1) x) (drop (i + 1) y)
-  diff-same hx hy e = rw (add-one, drop-cons x i 0 hx, drop-cons y i 0 hy) (go (ℕ-discrete (getD x i 0) (getD y i 0)))
-    where
-      go : (d : Dec (getD x i 0 ≡ getD y i 0)) → i + diff-at d (diff (drop (suc i) x) (drop (suc i) y)) ≡ suc i + diff (drop (suc i) x) (drop (suc i) y)
-      go (yes f) = omega arith
-      go (no m) = absurd (m e)
+  diff-same hx hy e = rw (add-one, drop-cons x i 0 hx, drop-cons y i 0 hy, eq-eqb (getD x i 0) (getD y i 0) e) (omega arith)
 
   pub diff-short : length y ≤ i → diff (drop i x) (drop i y) ≡ 0
   diff-short h = rw (drop-of-length-le y h) (go (drop i x))
@@ -204,14 +197,14 @@ pub blank-first : (n : List ℕ) → first-digit n ≡ 0x20 → is-legal-name n 
 unfolding is-legal-name
 blank-first n e = rw (eq-eqb (first-digit n) 0x20 e, and-false (leb 1 (length n) && leb (length n) 24 && are-digits 0x20 n))
 
-pub blank-last : (n : List ℕ) → last-of n ≡ 0x20 → is-legal-name n ≡ false
+pub blank-last : (n : List ℕ) → last-digit n ≡ 0x20 → is-legal-name n ≡ false
 unfolding is-legal-name
-blank-last n e = rw (eq-eqb (last-of n) 0x20 e) (and-false (leb 1 (length n) && leb (length n) 24 && are-digits 0x20 n && not (is-blank-digit (first-digit n))))
+blank-last n e = rw (eq-eqb (last-digit n) 0x20 e) (and-false (leb 1 (length n) && leb (length n) 24 && are-digits 0x20 n && not (is-blank-digit (first-digit n))))
 
-pub legal-name : (n : List ℕ) → 1 ≤ length n → length n ≤ 24 → (first-digit n ≡ 0x20 → ⊥) → (last-of n ≡ 0x20 → ⊥) → is-legal-name n ≡ are-digits 0x20 n
+pub legal-name : (n : List ℕ) → 1 ≤ length n → length n ≤ 24 → (first-digit n ≡ 0x20 → ⊥) → (last-digit n ≡ 0x20 → ⊥) → is-legal-name n ≡ are-digits 0x20 n
 unfolding is-legal-name
 legal-name n h k f l =
-    rw (le-leb 1 (length n) h, le-leb (length n) 24 k, no-blank (first-digit n) f, no-blank (last-of n) l, and-true (are-digits 0x20 n)) (and-true (are-digits 0x20 n))
+    rw (le-leb 1 (length n) h, le-leb (length n) 24 k, no-blank (first-digit n) f, no-blank (last-digit n) l, and-true (are-digits 0x20 n)) (and-true (are-digits 0x20 n))
 
 -- 24 bytes are a filled name where the first is no blank and all are digits.
 pub filled-name : (s : List ℕ) → (first-digit s ≡ 0x20 → ⊥) → length s ≡ 24 → is-legal-filled s ≡ are-digits 0x20 s

@@ -5,8 +5,8 @@ use mathlib.Core.Path.{_≡_}
 use Prim.Native.Nat.{_*_, _+_, _^_, ℕ}
 use lib.Dec.{eqb}
 use lib.ListN.{length, replicate, take}
-use Rattle.model.specs.Names.{is-legal-name}
 use Rattle.model.specs.Order.{Low, at, none}
+use Rattle.model.specs.Tests.{is-legal-name}
 use Rattle.digits.specs.declared.Key.{Key}
 use Rattle.digits.specs.declared.Naming.{Naming}
 use Rattle.digits.specs.declared.Naming.the-variants.{Illegal, Legal}

@@ -11,6 +11,7 @@ ghost use lib.Dec.{eqb, leb, ltb};
 ghost use lib.ListN.{drop, length, take};
 ghost use Rattle.model.specs.Format.{AreBytes, value-of};
 ghost use Rattle.model.specs.Names as names;
+ghost use Rattle.model.specs.Tests as tests;
 ghost use Rattle.model.specs.Order.{Str, diff};
 ghost use Rattle.digits.specs.Words.{Word};
 ghost use Rattle.digits.specs.Keys.{NamingTold, continued, is-all-zero, key-value, value};
@@ -281,7 +282,7 @@ fn fault(x: u8) -> u8
 
 // Whether each byte is a digit.
 fn are_digits(s: &[u8]) -> bool
-    ensures { λ r. ⌜ r ≡ names.are-digits 0x20 (now (s .entry)) ⌝ }
+    ensures { λ r. ⌜ r ≡ tests.are-digits 0x20 (now (s .entry)) ⌝ }
 {
     let mut most = 0u8;
     let mut i = 0;
@@ -335,7 +336,7 @@ pub fn filled(name: &[u8]) -> [u8; 24]
 pub fn is_bound(s: &[u8], len: usize) -> bool
     requires { ⌜ length (now s) ≡ 24 ⌝ }
     ensures { λ r.
-        ⌜ r ≡ (leb len 24 && names.is-legal-bound (take len (now (s .entry))) && is-all-zero (drop len (now (s .entry)))) ⌝ }
+        ⌜ r ≡ (leb len 24 && tests.is-legal-bound (take len (now (s .entry))) && is-all-zero (drop len (now (s .entry)))) ⌝ }
 {
     if 24 < len {
         return false;

@@ -1,7 +1,7 @@
 -- One step of the walk over two rows of entries of e bytes.
 use Rattle.model.proofs.Prelude.{Bool, List, [], _&&_, _*_, _+_, _-_, _<_, _∙_, _∷_, _≡_, _≤_, ap, arith, cond, decLt, drop, drop-drop, eq-eqb, eqb, false, le-ltb, lt-ltb, ltb, ne-eqb, refl, sub-zero, suc, sym, take, true, ℕ, ℕ-discrete}
+use Rattle.model.specs.Tests.{same-str}
 use native.Mathlib.Nat.{mul-zero}
-use Rattle.model.specs.Checks.{same-str}
 use Rattle.entries.specs.Rows.{are-among, pieces}
 
 pub pieces-start : (e : ℕ) (xs : List ℕ) (count : ℕ) → pieces e count xs ≡ pieces e (count - 0) (drop (e * 0) xs)

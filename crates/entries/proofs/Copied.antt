@@ -5,13 +5,13 @@ use Rattle.model.specs.Files.{Copied, exactly, one-more}
 use Rattle.model.specs.Format.{AreBytes, bytes-of-entry, little-endian, read-entries, value-of}
 use Rattle.model.specs.Names.{Legal}
 use Rattle.model.specs.Order.{Low, Str, at}
-use Rattle.model.specs.Deciding.{over, str?}
-use Rattle.model.proofs.Checks.{both-join, same-str-other, same-str-self}
+use Rattle.model.proofs.Deciding.{over, str?}
 use Rattle.model.proofs.Format.{Contents, bytes-drop, bytes-take, little-endian-value-of, value-of-little-endian}
-use Rattle.model.proofs.Names.{both-true, legal-length}
+use Rattle.model.proofs.Names.{legal-length}
 use Rattle.model.proofs.Order.{le-refl}
+use Rattle.model.proofs.Tests.{both-join, both-true, equal-same-str, same-str-other, same-str-self}
 use Rattle.entries.specs.Rows.{are-among, pieces}
-use Rattle.entries.proofs.Copies.{among-self, same-yes, without-head, without-tail}
+use Rattle.entries.proofs.Copies.{among-self, without-head, without-tail}
 
 -- The bytes of each entry.
 abbrev pub each : ℕ → List Entry → List (List ℕ)
@@ -63,7 +63,7 @@ module _ (z : ℕ) where
   among-same no-entries (entry g a c r) p q t h = absurd (omega arith)
   among-same (entry {e = e} {es = es} g a c r) (entry {e = n} {es = ns} g′ a′ c′ r′) p q t h = elim (str? (bytes-of-entry z e) (bytes-of-entry z n)) [
     | yes s ↦ ap₂ (λ (x : Entry) (xs : List Entry). x ∷ xs) (same-both e n g g′ (p .0) (q .0) s)
-        (among-same r r′ (p .1) (q .1) (rw (same-yes (bytes-of-entry z e) (bytes-of-entry z n) s) at t) (omega arith))
+        (among-same r r′ (p .1) (q .1) (rw (equal-same-str (bytes-of-entry z e) (bytes-of-entry z n) s) at t) (omega arith))
     | no s ↦ let i = among-same (entry g a c r) r′ p (q .1) (rw (same-str-other (bytes-of-entry z e) (bytes-of-entry z n) s) at t) (omega arith) in
         absurd (omega (arith, ap length i))
   ]
@@ -76,7 +76,7 @@ module _ (z : ℕ) where
   among-one no-entries (entry {u = v} {e = n} g a c no-entries) p q t h = (0, omega arith, without-head {u = v} n no-entries)
   among-one no-entries (entry g a c (entry g′ a′ c′ r)) p q t h = absurd (omega arith)
   among-one (entry {e = e} {es = es} g a c r) (entry {e = n} {es = ns} g′ a′ c′ r′) p q t h = elim (str? (bytes-of-entry z e) (bytes-of-entry z n)) [
-    | yes s ↦ let i = among-one r r′ (p .1) (q .1) (rw (same-yes (bytes-of-entry z e) (bytes-of-entry z n) s) at t) (omega arith) in
+    | yes s ↦ let i = among-one r r′ (p .1) (q .1) (rw (equal-same-str (bytes-of-entry z e) (bytes-of-entry z n) s) at t) (omega arith) in
         (suc (i .0), omega (arith, i .1), without-tail n r′ (i .0) (i .1) ∙ ap₂ (λ (x : Entry) (xs : List Entry). x ∷ xs) (sym (same-both e n g g′ (p .0) (q .0) s)) (i .2))
     | no s ↦ let i = among-same (entry g a c r) r′ p (q .1) (rw (same-str-other (bytes-of-entry z e) (bytes-of-entry z n) s) at t) (omega arith) in
         (0, omega arith, without-head n r′ ∙ sym i)

@@ -1,5 +1,5 @@
 -- Bytes and lists of entries: what is read, what is written, the place of a name, and a splice as an insertion or a removal.
-use Rattle.model.proofs.Prelude.{List, Option, [], _*_, _++_, _+_, _-_, _<_, _^_, _∙_, _∷_, _≡_, _≤_, ap, ap₂, append-assoc, arith, decLt, drop, drop-append-le, drop-at, drop-drop, eq-eqb, getD, length, length-append, length-drop, length-take-le, ne-eqb, nothing, refl, replicate, some, sub-zero, suc, sym, take, take-add, take-all, take-append-drop, take-append-le, take-at, zero, ℕ}
+use Rattle.model.proofs.Prelude.{List, Option, [], _*_, _++_, _+_, _-_, _<_, _^_, _∙_, _∷_, _≡_, _≤_, ap, append-assoc, ap₂, arith, decLt, drop, drop-append-le, drop-at, drop-drop, eq-eqb, getD, length, length-append, length-drop, length-take-le, ne-eqb, nothing, refl, replicate, some, sub-zero, suc, sym, take, take-add, take-all, take-append-drop, take-append-le, take-at, zero, ℕ}
 use native.Mathlib.Nat.{mul-zero}
 use Rattle.model.specs.Calls.{between}
 use Rattle.model.specs.Entries.{Entry, Row, find, insert, name-at, without}

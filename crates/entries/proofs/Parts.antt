@@ -4,10 +4,11 @@ use mathlib.Core.Bool.{or-true}
 use Rattle.model.specs.Entries.{Entry, Row, entry, find, insert, keep, no-entries, without}
 use Rattle.model.specs.Names.{Legal}
 use Rattle.model.specs.Order.{Low, Str}
-use Rattle.model.specs.Deciding.{le?, not?, over, str?}
-use Rattle.model.proofs.Entries.{chosen-no, chosen-yes, keep-all}
-use Rattle.model.proofs.Names.{le-is-at-most, lt-is-at-most}
+use Rattle.model.specs.Tests.{same-str}
+use Rattle.model.proofs.Deciding.{le?, over, str?}
+use Rattle.model.proofs.Entries.{keep-all}
 use Rattle.model.proofs.Order.{le-refl}
+use Rattle.model.proofs.Tests.{equal-same-str, le-is-at-most, lt-is-at-most, same-str-other}
 use Rattle.digits.proofs.Bounds.{names-over}
 use Rattle.digits.specs.Keys.{value}
 use Rattle.entries.specs.Rows.{below, place}
@@ -19,9 +20,9 @@ unfolding below place
 below-row n no-entries g = refl
 below-row n (entry {e = e} {es = es} f a c r) g = elim (le? n (e .0)) [
   | yes p ↦ let t : ltb (value (e .0)) (value n) ≡ false = names-over (e .0) n f g ∙ ap not (le-is-at-most n (e .0) p) in
-      rw (below-row n r g, place-first n r p, t, chosen-yes (le? n (e .0)) p)
+      rw (below-row n r g, place-first n r p, t, le-is-at-most n (e .0) p)
   | no p ↦ let t : ltb (value (e .0)) (value n) ≡ true = names-over (e .0) n f g ∙ ap not (lt-is-at-most n (e .0) p) in
-      rw (below-row n r g, t, chosen-no (le? n (e .0)) p, or-true (ltb 0 (place n es)))
+      rw (below-row n r g, t, lt-is-at-most n (e .0) p, or-true (ltb 0 (place n es)))
 ]
 
 -- A row in which the k entries from a place on are replaced by others.
@@ -36,12 +37,12 @@ pub insert-new : {l : Low} {u : Str} {es : List Entry} (n : Str) (c : ℕ) → R
 unfolding place insert find
 insert-new n c no-entries h = refl
 insert-new n c (entry {e = e} {es = es} g a b r) h = elim (le? n (e .0)) [
-  | no q ↦ rw (chosen-no (le? n (e .0)) q, chosen-no (le? n (e .0)) q)
+  | no q ↦ rw (lt-is-at-most n (e .0) q)
       (ap (λ (x : List Entry). e ∷ x) (insert-new n c r (find-behind n e es q ∙ h)) ∙ sym (parted-behind e es (place n es) 0 ((n, c) ∷ [])))
   | yes q ↦ elim (str? n (e .0)) [
-    | yes p ↦ let z : _≡_ {A = Option ℕ} nothing (some (e .1)) = sym h ∙ chosen-yes (str? n (e .0)) p _ _ in
+    | yes p ↦ let z : _≡_ {A = Option ℕ} nothing (some (e .1)) = sym (rw (equal-same-str n (e .0) p) at h) in
         clash cc
-    | no p ↦ rw (chosen-yes (le? n (e .0)) q, chosen-yes (le? n (e .0)) q, chosen-no (str? n (e .0)) p)
+    | no p ↦ rw (le-is-at-most n (e .0) q, same-str-other n (e .0) p)
   ]
 ]
 
@@ -50,9 +51,9 @@ pub insert-held : {l : Low} {u : Str} {es : List Entry} (n : Str) (c o : ℕ) �
 unfolding place insert find
 insert-held n c o no-entries h = clash cc
 insert-held n c o (entry {e = e} {es = es} g a b r) h = elim (le? n (e .0)) [
-  | no q ↦ rw (chosen-no (le? n (e .0)) q, chosen-no (le? n (e .0)) q)
+  | no q ↦ rw (lt-is-at-most n (e .0) q)
       (ap (λ (x : List Entry). e ∷ x) (insert-held n c o r (find-behind n e es q ∙ h)) ∙ sym (parted-behind e es (place n es) 1 ((n, c) ∷ [])))
-  | yes q ↦ rw (chosen-yes (le? n (e .0)) q, chosen-yes (le? n (e .0)) q, chosen-yes (str? n (e .0)) (find-first n e r q h))
+  | yes q ↦ rw (le-is-at-most n (e .0) q, equal-same-str n (e .0) (find-first n e r q h))
 ]
 
 pub without-held : {l : Low} {u : Str} {es : List Entry} (n : Str) (o : ℕ) → Row l es u → find n es ≡ some o
@@ -60,9 +61,9 @@ pub without-held : {l : Low} {u : Str} {es : List Entry} (n : Str) (o : ℕ) →
 unfolding place keep find
 without-held n o no-entries h = clash cc
 without-held n o (entry {e = e} {es = es} g a b r) h = elim (le? n (e .0)) [
-  | no q ↦ rw (chosen-no (le? n (e .0)) q, chosen-yes (not? (str? (e .0) n)) (λ p. q (rw p (le-refl n))))
+  | no q ↦ rw (lt-is-at-most n (e .0) q, same-str-other (e .0) n (λ p. q (rw p (le-refl n))))
       (ap (λ (x : List Entry). e ∷ x) (without-held n o r (find-behind n e es q ∙ h)) ∙ sym (parted-behind e es (place n es) 1 []))
-  | yes q ↦ rw (chosen-yes (le? n (e .0)) q, chosen-no (not? (str? (e .0) n)) (λ f. f (sym (find-first n e r q h))), keep-all (λ k. not? (str? k n)) r (λ k c d. over c (rw d q)))
+  | yes q ↦ rw (le-is-at-most n (e .0) q, equal-same-str (e .0) n (sym (find-first n e r q h)), keep-all (λ k. not (same-str k n)) r (λ k c. ap not (same-str-other k n (λ d. over c (rw d q)))))
 ]
 
 -- How many entries there are after an insertion.
@@ -70,11 +71,11 @@ pub length-new : (n : Str) (v : ℕ) (es : List Entry) → find n es ≡ nothing
 unfolding insert find
 length-new n v [] h = refl
 length-new n v (e ∷ es) h = elim (str? n (e .0)) [
-  | yes p ↦ let z : _≡_ {A = Option ℕ} nothing (some (e .1)) = sym h ∙ chosen-yes (str? n (e .0)) p _ _ in
+  | yes p ↦ let z : _≡_ {A = Option ℕ} nothing (some (e .1)) = sym (rw (equal-same-str n (e .0) p) at h) in
       clash cc
   | no p ↦ elim (le? n (e .0)) [
-    | yes q ↦ rw (chosen-yes (le? n (e .0)) q, chosen-no (str? n (e .0)) p)
-    | no q ↦ rw (chosen-no (le? n (e .0)) q) (ap suc (length-new n v es (sym (chosen-no (str? n (e .0)) p _ _) ∙ h)))
+    | yes q ↦ rw (le-is-at-most n (e .0) q, same-str-other n (e .0) p)
+    | no q ↦ rw (lt-is-at-most n (e .0) q) (ap suc (length-new n v es (rw (same-str-other n (e .0) p) at h)))
   ]
 ]
 
@@ -82,6 +83,6 @@ pub length-held : {l : Low} {u : Str} {es : List Entry} (n : Str) (v w : ℕ) �
 unfolding insert find
 length-held n v w no-entries h = clash cc
 length-held n v w (entry {e = e} {es = es} g a c r) h = elim (le? n (e .0)) [
-  | no q ↦ rw (chosen-no (le? n (e .0)) q) (ap suc (length-held n v w r (find-behind n e es q ∙ h)))
-  | yes q ↦ rw (chosen-yes (le? n (e .0)) q, chosen-yes (str? n (e .0)) (find-first n e r q h))
+  | no q ↦ rw (lt-is-at-most n (e .0) q) (ap suc (length-held n v w r (find-behind n e es q ∙ h)))
+  | yes q ↦ rw (le-is-at-most n (e .0) q, equal-same-str n (e .0) (find-first n e r q h))
 ]

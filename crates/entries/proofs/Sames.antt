@@ -1,8 +1,8 @@
 -- Two parts of bytes are the same where the parts of these are; words that are the same number are the same bytes.
 use Rattle.model.proofs.Prelude.{Bool, List, [], _&&_, _++_, _+_, _-_, _<_, _∙_, _∷_, _≡_, _≤_, and-assoc, ap, ap₂, arith, drop, drop-drop, eq-eqb, eqb, false, getD, length, ne-eqb, refl, sym, take, take-add, true, ℕ, ℕ-discrete}
-use Rattle.model.specs.Checks.{same-str}
+use Rattle.model.specs.Tests.{same-str}
 use Rattle.model.specs.Format.{AreBytes}
-use Rattle.model.proofs.Checks.{same-str-other, same-str-self}
+use Rattle.model.proofs.Tests.{same-str-other, same-str-self}
 use Rattle.model.proofs.Format.{EntrySize}
 use Rattle.digits.proofs.Keys.{bytes-part, length-part, value-same}
 use Rattle.digits.specs.Keys.{value}

@@ -1,9 +1,9 @@
 -- What the code counts and finds in entries of e bytes, entry by entry: going down for a name and for a string, and which rows of names pass.
 use Rattle.model.proofs.Prelude.{Bool, List, [], _&&_, _*_, _++_, _+_, _-_, _<_, _∙_, _∷_, _≡_, _≤_, and-false, ap, arith, drop, drop-drop, eqb, false, le-ltb, length, lt-ltb, ltb, ltb-true, not, nothing, refl, some, suc, take, true, zero, ℕ}
+use Rattle.model.specs.Tests.{is-legal-filled}
 use native.Mathlib.Nat.{mul-zero}
 use Rattle.model.specs.Format.{value-of}
-use Rattle.model.specs.Names.{is-legal-filled}
-use Rattle.model.proofs.Names.{both-true}
+use Rattle.model.proofs.Tests.{both-true}
 use Rattle.digits.specs.Keys.{value}
 use Rattle.gathering.specs.Names.{Rising, last-value, names}
 use Rattle.entries.specs.Rows.{are-entries, below, held-at, is-not-above, values}

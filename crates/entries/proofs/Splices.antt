@@ -1,5 +1,5 @@
 -- The copies of which the code makes a splice.
-use Rattle.model.proofs.Prelude.{List, [], _*_, _++_, _+_, _-_, _∙_, _≡_, _≤_, ap₂, append-assoc, arith, drop, length, length-append, length-drop, length-take-le, paste, refl, replicate, sym, take, ℕ}
+use Rattle.model.proofs.Prelude.{List, [], _*_, _++_, _+_, _-_, _∙_, _≡_, _≤_, append-assoc, ap₂, arith, drop, length, length-append, length-drop, length-take-le, paste, refl, replicate, sym, take, ℕ}
 use Rattle.model.specs.Format.{padded}
 use Rattle.entries.specs.Rows.{room, spliced-bytes}
 use Rattle.entries.proofs.Padding.{copied, zeros-padded}

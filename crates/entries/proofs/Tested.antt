@@ -1,10 +1,10 @@
 -- The code's test of the names is the model's: the entries that are read are a row of the range.
 use Rattle.model.proofs.Prelude.{Bool, List, _&&_, _<_, _∙_, _≡_, _≤_, and-false, ap, arith, drop, false, le-ltb, leb, leb-false, leb-true, lt-ltb, ltb, ltb-true, refl, suc, sym, take, true, zero, ℕ}
-use Rattle.model.specs.Checks.{is-above, is-legal-low, is-row}
+use Rattle.model.specs.Checks.{is-row}
 use Rattle.model.specs.Entries.{Entry, Row}
 use Rattle.model.specs.Format.{read-entries}
-use Rattle.model.specs.Names.{is-at-most, is-legal-bound, is-legal-filled}
 use Rattle.model.specs.Order.{Low, Str, at}
+use Rattle.model.specs.Tests.{is-above, is-at-most, is-legal-bound, is-legal-filled, is-legal-low}
 use Rattle.model.proofs.Checks.{row-is-row}
 use Rattle.digits.proofs.Bounds.{name-high, name-legal, name-low, name-value}
 use Rattle.digits.specs.Keys.{continued, low-value, value}

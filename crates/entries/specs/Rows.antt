@@ -7,12 +7,10 @@ use mathlib.Core.Path.{_≡_}
 use Prim.Native.Nat.{_*_, _+_, _-_, _<_, _^_, _≤_, suc, zero, ℕ}
 use lib.Dec.{eqb, ltb}
 use lib.ListN.{drop, take}
-use Rattle.model.specs.Checks.{same-str}
-use Rattle.model.specs.Entries.{Entry, chosen, content-from}
+use Rattle.model.specs.Entries.{Entry, content-from}
 use Rattle.model.specs.Format.{value-of}
-use Rattle.model.specs.Names.{is-legal-filled}
 use Rattle.model.specs.Order.{Str}
-use Rattle.model.specs.Deciding.{le?}
+use Rattle.model.specs.Tests.{is-at-most, is-legal-filled, same-str}
 use Rattle.digits.specs.Keys.{value}
 use Rattle.entries.specs.declared.Content.{Content}
 use Rattle.entries.specs.declared.Held.{Held}
@@ -53,7 +51,7 @@ Valued Absent = Unit {0}
 -- The place of a name: how many entries are below it.
 unfoldable pub place : Str → List Entry → ℕ
 place n [] = 0
-place n (e ∷ es) = chosen (le? n (e .0)) 0 (suc (place n es))
+place n (e ∷ es) = cond (is-at-most n (e .0)) 0 (suc (place n es))
 
 -- The numbers of the first names.
 unfoldable pub values : ℕ → ℕ → List ℕ → List ℕ

@@ -9,7 +9,7 @@ ghost use Prim.Native.Nat.{_≤_, _<_, _+_, _-_, _*_, _^_};
 ghost use lib.Dec.{leb, ltb};
 ghost use lib.ListN.{drop, length, take};
 ghost use lib.Seq.{paste};
-ghost use Rattle.model.specs.Checks.{same-str};
+ghost use Rattle.model.specs.Tests.{same-str};
 ghost use Rattle.model.specs.Format.{bytes-of-entry, little-endian, padded, value-of};
 ghost use Rattle.model.proofs.Format.{EntrySize};
 ghost use Rattle.digits.specs.Keys.{key-value};

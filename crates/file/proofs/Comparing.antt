@@ -2,12 +2,13 @@
 use Rattle.model.proofs.Prelude.{Bool, List, _&&_, _-_, _<_, _||_, _∙_, _≡_, _≤_, _⊎_, ap, arith, clash, eqb, eqb-false, eqb-true, false, getD, inl, inr, le-leb, lt-ltb, ltb, ltb-false, ltb-true, not, not-true, refl, some, sym, true, ℕ}
 use Rattle.model.specs.declared.Layout.{Layout}
 use Rattle.model.specs.Order.{Low, Str, _≺_, _⊑_, _⊴_, at, below, least, none}
-use Rattle.model.specs.Names.{Bound, BoundLow, is-at-most, limit, unlimited}
-use Rattle.model.specs.Checks.{is-above, is-legal-low}
+use Rattle.model.specs.Tests.{is-above, is-at-most, is-legal-low}
+use Rattle.model.specs.Names.{Bound, BoundLow, limit, unlimited}
 use Rattle.model.specs.Entries.{Entry}
 use Rattle.model.specs.Files.{IsUsed, Slot, Well, entries-of, head, lower-of, slot-at, upper-of, used}
 use Rattle.model.specs.Format.{bytes-at-slot, read-slot}
-use Rattle.model.proofs.Names.{bound-is-legal-bound, is-at-most-le, is-at-most-lt}
+use Rattle.model.proofs.Tests.{is-at-most-le, is-at-most-lt}
+use Rattle.model.proofs.Names.{bound-is-legal-bound}
 use Rattle.model.proofs.Files.{well-parts}
 use Rattle.digits.specs.Keys.{continued, low-value, value}
 use Rattle.digits.proofs.Keys.{bound-below, bound-is-at-most, bound-same, digits-under}

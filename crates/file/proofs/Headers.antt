@@ -2,12 +2,11 @@
 use Rattle.model.proofs.Prelude.{Bool, List, Option, [], _%_, _&&_, _*_, _++_, _+_, _-_, _/_, _<_, _∙_, _∷_, _≡_, _≤_, ap, arith, drop, eq-eqb, eqb, eqb-true, false, getD, length, length-replicate, length-take-le, nothing, refl, replicate, replicate-append-replicate, set, some, suc, suc-mul, sym, take, take-all, take-suc-set, true, zero, zero-mul, ℕ}
 use Rattle.model.specs.Order.{none}
 use Rattle.model.specs.Files.{created, free, used}
-use Rattle.model.specs.Checks.{same-str}
 use Rattle.model.specs.declared.Layout.{Layout}
+use Rattle.model.specs.Tests.{same-str}
 use Rattle.model.specs.Format.{Sizes, are-legal-sizes, bytes-of-entries, bytes-of-slot, digits-of-low, entry-length, file-bytes, file-size, header-bytes, header-of, layout-of, padded, slot-size, slots-bytes}
+use Rattle.model.proofs.Tests.{both-join, never-both, same-str-equal, same-str-other, same-str-self}
 use Rattle.model.proofs.Lists.{at-taken, take-replicate}
-use Rattle.model.proofs.Names.{never-both}
-use Rattle.model.proofs.Checks.{both-join, same-str-equal, same-str-other, same-str-self}
 use Rattle.model.proofs.Format.{Headed, are-legal-sizes-sizes, headed-header-of, headed-layout, headed-slots, header-of-headed, offered-small, sizes-are-legal-sizes}
 use Rattle.digits.specs.Keys.{is-all-zero}
 use Rattle.bucket.proofs.Slots.{zero-same}

@@ -1,13 +1,15 @@
 -- The search for the bucket that holds a name: what each probe says, and how the halves close in.
 use Rattle.model.proofs.Prelude.{Bool, List, [], _+_, _-_, _<_, _∙_, _∷_, _≡_, _≤_, ap, arith, decLt, false, getD, length, some, suc, sym, true, zero, ℕ}
 use Rattle.model.specs.Order.{Low, Str, _≺_, _⊑_, _⊴_, _◁_, above, at, least as unlimited, none, top}
-use Rattle.model.specs.Names.{Legal, is-at-most, within}
+use Rattle.model.specs.Tests.{is-at-most}
+use Rattle.model.specs.Names.{Legal, within}
 use Rattle.model.specs.Files.{Chain, IsUsed, RangeTable, Slot, entries-of, head, last, lower-of, next, order-of, ranges, slot-at}
 use Rattle.model.specs.Format.{bytes-at-slot, read-slot}
-use Rattle.model.specs.Deciding.{over}
+use Rattle.model.proofs.Deciding.{over}
 use Rattle.model.proofs.Lists.{at-taken}
 use Rattle.model.proofs.Order.{le-refl, le-trans, low-lower, lt-le}
-use Rattle.model.proofs.Names.{is-at-most-le, is-at-most-lt, is-legal-bound-bound, legal-length, within-is-at-most}
+use Rattle.model.proofs.Tests.{is-at-most-le, is-at-most-lt}
+use Rattle.model.proofs.Names.{is-legal-bound-bound, legal-length, within-is-at-most}
 use Rattle.model.proofs.Strings.{mem-at}
 use Rattle.model.proofs.Ranges.{chain-above, chain-length, chain-some, chain-used}
 use Rattle.model.proofs.Files.{chain-right, used-inside, well-head}

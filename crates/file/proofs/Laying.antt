@@ -1,13 +1,13 @@
 -- Slots laid out in order, one more at each step, from the last to the first.
-use Rattle.model.proofs.Prelude.{List, List·Memᴰ, List·Memᴰ·append-cases, List·Memᴰ·cases-cons, List·Memᴰ·not-nil, Memᴰ·append-left, Memᴰ·append-right, Option, _*_, _++_, _+_, _<_, _^_, _∙_, _∷_, _≡_, _≤_, ap, arith, cond, decLt, drop, drop-cons, drop-of-length-le, drop-set-lt, false, getD, getD-set-other, getD-set-same, inl, inr, length, length-drop, length-replicate, length-set, nothing, refl, replicate, set, some, subst, suc, sym, take, take-append-drop, take-take, true, zero, zero-add, ℕ, ℕ-discrete}
+use Rattle.model.proofs.Prelude.{List, List·Memᴰ, List·Memᴰ·append-cases, List·Memᴰ·cases-cons, List·Memᴰ·not-nil, Memᴰ·append-left, Memᴰ·append-right, Option, _*_, _++_, _+_, _<_, _^_, _∙_, _∷_, _≡_, _≤_, ap, arith, cond, decLt, drop, drop-cons, drop-of-length-le, drop-set-lt, eqb, false, getD, getD-set-other, getD-set-same, inl, inr, length, length-drop, length-replicate, length-set, nothing, refl, replicate, set, some, subst, suc, sym, take, take-append-drop, take-take, true, zero, zero-add, ℕ, ℕ-discrete}
 use Rattle.model.specs.Order.{Low, Str}
 use Rattle.model.specs.Entries.{Entry}
 use Rattle.model.specs.Files.{IsUsed, Slot, Well, free, head, slot-at, used, well-free}
-use Rattle.model.specs.Tries.{occ, one-if}
+use Rattle.model.specs.Tries.{occ}
 use Rattle.model.specs.Checks.{is-bad, is-well-formed}
 use Rattle.model.specs.Format.{bytes-at-slot, read-slot, read-slots, read-used-slot, slot-size}
+use Rattle.model.proofs.Tests.{never-both}
 use Rattle.model.proofs.Lists.{at-replicate}
-use Rattle.model.proofs.Names.{never-both}
 use Rattle.model.proofs.Cells.{occ-append, occ-mem, one-if-equal, one-if-not}
 use Rattle.model.proofs.Checks.{check-bad, is-well-formed-well, well-is-well-formed}
 use Rattle.model.proofs.Files.{cut-well}
@@ -125,9 +125,9 @@ module _ {xs : List ℕ} {size : Size} {k : ℕ} {order : List ℕ} {count map :
     old = ap (λ Xs. Xs ++ drop place (take count order)) (sym (take-take place count order fits)) ∙ take-append-drop place (take count order)
 
     -- listed once, and only the used ones
-    occ-is : (B : ℕ) → occ B (take (count + 1) new) ≡ one-if (ℕ-discrete B n) + occ B (take count order)
+    occ-is : (B : ℕ) → occ B (take (count + 1) new) ≡ cond (eqb B n) 1 0 + occ B (take count order)
     occ-is B =
-        let f : occ B (take (count + 1) new) ≡ occ B (take place order) + (one-if (ℕ-discrete B n) + occ B (drop place (take count order))) =
+        let f : occ B (take (count + 1) new) ≡ occ B (take place order) + (cond (eqb B n) 1 0 + occ B (drop place (take count order))) =
         ap (occ B) q ∙ occ-append B (take place order) (n ∷ drop place (take count order)) in
         let g : occ B (take count order) ≡ occ B (take place order) + occ B (drop place (take count order)) =
         ap (occ B) (sym old) ∙ occ-append B (take place order) (drop place (take count order)) in
@@ -136,11 +136,11 @@ module _ {xs : List ℕ} {size : Size} {k : ℕ} {order : List ℕ} {count map :
     once : (B : ℕ) → IsUsed (head (slot-at (set (L .slots) k (used l u es)) B)) → occ B (take (count + 1) new) ≡ 1
     once B v = elim (ℕ-discrete B k) [
       | yes e ↦ (
-          let f : one-if (ℕ-discrete B n) ≡ 1 = one-if-equal (e ∙ sym n-is) (ℕ-discrete B n) in
+          let f = one-if-equal B n (e ∙ sym n-is) in
           let g : occ B (take count order) ≡ 0 = none-of B e in
           omega (arith, occ-is B))
       | no d ↦ (
-          let f : one-if (ℕ-discrete B n) ≡ 0 = one-if-not (λ e. d (e ∙ n-is)) (ℕ-discrete B n) in
+          let f = one-if-not B n (λ e. d (e ∙ n-is)) in
           let g : occ B (take count order) ≡ 1 = L .once B (rw (there B d) at v) in
           omega (arith, occ-is B))
     ]

@@ -1,8 +1,8 @@
 -- Slots read one by one are the file's slots.
 use Rattle.model.proofs.Prelude.{Bool, List, [], _+_, _<_, _∷_, _≡_, add-zero, arith, clash, cond, false, length, refl, some, suc, true, zero, ℕ}
 use Rattle.model.specs.declared.Layout.{Layout}
+use Rattle.model.specs.Tests.{same-str}
 use Rattle.model.specs.Files.{IsUsed, Slot, free, head, slot-at, used}
-use Rattle.model.specs.Checks.{same-str}
 use Rattle.model.specs.Format.{bytes-at-slot, bytes-of-slot, joined, read-slot, read-slots, read-used-slot}
 
 pub each-read-slots : (y : Layout) (n k : ℕ) (xs : List ℕ) (fs : List Slot) → length fs ≡ n

@@ -5,8 +5,7 @@ use mathlib.Core.List.{List, [], _∷_}
 use Prim.Native.Nat.{_*_, _+_, _≤_, ℕ}
 use lib.Dec.{ltb}
 use lib.ListN.{length}
-use Rattle.model.specs.Files.{Slot, first, free, used}
-use Rattle.model.specs.Changes.{free?}
+use Rattle.model.specs.Files.{Slot, first, free, is-free, used}
 use Rattle.file.specs.declared.Room.{Room}
 use Rattle.file.specs.declared.Room.the-variants.{At, Full}
 use Rattle.file.specs.Sizes.{Inside}
@@ -21,7 +20,7 @@ map-of (x ∷ xs) = 2 * map-of xs + bit-of x
 
 -- R7.6: the lowest free slot.
 unfoldable pub room-of : List Slot → Room
-room-of fs = cond (ltb (first free? fs) (length fs)) (At (first free? fs)) Full
+room-of fs = cond (ltb (first is-free fs) (length fs)) (At (first is-free fs)) Full
 
 -- The room that is found: one of the file's slots, and of the file whose map it is the lowest free one.
 pub record RoomTold (map slots : ℕ) (r : Room) : Type 0 where

@@ -1,6 +1,7 @@
 -- A bound in three words: its digits and the zeros behind them, word by word.
 use mathlib.Core.Bool.{_&&_, true}
 use Rattle.model.proofs.Prelude.{and-assoc}
+use Rattle.model.specs.Tests.{are-digits, is-legal-bound}
 use mathlib.Core.List.{List, [], _++_, _∷_}
 use mathlib.Core.Path.{_∙_, _≡_, ap, refl, sym}
 use Prim.Native.Nat.{_+_, _-_, _≤_, ℕ}
@@ -9,7 +10,7 @@ use lib.Dec.{leb}
 use lib.ListN.{drop, length, length-drop, take}
 use lib.Seq.{drop-drop, take-add, take-all}
 use borrow.Author.Tests.{le-leb}
-use Rattle.model.specs.Names.{Digits, are-digits, is-legal-bound}
+use Rattle.model.specs.Names.{Digits}
 use Rattle.model.proofs.Names.{digits-are-digits}
 use Rattle.digits.specs.Keys.{is-all-zero}
 use Rattle.digits.proofs.Keys.{zero-append}

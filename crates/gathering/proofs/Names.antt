@@ -1,9 +1,12 @@
 -- What gathering keeps: one name more, and the whole row, read in both directions.
 use Rattle.model.proofs.Prelude.{List, [], _&&_, _*_, _+_, _-_, _/_, _<_, _^_, _∙_, _∷_, _≡_, _≤_, _⊎_, ap, arith, drop, drop-cons, drop-drop, eqb, getD, getD-drop, getD-replicate, getD-set-other, getD-set-same, getD-take, length, not, refl, replicate, set, suc, sym, take, true, zero, ℕ, ℕ-discrete, ⊎-elim}
+use Rattle.model.specs.Order.{first-digit}
+use Rattle.model.specs.Tests.{are-digits, is-blank-digit, is-legal-filled}
 use native.Mathlib.Nat.{mul-suc}
 use lib.Bits.{and-le-l, and-le-r, and-shr, bitAnd}
-use Rattle.model.specs.Names.{Digits, are-digits, first-digit, is-blank-digit, is-legal-filled}
-use Rattle.model.proofs.Names.{are-digits-digits, blank-no, both-true, digits-are-digits}
+use Rattle.model.specs.Names.{Digits}
+use Rattle.model.proofs.Tests.{both-true}
+use Rattle.model.proofs.Names.{are-digits-digits, blank-no, digits-are-digits}
 use Rattle.digits.specs.declared.Key.{Key}
 use Rattle.digits.specs.Keys.{key-value, value}
 use Rattle.digits.proofs.Keys.{bytes-part, length-part, value-lt}

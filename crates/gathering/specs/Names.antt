@@ -4,8 +4,8 @@ use mathlib.Core.List.{List, [], _∷_}
 use mathlib.Core.Path.{_≡_}
 use Prim.Native.Nat.{_+_, _-_, _<_, _^_, _≤_, suc, zero, ℕ}
 use lib.ListN.{drop, getD, take}
-use Rattle.model.specs.Names.{are-digits, is-legal-filled}
 use Rattle.model.specs.Order.{Str}
+use Rattle.model.specs.Tests.{are-digits, is-legal-filled}
 use Rattle.digits.specs.declared.Key.{Key}
 use Rattle.digits.specs.Keys.{is-all-zero, key-value, value}
 use Rattle.gathering.specs.declared.Seen.{Seen}

@@ -7,7 +7,7 @@ use Rattle.model.specs.Order.{Str, _⊑_, diff}
 use Rattle.model.specs.Tries.{Reads, Spot, Tree, at-cell, cell, left, right, root, size, there, zero-cell}
 use Rattle.model.specs.Rebuilding.{lay, side-of}
 use Rattle.model.specs.Growth.{cell-of, chain-of, changed, grown, placed}
-use Rattle.model.specs.Deciding.{nil-not-le, tail-le}
+use Rattle.model.proofs.Deciding.{nil-not-le, tail-le}
 use Rattle.model.proofs.Order.{take-diff}
 use Rattle.growth.specs.Parts.{new-cell, next-side}
 use Rattle.growth.proofs.Meeting.{Comes, Kept, Met, at-once, by-left, by-none, by-right, met-kept, met-left, met-right, on-left, on-right}

@@ -1,5 +1,5 @@
 -- The code's cells are the grown trie's.
-use Rattle.model.proofs.Prelude.{Bool, List, List·getD-append, [], _++_, _+_, _-_, _<_, _∙_, _∷_, _≡_, _≢_, _≤_, add-one, ap, append-nil, ap₂, arith, clash, decLe, decLt, drop, drop-length, eq-eqb, ext-getD, false, getD, getD-append-add, getD-set-other, getD-set-same, getD-take, le-leb, length, length-append, length-drop, length-replicate, length-set, lt-leb, ne-eqb, refl, replicate, set, subst, suc, sym, take, take-all, true, zero, ℕ, ℕ-discrete}
+use Rattle.model.proofs.Prelude.{Bool, List, List·getD-append, [], _++_, _+_, _-_, _<_, _∙_, _∷_, _≡_, _≢_, _≤_, add-one, and-false, ap, append-nil, ap₂, arith, clash, decLe, decLt, drop, drop-length, eq-eqb, eqb, ext-getD, false, getD, getD-append-add, getD-set-other, getD-set-same, getD-take, le-leb, length, length-append, length-drop, length-replicate, length-set, lt-leb, ne-eqb, refl, replicate, set, subst, suc, sym, take, take-all, true, zero, ℕ, ℕ-discrete}
 use Rattle.model.specs.declared.Cell.{Cell}
 use Rattle.model.specs.declared.Side.{Side}
 use Rattle.model.specs.declared.Side.the-variants.{Cell as further, Slot as slot}
@@ -7,9 +7,10 @@ use Rattle.model.specs.declared.Trie.{Trie}
 use Rattle.model.specs.Order.{Str, _⊑_, diff}
 use Rattle.model.specs.Tries.{Reads, Spot, Tree, at-cell, cell, first-leaf-of, leaf, left, occ, right, root, root-side, trie-of, zero-cell}
 use Rattle.model.specs.Rebuilding.{lay, side-of}
-use Rattle.model.specs.Growth.{cell-of, changed, grow-cells, grown, grown-trie, placed, turn, turn-cell, turn-cells, turn-side, turned}
-use Rattle.model.specs.Deciding.{le?}
+use Rattle.model.specs.Growth.{cell-of, changed, grow-cells, grown, grown-trie, placed, turn, turn-cell, turn-cells, turn-side}
+use Rattle.model.proofs.Deciding.{le?}
 use Rattle.model.proofs.Order.{le-refl}
+use Rattle.model.proofs.Tests.{le-is-at-most, lt-is-at-most}
 use Rattle.model.proofs.Cells.{each-once, height, length-lay, reads-height, visits-count}
 use Rattle.model.proofs.GrownCells.{Turned, cells-grown, cells-turned, grow-reads, new-cells, replace, root-grown, root-turned, turn-reads}
 use Rattle.model.proofs.Tries.{walk}
@@ -62,10 +63,11 @@ unfolding side-turned
 side-same s A N p j last (further m) f = refl
 side-same s A N p j last (slot B) f = go (ℕ-discrete B A) (le? p s) (f B refl)
   where
-    go : (d : Dec (B ≡ A)) (e : Dec (p ⊑ s)) → Parted s last p j → side-turned (slot B) j last A N ≡ slot (turned d e B N)
+    go : Dec (B ≡ A) → Dec (p ⊑ s) → Parted s last p j → side-turned (slot B) j last A N ≡ slot (turn s A N p B)
     go (no n) e h = rw (ne-eqb B A n)
-    go (yes q) (yes e) h = rw (eq-eqb B A q, le-leb j last (h .0 e))
-    go (yes q) (no e) h = elim (decLe j last) [ yes k ↦ absurd (e (h .1 k)) | no k ↦ rw (eq-eqb B A q, lt-leb j last (omega arith)) ]
+    go (yes q) (yes e) h = rw (eq-eqb B A q, le-leb j last (h .0 e), le-is-at-most p s e)
+    go (yes q) (no e) h =
+        elim (decLe j last) [ yes k ↦ absurd (e (h .1 k)) | no k ↦ rw (eq-eqb B A q, lt-leb j last (omega arith), lt-is-at-most p s e) ]
 
 -- Where the code joins the new cells.
 join-none : (r : Trie) (n : ℕ) (w : Walk) → n ≤ w .cell → walk-joined r n w ≡ r
@@ -100,20 +102,10 @@ join-same r n w m e h l =
 
 -- What a leaf leads to, by whether its path is above s.
 turn-stays : (s : Str) (A N : ℕ) (p : Str) (B : ℕ) → p ⊑ s → turn s A N p B ≡ B
-turn-stays s A N p B h = go (ℕ-discrete B A) (le? p s)
-  where
-    go : (d : Dec (B ≡ A)) (e : Dec (p ⊑ s)) → turned d e B N ≡ B
-    go (no n) e = refl
-    go (yes q) (yes e) = refl
-    go (yes q) (no e) = absurd (e h)
+turn-stays s A N p B h = rw (le-is-at-most p s h, and-false (eqb B A))
 
 turn-goes : (s : Str) (A N : ℕ) (p : Str) (B : ℕ) → B ≡ A → ¬ (p ⊑ s) → turn s A N p B ≡ N
-turn-goes s A N p B b h = go (ℕ-discrete B A) (le? p s)
-  where
-    go : (d : Dec (B ≡ A)) (e : Dec (p ⊑ s)) → turned d e B N ≡ N
-    go (no n) e = absurd (n b)
-    go (yes q) (yes e) = absurd (h e)
-    go (yes q) (no e) = refl
+turn-goes s A N p B b h = rw (eq-eqb B A b, lt-is-at-most p s h)
 
 placed-top : (n first : ℕ) (x : Side) → 0 < n → placed (root-side n first) x ≡ root-side n first
 placed-top zero first x h = absurd (omega arith)

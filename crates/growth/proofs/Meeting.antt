@@ -1,12 +1,12 @@
 -- The cells met below a side, each with the path that a walk has there. Redirection turns each cell by its own path.
-use Rattle.model.proofs.Prelude.{List, [], _++_, _+_, _<_, _∙_, _∷_, _≡_, _≤_, ap, arith, decLt, getD-set-other, getD-set-same, length, refl, set, suc, sym, zero, ℕ, ℕ-discrete}
+use Rattle.model.proofs.Prelude.{Bool, List, [], _++_, _+_, _<_, _∙_, _∷_, _≡_, _≤_, ap, arith, cond, decLt, eqb, eqb-true, false, getD-set-other, getD-set-same, length, ne-eqb, refl, set, suc, sym, true, zero, ℕ, ℕ-discrete}
 use Rattle.model.specs.declared.Cell.{Cell}
 use Rattle.model.specs.declared.Side.{Side}
 use Rattle.model.specs.declared.Side.the-variants.{Cell as further, Slot as slot}
 use Rattle.model.specs.Order.{Str, _⊑_}
-use Rattle.model.specs.Tries.{Reads, Spot, Tree, at-cell, cell, here, leaf, left, node, occ, one-if, right, there, zero-cell}
+use Rattle.model.specs.Tries.{Reads, Spot, Tree, at-cell, cell, here, leaf, left, node, occ, right, there, zero-cell}
 use Rattle.model.specs.Growth.{turn-cell, turn-cells}
-use Rattle.model.specs.Deciding.{le?}
+use Rattle.model.proofs.Deciding.{le?}
 use Rattle.model.proofs.Cells.{height, occ-append, one-if-equal, reads-agree, reads-set}
 use Rattle.model.proofs.GrownCells.{Turned, turn-reads}
 use Rattle.model.proofs.Tries.{walk}
@@ -29,29 +29,29 @@ right-at e x = on-right (rw (← e) at x)
 
 -- A cell is met where it is visited.
 pub met-visited : {cs : List Cell} {a : Side} {t : Tree} {vs : List ℕ} {p r : Str} {k : ℕ} → Reads cs a t vs → Met cs p a k r → 0 < occ k vs
-met-visited (there {n = m} {vs = vs} {ws = ws} h l x) at-once = omega (arith, one-if-equal refl (ℕ-discrete m m))
+met-visited (there {n = m} {vs = vs} {ws = ws} h l x) at-once = omega (arith, one-if-equal m m refl)
 met-visited (there {n = m} {vs = vs} {ws = ws} h l x) (on-left {k = k} y) = omega (arith, met-visited l y, occ-append k vs ws)
 met-visited (there {n = m} {vs = vs} {ws = ws} h l x) (on-right {k = k} y) = omega (arith, met-visited x y, occ-append k vs ws)
 
 pub visited-met : {cs : List Cell} {a : Side} {t : Tree} {vs : List ℕ} → Reads cs a t vs → (p : Str) (k : ℕ) → 0 < occ k vs → (r : Str) × Met cs p a k r
 visited-met here p k h = absurd (omega arith)
 visited-met {cs} (there {n = m} {vs = vs} {ws = ws} i l x) p k h =
-    go (ℕ-discrete k m) (decLt 0 (occ k vs)) (λ v. visited-met l (string-of (at-cell cs m) p) k v) (λ v. visited-met x p k v) h
+    go (eqb k m) refl (decLt 0 (occ k vs)) (λ v. visited-met l (string-of (at-cell cs m) p) k v) (λ v. visited-met x p k v) h
   where
-    go : (d : Dec (k ≡ m)) → Dec (0 < occ k vs) → (0 < occ k vs → (r : Str) × Met cs (string-of (at-cell cs m) p) (at-cell cs m .left) k r)
-        → (0 < occ k ws → (r : Str) × Met cs p (at-cell cs m .right) k r) → 0 < one-if d + occ k (vs ++ ws) → (r : Str) × Met cs p (further m) k r
-    go (yes e) d f g h = (p, rw e at-once)
-    go (no n) (yes v) f g h = let r = f v in (r .0, on-left (r .1))
-    go (no n) (no v) f g h = let r = g (omega (arith, occ-append k vs ws)) in (r .0, on-right (r .1))
+    go : (t : Bool) → eqb k m ≡ t → Dec (0 < occ k vs) → (0 < occ k vs → (r : Str) × Met cs (string-of (at-cell cs m) p) (at-cell cs m .left) k r)
+        → (0 < occ k ws → (r : Str) × Met cs p (at-cell cs m .right) k r) → 0 < cond t 1 0 + occ k (vs ++ ws) → (r : Str) × Met cs p (further m) k r
+    go true e d f g h = (p, rw (eqb-true k m e) at-once)
+    go false n (yes v) f g h = let r = f v in (r .0, on-left (r .1))
+    go false n (no v) f g h = let r = g (omega (arith, occ-append k vs ws)) in (r .0, on-right (r .1))
 
 -- It depends on the visited cells alone.
 pub met-agree : {cs cs′ : List Cell} {a : Side} {t : Tree} {vs : List ℕ} {p r : Str} {k : ℕ}
     → ((m : ℕ) → 0 < occ m vs → at-cell cs′ m ≡ at-cell cs m) → Reads cs a t vs → Met cs p a k r → Met cs′ p a k r
 met-agree f (there h l x) at-once = at-once
 met-agree f (there {n = m} {vs = vs} {ws = ws} h l x) (on-left y) =
-    left-at (f m (omega (arith, one-if-equal refl (ℕ-discrete m m)))) (met-agree (λ i o. f i (omega (arith, o, occ-append i vs ws))) l y)
+    left-at (f m (omega (arith, one-if-equal m m refl))) (met-agree (λ i o. f i (omega (arith, o, occ-append i vs ws))) l y)
 met-agree f (there {n = m} {vs = vs} {ws = ws} h l x) (on-right y) =
-    right-at (f m (omega (arith, one-if-equal refl (ℕ-discrete m m)))) (met-agree (λ i o. f i (omega (arith, o, occ-append i vs ws))) x y)
+    right-at (f m (omega (arith, one-if-equal m m refl))) (met-agree (λ i o. f i (omega (arith, o, occ-append i vs ws))) x y)
 
 -- What a met cell's side leads to is met.
 pub met-left : {cs : List Cell} {a : Side} {p r : Str} {m k : ℕ} → Met cs p a m r → at-cell cs m .left ≡ further k → Met cs p a k (string-of (at-cell cs m) r)
@@ -134,11 +134,11 @@ module _ (f : Str → ℕ → ℕ) where
       cs₁ : List Cell
       cs₁ = set cs m (turn-cell f p c)
 
-      one : (i : ℕ) → one-if (ℕ-discrete i m) + occ i vs + occ i ws ≤ 1
+      one : (i : ℕ) → cond (eqb i m) 1 0 + occ i vs + occ i ws ≤ 1
       one i = omega (arith, once i, occ-append i vs ws)
 
-      self : one-if (ℕ-discrete m m) ≡ 1
-      self = one-if-equal refl (ℕ-discrete m m)
+      self : _≡_ {A = ℕ} (cond (eqb m m) 1 0) 1
+      self = one-if-equal m m refl
 
       out : (occ m vs ≡ 0) × (occ m ws ≡ 0)
       out = omega (arith, one m, self)
@@ -162,17 +162,13 @@ module _ (f : Str → ℕ → ℕ) where
       Y = turn-reads f fuel R p r₂ (λ i. omega (arith, one i)) (omega arith)
 
       other : (i : ℕ) → occ m (i ∷ []) ≡ 0 → at-cell cs₁ i ≡ at-cell cs i
-      other i o = getD-set-other cs m i (turn-cell f p c) zero-cell (λ e. omega (arith, o, one-if-equal (sym e) (ℕ-discrete m i)))
+      other i o = getD-set-other cs m i (turn-cell f p c) zero-cell (λ e. omega (arith, o, one-if-equal m i (sym e)))
 
       apart : (i : ℕ) → 0 < occ i vs + occ i ws → occ m (i ∷ []) ≡ 0
       apart i o = elim (ℕ-discrete i m) [ yes e ↦ absurd (omega (arith, out, rw e at o)) | no n ↦ differ i n ]
         where
           differ : (i : ℕ) → (i ≡ m → ⊥) → occ m (i ∷ []) ≡ 0
-          differ i n = by (ℕ-discrete m i)
-            where
-              by : (d : Dec (m ≡ i)) → one-if d + 0 ≡ 0
-              by (yes e) = absurd (n (sym e))
-              by (no e) = refl
+          differ i n = rw (ne-eqb m i (λ e. n (sym e)))
 
       go : ((k : ℕ) (r : Str) → Met cs₁ q (c .left) k r → at-cell cs₂ k ≡ turn-cell f r (at-cell cs₁ k))
           → ((k : ℕ) (r : Str) → Met cs₂ p (c .right) k r → at-cell cs₃ k ≡ turn-cell f r (at-cell cs₂ k))

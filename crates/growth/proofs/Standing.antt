@@ -5,7 +5,7 @@ use Rattle.model.specs.declared.Side.{Side}
 use Rattle.model.specs.declared.Side.the-variants.{Slot as slot}
 use Rattle.model.specs.Order.{Low, Str, _≺_, _⊑_, _◁_, above, at, top}
 use Rattle.model.specs.Tries.{Reads, Spot, Tree, at-cell, here, left, right, there}
-use Rattle.model.specs.Deciding.{le?, over}
+use Rattle.model.proofs.Deciding.{le?, over}
 use Rattle.model.proofs.Lists.{at-behind}
 use Rattle.model.proofs.Order.{Asc, end, le-refl, low-at, low-lower, lt-le, lt-trans, step}
 use Rattle.model.proofs.Strings.{trie-asc}

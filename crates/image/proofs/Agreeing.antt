@@ -1,19 +1,15 @@
 -- A trie that agrees with a file has an image of its own: its sides lead to the file's slots and to cells that are not the root.
-use Rattle.model.proofs.Prelude.{List, List·Memᴰ, List·Memᴰ·cases-cons, List·Memᴰ·head, List·Memᴰ·not-nil, Memᴰ·append-left, Memᴰ·append-right, [], _++_, _+_, _<_, _∷_, _≡_, _≤_, arith, decLt, getD-take, length, length-take, refl, suc, take, zero, ℕ, ℕ-discrete, ⊎-elim}
+use Rattle.model.proofs.Prelude.{Bool, List, List·Memᴰ, List·Memᴰ·cases-cons, List·Memᴰ·head, List·Memᴰ·not-nil, Memᴰ·append-left, Memᴰ·append-right, [], _++_, _+_, _<_, _∷_, _≡_, _≤_, arith, cond, decLt, eqb, eqb-true, false, getD-take, length, length-take, refl, suc, take, true, zero, ℕ, ⊎-elim}
 use Rattle.model.specs.declared.Cell.{Cell}
 use Rattle.model.specs.declared.Side.{Side}
 use Rattle.model.specs.declared.Side.the-variants.{Cell as further, Slot as slot}
 use Rattle.model.specs.declared.Trie.{Trie}
 use Rattle.model.specs.Order.{Low, Str}
 use Rattle.model.specs.Files.{RangeTable, Slot}
-use Rattle.model.specs.Tries.{Agrees, Leads, LeafIntervals, Reads, Tree, at-cell, here, leaf-last, leaf-next, leaves, occ, one-if, root-side, there, zero-cell}
-use Rattle.model.proofs.Cells.{occ-append}
+use Rattle.model.specs.Tries.{Agrees, Leads, LeafIntervals, Reads, Tree, at-cell, here, leaf-last, leaf-next, leaves, occ, root-side, there, zero-cell}
+use Rattle.model.proofs.Cells.{occ-append, one-if-equal}
 use Rattle.model.proofs.Files.{used-inside}
 use Rattle.image.proofs.Images.{Held, Imaged}
-
-one-same : {m : ℕ} (d : Dec (m ≡ m)) → one-if d ≡ 1
-one-same (yes e) = refl
-one-same (no n) = absurd (n refl)
 
 -- The cells met behind the first.
 abbrev behind : List ℕ → List ℕ
@@ -44,32 +40,32 @@ module _ (cs : List Cell) where
 
   in-side : {a : Side} {T : Tree} {vs : List ℕ} → Reads cs a T vs → In (leaves T) vs a
   in-side here = List·Memᴰ·head refl
-  in-side (there {n = n} h l r) = (h, omega (arith, one-same (ℕ-discrete n n)))
+  in-side (there {n = n} h l r) = (h, omega (arith, one-if-equal n n refl))
 
   -- The sides of a cell that is met.
 
   in-sides : {a : Side} {T : Tree} {vs : List ℕ} → Reads cs a T vs → (i : ℕ) → 0 < occ i vs → In (leaves T) (behind vs) (at-cell cs i .left) × In (leaves T) (behind vs) (at-cell cs i .right)
   in-sides here i o = absurd (omega arith)
   in-sides (there {n = n} {L = L} {R = R} {vs = vs} {ws = ws} h l r) i o =
-      go (ℕ-discrete i n) (decLt 0 (occ i vs)) (in-side l) (in-side r) (λ k. in-sides l i k) (λ k. in-sides r i k) o
+      go (eqb i n) refl (decLt 0 (occ i vs)) (in-side l) (in-side r) (λ k. in-sides l i k) (λ k. in-sides r i k) o
     where
-      go : (d : Dec (i ≡ n)) → Dec (0 < occ i vs) → In (leaves L) vs (at-cell cs n .left) → In (leaves R) ws (at-cell cs n .right)
+      go : (t : Bool) → eqb i n ≡ t → Dec (0 < occ i vs) → In (leaves L) vs (at-cell cs n .left) → In (leaves R) ws (at-cell cs n .right)
           → (0 < occ i vs → In (leaves L) (behind vs) (at-cell cs i .left) × In (leaves L) (behind vs) (at-cell cs i .right))
           → (0 < occ i ws → In (leaves R) (behind ws) (at-cell cs i .left) × In (leaves R) (behind ws) (at-cell cs i .right))
-          → 0 < one-if d + occ i (vs ++ ws)
+          → 0 < cond t 1 0 + occ i (vs ++ ws)
           → In (leaves L ++ leaves R) (vs ++ ws) (at-cell cs i .left) × In (leaves L ++ leaves R) (vs ++ ws) (at-cell cs i .right)
-      go (yes e) d x y f g k = rw e (in-left (leaves L) vs (leaves R) ws (at-cell cs n .left) x, in-right (leaves R) ws (leaves L) vs (at-cell cs n .right) y)
-      go (no e) (yes j) x y f g k =
+      go true e d x y f g k = rw (eqb-true i n e) (in-left (leaves L) vs (leaves R) ws (at-cell cs n .left) x, in-right (leaves R) ws (leaves L) vs (at-cell cs n .right) y)
+      go false e (yes j) x y f g k =
           let s = f j in
           (in-left (leaves L) vs (leaves R) ws (at-cell cs i .left) (in-more (leaves L) vs (at-cell cs i .left) (s .0)), in-left (leaves L) vs (leaves R) ws (at-cell cs i .right) (in-more (leaves L) vs (at-cell cs i .right) (s .1)))
-      go (no e) (no j) x y f g k =
+      go false e (no j) x y f g k =
           let s = g (omega (arith, occ-append i vs ws)) in
           (in-right (leaves R) ws (leaves L) vs (at-cell cs i .left) (in-more (leaves R) ws (at-cell cs i .left) (s .0)), in-right (leaves R) ws (leaves L) vs (at-cell cs i .right) (in-more (leaves R) ws (at-cell cs i .right) (s .1)))
 
   -- The root is met once, and so no side leads to it.
   root-once : (k f : ℕ) {T : Tree} {vs : List ℕ} → 0 < k → Reads cs (root-side k f) T vs → occ 0 vs ≡ 1 → occ 0 (behind vs) ≡ 0
   root-once zero f h r o = absurd (omega arith)
-  root-once (suc k) f h (there l r₁ r₂) o = omega (arith, one-same (ℕ-discrete 0 0))
+  root-once (suc k) f h (there l r₁ r₂) o = omega (arith, one-if-equal 0 0 refl)
 
 leaf-led : {F : RangeTable} {l : Low} {xs : List Str} {u : Str} {Bs : List ℕ} → LeafIntervals (Leads F) l xs u Bs → (B : ℕ) → List·Memᴰ B Bs → F .Used B
 leaf-led {F} (leaf-last {B = C} h) B m = ⊎-elim (λ e. rw e (h .used)) (λ n. absurd (List·Memᴰ·not-nil n)) (List·Memᴰ·cases-cons m)

@@ -8,15 +8,16 @@ use Rattle.model.specs.declared.PutAnswer.the-variants.{Refused as PutRefused, 
 use Rattle.model.specs.declared.RemoveAnswer.the-variants.{Absent as NotHeld, Refused as RemoveRefused, Removed, Stopped as RemoveStopped}
 use Rattle.model.specs.declared.Trie.{Trie}
 use Rattle.model.specs.Order.{Str}
-use Rattle.model.specs.Names.{Legal, filled, is-legal-name}
+use Rattle.model.specs.Tests.{is-legal-name}
+use Rattle.model.specs.Names.{Legal, filled}
 use Rattle.model.specs.Entries.{content-from, find}
-use Rattle.model.specs.Files.{In, Slot, entries-of, first, head, slot-at}
-use Rattle.model.specs.Changes.{Result, Store, call, holds?, put, refuse, remove, stores, trie-removed}
+use Rattle.model.specs.Files.{In, Slot, entries-of, first, head, is-in-range, slot-at}
+use Rattle.model.specs.Changes.{Result, Store, call, put, refuse, remove, stores, trie-removed}
 use Rattle.model.specs.Places.{place-of}
 use Rattle.model.specs.Format.{kept-run}
 use Rattle.model.specs.Calls.{Looked, PutDone, RemoveDone, fine, held, looked-of, put-answer, put-by-stores, put-of, put-on-looked, refusing, remove-answer, remove-by-stores, remove-of, remove-on-looked, stores-bytes, trie-after-put}
 use Rattle.model.proofs.Names.{is-legal-name-legal}
-use Rattle.model.proofs.Files.{first-right, one-range}
+use Rattle.model.proofs.Files.{found-in, one-range}
 use Rattle.model.proofs.Changes.{Change, fits, splits, well-a}
 use Rattle.model.proofs.Calls.{Answered, is-denied, is-made, put-right, put-taken}
 use Rattle.model.proofs.Format.{file-bytes-read-file}
@@ -60,7 +61,7 @@ module _ (xs : List ℕ) (t : Trie) (name : List ℕ) (v run limit : ℕ) where
   one y fs p (fits is g lo up k) old old-run e = refl
   one y fs p (splits {A = A} {l = l} {u = u} {es = es} is g lo up big low few) old old-run e =
       let here : In (head (slot-at fs A)) n = rw is (tt, lo, up) in
-      let there : A ≡ first (holds? n) fs = one-range (y .b) (p .sound) n here (first-right (holds? n) fs A here (λ h. h .0)) in
+      let there : A ≡ first (is-in-range n) fs = one-range (y .b) (p .sound) n here (found-in n fs A here) in
       let w = well-a (y .b) fs (p .sound) A l u es is in
       let h = was-held (held fs n) old old-run e in
       let found : find n es ≡ some (h .0) = ap (λ (x : Slot). find n (entries-of x)) (sym is ∙ ap (slot-at fs) there) ∙ h .1 in

@@ -1,22 +1,21 @@
 -- The test of agreement is exact: of a sound file it says yes of the tries that agree, and of no other.
-use Rattle.model.proofs.Prelude.{Bool, List, Option, [], _&&_, _++_, _+_, _-_, _<_, _||_, _∙_, _∷_, _≡_, _≤_, ap, ap₂, arith, clash, cond, drop, eq-eqb, eqb, eqb-true, false, getD-drop, inl, inr, le-leb, leb, leb-true, length, length-take, lt-ltb, ltb, ltb-true, ne-eqb, nothing, refl, some, subst, suc, sym, take, true, zero, ℕ, ℕ-discrete}
+use Rattle.model.proofs.Prelude.{Bool, List, Option, [], _&&_, _++_, _+_, _-_, _<_, _||_, _∙_, _∷_, _≡_, _≤_, ap, ap₂, arith, clash, cond, drop, eq-eqb, eqb, eqb-true, false, getD-drop, inl, inr, le-leb, leb, leb-true, length, length-take, lt-ltb, ltb, ltb-true, nothing, refl, some, subst, suc, sym, take, true, zero, ℕ, ℕ-discrete}
 use Rattle.model.specs.declared.Cell.{Cell}
 use Rattle.model.specs.declared.Side.{Side}
 use Rattle.model.specs.declared.Side.the-variants.{Cell as further, Slot as slot}
 use Rattle.model.specs.declared.Trie.{Trie}
 use Rattle.model.specs.Order.{Low, Str, none}
+use Rattle.model.specs.Tests.{same-str}
 use Rattle.model.specs.Files.{Slot, Sound, all, bounds, order-of, ranges, strings-of}
-use Rattle.model.specs.Tries.{Agrees, Leads, LeafIntervals, NumbersFit, Reads, Tree, at-cell, cell, here, leaf, leaf-last, leaf-next, leaves, node, occ, one-if, root-side, strings, there, zero-cell}
+use Rattle.model.specs.Tries.{Agrees, Leads, LeafIntervals, NumbersFit, Reads, Tree, at-cell, cell, here, leaf, leaf-last, leaf-next, leaves, node, occ, root-side, strings, there, zero-cell}
 use Rattle.model.specs.Rebuilding.{label}
-use Rattle.model.specs.Checks.{same-str}
-use Rattle.model.specs.Agreeing.{are-numbers, are-zero-cells, is-agreeing, is-each-once, is-trie-of, join-trees, read-tree, same-side, same-strs, slots-between, times}
-use Rattle.model.proofs.Names.{both-true}
+use Rattle.model.specs.Agreeing.{are-numbers, are-zero-cells, is-agreeing, is-each-once, is-trie-of, join-trees, read-tree, same-side, same-strs, slots-between}
 use Rattle.model.proofs.Tries.{Spans, cast, flat-trie, strings-are, trie-flat}
 use Rattle.model.proofs.Cells.{height, reads-height, visits-count}
 use Rattle.model.proofs.Files.{order-right, strings-asc, strings-right}
 use Rattle.model.proofs.Agreement.{CellsAgree, agrees-cells, cells-agree, labelled, leading}
-use Rattle.model.proofs.Checks.{both-join, either-true, same-str-equal, same-str-self, true-left, true-right}
 use Rattle.model.proofs.Order.{Asc, end, step}
+use Rattle.model.proofs.Tests.{both-join, both-true, either-true, same-str-equal, same-str-self, true-left, true-right}
 
 -- What is read is what the relation says, and enough fuel reads it.
 module _ (cs : List Cell) where
@@ -50,22 +49,13 @@ module _ (cs : List Cell) where
   reads-read-tree (suc f) (there {n = m} i l r) h =
       rw (lt-ltb m (length cs) i, reads-read-tree f l (omega arith), reads-read-tree f r (omega arith))
 
-pub times-occ : (m : ℕ) (vs : List ℕ) → times m vs ≡ occ m vs
-unfolding times
-times-occ m [] = refl
-times-occ m (v ∷ vs) = go (ℕ-discrete m v) (times-occ m vs)
-  where
-    go : (d : Dec (m ≡ v)) → times m vs ≡ occ m vs → cond (eqb m v) (suc (times m vs)) (times m vs) ≡ one-if d + occ m vs
-    go (yes q) e = rw (eq-eqb m v q) (omega arith)
-    go (no q) e = rw (ne-eqb m v q) (omega arith)
-
 is-each-once-once : (n : ℕ) (vs : List ℕ) → is-each-once n vs ≡ true → (i : ℕ) → i < n → occ i vs ≡ 1
 unfolding is-each-once
 is-each-once-once zero vs e i h = absurd (omega arith)
 is-each-once-once (suc n) vs e i h =
-    let p = both-true (eqb (times n vs) 1) (is-each-once n vs) e in
+    let p = both-true (eqb (occ n vs) 1) (is-each-once n vs) e in
     elim (ℕ-discrete i n) [
-      | yes q ↦ rw q (sym (times-occ n vs) ∙ eqb-true (times n vs) 1 (p .0))
+      | yes q ↦ rw q (eqb-true (occ n vs) 1 (p .0))
       | no q ↦ is-each-once-once n vs (p .1) i (omega arith)
     ]
 
@@ -73,7 +63,7 @@ once-is-each-once : (n : ℕ) (vs : List ℕ) → ((i : ℕ) → i < n → occ i
 unfolding is-each-once
 once-is-each-once zero vs f = refl
 once-is-each-once (suc n) vs f =
-    both-join (eqb (times n vs) 1) (is-each-once n vs) (eq-eqb (times n vs) 1 (times-occ n vs ∙ f n (omega arith)))
+    both-join (eqb (occ n vs) 1) (is-each-once n vs) (eq-eqb (occ n vs) 1 (f n (omega arith)))
     (once-is-each-once n vs (λ i h. f i (omega arith)))
 
 are-numbers-numbers : (p : Str) (t : Tree) → are-numbers p t ≡ true → NumbersFit p t

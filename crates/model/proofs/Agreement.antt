@@ -4,13 +4,15 @@ use Rattle.model.specs.declared.Cell.{Cell}
 use Rattle.model.specs.declared.Side.{Side}
 use Rattle.model.specs.declared.Side.the-variants.{Cell as further, Slot as slot}
 use Rattle.model.specs.declared.Trie.{Trie}
-use Rattle.model.specs.Order.{Low, Str, _≺_, _⊑_, _◁_, above, at, least, none, top}
+use Rattle.model.specs.Order.{Low, Str, _≺_, _⊑_, above, at, least, none, top}
+use Rattle.model.specs.Tests.{is-above}
 use Rattle.model.specs.Files.{Chain, In, IsString, RangeTable, Slot, Sound, all, bounds, fresh, head, last, next, ranges, slot-at, string-count, strings-of}
 use Rattle.model.specs.Tries.{Agrees, Leads, LeafIntervals, NumbersFit, Reads, Tree, at-cell, first-leaf-of, leaf, leaves, node, occ, root as no-side, root-side, size, strings, trie-of, walk-of, walk-trie, zero-cell}
 use Rattle.model.specs.Rebuilding.{label, laid, lay, rebuilt, rebuilt-trie, side-of}
-use Rattle.model.specs.Deciding.{low?, over}
+use Rattle.model.proofs.Deciding.{over}
 use Rattle.model.proofs.Lists.{at-replicate}
 use Rattle.model.proofs.Order.{le-take, le-trans, lt-le, lt-le-trans}
+use Rattle.model.proofs.Tests.{above-is-above, not-is-above}
 use Rattle.model.proofs.Tries.{Spans, cast, cells-count, flat-trie, relabel-same, relabel-trie, strings-are, trie-flat, walk}
 use Rattle.model.proofs.Strings.{asc-mem, asc-unique, fresh-asc, fresh-begins, trie-asc}
 use Rattle.model.proofs.Ranges.{bounds-all, chain-some, label-leads, leads-unique}
@@ -96,19 +98,11 @@ module _ (F : RangeTable) where
   coming B (C ∷ Bs) = follow C (fresh (F .upper B) (F .upper C)) ++ coming C Bs
 
   label-skip : (B C : ℕ) (Bs : List ℕ) (x : Str) → F .upper B ⊑ x → label F (B ∷ C ∷ Bs) (at x) ≡ label F (C ∷ Bs) (at x)
-  label-skip B C Bs x h = go (low? (at x) (F .upper B))
-    where
-      go : (d : Dec (at x ◁ F .upper B)) → _≡_ {A = ℕ} (elim d [ yes h ↦ B | no h ↦ label F (C ∷ Bs) (at x) ]) (label F (C ∷ Bs) (at x))
-      go (yes k) = absurd (over k h)
-      go (no k) = refl
+  label-skip B C Bs x h = rw (not-is-above (at x) (F .upper B) (λ k. over k h))
 
   label-here : (C : ℕ) (Bs : List ℕ) (x : Str) → x ≺ F .upper C → label F (C ∷ Bs) (at x) ≡ C
   label-here C [] x h = refl
-  label-here C (D ∷ Bs) x h = go (low? (at x) (F .upper C))
-    where
-      go : (d : Dec (at x ◁ F .upper C)) → _≡_ {A = ℕ} (elim d [ yes h ↦ C | no h ↦ label F (D ∷ Bs) (at x) ]) C
-      go (yes k) = refl
-      go (no k) = absurd (k (above h))
+  label-here C (D ∷ Bs) x h = rw (above-is-above (above h))
 
   bring : (lab : Low → ℕ) (C : ℕ) (x y : Str) → x ≺ y → ((q : Str) → x ⊑ q → q ≺ y → lab (at q) ≡ C) → tokens lab (fresh x y) ≡ follow C (fresh x y)
   bring lab C x y h f = tokens-follow lab C (fresh x y) (λ q m. let b = fresh-begins x y q m in
@@ -129,7 +123,7 @@ module _ (F : RangeTable) where
 
   -- What is expected is what the cursor gives.
   pub expect-cursor : (B : ℕ) (Bs : List ℕ) → Chain F none (B ∷ Bs) → expect (label F (B ∷ Bs)) none (all (bounds F (B ∷ Bs))) ≡ leads B ∷ coming B Bs
-  unfolding low?
+  unfolding is-above
   expect-cursor B [] c = refl
   expect-cursor B (C ∷ Bs) c =
       expect-tokens (label F (B ∷ C ∷ Bs)) none (all (bounds F (B ∷ C ∷ Bs)))

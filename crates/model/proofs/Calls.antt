@@ -1,15 +1,15 @@
 -- Each request has one list of stores or one refusal, and the function gives it.
-use Rattle.model.proofs.Prelude.{Bool, List, Option, _<_, _∙_, _≡_, _≤_, ap, arith, clash, cond, decLe, decLt, false, length, lt-ltb, ltb-true, nothing, refl, some, subst, sym, true, ℕ}
+use Rattle.model.proofs.Prelude.{Bool, List, Option, _<_, _∙_, _≡_, _≢_, _≤_, ap, arith, clash, cond, decLe, decLt, false, le-leb, le-ltb, leb, length, lt-leb, lt-ltb, ltb-true, nothing, refl, some, subst, sym, true, ℕ}
 use Rattle.model.specs.Order.{Low, Str, _⊑_, _◁_, at}
 use Rattle.model.specs.Names.{Legal}
-use Rattle.model.specs.Entries.{Entry, chosen, find, insert, is-older, run-of-content}
-use Rattle.model.specs.Files.{In, Slot, Sound, entries-of, first, free, head, slot-at, string-count, used}
-use Rattle.model.specs.Changes.{Denied, Lowest, Request, Result, Store, call, free?, halves, holds?, no-room, put, put-in, refuse, removal, remove, remove-in, stored, stores, stores-if, too-many}
-use Rattle.model.proofs.Entries.{chosen-no, chosen-yes}
-use Rattle.model.proofs.Files.{bucket, first-before, first-passes, first-right, one-range}
+use Rattle.model.specs.Entries.{Entry, find, insert, is-older, run-of-content}
+use Rattle.model.specs.Files.{In, Slot, Sound, entries-of, first, free, head, is-free, is-in-range, slot-at, string-count, used}
+use Rattle.model.specs.Changes.{Denied, Lowest, Request, Result, Store, call, halves, no-room, put, put-in, refuse, removal, remove, remove-in, stored, stores, stores-if, too-many}
+use Rattle.model.proofs.Files.{bucket, first-before, first-passes, found-in, free-is-free, is-free-free, one-range}
 use Rattle.model.specs.declared.Layout.{Layout}
 use Rattle.model.specs.Places.{place-of}
 use Rattle.model.specs.Calls.{held, put-takes}
+use Rattle.model.proofs.Tests.{never-both}
 use Rattle.model.proofs.Changes.{Change, absent, fits, removes, splits}
 
 pub lowest-unique : {fs : List Slot} {M N : ℕ} → Lowest fs M → Lowest fs N → M ≡ N
@@ -18,8 +18,11 @@ lowest-unique {fs} {M} {N} L K = elim (decLt M N) [
   | no h ↦ elim (decLt N M) [ yes k ↦ absurd (L .lowest N k (K .is-free)) | no k ↦ omega arith ]
 ]
 
-pub free-lowest : (fs : List Slot) → first free? fs < length fs → Lowest fs (first free? fs)
-free-lowest fs h = record { inside = h; is-free = first-passes free? fs h; lowest = λ B k. first-before free? fs B k }
+not-free : (fs : List Slot) (B : ℕ) → B < first is-free fs → slot-at fs B ≢ free
+not-free fs B h e = never-both (is-free (slot-at fs B)) (free-is-free (slot-at fs B) e) (first-before is-free fs B h)
+
+pub free-lowest : (fs : List Slot) → first is-free fs < length fs → Lowest fs (first is-free fs)
+free-lowest fs h = record { inside = h; is-free = is-free-free (slot-at fs (first is-free fs)) (first-passes is-free fs h); lowest = λ B k. not-free fs B k }
 
 module _ (b : ℕ) (place : List Entry → ℕ) where
   module _ {fs : List Slot} (S : Sound b fs) where
@@ -78,12 +81,12 @@ module _ (b : ℕ) (place : List Entry → ℕ) (fs : List Slot) where
     is-denied : {r : ℕ} → Denied b place fs q r → Answered q (refuse r)
 
   module _ (S : Sound b fs) (n : Str) where
-    pub in-range : In (head (slot-at fs (first (holds? n) fs))) n
-    in-range = let B = bucket b S n in first-right (holds? n) fs (B .0) (B .1) (λ h. h .0)
+    pub in-range : In (head (slot-at fs (first (is-in-range n) fs))) n
+    in-range = let B = bucket b S n in found-in n fs (B .0) (B .1)
 
     pub remove-right : Answered (remove n) (call b place fs (remove n))
     unfolding call remove-in stores-if
-    remove-right = go (first (holds? n) fs) (slot-at fs (first (holds? n) fs)) refl in-range
+    remove-right = go (first (is-in-range n) fs) (slot-at fs (first (is-in-range n) fs)) refl in-range
       where
         go : (A : ℕ) (x : Slot) → slot-at fs A ≡ x → In (head x) n → Answered (remove n) (remove-in b place fs n A x)
         go A free e h = absurd (h .0)
@@ -95,26 +98,26 @@ module _ (b : ℕ) (place : List Entry → ℕ) (fs : List Slot) where
 
     pub put-right : (v : ℕ) → Legal n → Answered (put n v) (call b place fs (put n v))
     unfolding call put-in
-    put-right v g = go (first (holds? n) fs) (slot-at fs (first (holds? n) fs)) refl in-range
+    put-right v g = go (first (is-in-range n) fs) (slot-at fs (first (is-in-range n) fs)) refl in-range
       where
         go : (A : ℕ) (x : Slot) → slot-at fs A ≡ x → In (head x) n → Answered (put n v) (put-in b place fs n v A x)
         go A free e h = absurd (h .0)
         go A (used l u es) e h = elim (decLe (length (insert n v es)) b) [
-          | yes k ↦ rw (chosen-yes (decLe (length (insert n v es)) b) k) (is-made (fits e g (h .1) (h .2) k))
-          | no k ↦ rw (chosen-no (decLe (length (insert n v es)) b) k) (elim (decLt (first free? fs) (length fs)) [
-            | no j ↦ rw (chosen-no (decLt (first free? fs) (length fs)) j) (let m : b < length (insert n v es) = omega arith in is-denied (no-room A es e (h .1) (h .2) m (λ B i. first-before free? fs B (omega arith))))
-            | yes j ↦ rw (chosen-yes (decLt (first free? fs) (length fs)) j) (split (omega arith) j)
+          | yes k ↦ rw (le-leb (length (insert n v es)) b k) (is-made (fits e g (h .1) (h .2) k))
+          | no k ↦ rw (lt-leb (length (insert n v es)) b (omega (arith, k))) (elim (decLt (first is-free fs) (length fs)) [
+            | no j ↦ rw (le-ltb (first is-free fs) (length fs) (omega (arith, j))) (let m : b < length (insert n v es) = omega arith in is-denied (no-room A es e (h .1) (h .2) m (λ B i. not-free fs B (omega arith))))
+            | yes j ↦ rw (lt-ltb (first is-free fs) (length fs) j) (split (omega arith) j)
           ])
         ]
           where
-            split : b < length (insert n v es) → (j : first free? fs < length fs)
-                → Answered (put n v) (chosen (decLe (string-count (stored (halves b place (first free? fs) A l u (insert n v es)) fs)) 256) (stores (halves b place (first free? fs) A l u (insert n v es))) (refuse 6))
+            split : b < length (insert n v es) → (j : first is-free fs < length fs)
+                → Answered (put n v) (cond (leb (string-count (stored (halves b place (first is-free fs) A l u (insert n v es)) fs)) 256) (stores (halves b place (first is-free fs) A l u (insert n v es))) (refuse 6))
             split k j =
-                elim (decLe (string-count (stored (halves b place (first free? fs) A l u (insert n v es)) fs)) 256) [
-                  | yes i ↦ rw (chosen-yes (decLe (string-count (stored (halves b place (first free? fs) A l u (insert n v es)) fs)) 256) i)
+                elim (decLe (string-count (stored (halves b place (first is-free fs) A l u (insert n v es)) fs)) 256) [
+                  | yes i ↦ rw (le-leb (string-count (stored (halves b place (first is-free fs) A l u (insert n v es)) fs)) 256 i)
                       (is-made (splits e g (h .1) (h .2) k (free-lowest fs j) i))
-                  | no i ↦ rw (chosen-no (decLe (string-count (stored (halves b place (first free? fs) A l u (insert n v es)) fs)) 256) i)
-                      (let m : 256 < string-count (stored (halves b place (first free? fs) A l u (insert n v es)) fs) = omega arith in is-denied (too-many A (first free? fs) es e (h .1) (h .2) k (free-lowest fs j) m))
+                  | no i ↦ rw (lt-leb (string-count (stored (halves b place (first is-free fs) A l u (insert n v es)) fs)) 256 (omega (arith, i)))
+                      (let m : 256 < string-count (stored (halves b place (first is-free fs) A l u (insert n v es)) fs) = omega arith in is-denied (too-many A (first is-free fs) es e (h .1) (h .2) k (free-lowest fs j) m))
                 ]
 
 -- What a put takes: it is refused by the runs, or takes what its request takes.

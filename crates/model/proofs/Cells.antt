@@ -1,38 +1,32 @@
 -- What a side reads from cells: determined, kept by appended and changed cells, met by the walk; cells in a row.
-use Rattle.model.proofs.Prelude.{List, List·Memᴰ, List·Memᴰ·head, List·Memᴰ·tail, List·getD-append, [], _++_, _+_, _<_, _∙_, _∷_, _≡_, _≢_, _≤_, add-zero, arith, decLe, getD-append-add, getD-set-other, length, length-append, length-set, max, refl, set, suc, sym, zero, zero-add, ℕ, ℕ-discrete}
+use Rattle.model.proofs.Prelude.{Bool, List, List·Memᴰ, List·Memᴰ·head, List·Memᴰ·tail, List·getD-append, [], _++_, _+_, _<_, _∙_, _∷_, _≡_, _≢_, _≤_, add-zero, arith, cond, decLe, eq-eqb, eqb, eqb-false, eqb-true, false, getD-append-add, getD-set-other, length, length-append, length-set, max, ne-eqb, refl, set, suc, sym, true, zero, zero-add, ℕ, ℕ-discrete}
 use Rattle.model.specs.declared.Cell.{Cell}
 use Rattle.model.specs.declared.Side.{Side}
 use Rattle.model.specs.declared.Side.the-variants.{Cell as further}
 use Rattle.model.specs.Order.{at}
-use Rattle.model.specs.Tries.{Reads, Tree, at-cell, here, leaf, node, occ, one-if, size, there, zero-cell}
+use Rattle.model.specs.Tries.{Reads, Tree, at-cell, here, leaf, node, occ, size, there, zero-cell}
 use Rattle.model.specs.Rebuilding.{lay, side-of}
 
 pub occ-append : (m : ℕ) (xs ys : List ℕ) → occ m (xs ++ ys) ≡ occ m xs + occ m ys
 occ-append m [] ys = omega arith
 occ-append m (x ∷ xs) ys = omega (arith, occ-append m xs ys)
 
-pub one-if-equal : {A : Type 0} → A → (d : Dec A) → one-if d ≡ 1
-one-if-equal a (yes e) = refl
-one-if-equal a (no n) = absurd (n a)
+pub one-if-equal : (m n : ℕ) → m ≡ n → _≡_ {A = ℕ} (cond (eqb m n) 1 0) 1
+one-if-equal m n e = rw (eq-eqb m n e)
 
-one-if-most : {A : Type 0} (d : Dec A) → one-if d ≤ 1
-one-if-most (yes e) = omega arith
-one-if-most (no n) = omega arith
-
-pub one-if-not : {A : Type 0} → ¬ A → (d : Dec A) → one-if d ≡ 0
-one-if-not k (yes e) = absurd (k e)
-one-if-not k (no n) = refl
+pub one-if-not : (m n : ℕ) → ¬ (m ≡ n) → _≡_ {A = ℕ} (cond (eqb m n) 1 0) 0
+one-if-not m n d = rw (ne-eqb m n d)
 
 pub occ-snoc : (m : ℕ) (vs : List ℕ) → occ m vs ≡ 0 → ((i : ℕ) → occ i vs ≤ 1) → (i : ℕ) → occ i (vs ++ (m ∷ [])) ≤ 1
 occ-snoc m vs o f i = go (ℕ-discrete i m)
   where
     go : Dec (i ≡ m) → occ i (vs ++ (m ∷ [])) ≤ 1
-    go (yes e) = rw e (omega (arith, occ-append m vs (m ∷ []), o, one-if-most (ℕ-discrete m m)))
-    go (no n) = omega (arith, occ-append i vs (m ∷ []), f i, one-if-not n (ℕ-discrete i m))
+    go (yes e) = rw e (omega (arith, occ-append m vs (m ∷ []), o, one-if-equal m m refl))
+    go (no n) = omega (arith, occ-append i vs (m ∷ []), f i, one-if-not i m n)
 
 pub not-visited : (m n : ℕ) (vs ws : List ℕ) → occ m (n ∷ (vs ++ ws)) ≡ 0 → (n ≢ m) × (occ m vs ≡ 0) × (occ m ws ≡ 0)
 not-visited m n vs ws o =
-    (λ e. omega (arith, one-if-equal (sym e) (ℕ-discrete m n)), omega (arith, occ-append m vs ws), omega (arith, occ-append m vs ws))
+    (λ e. omega (arith, one-if-equal m n (sym e)), omega (arith, occ-append m vs ws), omega (arith, occ-append m vs ws))
 
 -- The same, where the cell is known by an equation.
 pub there-at : {cs : List Cell} {n : ℕ} {c : Cell} {L R : Tree} {vs ws : List ℕ} → n < length cs → at-cell cs n ≡ c → Reads cs (c .left) L vs → Reads cs (c .right) R ws
@@ -50,7 +44,7 @@ pub reads-agree : {cs cs′ : List Cell} {a : Side} {t : Tree} {vs : List ℕ} �
     → ((m : ℕ) → 0 < occ m vs → at-cell cs′ m ≡ at-cell cs m) → Reads cs a t vs → Reads cs′ a t vs
 reads-agree len f here = here
 reads-agree len f (there {n = m} {vs = vs} {ws = ws} h l r) =
-    there-at (omega arith) (f m (omega (arith, one-if-equal refl (ℕ-discrete m m))))
+    there-at (omega arith) (f m (omega (arith, one-if-equal m m refl)))
     (reads-agree len (λ i o. f i (omega (arith, o, occ-append i vs ws))) l)
     (reads-agree len (λ i o. f i (omega (arith, o, occ-append i vs ws))) r)
 
@@ -68,11 +62,11 @@ reads-height (there {vs = vs} {ws = ws} h l r) = omega (arith, reads-height l, r
 
 pub reads-below : {cs : List Cell} {a : Side} {t : Tree} {vs : List ℕ} (m : ℕ) → length cs ≤ m → Reads cs a t vs → occ m vs ≡ 0
 reads-below m h here = refl
-reads-below m h (there {n = n} {vs = vs} {ws = ws} b l r) = go (ℕ-discrete m n) (reads-below m h l) (reads-below m h r)
+reads-below m h (there {n = n} {vs = vs} {ws = ws} b l r) = go (eqb m n) refl (reads-below m h l) (reads-below m h r)
   where
-    go : (d : Dec (m ≡ n)) → occ m vs ≡ 0 → occ m ws ≡ 0 → one-if d + occ m (vs ++ ws) ≡ 0
-    go (yes e) x y = absurd (omega arith)
-    go (no e) x y = omega (arith, occ-append m vs ws)
+    go : (t : Bool) → eqb m n ≡ t → occ m vs ≡ 0 → occ m ws ≡ 0 → cond t 1 0 + occ m (vs ++ ws) ≡ 0
+    go true e x y = absurd (omega (arith, eqb-true m n e))
+    go false e x y = omega (arith, occ-append m vs ws)
 
 -- Each cell once: none twice.
 pub each-once : {cs : List Cell} {a : Side} {t : Tree} {vs : List ℕ} → Reads cs a t vs → ((i : ℕ) → i < length cs → occ i vs ≡ 1) → (i : ℕ) → occ i vs ≤ 1
@@ -89,19 +83,19 @@ total-nil (suc n) = omega (arith, total-nil n)
 
 total-out : (n v : ℕ) (vs : List ℕ) → n ≤ v → total n (v ∷ vs) ≡ total n vs
 total-out zero v vs h = refl
-total-out (suc n) v vs h = go (ℕ-discrete n v) (total-out n v vs (omega arith))
+total-out (suc n) v vs h = go (eqb n v) refl (total-out n v vs (omega arith))
   where
-    go : (d : Dec (n ≡ v)) → total n (v ∷ vs) ≡ total n vs → one-if d + occ n vs + total n (v ∷ vs) ≡ occ n vs + total n vs
-    go (yes e) f = absurd (omega arith)
-    go (no e) f = omega arith
+    go : (t : Bool) → eqb n v ≡ t → total n (v ∷ vs) ≡ total n vs → cond t 1 0 + occ n vs + total n (v ∷ vs) ≡ occ n vs + total n vs
+    go true e f = absurd (omega (arith, eqb-true n v e))
+    go false e f = omega arith
 
 pub total-cons : (n v : ℕ) (vs : List ℕ) → v < n → total n (v ∷ vs) ≡ suc (total n vs)
 total-cons zero v vs h = absurd (omega arith)
-total-cons (suc n) v vs h = go (ℕ-discrete n v) (total-cons n v vs)
+total-cons (suc n) v vs h = go (eqb n v) refl (total-cons n v vs)
   where
-    go : (d : Dec (n ≡ v)) → (v < n → total n (v ∷ vs) ≡ suc (total n vs)) → one-if d + occ n vs + total n (v ∷ vs) ≡ suc (occ n vs + total n vs)
-    go (yes e) f = omega (arith, total-out n v vs (omega arith))
-    go (no e) f = omega (arith, f (omega arith))
+    go : (t : Bool) → eqb n v ≡ t → (v < n → total n (v ∷ vs) ≡ suc (total n vs)) → cond t 1 0 + occ n vs + total n (v ∷ vs) ≡ suc (occ n vs + total n vs)
+    go true e f = omega (arith, total-out n v vs (omega (arith, eqb-true n v e)))
+    go false e f = omega (arith, f (omega (arith, eqb-false n v e)))
 
 total-each : (n : ℕ) (vs : List ℕ) → ((i : ℕ) → i < n → occ i vs ≡ 1) → total n vs ≡ n
 total-each zero vs f = refl
@@ -138,11 +132,11 @@ total-all n (v ∷ vs) f = omega (arith, total-all n vs (λ w m. f w (List·Mem�
 
 pub occ-mem : (i : ℕ) (vs : List ℕ) → 0 < occ i vs → List·Memᴰ i vs
 occ-mem i [] h = absurd (omega arith)
-occ-mem i (v ∷ vs) h = go (ℕ-discrete i v) (occ-mem i vs) h
+occ-mem i (v ∷ vs) h = go (eqb i v) refl (occ-mem i vs) h
   where
-    go : (d : Dec (i ≡ v)) → (0 < occ i vs → List·Memᴰ i vs) → 0 < one-if d + occ i vs → List·Memᴰ i (v ∷ vs)
-    go (yes e) f h = List·Memᴰ·head e
-    go (no e) f h = List·Memᴰ·tail (f (omega arith))
+    go : (t : Bool) → eqb i v ≡ t → (0 < occ i vs → List·Memᴰ i vs) → 0 < cond t 1 0 + occ i vs → List·Memᴰ i (v ∷ vs)
+    go true e f h = List·Memᴰ·head (eqb-true i v e)
+    go false e f h = List·Memᴰ·tail (f (omega arith))
 
 pub length-lay : (k : ℕ) (t : Tree) → length (lay k t) ≡ size t
 length-lay k (leaf s) = refl
@@ -200,19 +194,19 @@ numbers-upto k (node d i L R) = rw (numbers-upto (suc k) L, numbers-upto (suc k 
 
 pub upto-above : (n k m : ℕ) → m < k → occ m (upto k n) ≡ 0
 upto-above zero k m h = refl
-upto-above (suc n) k m h = go (ℕ-discrete m k) (upto-above n (suc k) m (omega arith))
+upto-above (suc n) k m h = go (eqb m k) refl (upto-above n (suc k) m (omega arith))
   where
-    go : (d : Dec (m ≡ k)) → occ m (upto (suc k) n) ≡ 0 → one-if d + occ m (upto (suc k) n) ≡ 0
-    go (yes e) f = absurd (omega arith)
-    go (no e) f = omega arith
+    go : (t : Bool) → eqb m k ≡ t → occ m (upto (suc k) n) ≡ 0 → cond t 1 0 + occ m (upto (suc k) n) ≡ 0
+    go true e f = absurd (omega (arith, eqb-true m k e))
+    go false e f = omega arith
 
 pub upto-once : (n k m : ℕ) → k ≤ m → m < k + n → occ m (upto k n) ≡ 1
 upto-once zero k m a b = absurd (omega arith)
-upto-once (suc n) k m a b = go (ℕ-discrete m k) (upto-once n (suc k) m)
+upto-once (suc n) k m a b = go (eqb m k) refl (upto-once n (suc k) m)
   where
-    go : (d : Dec (m ≡ k)) → (suc k ≤ m → m < suc k + n → occ m (upto (suc k) n) ≡ 1) → one-if d + occ m (upto (suc k) n) ≡ 1
-    go (yes e) f = omega (arith, upto-above n (suc k) m (omega arith))
-    go (no e) f = omega (arith, f (omega arith) (omega arith))
+    go : (t : Bool) → eqb m k ≡ t → (suc k ≤ m → m < suc k + n → occ m (upto (suc k) n) ≡ 1) → cond t 1 0 + occ m (upto (suc k) n) ≡ 1
+    go true e f = omega (arith, upto-above n (suc k) m (omega (arith, eqb-true m k e)))
+    go false e f = omega (arith, f (omega (arith, eqb-false m k e)) (omega arith))
 
 -- A tree laid out from cell 0 on.
 pub laid-reads : (t : Tree) → Reads (lay 0 t) (side-of 0 t) t (upto 0 (size t))

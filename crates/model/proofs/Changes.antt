@@ -1,6 +1,6 @@
 -- All stores of a change made, the file is sound and says what was asked; a part of them, it is as before or cut, and
 -- recovers to what it was.
-use Rattle.model.proofs.Prelude.{List, List·Memᴰ, List·Memᴰ·head, List·Memᴰ·tail, Memᴰ·append-right, [], _++_, _/_, _<_, _∙_, _∷_, _≡_, _≢_, _≤_, _⊎_, ap, arith, cond, false, fun-ext, getD-set-other, getD-set-same, inl, inr, length, length-set, nothing, refl, set, set-getD, set-set, some, subst, suc, sym, take, zero, ℕ}
+use Rattle.model.proofs.Prelude.{List, List·Memᴰ, List·Memᴰ·head, List·Memᴰ·tail, Memᴰ·append-right, [], _++_, _/_, _<_, _∙_, _∷_, _≡_, _≢_, _≤_, _⊎_, ap, arith, cond, false, fun-ext, getD-set-other, getD-set-same, inl, inr, length, length-set, not, not-true, nothing, refl, set, set-getD, set-set, some, subst, suc, sym, take, zero, ℕ}
 use Rattle.model.specs.Order.{Low, Str, _≺_, _⊑_, _◁_, above, at, none}
 use Rattle.model.specs.Names.{Bound, BoundLow, Legal, limit}
 use Rattle.model.specs.Entries.{Entry, Row, find, insert, move, name-at, stay, without}
@@ -8,13 +8,15 @@ use Rattle.model.specs.Files.{Chain, Copied, Cut, In, IsUsed, Slot, Soun
 use Rattle.model.specs.Changes.{Lowest, Map, Means, Request, Store, counts, halves, meant, merged, put, removal, remove, split-of, split-string, stored, trie-removed}
 use Rattle.model.proofs.Lists.{mem-insert, mem-parts}
 use Rattle.model.proofs.Order.{le-trans, low-at, low-lower, lt-le}
-use Rattle.model.proofs.Entries.{chosen-no, chosen-yes, find-at, find-drop, find-insert-other, find-insert-same, find-keep, insert-new, keep-comm, keep-insert-out, keep-parts, keep-some, length-insert, length-keep, row-insert, row-keep, split-bound, split-key, split-last, split-over, split-under}
+use Rattle.model.proofs.Entries.{find-at, find-drop, find-insert-other, find-insert-same, find-keep, insert-new, keep-comm, keep-insert-out, keep-parts, keep-some, length-insert, length-keep, row-insert, row-keep, split-bound, split-key, split-last, split-over, split-under}
 use Rattle.model.proofs.Files.{at-set, count-right, one-range, used-inside, well-parts}
 use Rattle.model.proofs.Splitting.{SplitAt, chain-split}
 use Rattle.model.proofs.Merging.{Removal, alone, leftward, merge-cut, merge-few, merge-means, merge-sound, removal-is, removal-some, rightward}
 use Rattle.model.specs.declared.Trie.{Trie}
+use Rattle.model.specs.Tests.{is-at-most, same-str}
 use Rattle.model.specs.Growth.{grown-trie}
-use Rattle.model.specs.Deciding.{le?, not?, over, str?}
+use Rattle.model.proofs.Deciding.{le?, over, str?}
+use Rattle.model.proofs.Tests.{is-at-most-le, is-at-most-lt, le-is-at-most, lt-is-at-most, same-str-other, same-str-self}
 
 module _ (b : ℕ) (place : List Entry → ℕ) where
   -- Where nothing is refused: what is asked, and the stores that it takes. One for a name that finds room (R7.2), two
@@ -69,21 +71,21 @@ module _ (b : ℕ) where
     module _ (n : Str) (v : ℕ) (lo : l ◁ n) (up : n ⊑ u) where
       pub put-find : (m : Map) → Means fs m → (k : Str) → l ◁ k → k ⊑ u → find k (insert n v es) ≡ meant (put n v) m k
       put-find m M k a c = elim (str? k n) [
-        | yes e ↦ rw e (find-insert-same n v es ∙ sym (chosen-yes (str? n n) refl _ _))
-        | no e ↦ find-insert-other k n v es e ∙ (rw is at (M k A (rw is (tt, a, c)))) ∙ sym (chosen-no (str? k n) e _ _)
+        | yes e ↦ rw (e, same-str-self n) (find-insert-same n v es)
+        | no e ↦ rw (same-str-other k n e) (find-insert-other k n v es e ∙ (rw is at (M k A (rw is (tt, a, c)))))
       ]
 
       pub put-outside : (m : Map) (k : Str) → ¬ (In (range l u) k) → m k ≡ meant (put n v) m k
-      put-outside m k h = sym (chosen-no (str? k n) (λ e. h (rw e (tt, lo, up))) _ _)
+      put-outside m k h = sym (rw (same-str-other k n (λ e. h (rw e (tt, lo, up)))))
 
       pub remove-find : (m : Map) → Means fs m → (k : Str) → l ◁ k → k ⊑ u → find k (without n es) ≡ meant (remove n) m k
       remove-find m M k a c = elim (str? k n) [
-        | yes e ↦ rw e (find-drop (λ k. not? (str? k n)) n es (λ d. d refl) ∙ sym (chosen-yes (str? n n) refl _ _))
-        | no e ↦ find-keep (λ k. not? (str? k n)) k es e ∙ (rw is at (M k A (rw is (tt, a, c)))) ∙ sym (chosen-no (str? k n) e _ _)
+        | yes e ↦ rw (e, same-str-self n) (find-drop (λ k. not (same-str k n)) n es (ap not (same-str-self n)))
+        | no e ↦ rw (same-str-other k n e) (find-keep (λ k. not (same-str k n)) k es (ap not (same-str-other k n e)) ∙ (rw is at (M k A (rw is (tt, a, c)))))
       ]
 
       pub remove-outside : (m : Map) (k : Str) → ¬ (In (range l u) k) → m k ≡ meant (remove n) m k
-      remove-outside m k h = sym (chosen-no (str? k n) (λ e. h (rw e (tt, lo, up))) _ _)
+      remove-outside m k h = sym (rw (same-str-other k n (λ e. h (rw e (tt, lo, up)))))
 
     -- The split, for a split key at any place i but the last.
     module _ (n : Str) (v : ℕ) (legal : Legal n) (lo : l ◁ n) (up : n ⊑ u) (big : b < length (insert n v es)) (i : ℕ) (i-lt : i < b)
@@ -113,20 +115,20 @@ module _ (b : ℕ) where
       s-bound = split-bound row-all i b i-lt last-in
 
       pub stay-some : 0 < length (stay s (insert n v es))
-      stay-some = keep-some (λ k. le? k s) (insert n v es) i (omega (arith, length-all)) (split-key row-all i b i-lt last-in)
+      stay-some = keep-some (λ k. is-at-most k s) (insert n v es) i (omega (arith, length-all)) (le-is-at-most (name-at (insert n v es) i) s (split-key row-all i b i-lt last-in))
 
       pub move-some : 0 < length (move s (insert n v es))
-      move-some = keep-some (λ k. not? (le? k s)) (insert n v es) b (omega (arith, length-all)) s-last
+      move-some = keep-some (λ k. not (is-at-most k s)) (insert n v es) b (omega (arith, length-all)) (ap not (lt-is-at-most (name-at (insert n v es) b) s s-last))
 
       pub new-well : Well b (used (at s) u (move s (insert n v es)))
       new-well = well-used (limit s-bound) (well-a .1) (above s-below)
-          (row-keep (λ k. not? (le? k s)) (at s) u row-all (λ k p c d. (above p, d)))
-          (omega (arith, keep-parts (λ k. le? k s) (insert n v es), stay-some, length-all))
+          (row-keep (λ k. not (is-at-most k s)) (at s) u row-all (λ k p c d. (above (is-at-most-lt k s (not-true (is-at-most k s) p)), d)))
+          (omega (arith, keep-parts (λ k. is-at-most k s) (insert n v es), stay-some, length-all))
 
       pub old-well : Well b (used l s (stay s (insert n v es)))
       old-well = well-used (well-a .0) s-bound s-above
-          (row-keep (λ k. le? k s) l s row-all (λ k p c d. (c, p)))
-          (omega (arith, keep-parts (λ k. le? k s) (insert n v es), move-some, length-all))
+          (row-keep (λ k. is-at-most k s) l s row-all (λ k p c d. (c, is-at-most-le k s p)))
+          (omega (arith, keep-parts (λ k. is-at-most k s) (insert n v es), move-some, length-all))
 
       abbrev pub new-slot : Slot
       new-slot = used (at s) u (move s (insert n v es))
@@ -151,13 +153,13 @@ module _ (b : ℕ) where
 
       copied : Copied (move s es) (move s (insert n v es))
       copied = elim (le? n s) [
-        | yes h ↦ subst (λ x. Copied (move s es) x) (sym (keep-insert-out (λ k. not? (le? k s)) n v es (λ q. q h))) exactly
-        | no h ↦ more (find-at n (move s (insert n v es)) v (find-keep (λ k. not? (le? k s)) n (insert n v es) h ∙ find-insert-same n v es))
+        | yes h ↦ subst (λ x. Copied (move s es) x) (sym (keep-insert-out (λ k. not (is-at-most k s)) n v es (ap not (le-is-at-most n s h)))) exactly
+        | no h ↦ more (find-at n (move s (insert n v es)) v (find-keep (λ k. not (is-at-most k s)) n (insert n v es) (ap not (lt-is-at-most n s h)) ∙ find-insert-same n v es))
       ]
         where
           rest : without n (move s (insert n v es)) ≡ move s es
-          rest = keep-comm (λ k. not? (str? k n)) (λ k. not? (le? k s)) (insert n v es)
-              ∙ ap (move s) (keep-insert-out (λ k. not? (str? k n)) n v es (λ d. d refl) ∙ insert-new n v (well-a .3) (omega (arith, full, big)))
+          rest = keep-comm (λ k. not (same-str k n)) (λ k. not (is-at-most k s)) (insert n v es)
+              ∙ ap (move s) (keep-insert-out (λ k. not (same-str k n)) n v es (ap not (same-str-self n)) ∙ insert-new n v (well-a .3) (omega (arith, full, big)))
 
           more : (j : ℕ) × (j < length (move s (insert n v es))) × (name-at (move s (insert n v es)) j ≡ n) → Copied (move s es) (move s (insert n v es))
           more (j, h, e) =
@@ -219,8 +221,8 @@ module _ (b : ℕ) where
 
       pub second-means : (m : Map) → Means fs m → Means after-second (meant (put n v) m)
       second-means m M k = in-second (λ B x. In (head x) k → find k (entries-of x) ≡ meant (put n v) m k)
-          (λ h. find-keep (λ k. not? (le? k s)) k (insert n v es) (over (h .1)) ∙ put-find n v lo up m M k (low-lower (low-at s-above) (h .1)) (h .2))
-          (λ h. find-keep (λ k. le? k s) k (insert n v es) (h .2) ∙ put-find n v lo up m M k (h .1) (le-trans (h .2) (lt-le s-below)))
+          (λ h. find-keep (λ k. not (is-at-most k s)) k (insert n v es) (ap not (lt-is-at-most k s (over (h .1)))) ∙ put-find n v lo up m M k (low-lower (low-at s-above) (h .1)) (h .2))
+          (λ h. find-keep (λ k. is-at-most k s) k (insert n v es) (le-is-at-most k s (h .2)) ∙ put-find n v lo up m M k (h .1) (le-trans (h .2) (lt-le s-below)))
           (λ B d c h. M k B h ∙ put-outside n v lo up m k (λ q. d (one-range b S k h (rw is q))))
 
   -- Sound, with the map's entries, and few enough strings for a trie.
@@ -249,8 +251,8 @@ module _ (b : ℕ) where
       → {ss : List Store} → Removal b fs n A l u es ss → Fine (stored ss fs) (meant (remove n) m)
   removal-made {fs} {m} F A l u es n is lo up (alone c d) =
       let w = well-a fs (F .sound) A l u es is in
-      let r = row-keep (λ k. not? (str? k n)) l u (w .3) (λ k p c d. (c, d)) in
-      let k : length (without n es) ≤ b = omega (arith, length-keep (λ k. not? (str? k n)) es, w .4) in record {
+      let r = row-keep (λ k. not (same-str k n)) l u (w .3) (λ k p c d. (c, d)) in
+      let k : length (without n es) ≤ b = omega (arith, length-keep (λ k. not (same-str k n)) es, w .4) in record {
         sound = one-sound fs (F .sound) A l u es is (without n es) r k;
         means = one-means fs (F .sound) A l u es is (without n es) m (meant (remove n) m) (F .means) (remove-find fs (F .sound) A l u es is n 0 lo up m (F .means)) (remove-outside fs (F .sound) A l u es is n 0 lo up m);
         few = rw (one-count fs (F .sound) A l u es is (without n es) r k) (F .few);
@@ -268,8 +270,8 @@ module _ (b : ℕ) where
       → {ss : List Store} → Removal b fs n A l u es ss → string-count (stored ss fs) ≤ string-count fs
   removal-few {fs} S A l u es n is lo up (alone c d) =
       let w = well-a fs S A l u es is in
-      let r = row-keep (λ k. not? (str? k n)) l u (w .3) (λ k p c d. (c, d)) in
-      let k : length (without n es) ≤ b = omega (arith, length-keep (λ k. not? (str? k n)) es, w .4) in
+      let r = row-keep (λ k. not (same-str k n)) l u (w .3) (λ k p c d. (c, d)) in
+      let k : length (without n es) ≤ b = omega (arith, length-keep (λ k. not (same-str k n)) es, w .4) in
       omega (arith, one-count fs S A l u es is (without n es) r k)
   removal-few {fs} S A l u es n is lo up (rightward {R = R} {v = v} {gs = gs} r-is k) =
       let up′ : n ⊑ v = le-trans up (lt-le (over (well-a fs S R (at u) v gs r-is .2))) in
@@ -318,8 +320,8 @@ module _ (b : ℕ) where
     change-made {fs} {m} F (absent A {n = n} is lo up e) = record {
       sound = F .sound;
       means = λ k B h. F .means k B h ∙ elim (str? k n) [
-        | yes q ↦ rw q (sym (F .means n A (rw is (tt, lo, up))) ∙ rw is e ∙ sym (chosen-yes (str? n n) refl _ _))
-        | no q ↦ sym (chosen-no (str? k n) q _ _)
+        | yes q ↦ rw (q, same-str-self n) (sym (F .means n A (rw is (tt, lo, up))) ∙ rw is e)
+        | no q ↦ sym (rw (same-str-other k n q))
       ];
       few = F .few;
     }

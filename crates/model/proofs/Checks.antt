@@ -1,37 +1,15 @@
 -- The tests of check are what they test; so check names sound files, the slot to free of cut ones, and bad files.
-use Rattle.model.proofs.Prelude.{Bool, List, List·Memᴰ, List·Memᴰ·head, List·Memᴰ·not-nil, List·Memᴰ·tail, [], _&&_, _+_, _<_, _||_, _∙_, _∷_, _≡_, _≤_, _⊎_, add-zero, ap, ap₂, arith, clash, cond, eq-eqb, eqb, eqb-true, false, inl, inr, le-leb, leb, leb-true, length, not, not-true, refl, set, suc, true, zero, zero-add, ℕ, ℕ-discrete}
-use Rattle.model.specs.Order.{Low, Str, _◁_, above, at, least, none}
-use Rattle.model.specs.Names.{BoundLow, is-at-most, is-legal-bound, is-legal-filled, limit, unlimited}
+use Rattle.model.proofs.Prelude.{Bool, List, List·Memᴰ, List·Memᴰ·head, List·Memᴰ·not-nil, List·Memᴰ·tail, [], _&&_, _+_, _<_, _||_, _∙_, _∷_, _≡_, _≤_, add-zero, ap, ap₂, arith, clash, cond, eq-eqb, eqb, eqb-true, false, inl, inr, le-leb, leb, leb-true, length, not, not-true, refl, set, suc, true, zero, zero-add, ℕ, ℕ-discrete}
+use Rattle.model.specs.Order.{Low, Str, _◁_, above, at, none}
+use Rattle.model.specs.Tests.{is-above, is-at-most, is-legal-bound, is-legal-filled, is-legal-low, same-str}
+use Rattle.model.specs.Names.{BoundLow, limit, unlimited}
 use Rattle.model.specs.Entries.{Entry, Row, entry, move, name-at, no-entries, without}
-use Rattle.model.specs.Files.{Bad, Chain, Copied, Cut, IsUsed, Slot, Sound, Well, exactly, free, head, last, lower-of, next, one-more, order-of, ranges, slot-at, upper-of, used, well-free, well-used}
-use Rattle.model.specs.Checks.{Kind, all-well, are-same-entries, check, cut-among, has-one-more, has-twin, is-above, is-bad, is-chain, is-copied, is-cut, is-cut-by, is-in, is-legal-low, is-listed, is-row, is-sound, is-sound-file, is-twin, is-used-slot, is-well-formed, same-low, same-str}
-use Rattle.model.proofs.Names.{both-true, bound-is-legal-bound, is-at-most-le, is-at-most-lt, is-legal-bound-bound, is-legal-filled-legal, le-is-at-most, legal-is-legal-filled, lt-is-at-most, never-both}
+use Rattle.model.specs.Files.{Bad, Chain, Copied, Cut, IsUsed, Slot, Sound, Well, exactly, free, has-lower, head, is-free, last, next, one-more, order-of, ranges, slot-at, upper-of, used, well-free, well-used}
+use Rattle.model.specs.Checks.{Kind, all-well, are-same-entries, check, cut-among, has-one-more, has-twin, is-bad, is-chain, is-copied, is-cut, is-cut-by, is-in, is-listed, is-row, is-sound, is-sound-file, is-twin, is-well-formed}
+use Rattle.model.proofs.Tests.{above-is-above, both-true, either-true, is-above-above, is-at-most-le, is-at-most-lt, le-is-at-most, lt-is-at-most, never-both, same-str-equal, same-str-self, true-left, true-right}
+use Rattle.model.proofs.Names.{bound-is-legal-bound, is-legal-bound-bound, is-legal-filled-legal, legal-is-legal-filled}
 use Rattle.model.proofs.Ranges.{chain-some}
-use Rattle.model.proofs.Files.{cut-not-sound, cut-unique, order-right, used-inside}
-
-pub either-true : (a b : Bool) → (a || b) ≡ true → (a ≡ true) ⊎ (b ≡ true)
-either-true true b e = inl refl
-either-true false b e = inr e
-
-pub true-left : (a b : Bool) → a ≡ true → (a || b) ≡ true
-true-left a b e = rw e
-
-pub true-right : (a b : Bool) → b ≡ true → (a || b) ≡ true
-true-right true b e = refl
-true-right false b e = e
-
-pub both-join : (a b : Bool) → a ≡ true → b ≡ true → (a && b) ≡ true
-both-join a b e f = rw (e, f)
-
-pub is-above-above : (l : Low) (x : Str) → is-above l x ≡ true → l ◁ x
-unfolding is-above
-is-above-above none x e = least
-is-above-above (at l) x e = above (is-at-most-lt x l (not-true (is-at-most x l) e))
-
-pub above-is-above : {l : Low} {x : Str} → l ◁ x → is-above l x ≡ true
-unfolding is-above
-above-is-above least = refl
-above-is-above (above {l = l} {x = x} p) = rw (lt-is-at-most x l p)
+use Rattle.model.proofs.Files.{cut-not-sound, cut-unique, has-lower-lower, lower-has-lower, order-right, used-inside, used-is-free}
 
 is-legal-low-bound : (l : Low) → is-legal-low l ≡ true → BoundLow l
 unfolding is-legal-low
@@ -42,39 +20,6 @@ bound-is-legal-low : {l : Low} → BoundLow l → is-legal-low l ≡ true
 unfolding is-legal-low
 bound-is-legal-low unlimited = refl
 bound-is-legal-low (limit g) = bound-is-legal-bound g
-
-pub same-str-equal : (x y : Str) → same-str x y ≡ true → x ≡ y
-unfolding same-str
-same-str-equal [] [] e = refl
-same-str-equal [] (b ∷ y) e = cc
-same-str-equal (a ∷ x) [] e = cc
-same-str-equal (a ∷ x) (b ∷ y) e =
-    let p = both-true (eqb a b) (same-str x y) e in
-    ap₂ (λ (c : ℕ) (z : Str). c ∷ z) (eqb-true a b (p .0)) (same-str-equal x y (p .1))
-
-pub same-str-self : (x : Str) → same-str x x ≡ true
-unfolding same-str
-same-str-self [] = refl
-same-str-self (a ∷ x) = rw (eq-eqb a a refl) (same-str-self x)
-
-pub same-str-other : (x y : Str) → ¬ (x ≡ y) → same-str x y ≡ false
-same-str-other x y n = go (same-str x y) refl
-  where
-    go : (t : Bool) → same-str x y ≡ t → t ≡ false
-    go true e = absurd (n (same-str-equal x y e))
-    go false e = refl
-
-same-low-equal : (l m : Low) → same-low l m ≡ true → l ≡ m
-unfolding same-low
-same-low-equal none none e = refl
-same-low-equal none (at y) e = cc
-same-low-equal (at x) none e = cc
-same-low-equal (at x) (at y) e = ap at (same-str-equal x y e)
-
-same-low-self : (l : Low) → same-low l l ≡ true
-unfolding same-low
-same-low-self none = refl
-same-low-self (at x) = same-str-self x
 
 pub is-row-row : (l : Low) (es : List Entry) (u : Str) → is-row l es u ≡ true → Row l es u
 unfolding is-row
@@ -130,16 +75,6 @@ module _ (b : ℕ) where
   well-all-well [] w = refl
   well-all-well (x ∷ fs) w = rw (well-is-well-formed (w 0), well-all-well fs (λ B. w (suc B)))
 
-is-used-slot-used : (x : Slot) → is-used-slot x ≡ true → IsUsed (head x)
-unfolding is-used-slot
-is-used-slot-used free e = clash cc
-is-used-slot-used (used l u es) e = tt
-
-used-is-used-slot : (x : Slot) → IsUsed (head x) → is-used-slot x ≡ true
-unfolding is-used-slot
-used-is-used-slot free h = absurd h
-used-is-used-slot (used l u es) h = refl
-
 is-in-mem : (B : ℕ) (Bs : List ℕ) → is-in B Bs ≡ true → List·Memᴰ B Bs
 unfolding is-in
 is-in-mem B [] e = clash cc
@@ -157,39 +92,38 @@ module _ (fs : List Slot) where
   is-chain-chain l [] e = clash cc
   is-chain-chain l (B ∷ []) e =
       let x = slot-at fs B in
-      let p = both-true (is-used-slot x && same-low (lower-of (head x)) l) (same-str (upper-of (head x)) []) e in
-      let q = both-true (is-used-slot x) (same-low (lower-of (head x)) l) (p .0) in
-      last (is-used-slot-used x (q .0)) (same-low-equal (lower-of (head x)) l (q .1)) (same-str-equal (upper-of (head x)) [] (p .1))
+      let p = both-true (has-lower l x) (same-str (upper-of (head x)) []) e in
+      let h = has-lower-lower l x (p .0) in
+      last (h .0) (h .1) (same-str-equal (upper-of (head x)) [] (p .1))
   is-chain-chain l (B ∷ C ∷ Bs) e =
       let x = slot-at fs B in
       let u = upper-of (head x) in
-      let p = both-true (is-used-slot x && same-low (lower-of (head x)) l && is-above l u && not (is-at-most [] u)) (is-chain fs (at u) (C ∷ Bs)) e in
-      let q = both-true (is-used-slot x && same-low (lower-of (head x)) l && is-above l u) (not (is-at-most [] u)) (p .0) in
-      let r = both-true (is-used-slot x && same-low (lower-of (head x)) l) (is-above l u) (q .0) in
-      let t = both-true (is-used-slot x) (same-low (lower-of (head x)) l) (r .0) in
-      next (is-used-slot-used x (t .0)) (same-low-equal (lower-of (head x)) l (t .1)) (is-above-above l u (r .1)) (is-at-most-lt [] u (not-true (is-at-most [] u) (q .1))) (is-chain-chain (at u) (C ∷ Bs) (p .1))
+      let p = both-true (has-lower l x && is-above l u && not (is-at-most [] u)) (is-chain fs (at u) (C ∷ Bs)) e in
+      let q = both-true (has-lower l x && is-above l u) (not (is-at-most [] u)) (p .0) in
+      let r = both-true (has-lower l x) (is-above l u) (q .0) in
+      let h = has-lower-lower l x (r .0) in
+      next (h .0) (h .1) (is-above-above l u (r .1)) (is-at-most-lt [] u (not-true (is-at-most [] u) (q .1))) (is-chain-chain (at u) (C ∷ Bs) (p .1))
 
   chain-is-chain : (l : Low) (Bs : List ℕ) → Chain (ranges fs) l Bs → is-chain fs l Bs ≡ true
   unfolding is-chain
   chain-is-chain l [] c = absurd (chain-some (ranges fs) c)
-  chain-is-chain l (B ∷ []) (last u e f) = rw (used-is-used-slot (slot-at fs B) u, e, f, same-low-self l) (same-str-self [])
+  chain-is-chain l (B ∷ []) (last u e f) = rw (lower-has-lower l (slot-at fs B) u e, f) (same-str-self [])
   chain-is-chain l (B ∷ []) (next u e a c d) = absurd (chain-some (ranges fs) d)
   chain-is-chain l (B ∷ C ∷ Bs) (next u e a c d) =
-      rw (used-is-used-slot (slot-at fs B) u, e, same-low-self l, above-is-above a, lt-is-at-most [] (upper-of (head (slot-at fs B))) c) (chain-is-chain (at (upper-of (head (slot-at fs B)))) (C ∷ Bs) d)
+      rw (lower-has-lower l (slot-at fs B) u e, above-is-above a, lt-is-at-most [] (upper-of (head (slot-at fs B))) c) (chain-is-chain (at (upper-of (head (slot-at fs B)))) (C ∷ Bs) d)
 
 listed-used : (i : ℕ) (Bs : List ℕ) (fs : List Slot) → is-listed i Bs fs ≡ true → (B : ℕ) → IsUsed (head (slot-at fs B)) → List·Memᴰ (i + B) Bs
 unfolding is-listed
 listed-used i Bs [] e B h = absurd h
 listed-used i Bs (x ∷ fs) e zero h =
-    let p = both-true (not (is-used-slot x) || is-in i Bs) (is-listed (suc i) Bs fs) e .0 in
-    rw add-zero (elim (either-true (not (is-used-slot x)) (is-in i Bs) p)
-    [ inl q ↦ absurd (never-both (is-used-slot x) (used-is-used-slot x h) (not-true (is-used-slot x) q)) | inr q ↦ is-in-mem i Bs q ])
+    let p = both-true (is-free x || is-in i Bs) (is-listed (suc i) Bs fs) e .0 in
+    rw add-zero (elim (either-true (is-free x) (is-in i Bs) p) [ inl q ↦ absurd (never-both (is-free x) q (used-is-free x h)) | inr q ↦ is-in-mem i Bs q ])
 listed-used i Bs (x ∷ fs) e (suc B) h =
     let q : suc i + B ≡ i + suc B = omega arith in
-    rw q at (listed-used (suc i) Bs fs (both-true (not (is-used-slot x) || is-in i Bs) (is-listed (suc i) Bs fs) e .1) B h)
+    rw q at (listed-used (suc i) Bs fs (both-true (is-free x || is-in i Bs) (is-listed (suc i) Bs fs) e .1) B h)
 
 used-listed : (i : ℕ) (Bs : List ℕ) (fs : List Slot) → ((B : ℕ) → IsUsed (head (slot-at fs B)) → List·Memᴰ (i + B) Bs) → is-listed i Bs fs ≡ true
-unfolding is-listed is-used-slot
+unfolding is-listed is-free
 used-listed i Bs [] f = refl
 used-listed i Bs (free ∷ fs) f = used-listed (suc i) Bs fs (λ B h. let q : suc i + B ≡ i + suc B = omega arith in rw q (f (suc B) h))
 used-listed i Bs (used l u es ∷ fs) f =

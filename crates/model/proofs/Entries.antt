@@ -1,122 +1,108 @@
 -- What is found after an insertion and in a part that was kept; parts and their lengths; rows of a range.
-use Rattle.model.proofs.Prelude.{List, [], _+_, _<_, _∙_, _∷_, _≡_, _≢_, _≤_, arith, clash, getD, length, nothing, refl, some, suc, sym, take, zero, ℕ}
+use Rattle.model.proofs.Prelude.{Bool, List, [], _+_, _<_, _∙_, _∷_, _≡_, _≢_, _≤_, ap, arith, clash, false, inl, inr, length, not, nothing, refl, some, suc, sym, take, true, zero, ℕ}
 use Rattle.model.specs.Order.{Low, Str, _≺_, _⊑_, _◁_, above, at, diff}
+use Rattle.model.specs.Tests.{same-str}
 use Rattle.model.specs.Names.{Bound, Legal}
-use Rattle.model.specs.Entries.{Entry, Row, chosen, entry, find, insert, keep, name-at, no-entries, without}
+use Rattle.model.specs.Entries.{Entry, Row, entry, find, insert, keep, name-at, no-entries, without}
 use Rattle.model.specs.Changes.{split-string}
-use Rattle.model.specs.Deciding.{le?, not?, over, str?}
+use Rattle.model.proofs.Deciding.{le?, over, str?}
 use Rattle.model.proofs.Order.{le-antisym, le-refl, le-take, low-at, low-le, low-lower, lt-le-trans, split-lt}
+use Rattle.model.proofs.Tests.{equal-same-str, le-is-at-most, lt-is-at-most, never-both, same-str-other, same-str-self, true-or-false}
 use Rattle.model.proofs.Names.{legal-bound, legal-length, split-is}
-
-pub chosen-yes : {X Y : Type 0} (d : Dec X) → X → (a b : Y) → chosen d a b ≡ a
-unfolding chosen
-chosen-yes (yes h) x a b = refl
-chosen-yes (no h) x a b = absurd (h x)
-
-pub chosen-no : {X Y : Type 0} (d : Dec X) → ¬ X → (a b : Y) → chosen d a b ≡ b
-unfolding chosen
-chosen-no (yes h) x a b = absurd (x h)
-chosen-no (no h) x a b = refl
 
 pub find-insert-same : (n : Str) (v : ℕ) (es : List Entry) → find n (insert n v es) ≡ some v
 unfolding find insert
-find-insert-same n v [] = chosen-yes (str? n n) refl _ _
+find-insert-same n v [] = rw (same-str-self n)
 find-insert-same n v (e ∷ es) = elim (le? n (e .0)) [
-  | no h ↦ rw (chosen-no (le? n (e .0)) h, chosen-no (str? n (e .0)) (λ q. h (rw (← q) (le-refl n)))) (find-insert-same n v es)
+  | no h ↦ rw (lt-is-at-most n (e .0) h, same-str-other n (e .0) (λ q. h (rw (← q) (le-refl n)))) (find-insert-same n v es)
   | yes h ↦ elim (str? n (e .0)) [
-    | yes q ↦ rw (chosen-yes (le? n (e .0)) h, chosen-yes (str? n (e .0)) q) (chosen-yes (str? n n) refl _ _)
-    | no q ↦ rw (chosen-yes (le? n (e .0)) h, chosen-no (str? n (e .0)) q) (chosen-yes (str? n n) refl _ _)
+    | yes q ↦ rw (le-is-at-most n (e .0) h, equal-same-str n (e .0) q) (rw (same-str-self n))
+    | no q ↦ rw (le-is-at-most n (e .0) h, same-str-other n (e .0) q) (rw (same-str-self n))
   ]
 ]
 
 pub find-insert-other : (m n : Str) (v : ℕ) (es : List Entry) → m ≢ n → find m (insert n v es) ≡ find m es
 unfolding find insert
-find-insert-other m n v [] d = chosen-no (str? m n) d _ _
+find-insert-other m n v [] d = rw (same-str-other m n d)
 find-insert-other m n v (e ∷ es) d = elim (le? n (e .0)) [
-  | no h ↦ rw (chosen-no (le? n (e .0)) h, find-insert-other m n v es d)
+  | no h ↦ rw (lt-is-at-most n (e .0) h, find-insert-other m n v es d)
   | yes h ↦ elim (str? n (e .0)) [
-    | yes q ↦ rw (chosen-yes (le? n (e .0)) h, chosen-yes (str? n (e .0)) q, chosen-no (str? m n) d) (sym (chosen-no (str? m (e .0)) (λ r. d (r ∙ sym q)) _ _))
-    | no q ↦ rw (chosen-yes (le? n (e .0)) h, chosen-no (str? n (e .0)) q) (chosen-no (str? m n) d _ _)
+    | yes q ↦ rw (le-is-at-most n (e .0) h, equal-same-str n (e .0) q, same-str-other m n d) (sym (rw (same-str-other m (e .0) (λ r. d (r ∙ sym q)))))
+    | no q ↦ rw (le-is-at-most n (e .0) h, same-str-other n (e .0) q) (rw (same-str-other m n d))
   ]
 ]
 
-module _ {P : Str → Type 0} (t : (n : Str) → Dec (P n)) where
-  pub find-keep : (n : Str) (es : List Entry) → P n → find n (keep t es) ≡ find n es
+module _ (t : Str → Bool) where
+  pub find-keep : (n : Str) (es : List Entry) → t n ≡ true → find n (keep t es) ≡ find n es
   unfolding find keep
   find-keep n [] p = refl
-  find-keep n (e ∷ es) p = elim (t (e .0)) [
-    | yes h ↦ rw (chosen-yes (t (e .0)) h, find-keep n es p)
-    | no h ↦ rw (chosen-no (t (e .0)) h, find-keep n es p) (sym (chosen-no (str? n (e .0)) (λ q. h (rw q at p)) _ _))
+  find-keep n (e ∷ es) p = elim (true-or-false (t (e .0))) [
+    | inl h ↦ rw (h, find-keep n es p)
+    | inr h ↦ rw (h, find-keep n es p, same-str-other n (e .0) (λ q. never-both (t n) p (ap t q ∙ h)))
   ]
 
-  pub find-drop : (n : Str) (es : List Entry) → ¬ P n → find n (keep t es) ≡ nothing
+  pub find-drop : (n : Str) (es : List Entry) → t n ≡ false → find n (keep t es) ≡ nothing
   unfolding find keep
   find-drop n [] p = refl
-  find-drop n (e ∷ es) p = elim (t (e .0)) [
-    | yes h ↦ rw (chosen-yes (t (e .0)) h) (chosen-no (str? n (e .0)) (λ q. p (rw q h)) _ _ ∙ find-drop n es p)
-    | no h ↦ rw (chosen-no (t (e .0)) h) (find-drop n es p)
+  find-drop n (e ∷ es) p = elim (true-or-false (t (e .0))) [
+    | inl h ↦ rw (h, same-str-other n (e .0) (λ q. never-both (t n) (ap t q ∙ h) p)) (find-drop n es p)
+    | inr h ↦ rw h (find-drop n es p)
   ]
 
-  pub keep-insert-out : (n : Str) (v : ℕ) (es : List Entry) → ¬ P n → keep t (insert n v es) ≡ keep t es
+  pub keep-insert-out : (n : Str) (v : ℕ) (es : List Entry) → t n ≡ false → keep t (insert n v es) ≡ keep t es
   unfolding insert keep
-  keep-insert-out n v [] p = chosen-no (t n) p _ _
+  keep-insert-out n v [] p = rw p
   keep-insert-out n v (e ∷ es) p = elim (le? n (e .0)) [
-    | no h ↦ rw (chosen-no (le? n (e .0)) h, keep-insert-out n v es p)
+    | no h ↦ rw (lt-is-at-most n (e .0) h, keep-insert-out n v es p)
     | yes h ↦ elim (str? n (e .0)) [
-      | yes q ↦ rw (chosen-yes (le? n (e .0)) h, chosen-yes (str? n (e .0)) q, chosen-no (t n) p) (sym (chosen-no (t (e .0)) (λ r. p (rw q r)) _ _))
-      | no q ↦ rw (chosen-yes (le? n (e .0)) h, chosen-no (str? n (e .0)) q) (chosen-no (t n) p _ _)
+      | yes q ↦ rw (le-is-at-most n (e .0) h, equal-same-str n (e .0) q, p, sym (ap t q) ∙ p)
+      | no q ↦ rw (le-is-at-most n (e .0) h, same-str-other n (e .0) q, p)
     ]
   ]
 
   pub length-keep : (es : List Entry) → length (keep t es) ≤ length es
   unfolding keep
   length-keep [] = omega arith
-  length-keep (e ∷ es) = elim (t (e .0)) [
-    | yes h ↦ rw (chosen-yes (t (e .0)) h) (omega (arith, length-keep es))
-    | no h ↦ rw (chosen-no (t (e .0)) h) (omega (arith, length-keep es))
+  length-keep (e ∷ es) = elim (true-or-false (t (e .0))) [
+    | inl h ↦ rw h (omega (arith, length-keep es))
+    | inr h ↦ rw h (omega (arith, length-keep es))
   ]
 
-  pub keep-parts : (es : List Entry) → length (keep t es) + length (keep (λ n. not? (t n)) es) ≡ length es
+  pub keep-parts : (es : List Entry) → length (keep t es) + length (keep (λ n. not (t n)) es) ≡ length es
   unfolding keep
   keep-parts [] = omega arith
-  keep-parts (e ∷ es) = elim (t (e .0)) [
-    | yes h ↦ rw (chosen-yes (t (e .0)) h, chosen-no (not? (t (e .0))) (λ n. n h)) (omega (arith, keep-parts es))
-    | no h ↦ rw (chosen-no (t (e .0)) h, chosen-yes (not? (t (e .0))) h) (omega (arith, keep-parts es))
+  keep-parts (e ∷ es) = elim (true-or-false (t (e .0))) [
+    | inl h ↦ rw h (omega (arith, keep-parts es))
+    | inr h ↦ rw h (omega (arith, keep-parts es))
   ]
 
   -- One that passes is kept.
-  pub keep-some : (es : List Entry) (i : ℕ) → i < length es → P (getD es i ([], 0) .0) → 0 < length (keep t es)
+  pub keep-some : (es : List Entry) (i : ℕ) → i < length es → t (name-at es i) ≡ true → 0 < length (keep t es)
   unfolding keep
   keep-some [] i h p = absurd (omega arith)
-  keep-some (e ∷ es) zero h p = rw (chosen-yes (t (e .0)) p) (omega arith)
-  keep-some (e ∷ es) (suc i) h p = elim (t (e .0)) [
-    | yes q ↦ rw (chosen-yes (t (e .0)) q) (omega arith)
-    | no q ↦ rw (chosen-no (t (e .0)) q) (keep-some es i (omega arith) p)
+  keep-some (e ∷ es) zero h p = rw p (omega arith)
+  keep-some (e ∷ es) (suc i) h p = elim (true-or-false (t (e .0))) [
+    | inl q ↦ rw q (omega arith)
+    | inr q ↦ rw q (keep-some es i (omega arith) p)
   ]
 
-module _ {P Q : Str → Type 0} (t : (n : Str) → Dec (P n)) (r : (n : Str) → Dec (Q n)) where
+module _ (t r : Str → Bool) where
   pub keep-comm : (es : List Entry) → keep t (keep r es) ≡ keep r (keep t es)
   unfolding keep
   keep-comm [] = refl
-  keep-comm (e ∷ es) = elim (t (e .0)) [
-    | yes p ↦ elim (r (e .0)) [
-      | yes q ↦ rw (chosen-yes (t (e .0)) p, chosen-yes (r (e .0)) q, chosen-yes (t (e .0)) p, chosen-yes (r (e .0)) q, keep-comm es)
-      | no q ↦ rw (chosen-yes (t (e .0)) p, chosen-no (r (e .0)) q, chosen-no (r (e .0)) q, keep-comm es)
-    ]
-    | no p ↦ elim (r (e .0)) [
-      | yes q ↦ rw (chosen-no (t (e .0)) p, chosen-yes (r (e .0)) q, chosen-no (t (e .0)) p, keep-comm es)
-      | no q ↦ rw (chosen-no (t (e .0)) p, chosen-no (r (e .0)) q, keep-comm es)
-    ]
+  keep-comm (e ∷ es) = elim (true-or-false (t (e .0))) [
+    | inl p ↦ elim (true-or-false (r (e .0))) [ inl q ↦ rw (p, q, p, keep-comm es) | inr q ↦ rw (p, q, keep-comm es) ]
+    | inr p ↦ elim (true-or-false (r (e .0))) [ inl q ↦ rw (p, q, p, keep-comm es) | inr q ↦ rw (p, q, keep-comm es) ]
   ]
 
 pub length-insert : (n : Str) (v : ℕ) (es : List Entry) → length (insert n v es) ≤ suc (length es)
 unfolding insert
 length-insert n v [] = omega arith
 length-insert n v (e ∷ es) = elim (le? n (e .0)) [
-  | no h ↦ rw (chosen-no (le? n (e .0)) h) (omega (arith, length-insert n v es))
+  | no h ↦ rw (lt-is-at-most n (e .0) h) (omega (arith, length-insert n v es))
   | yes h ↦ elim (str? n (e .0)) [
-    | yes q ↦ rw (chosen-yes (le? n (e .0)) h, chosen-yes (str? n (e .0)) q) (omega arith)
-    | no q ↦ rw (chosen-yes (le? n (e .0)) h, chosen-no (str? n (e .0)) q) (omega arith)
+    | yes q ↦ rw (le-is-at-most n (e .0) h, equal-same-str n (e .0) q) (omega arith)
+    | no q ↦ rw (le-is-at-most n (e .0) h, same-str-other n (e .0) q) (omega arith)
   ]
 ]
 
@@ -124,21 +110,21 @@ pub row-insert : {l : Low} {u : Str} {es : List Entry} (n : Str) (v : ℕ) → L
 unfolding insert
 row-insert n v g a b no-entries = entry g a b no-entries
 row-insert {l} {u} n v g a b (entry {e = e} {es = es} g′ c d r) = elim (le? n (e .0)) [
-  | no h ↦ rw (chosen-no (le? n (e .0)) h) (entry g′ c d (row-insert n v g (above h) b r))
+  | no h ↦ rw (lt-is-at-most n (e .0) h) (entry g′ c d (row-insert n v g (above h) b r))
   | yes h ↦ elim (str? n (e .0)) [
-    | yes q ↦ rw (chosen-yes (le? n (e .0)) h, chosen-yes (str? n (e .0)) q) (entry g a b (rw (← q) at r))
-    | no q ↦ rw (chosen-yes (le? n (e .0)) h, chosen-no (str? n (e .0)) q) (entry g a b (entry g′ (above (λ p. q (le-antisym h p))) d r))
+    | yes q ↦ rw (le-is-at-most n (e .0) h, equal-same-str n (e .0) q) (entry g a b (rw (← q) at r))
+    | no q ↦ rw (le-is-at-most n (e .0) h, same-str-other n (e .0) q) (entry g a b (entry g′ (above (λ p. q (le-antisym h p))) d r))
   ]
 ]
 
-pub row-keep : {P : Str → Type 0} (t : (n : Str) → Dec (P n)) {l : Low} (l′ : Low) {u : Str} (u′ : Str) {es : List Entry} → Row l es u
-    → ((n : Str) → P n → l ◁ n → n ⊑ u → (l′ ◁ n) × (n ⊑ u′)) → Row l′ (keep t es) u′
+pub row-keep : (t : Str → Bool) {l : Low} (l′ : Low) {u : Str} (u′ : Str) {es : List Entry} → Row l es u
+    → ((n : Str) → t n ≡ true → l ◁ n → n ⊑ u → (l′ ◁ n) × (n ⊑ u′)) → Row l′ (keep t es) u′
 unfolding keep
 row-keep t l′ u′ no-entries f = no-entries
-row-keep t l′ u′ (entry {e = e} g a b r) f = elim (t (e .0)) [
-  | yes h ↦ rw (chosen-yes (t (e .0)) h) (entry g (f (e .0) h a b .0) (f (e .0) h a b .1)
+row-keep t l′ u′ (entry {e = e} g a b r) f = elim (true-or-false (t (e .0))) [
+  | inl h ↦ rw h (entry g (f (e .0) h a b .0) (f (e .0) h a b .1)
       (row-keep t (at (e .0)) u′ r (λ n p c d. (c, f n p (low-lower (low-at a) c) d .1))))
-  | no h ↦ rw (chosen-no (t (e .0)) h) (row-keep t l′ u′ r (λ n p c d. f n p (low-lower (low-at a) c) d))
+  | inr h ↦ rw h (row-keep t l′ u′ r (λ n p c d. f n p (low-lower (low-at a) c) d))
 ]
 
 pub row-at : {l : Low} {u : Str} {es : List Entry} → Row l es u → (i : ℕ) → i < length es → Legal (name-at es i) × (l ◁ name-at es i) × (name-at es i ⊑ u)
@@ -152,20 +138,20 @@ row-lt (entry g a b r) i zero h k = absurd (omega arith)
 row-lt (entry g a b r) zero (suc j) h k = over (row-at r j (omega arith) .1)
 row-lt (entry g a b r) (suc i) (suc j) h k = row-lt r i j (omega arith) (omega arith)
 
-pub keep-all : {P : Str → Type 0} (t : (n : Str) → Dec (P n)) {l : Low} {u : Str} {es : List Entry} → Row l es u → ((k : Str) → l ◁ k → P k) → keep t es ≡ es
+pub keep-all : (t : Str → Bool) {l : Low} {u : Str} {es : List Entry} → Row l es u → ((k : Str) → l ◁ k → t k ≡ true) → keep t es ≡ es
 unfolding keep
 keep-all t no-entries f = refl
-keep-all t (entry {e = e} g a b r) f = rw (chosen-yes (t (e .0)) (f (e .0) a), keep-all t r (λ k h. f k (low-lower (low-at a) h)))
+keep-all t (entry {e = e} g a b r) f = rw ((f (e .0) a), keep-all t r (λ k h. f k (low-lower (low-at a) h)))
 
 -- Where an insertion adds an entry, the name was not there.
 pub insert-new : {l : Low} {u : Str} {es : List Entry} (n : Str) (v : ℕ) → Row l es u → length es < length (insert n v es) → without n es ≡ es
 unfolding insert keep
 insert-new n v no-entries h = refl
 insert-new n v (entry {e = e} {es = es} g a b r) h = elim (le? n (e .0)) [
-  | no p ↦ rw (chosen-yes (not? (str? (e .0) n)) (λ q. p (rw (← q) (le-refl (e .0)))), insert-new n v r (shorter (rw (chosen-no (le? n (e .0)) p) at h)))
+  | no p ↦ rw (same-str-other (e .0) n (λ q. p (rw (← q) (le-refl (e .0)))), insert-new n v r (shorter (rw (lt-is-at-most n (e .0) p) at h)))
   | yes p ↦ elim (str? n (e .0)) [
-    | yes q ↦ absurd (no-longer (rw (chosen-yes (le? n (e .0)) p, chosen-yes (str? n (e .0)) q) at h))
-    | no q ↦ rw (chosen-yes (not? (str? (e .0) n)) (λ e. q (sym e)), keep-all (λ k. not? (str? k n)) r (λ k c d. over c (rw d p)))
+    | yes q ↦ absurd (no-longer (rw (le-is-at-most n (e .0) p, equal-same-str n (e .0) q) at h))
+    | no q ↦ rw (same-str-other (e .0) n (λ e. q (sym e)), keep-all (λ k. not (same-str k n)) r (λ k c. ap not (same-str-other k n (λ d. over c (rw d p)))))
   ]
 ]
   where
@@ -180,7 +166,7 @@ unfolding find
 find-at n [] v h = clash cc
 find-at n (e ∷ es) v h = elim (str? n (e .0)) [
   | yes q ↦ (0, omega arith, sym q)
-  | no q ↦ next (find-at n es v (sym (chosen-no (str? n (e .0)) q _ _) ∙ h))
+  | no q ↦ next (find-at n es v (rw (same-str-other n (e .0) q) at h))
 ]
   where
     next : (i : ℕ) × (i < length es) × (name-at es i ≡ n) → (i : ℕ) × (i < suc (length es)) × (name-at (e ∷ es) i ≡ n)
@@ -189,10 +175,10 @@ find-at n (e ∷ es) v h = elim (str? n (e .0)) [
 pub at-find : (es : List Entry) (i : ℕ) → i < length es → (v : ℕ) × (find (name-at es i) es ≡ some v)
 unfolding find
 at-find [] i h = absurd (omega arith)
-at-find (e ∷ es) zero h = (e .1, chosen-yes (str? (e .0) (e .0)) refl _ _)
+at-find (e ∷ es) zero h = (e .1, rw (same-str-self (e .0)))
 at-find (e ∷ es) (suc i) h = elim (str? (name-at es i) (e .0)) [
-  | yes q ↦ (e .1, chosen-yes (str? (name-at es i) (e .0)) q _ _)
-  | no q ↦ let r = at-find es i (omega arith) in (r .0, chosen-no (str? (name-at es i) (e .0)) q _ _ ∙ r .1)
+  | yes q ↦ (e .1, rw (equal-same-str (name-at es i) (e .0) q))
+  | no q ↦ let r = at-find es i (omega arith) in (r .0, rw (same-str-other (name-at es i) (e .0) q) (r .1))
 ]
 
 -- The split string of two entries lies strictly inside the range, from the first of them on and below the second: for a

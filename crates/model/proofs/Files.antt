@@ -1,14 +1,15 @@
 -- A name has one bucket; sound and cut exclude each other; the slot to free and the range order are determined; the strings.
-use Rattle.model.proofs.Prelude.{List, List·Memᴰ, List·getD-eq-default, [], _+_, _<_, _∙_, _∷_, _≡_, _≢_, _≤_, _⊎_, ap, arith, clash, decLt, getD-set-other, getD-set-same, inl, inr, length, refl, set, set-out, subst, suc, sym, zero, ℕ, ℕ-discrete}
+use Rattle.model.proofs.Prelude.{Bool, List, List·Memᴰ, List·getD-eq-default, [], _+_, _<_, _∙_, _∷_, _≡_, _≢_, _≤_, _⊎_, ap, arith, clash, cond, decLt, eqb, eqb-true, false, getD-set-other, getD-set-same, inl, inr, length, refl, set, set-out, subst, suc, sym, true, zero, ℕ, ℕ-discrete}
 use Rattle.model.specs.Order.{Low, Str, _≺_, _◁_, at, none}
+use Rattle.model.specs.Tests.{is-above, is-at-most}
 use Rattle.model.specs.Names.{Bound, BoundLow}
 use Rattle.model.specs.Entries.{Entry, Row}
-use Rattle.model.specs.Files.{Begins, BoundOf, Chain, Cut, In, IsString, IsUsed, RangeTable, Slot, SlotHead, Sound, Starts, Well, all, bounds, entries-of, first, free, head, last, lower-bound, lower-of, next, no-range, order-from, order-of, range, ranges, slot-at, starts?, string-count, strings-of, upper-bound, upper-of, used, well-free, well-used}
-use Rattle.model.specs.Tries.{occ, one-if}
+use Rattle.model.specs.Files.{Begins, BoundOf, Chain, Cut, In, IsString, IsUsed, RangeTable, Slot, SlotHead, Sound, Well, all, bounds, entries-of, first, free, has-lower, has-upper, head, is-free, is-in-range, last, lower-bound, lower-of, next, no-range, order-from, order-of, range, ranges, slot-at, string-count, strings-of, upper-bound, upper-of, used, well-free, well-used}
+use Rattle.model.specs.Tries.{occ}
 use Rattle.model.specs.Rebuilding.{rebuilt}
-use Rattle.model.specs.Deciding.{le?, nil-not-le, over, str?}
+use Rattle.model.proofs.Deciding.{le?, nil-not-le, over}
 use Rattle.model.proofs.Order.{Asc, le-refl, low-at, low-lower, lt-le}
-use Rattle.model.proofs.Entries.{chosen-no, chosen-yes}
+use Rattle.model.proofs.Tests.{above-is-above, both-join, both-true, equal-same-str, is-above-above, is-at-most-le, le-is-at-most, same-low-equal, same-low-self, same-str-equal, same-str-other, true-or-false}
 use Rattle.model.proofs.Strings.{all-asc, all-begins, begins-in}
 use Rattle.model.proofs.Ranges.{bounds-asc, bounds-from, bounds-to, chain-lower, chain-other, chain-used, range-unique}
 use Rattle.model.proofs.Cells.{occ-mem, total-all, total-le}
@@ -25,36 +26,34 @@ at-set P fs A x h p f B = elim (ℕ-discrete B A) [
   | no e ↦ rw (getD-set-other fs A B x free e) (f B e)
 ]
 
-pub first-right : {P : Slot → Type 0} (t : (x : Slot) → Dec (P x)) (fs : List Slot) (B : ℕ) → P (slot-at fs B) → ¬ P free → P (slot-at fs (first t fs))
+-- The first slot that passes a test.
+pub first-right : (t : Slot → Bool) (fs : List Slot) (B : ℕ) → t (slot-at fs B) ≡ true → t (slot-at fs (first t fs)) ≡ true
 unfolding first
-first-right t [] B p n = absurd (n p)
-first-right t (x ∷ xs) zero p n = rw (chosen-yes (t x) p) p
-first-right t (x ∷ xs) (suc B) p n = elim (t x) [
-  | yes h ↦ rw (chosen-yes (t x) h) h
-  | no h ↦ rw (chosen-no (t x) h) (first-right t xs B p n)
-]
+first-right t [] B p = p
+first-right t (x ∷ xs) zero p = rw p p
+first-right t (x ∷ xs) (suc B) p = elim (true-or-false (t x)) [ inl h ↦ rw h h | inr h ↦ rw h (first-right t xs B p) ]
 
-pub first-passes : {P : Slot → Type 0} (t : (x : Slot) → Dec (P x)) (fs : List Slot) → first t fs < length fs → P (slot-at fs (first t fs))
+pub first-passes : (t : Slot → Bool) (fs : List Slot) → first t fs < length fs → t (slot-at fs (first t fs)) ≡ true
 unfolding first
 first-passes t [] h = absurd (omega arith)
-first-passes t (x ∷ xs) h = elim (t x) [
-  | yes p ↦ rw (chosen-yes (t x) p) p
-  | no p ↦ rw (chosen-no (t x) p) (first-passes t xs (lower (first t xs) (length xs) (rw (chosen-no (t x) p) at h)))
+first-passes t (x ∷ xs) h = elim (true-or-false (t x)) [
+  | inl p ↦ rw p p
+  | inr p ↦ rw p (first-passes t xs (lower (first t xs) (length xs) (rw p at h)))
 ]
   where
     lower : (i j : ℕ) → suc i < suc j → i < j
     lower i j h = omega arith
 
-pub first-before : {P : Slot → Type 0} (t : (x : Slot) → Dec (P x)) (fs : List Slot) (B : ℕ) → B < first t fs → ¬ P (slot-at fs B)
+pub first-before : (t : Slot → Bool) (fs : List Slot) (B : ℕ) → B < first t fs → t (slot-at fs B) ≡ false
 unfolding first
 first-before t [] B h = absurd (omega arith)
-first-before t (x ∷ xs) zero h = λ p. none-below (rw (chosen-yes (t x) p) at h)
+first-before t (x ∷ xs) zero h = elim (true-or-false (t x)) [ inl p ↦ absurd (none-below (rw p at h)) | inr p ↦ p ]
   where
     none-below : 0 < 0 → ⊥
     none-below h = omega arith
-first-before t (x ∷ xs) (suc B) h = elim (t x) [
-  | yes p ↦ absurd (none-below (rw (chosen-yes (t x) p) at h))
-  | no p ↦ first-before t xs B (lower (first t xs) (rw (chosen-no (t x) p) at h))
+first-before t (x ∷ xs) (suc B) h = elim (true-or-false (t x)) [
+  | inl p ↦ absurd (none-below (rw p at h))
+  | inr p ↦ first-before t xs B (lower (first t xs) (rw p at h))
 ]
   where
     none-below : suc B < 0 → ⊥
@@ -63,19 +62,70 @@ first-before t (x ∷ xs) (suc B) h = elim (t x) [
     lower : (i : ℕ) → suc B < suc i → B < i
     lower i h = omega arith
 
+-- The tests of slots are what they test.
+pub free-is-free : (x : Slot) → x ≡ free → is-free x ≡ true
+unfolding is-free
+free-is-free x e = rw e
+
+pub is-free-free : (x : Slot) → is-free x ≡ true → x ≡ free
+unfolding is-free
+is-free-free free e = refl
+is-free-free (used l u es) e = clash cc
+
+pub used-is-free : (x : Slot) → IsUsed (head x) → is-free x ≡ false
+unfolding is-free
+used-is-free free h = absurd h
+used-is-free (used l u es) h = refl
+
+pub has-lower-lower : (l : Low) (x : Slot) → has-lower l x ≡ true → IsUsed (head x) × (lower-of (head x) ≡ l)
+unfolding has-lower
+has-lower-lower l free e = clash cc
+has-lower-lower l (used m u es) e = (tt, same-low-equal m l e)
+
+pub lower-has-lower : (l : Low) (x : Slot) → IsUsed (head x) → lower-of (head x) ≡ l → has-lower l x ≡ true
+unfolding has-lower
+lower-has-lower l free h e = absurd h
+lower-has-lower l (used m u es) h e = rw e (same-low-self l)
+
+pub has-upper-upper : (u : Str) (x : Slot) → has-upper u x ≡ true → IsUsed (head x) × (upper-of (head x) ≡ u)
+unfolding has-upper
+has-upper-upper u free e = clash cc
+has-upper-upper u (used l v es) e = (tt, same-str-equal v u e)
+
+pub upper-has-upper : (u : Str) (x : Slot) → IsUsed (head x) → upper-of (head x) ≡ u → has-upper u x ≡ true
+unfolding has-upper
+upper-has-upper u free h e = absurd h
+upper-has-upper u (used l v es) h e = equal-same-str v u e
+
+pub is-in-range-in : (n : Str) (x : Slot) → is-in-range n x ≡ true → In (head x) n
+unfolding is-in-range
+is-in-range-in n free e = clash cc
+is-in-range-in n (used l u es) e =
+    let p = both-true (is-above l n) (is-at-most n u) e in
+    (tt, is-above-above l n (p .0), is-at-most-le n u (p .1))
+
+pub in-is-in-range : (n : Str) (x : Slot) → In (head x) n → is-in-range n x ≡ true
+unfolding is-in-range
+in-is-in-range n free h = absurd (h .0)
+in-is-in-range n (used l u es) h = both-join (is-above l n) (is-at-most n u) (above-is-above (h .1)) (le-is-at-most n u (h .2))
+
+-- Where some slot has a name in its range, so has the first that is found.
+pub found-in : (n : Str) (fs : List Slot) (B : ℕ) → In (head (slot-at fs B)) n → In (head (slot-at fs (first (is-in-range n) fs))) n
+found-in n fs B h = is-in-range-in n (slot-at fs (first (is-in-range n) fs)) (first-right (is-in-range n) fs B (in-is-in-range n (slot-at fs B) h))
+
 pub chain-once : (F : RangeTable) (Bs : List ℕ) {l : Low} → Chain F l Bs → (i : ℕ) → occ i Bs ≤ 1
-chain-once F Bs (last {B = B} u e f) i = go (ℕ-discrete i B)
+chain-once F Bs (last {B = B} u e f) i = go (eqb i B) refl
   where
-    go : (d : Dec (i ≡ B)) → one-if d + 0 ≤ 1
-    go (yes e) = omega arith
-    go (no e) = omega arith
-chain-once F (B ∷ Bs) (next u e a b c) i = go (ℕ-discrete i B) (chain-once F Bs c i)
+    go : (t : Bool) → eqb i B ≡ t → cond t 1 0 + 0 ≤ 1
+    go true e = omega arith
+    go false e = omega arith
+chain-once F (B ∷ Bs) (next u e a b c) i = go (eqb i B) refl (chain-once F Bs c i)
   where
-    go : (d : Dec (i ≡ B)) → occ i Bs ≤ 1 → one-if d + occ i Bs ≤ 1
-    go (no n) h = omega arith
-    go (yes q) h = elim (ℕ-discrete (occ i Bs) 0) [
+    go : (t : Bool) → eqb i B ≡ t → occ i Bs ≤ 1 → cond t 1 0 + occ i Bs ≤ 1
+    go false n h = omega arith
+    go true q h = elim (ℕ-discrete (occ i Bs) 0) [
       | yes z ↦ omega arith
-      | no z ↦ absurd (chain-other F B Bs (next u e a b c) i (occ-mem i Bs (omega arith)) q)
+      | no z ↦ absurd (chain-other F B Bs (next u e a b c) i (occ-mem i Bs (omega arith)) (eqb-true i B q))
     ]
 
 module _ (b : ℕ) where
@@ -162,18 +212,18 @@ module _ (b : ℕ) where
     bucket n = (walk n [] (rebuilt (ranges fs) (S .order)), walk-right (ranges fs) (rebuilt-agrees (ranges fs) (S .order) (S .chain)) n)
 
   module _ {fs : List Slot} (S : Sound b fs) where
-    pub starts-one : (l : Low) (B : ℕ) → IsUsed (head (slot-at fs B)) → lower-of (head (slot-at fs B)) ≡ l → first (starts? l) fs ≡ B
+    pub starts-one : (l : Low) (B : ℕ) → IsUsed (head (slot-at fs B)) → lower-of (head (slot-at fs B)) ≡ l → first (has-lower l) fs ≡ B
     starts-one l B u e =
-        let h : Starts l (slot-at fs (first (starts? l) fs)) = first-right (starts? l) fs B (u, e) (λ h. h .0) in
-        one-lower S (first (starts? l) fs) B (h .0) u (h .1 ∙ sym e)
+        let h = has-lower-lower l (slot-at fs (first (has-lower l) fs)) (first-right (has-lower l) fs B (lower-has-lower l (slot-at fs B) u e)) in
+        one-lower S (first (has-lower l) fs) B (h .0) u (h .1 ∙ sym e)
 
     order-chain : (f : ℕ) {l : Low} {Bs : List ℕ} → Chain (ranges fs) l Bs → length Bs ≤ f → order-from f l fs ≡ Bs
     unfolding order-from
     order-chain zero (last u e g) h = absurd (omega arith)
     order-chain zero (next u e a c d) h = absurd (omega arith)
-    order-chain (suc f) {l} (last {B = B} u e g) h = rw (starts-one l B u e, chosen-yes (str? (upper-of (head (slot-at fs B))) []) g)
+    order-chain (suc f) {l} (last {B = B} u e g) h = rw (starts-one l B u e, equal-same-str (upper-of (head (slot-at fs B))) [] g)
     order-chain (suc f) {l} (next {B = B} u e a c d) h =
-        rw (starts-one l B u e, chosen-no (str? (upper-of (head (slot-at fs B))) []) (λ q. c (rw q (le-refl []))), order-chain f d (omega arith))
+        rw (starts-one l B u e, same-str-other (upper-of (head (slot-at fs B))) [] (λ q. c (rw q (le-refl []))), order-chain f d (omega arith))
 
     order-short : length (S .order) ≤ length fs
     order-short = omega (arith, total-all (length fs) (S .order) (λ B m. used-inside fs B (chain-used (ranges fs) (S .chain) B m)), total-le (length fs) (S .order) (chain-once (ranges fs) (S .order) (S .chain)))

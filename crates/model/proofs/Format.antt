@@ -2,16 +2,15 @@
 use Rattle.model.proofs.Prelude.{Bool, List, List·getD-eq-default, Option, [], _%_, _&&_, _*_, _++_, _+_, _-_, _/_, _<_, _^_, _∙_, _∷_, _≡_, _≢_, _≤_, add-zero, ap, append-assoc, ap₂, arith, clash, cond, decLt, drop, drop-at, drop-cons, drop-drop, drop-nil, drop-of-length-le, drop-paste, eq-eqb, eqb, eqb-true, false, getD, le-leb, leb, leb-true, length, length-append, length-replicate, length-set, length-take-le, mul-le-mul-left, mul-le-mul-right, nothing, paste, pow-suc, pow-zero, refl, replicate, set, some, suc, suc-mul, sym, take, take-all, take-append-drop, take-append-le, take-append-seam, take-at, take-take, true, zero, zero-add, zero-mul, ℕ}
 use Rattle.model.specs.declared.Layout.{Layout}
 use Rattle.model.specs.Order.{Low, Str, _◁_, above, at, least, top}
+use Rattle.model.specs.Tests.{same-str}
 use Rattle.model.specs.Names.{BoundLow, Digits, Legal, filled, limit, unlimited}
-use Rattle.model.specs.Deciding.{str?}
 use Rattle.model.specs.Entries.{Entry, Row, content-from, entry, find, no-entries, run-of-content, value-of-content}
 use Rattle.model.specs.Files.{Slot, Well, entries-of, free, slot-at, used, well-used}
-use Rattle.model.specs.Checks.{same-str}
 use Rattle.model.specs.Format.{AreBytes, Sizes, are-legal-sizes, bytes-at-slot, bytes-of-entries, bytes-of-entry, bytes-of-slot, digits-of-low, entry-length, file-bytes, file-size, header-bytes, header-of, is-offered, is-right-header, joined, kept-run, laid-out, layout-of, little-endian, low-of, padded, read-by, read-entries, read-file, read-slot, read-slots, read-used-slot, slot-size, slots-bytes, store-bytes, used-of, value-of}
-use Rattle.model.proofs.Entries.{chosen-no, chosen-yes}
+use Rattle.model.proofs.Deciding.{str?}
+use Rattle.model.proofs.Tests.{both-true, equal-same-str, same-str-equal, same-str-other, same-str-self}
 use Rattle.model.proofs.Lists.{at-taken, drop-past, drop-take, length-made, made-short, take-past}
-use Rattle.model.proofs.Names.{both-true, legal-length}
-use Rattle.model.proofs.Checks.{same-str-equal, same-str-self}
+use Rattle.model.proofs.Names.{legal-length}
 
 -- What laws ask of the number of an entry's bytes: it is 32 or 40.
 pub record EntrySize (e : ℕ) : Type 0 where
@@ -63,10 +62,10 @@ pub contents-find : (e : ℕ) (n : Str) (es : List Entry) (w : ℕ) → Contents
 unfolding find
 contents-find e n [] w c h = clash cc
 contents-find e n (x ∷ es) w c h = elim (str? n (x .0)) [
-  | yes p ↦ let z : _≡_ {A = Option ℕ} (some (x .1)) (some w) = sym (chosen-yes (str? n (x .0)) p _ _) ∙ h in
+  | yes p ↦ let z : _≡_ {A = Option ℕ} (some (x .1)) (some w) = rw (equal-same-str n (x .0) p) at h in
       let q : x .1 ≡ w = cc in
       rw (← q) (c .0)
-  | no p ↦ contents-find e n es w (c .1) (sym (chosen-no (str? n (x .0)) p _ _) ∙ h)
+  | no p ↦ contents-find e n es w (c .1) (rw (same-str-other n (x .0) p) at h)
 ]
 
 pub value-of-little-endian : (n v : ℕ) → v < 256 ^ n → value-of (little-endian n v) ≡ v

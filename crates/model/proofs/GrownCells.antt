@@ -1,14 +1,14 @@
 -- Growth and redirection in the cells: cells that agree before a split agree after it.
-use Rattle.model.proofs.Prelude.{List, List·Memᴰ, List·Memᴰ·append-cases, List·Memᴰ·cases-cons, List·Memᴰ·not-nil, List·getD-append, [], _++_, _+_, _<_, _∙_, _∷_, _≡_, _≢_, _≤_, _⊎_, ap, arith, decLe, drop-length, getD-append-add, getD-set-other, getD-set-same, inl, inr, length, length-append, length-set, length-take-le, refl, set, suc, sym, take, zero, ℕ, ℕ-discrete}
+use Rattle.model.proofs.Prelude.{Bool, List, List·Memᴰ, List·Memᴰ·append-cases, List·Memᴰ·cases-cons, List·Memᴰ·not-nil, List·getD-append, [], _++_, _+_, _<_, _∙_, _∷_, _≡_, _≢_, _≤_, _⊎_, ap, arith, cond, decLe, drop-length, eqb, eqb-false, false, getD-append-add, getD-set-other, getD-set-same, inl, inr, length, length-append, length-set, length-take-le, refl, set, suc, sym, take, true, zero, ℕ}
 use Rattle.model.specs.declared.Cell.{Cell}
 use Rattle.model.specs.declared.Side.{Side}
 use Rattle.model.specs.declared.Side.the-variants.{Cell as further}
-use Rattle.model.specs.Order.{Low, Str, _≺_, _⊑_, _◁_, above, at, diff, diff-at, least, none, top}
+use Rattle.model.specs.Order.{Low, Str, _≺_, _⊑_, _◁_, above, at, diff, least, none, top}
 use Rattle.model.specs.Files.{Chain, RangeTable, all, bounds}
-use Rattle.model.specs.Tries.{Leads, Reads, Spot, Tree, at-cell, cell, here, leaf, left, node, occ, one-if, right, root, size, there, zero-cell}
+use Rattle.model.specs.Tries.{Leads, Reads, Spot, Tree, at-cell, cell, here, leaf, left, node, occ, right, root, size, there, zero-cell}
 use Rattle.model.specs.Rebuilding.{lay, side-of}
 use Rattle.model.specs.Growth.{cell-of, changed, grow-cells, grown, placed, turn, turn-cell, turn-cells, turn-side}
-use Rattle.model.specs.Deciding.{le?, over}
+use Rattle.model.proofs.Deciding.{le?, over}
 use Rattle.model.proofs.Order.{diff-lt-left, le-refl, le-take, le-trans, lt-le, sandwich}
 use Rattle.model.proofs.Tries.{Spans, cut, inside, relabel, tip, walk}
 use Rattle.model.proofs.Cells.{Stands, each-once, height, lay-reads, length-lay, not-visited, numbers-upto, occ-append, one-if-equal, reads-agree, reads-below, reads-height, reads-set, there-at, upto, upto-above, upto-once, visits-count}
@@ -34,7 +34,7 @@ spot-visited {cs} n p k (there {n = m} {vs = vs} {ws = ws} h l r) = inr (go (le?
     q = cell (at-cell cs m .digit) (at-cell cs m .number) p
 
     self : 0 < occ m (m ∷ (vs ++ ws))
-    self = omega (arith, one-if-equal refl (ℕ-discrete m m))
+    self = omega (arith, one-if-equal m m refl)
 
     go : (d : Dec (n ⊑ q)) → Visited (at-cell cs m .left) (left m) (spot n q (left m) l) vs → Visited (at-cell cs m .right) (right m) (spot n p (right m) r) ws
         → 0 < occ (cell-of (elim d [ yes h ↦ spot n q (left m) l | no h ↦ spot n p (right m) r ])) (m ∷ (vs ++ ws))
@@ -61,18 +61,18 @@ module _ (cs cs′ : List Cell) (n : Str) (new : Side) (X : Tree) (xs : List ℕ
     pub counts : (m : ℕ) → occ m visits ≡ occ m vs + occ m xs
 
   -- A visited spot stands at m or among vs, so not elsewhere.
-  seen : (a : Side) (k : Spot) (vs : List ℕ) → Visited a k sp vs → 0 < one-if (ℕ-discrete (cell-of sp) (cell-of k)) + occ (cell-of sp) vs
-  seen a k vs (inl e) = omega (arith, one-if-equal (ap cell-of (e .0)) (ℕ-discrete (cell-of sp) (cell-of k)))
+  seen : (a : Side) (k : Spot) (vs : List ℕ) → Visited a k sp vs → 0 < cond (eqb (cell-of sp) (cell-of k)) 1 0 + occ (cell-of sp) vs
+  seen a k vs (inl e) = omega (arith, one-if-equal (cell-of sp) (cell-of k) (ap cell-of (e .0)))
   seen a k vs (inr o) = omega (arith, o .0)
 
   -- The cell k is as it was, but for the side that was walked.
   moved : (m : ℕ) (a : Side) (vs : List ℕ) (k : Spot) (f : Side → Cell) → cell-of k ≡ m → changed (at-cell cs m) k new ≡ f new → at-cell cs m ≡ f a
-      → m < length cs → one-if (ℕ-discrete (cell-of sp) m) + occ (cell-of sp) vs ≤ 1 → Visited a k sp vs → at-cell cs′ m ≡ f (placed a new)
+      → m < length cs → cond (eqb (cell-of sp) m) 1 0 + occ (cell-of sp) vs ≤ 1 → Visited a k sp vs → at-cell cs′ m ≡ f (placed a new)
   moved m a vs k f em ec ea h once (inl e) =
       let es : cell-of sp ≡ m = ap cell-of (e .0) ∙ em in
       rw (e .1 new) (rw (es, e .0, ec) at (there′ (rw es h)))
   moved m a vs k f em ec ea h once (inr o) =
-      rw (o .1 new) (others m h (λ e. omega (arith, o .0, one-if-equal (sym e) (ℕ-discrete (cell-of sp) m))) ∙ ea)
+      rw (o .1 new) (others m h (λ e. omega (arith, o .0, one-if-equal (cell-of sp) m (sym e))) ∙ ea)
 
   pub graft-reads : {a : Side} {t : Tree} {vs : List ℕ} (p : Str) (k : Spot) (r : Reads cs a t vs) → spot n p k r ≡ sp → ((m : ℕ) → occ m vs ≤ 1)
       → Grafted (placed a new) (replace n X p t) vs
@@ -94,7 +94,7 @@ module _ (cs cs′ : List Cell) (n : Str) (new : Side) (X : Tree) (xs : List ℕ
       go (yes h′) e f g =
           let s = f e in
           let v : Visited (c .left) (left m) sp vs = rw e at (spot-visited n q (left m) l) in
-          let o : one-if (ℕ-discrete (cell-of sp) m) + occ (cell-of sp) vs + occ (cell-of sp) ws ≤ 1 = omega (arith, once (cell-of sp), occ-append (cell-of sp) vs ws) in
+          let o : cond (eqb (cell-of sp) m) 1 0 + occ (cell-of sp) vs + occ (cell-of sp) ws ≤ 1 = omega (arith, once (cell-of sp), occ-append (cell-of sp) vs ws) in
           record {
             visits = m ∷ (s .visits ++ ws);
             reads = there-at (omega arith) (moved m (c .left) vs (left m) (λ x. record { digit = c .digit; number = c .number; left = x; right = c .right }) refl refl refl h (omega arith) v)
@@ -104,7 +104,7 @@ module _ (cs cs′ : List Cell) (n : Str) (new : Side) (X : Tree) (xs : List ℕ
       go (no h′) e f g =
           let s = g e in
           let v : Visited (c .right) (right m) sp ws = rw e at (spot-visited n p (right m) r) in
-          let o : one-if (ℕ-discrete (cell-of sp) m) + occ (cell-of sp) vs + occ (cell-of sp) ws ≤ 1 = omega (arith, once (cell-of sp), occ-append (cell-of sp) vs ws) in
+          let o : cond (eqb (cell-of sp) m) 1 0 + occ (cell-of sp) vs + occ (cell-of sp) ws ≤ 1 = omega (arith, once (cell-of sp), occ-append (cell-of sp) vs ws) in
           record {
             visits = m ∷ (vs ++ s .visits);
             reads = there-at (omega arith) (moved m (c .right) ws (right m) (λ x. record { digit = c .digit; number = c .number; left = c .left; right = x }) refl refl refl h (omega arith) v)
@@ -186,8 +186,8 @@ module _ (f : Str → ℕ → ℕ) where
       let c : Cell = at-cell cs m in
       let q : Str = cell d i p in
       let cs₁ : List Cell = set cs m (turn-cell f p c) in
-      let one : (i : ℕ) → one-if (ℕ-discrete i m) + occ i vs + occ i ws ≤ 1 = λ i. omega (arith, once i, occ-append i vs ws) in
-      let self : one-if (ℕ-discrete m m) ≡ 1 = one-if-equal refl (ℕ-discrete m m) in
+      let one : (i : ℕ) → cond (eqb i m) 1 0 + occ i vs + occ i ws ≤ 1 = λ i. omega (arith, once i, occ-append i vs ws) in
+      let self = one-if-equal m m refl in
       let out : (occ m vs ≡ 0) × (occ m ws ≡ 0) = omega (arith, one m) in
       let cs₂ : List Cell = turn-cells f fuel q (c .left) cs₁ in
       let cs₃ : List Cell = turn-cells f fuel p (c .right) cs₂ in
@@ -208,11 +208,11 @@ module _ (f : Str → ℕ → ℕ) where
 pub diff-begin : (s u : Str) → take (length s) u ≡ s → diff s u ≡ length s
 diff-begin [] u e = refl
 diff-begin (a ∷ s) [] e = cc
-diff-begin (a ∷ s) (b ∷ u) e = go (ℕ-discrete a b) (diff-begin s u)
+diff-begin (a ∷ s) (b ∷ u) e = go (eqb a b) refl (diff-begin s u)
   where
-    go : (d : Dec (a ≡ b)) → (take (length s) u ≡ s → diff s u ≡ length s) → diff-at d (diff s u) ≡ suc (length s)
-    go (yes q) f = let t : take (length s) u ≡ s = cc in omega (arith, f t)
-    go (no n) f = let q : a ≡ b = cc in absurd (n q)
+    go : (t : Bool) → eqb a b ≡ t → (take (length s) u ≡ s → diff s u ≡ length s) → cond t (suc (diff s u)) 0 ≡ suc (length s)
+    go true q f = let t : take (length s) u ≡ s = cc in omega (arith, f t)
+    go false n f = let q : a ≡ b = cc in absurd (eqb-false a b n q)
 
 module _ (P : Low → Str → ℕ → Type 0) (c s : Str) (k : ℕ) (hk : k ≤ length c) (es : take k c ≡ s) where
   graft-same : {l : Low} {u : Str} {t : Tree} {ss : List Str} → Spans P l u t ss → l ◁ c → c ⊑ u → List·Memᴰ s ss ⊎ (u ⊑ s) → graft c s u t ≡ t

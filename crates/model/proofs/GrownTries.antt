@@ -1,10 +1,11 @@
 -- A made change keeps the trie's agreement: as it is where the ranges stay, grown where a bucket was split.
-use Rattle.model.proofs.Prelude.{List, [], _++_, _<_, _∙_, _∷_, _≡_, _≤_, ap, arith, fun-ext, length, length-take, refl, set, some, subst, suc, sym, take, zero, ℕ}
+use Rattle.model.proofs.Prelude.{List, [], _++_, _<_, _∙_, _∷_, _≡_, _≤_, ap, arith, fun-ext, length, length-take, not, refl, set, some, subst, suc, sym, take, zero, ℕ}
 use Rattle.model.specs.declared.Cell.{Cell}
 use Rattle.model.specs.declared.Side.{Side}
 use Rattle.model.specs.declared.Side.the-variants.{Cell as further, Slot as slot}
 use Rattle.model.specs.declared.Trie.{Trie}
 use Rattle.model.specs.Order.{Low, Str, _⊑_, _◁_, at, diff}
+use Rattle.model.specs.Tests.{same-str}
 use Rattle.model.specs.Names.{Legal}
 use Rattle.model.specs.Entries.{Entry, Row, insert, name-at, without}
 use Rattle.model.specs.Files.{RangeTable, Slot, Sound, by-heads, ranges, slot-at, string-count, used}
@@ -12,7 +13,7 @@ use Rattle.model.specs.Tries.{Agrees, Reads, Tree, first-leaf-of, here, 
 use Rattle.model.specs.Rebuilding.{side-of}
 use Rattle.model.specs.Growth.{grown-trie, placed, turn, turn-side}
 use Rattle.model.specs.Changes.{Lowest, Request, Store, split-string, stored, trie-removed}
-use Rattle.model.specs.Deciding.{not?, over, str?}
+use Rattle.model.proofs.Deciding.{over}
 use Rattle.model.proofs.Lists.{mem-parts}
 use Rattle.model.proofs.Order.{le-trans, low-at, low-lower, lt-le}
 use Rattle.model.proofs.Entries.{length-keep, row-at, row-insert, row-keep, row-lt, split-take}
@@ -126,7 +127,7 @@ module _ (b : ℕ) where
   unfolding trie-removed
   removal-agrees {fs} S A l u es n is lo up (alone c d) G =
       let w = well-a b fs S A l u es is in
-      kept-agrees fs S A l u es is (without n es) (row-keep (λ k. not? (str? k n)) l u (w .3) (λ k p c d. (c, d))) (omega (arith, length-keep (λ k. not? (str? k n)) es, w .4)) G
+      kept-agrees fs S A l u es is (without n es) (row-keep (λ k. not (same-str k n)) l u (w .3) (λ k p c d. (c, d))) (omega (arith, length-keep (λ k. not (same-str k n)) es, w .4)) G
   removal-agrees {fs} S A l u es n is lo up (rightward {R = R} {v = v} {gs = gs} r-is k) G =
       let up′ : n ⊑ v = le-trans up (lt-le (over (well-a b fs S R (at u) v gs r-is .2))) in
       rebuilt-trie-agrees b (merge-sound b fs S A R l u v es gs is r-is n lo up′ k) (omega (arith, merge-few b fs S A R l u v es gs is r-is n lo up′ k, agrees-few b S G))

@@ -4,7 +4,7 @@ use Rattle.model.specs.Order.{Low, Str, _≺_, _⊑_, _⊴_, _◁_, abov
 use Rattle.model.specs.Files.{fresh, longer}
 use Rattle.model.specs.Tries.{Tree, cell, leaf, node}
 use Rattle.model.specs.Growth.{at-leaf, chain-of, grown, turn}
-use Rattle.model.specs.Deciding.{le?, str?}
+use Rattle.model.proofs.Deciding.{le?, str?}
 use Rattle.model.proofs.Order.{diff-le-right, diff-lt-left, le-append, le-refl, le-take, low-at, low-le, low-refl, lt-le, lt-or-ge, sandwich, snoc-lt, split-lt, take-diff}
 use Rattle.model.proofs.Tries.{Spans, cut, cut-at, relabel, tip}
 

@@ -1,5 +1,7 @@
 pub mod Prelude
+pub mod Deciding
 pub mod Order
+pub mod Tests
 pub mod Lists
 pub mod Names
 pub mod Entries

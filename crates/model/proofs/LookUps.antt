@@ -2,17 +2,18 @@
 use Rattle.model.proofs.Prelude.{List, [], _<_, _≡_, arith, length, lt-ltb, some, true, ℕ}
 use Rattle.model.specs.declared.Trie.{Trie}
 use Rattle.model.specs.Order.{Str}
-use Rattle.model.specs.Names.{filled, is-legal-name}
+use Rattle.model.specs.Tests.{is-legal-name}
+use Rattle.model.specs.Names.{filled}
 use Rattle.model.specs.Entries.{find}
 use Rattle.model.specs.Files.{In, Slot, Sound, Well, entries-of, free, head, slot-at, used}
 use Rattle.model.specs.Tries.{Agrees, walk-of, walk-trie}
 use Rattle.model.specs.Format.{SoundFile, header-of}
 use Rattle.model.specs.Calls.{arrived-answer, headed-answer, held-answer, landed, look-up-of, slot-answer}
-use Rattle.model.proofs.Names.{le-is-at-most}
+use Rattle.model.proofs.Tests.{above-is-above, le-is-at-most}
 use Rattle.model.proofs.Tries.{walk}
 use Rattle.model.proofs.Files.{used-inside}
 use Rattle.model.proofs.Agreement.{agrees-walk, whole-run, whole-walk}
-use Rattle.model.proofs.Checks.{above-is-above, well-is-well-formed}
+use Rattle.model.proofs.Checks.{well-is-well-formed}
 use Rattle.model.proofs.Format.{headed-header-of, read-file-read, read-slot-read-file}
 use Rattle.model.proofs.Walks.{string-fits}
 

@@ -1,18 +1,20 @@
 -- A merge of two neighbours: the file is sound, says the same without the removed name, and has no more strings; after the
 -- first store it is cut, and the slot to free is the right one.
-use Rattle.model.proofs.Prelude.{List, List·Memᴰ, List·Memᴰ·cases-cons, List·Memᴰ·head, List·Memᴰ·not-nil, List·Memᴰ·tail, List·getD-eq-default, Memᴰ·append-right, [], _++_, _+_, _/_, _<_, _∙_, _∷_, _≡_, _≢_, _≤_, _⊎_, ap, arith, clash, decLe, getD-set-other, getD-set-same, inl, inr, length, length-append, length-set, nothing, refl, set, some, subst, suc, sym, ℕ}
+use Rattle.model.proofs.Prelude.{Bool, List, List·Memᴰ, List·Memᴰ·cases-cons, List·Memᴰ·head, List·Memᴰ·not-nil, List·Memᴰ·tail, List·getD-eq-default, Memᴰ·append-right, [], _++_, _+_, _/_, _<_, _∙_, _∷_, _≡_, _≢_, _≤_, _⊎_, ap, arith, clash, decLe, false, getD-set-other, getD-set-same, inl, inr, le-leb, length, length-append, length-set, lt-leb, not, nothing, refl, set, some, subst, suc, sym, true, ℕ}
 use Rattle.model.specs.Order.{Low, Str, _≺_, _⊑_, _⊴_, _◁_, above, at, below, none, top}
-use Rattle.model.specs.Deciding.{le?, not?, over, str?}
+use Rattle.model.specs.Tests.{is-at-most, same-str}
 use Rattle.model.specs.Names.{Bound, BoundLow}
 use Rattle.model.specs.Entries.{Entry, Row, entry, find, keep, move, name-at, no-entries, without}
-use Rattle.model.specs.Files.{BoundOf, Chain, Copied, Cut, In, IsString, IsUsed, RangeTable, Slot, Sound, Well, entries-of, exactly, first, free, head, last, lower-bound, lower-of, next, no-range, one-more, order-of, range, ranges, slot-at, starts?, string-count, upper-bound, upper-of, used, well-free, well-used}
-use Rattle.model.specs.Changes.{Map, Means, Closes, Store, closes?, left-of, meant, merged, merged-or, removal, remove, right-of}
+use Rattle.model.specs.Files.{BoundOf, Chain, Copied, Cut, In, IsString, IsUsed, RangeTable, Slot, Sound, Well, entries-of, exactly, first, free, has-lower, has-upper, head, last, lower-bound, lower-of, next, no-range, one-more, order-of, range, ranges, slot-at, string-count, upper-bound, upper-of, used, well-free, well-used}
+use Rattle.model.specs.Changes.{Map, Means, Store, left-of, meant, merged, merged-or, removal, remove, right-of}
+use Rattle.model.proofs.Deciding.{le?, over, str?}
 use Rattle.model.proofs.Lists.{mem-leave, mem-parts}
 use Rattle.model.proofs.Order.{Asc, end, le-refl, le-trans, low-at, low-lower, lt-le, step}
-use Rattle.model.proofs.Entries.{chosen-no, chosen-yes, find-at, find-drop, find-keep, keep-all, keep-comm, row-keep}
+use Rattle.model.proofs.Tests.{equal-same-str, le-is-at-most, lt-is-at-most, same-str-other, same-str-self, true-or-false}
+use Rattle.model.proofs.Entries.{find-at, find-drop, find-keep, keep-all, keep-comm, row-keep}
 use Rattle.model.proofs.Strings.{asc-mem}
 use Rattle.model.proofs.Ranges.{chain-other, chain-some}
-use Rattle.model.proofs.Files.{at-set, chain-right, first-passes, first-right, one-lower, one-range, order-right, starts-one, strings-asc, strings-every, strings-only, used-inside, well-head, well-parts}
+use Rattle.model.proofs.Files.{at-set, chain-right, first-passes, first-right, has-lower-lower, has-upper-upper, one-lower, one-range, order-right, starts-one, strings-asc, strings-every, strings-only, upper-has-upper, used-inside, well-head, well-parts}
 
 -- Two rows, one after the other.
 pub row-lower : {l m : Low} {u : Str} {es : List Entry} → l ⊴ m → Row m es u → Row l es u
@@ -27,53 +29,50 @@ row-join (entry g a b q) r h k = entry g a (le-trans b k) (row-join q r (below b
 pub find-above : {m : Low} {u : Str} {gs : List Entry} → Row m gs u → (k : Str) → ¬ (m ◁ k) → find k gs ≡ nothing
 unfolding find
 find-above no-entries k n = refl
-find-above (entry {e = e} g a b r) k n = chosen-no (str? k (e .0)) (λ q. n (rw q a)) _ _ ∙ find-above r k (λ h. n (low-lower (low-at a) h))
+find-above (entry {e = e} g a b r) k n = rw (same-str-other k (e .0) (λ q. n (rw q a))) (find-above r k (λ h. n (low-lower (low-at a) h)))
 
 pub find-right : {l : Low} {s : Str} {es : List Entry} → Row l es s → (gs : List Entry) (k : Str) → ¬ (k ⊑ s) → find k (es ++ gs) ≡ find k gs
 unfolding find
 find-right no-entries gs k n = refl
-find-right (entry {e = e} g a b r) gs k n = chosen-no (str? k (e .0)) (λ q. n (rw q b)) _ _ ∙ find-right r gs k n
+find-right (entry {e = e} g a b r) gs k n = rw (same-str-other k (e .0) (λ q. n (rw q b))) (find-right r gs k n)
 
 pub find-left : (es gs : List Entry) (k : Str) → find k gs ≡ nothing → find k (es ++ gs) ≡ find k es
 unfolding find
 find-left [] gs k h = h
 find-left (e ∷ es) gs k h = rw (find-left es gs k h)
 
-module _ {P : Str → Type 0} (t : (n : Str) → Dec (P n)) where
+module _ (t : Str → Bool) where
   pub keep-append : (es gs : List Entry) → keep t (es ++ gs) ≡ keep t es ++ keep t gs
   unfolding keep
   keep-append [] gs = refl
-  keep-append (e ∷ es) gs = elim (t (e .0)) [
-    | yes h ↦ rw (chosen-yes (t (e .0)) h, chosen-yes (t (e .0)) h, keep-append es gs)
-    | no h ↦ rw (chosen-no (t (e .0)) h, chosen-no (t (e .0)) h, keep-append es gs)
-  ]
+  keep-append (e ∷ es) gs = elim (true-or-false (t (e .0))) [ inl h ↦ rw (h, keep-append es gs) | inr h ↦ rw (h, keep-append es gs) ]
 
-  pub keep-none : {l : Low} {s : Str} {es : List Entry} → Row l es s → ((k : Str) → k ⊑ s → ¬ P k) → keep t es ≡ []
+  pub keep-none : {l : Low} {s : Str} {es : List Entry} → Row l es s → ((k : Str) → k ⊑ s → t k ≡ false) → keep t es ≡ []
   unfolding keep
   keep-none no-entries f = refl
-  keep-none (entry {e = e} g a b r) f = chosen-no (t (e .0)) (f (e .0) b) _ _ ∙ keep-none r f
+  keep-none (entry {e = e} g a b r) f = rw (f (e .0) b) (keep-none r f)
 
-pub keep-row : {P : Str → Type 0} (t : (n : Str) → Dec (P n)) {l : Low} {u : Str} {es : List Entry} → Row l es u → ((k : Str) → l ◁ k → k ⊑ u → P k) → keep t es ≡ es
+pub keep-row : (t : Str → Bool) {l : Low} {u : Str} {es : List Entry} → Row l es u → ((k : Str) → l ◁ k → k ⊑ u → t k ≡ true) → keep t es ≡ es
 unfolding keep
 keep-row t no-entries f = refl
-keep-row t (entry {e = e} g a b r) f = rw (chosen-yes (t (e .0)) (f (e .0) a b), keep-row t r (λ k c d. f k (low-lower (low-at a) c) d))
+keep-row t (entry {e = e} g a b r) f = rw (f (e .0) a b, keep-row t r (λ k c d. f k (low-lower (low-at a) c) d))
 
 -- A name that is found is one entry.
 pub without-held : {l : Low} {u : Str} {es : List Entry} → Row l es u → (n : Str) {w : ℕ} → find n es ≡ some w → suc (length (without n es)) ≡ length es
 unfolding find keep
 without-held no-entries n h = clash cc
 without-held (entry {e = e} {es = es} g a b r) n {w} h = elim (str? n (e .0)) [
-  | yes q ↦ rw (chosen-no (not? (str? (e .0) n)) (λ d. d (sym q)), keep-all (λ k. not? (str? k n)) r (λ k c d. over c (rw (d ∙ q) (le-refl (e .0)))))
-  | no q ↦ (let p : suc (length (without n es)) ≡ length es = without-held r n (sym (chosen-no (str? n (e .0)) q _ _) ∙ h) in
-      rw (chosen-yes (not? (str? (e .0) n)) (λ d. q (sym d))) (omega arith))
+  | yes q ↦ rw (equal-same-str (e .0) n (sym q), keep-all (λ k. not (same-str k n)) r (λ k c. ap not (same-str-other k n (λ d. over c (rw (d ∙ q) (le-refl (e .0)))))))
+  | no q ↦ (let p : suc (length (without n es)) ≡ length es = without-held r n (rw (same-str-other n (e .0) q) at h) in
+      rw (same-str-other (e .0) n (λ d. q (sym d))) (omega arith))
 ]
 
 pub find-held : (es gs : List Entry) (k : Str) {w : ℕ} → find k es ≡ some w → find k (es ++ gs) ≡ some w
 unfolding find
 find-held [] gs k h = clash cc
 find-held (e ∷ es) gs k h = elim (str? k (e .0)) [
-  | yes q ↦ chosen-yes (str? k (e .0)) q _ _ ∙ sym (chosen-yes (str? k (e .0)) q _ _) ∙ h
-  | no q ↦ chosen-no (str? k (e .0)) q _ _ ∙ find-held es gs k (sym (chosen-no (str? k (e .0)) q _ _) ∙ h)
+  | yes q ↦ rw (equal-same-str k (e .0) q) (rw (equal-same-str k (e .0) q) at h)
+  | no q ↦ rw (same-str-other k (e .0) q) (find-held es gs k (rw (same-str-other k (e .0) q) at h))
 ]
 
 -- Of two ascending lists, one with all members of the other is no shorter.
@@ -304,19 +303,19 @@ module _ (b : ℕ) (fs : List Slot) (S : Sound b fs) (L R : ℕ) (l : Low) (s u 
     row-both = row-join (well-l .3) (well-r .3) (low-at (well-l .2)) (lt-le s-under)
 
     pub row-merged : Row l left-over u
-    row-merged = row-keep (λ k. not? (str? k n)) l u row-both (λ k p c d. (c, d))
+    row-merged = row-keep (λ k. not (same-str k n)) l u row-both (λ k p c d. (c, d))
 
     -- What L holds in R's range is what R holds, without the name.
     pub move-both : move s (es ++ gs) ≡ gs
-    move-both = keep-append (λ k. not? (le? k s)) es gs
-        ∙ rw (keep-none (λ k. not? (le? k s)) (well-l .3) (λ k h q. q h), keep-all (λ k. not? (le? k s)) (well-r .3) (λ k h. over h))
+    move-both = keep-append (λ k. not (is-at-most k s)) es gs
+        ∙ rw (keep-none (λ k. not (is-at-most k s)) (well-l .3) (λ k h. ap not (le-is-at-most k s h)), keep-all (λ k. not (is-at-most k s)) (well-r .3) (λ k h. ap not (lt-is-at-most k s (over h))))
 
     pub move-merged : move s left-over ≡ without n gs
-    move-merged = keep-comm (λ k. not? (le? k s)) (λ k. not? (str? k n)) (es ++ gs) ∙ ap (without n) move-both
+    move-merged = keep-comm (λ k. not (is-at-most k s)) (λ k. not (same-str k n)) (es ++ gs) ∙ ap (without n) move-both
 
     -- With the right neighbour (the name is the left slot's): R is an exact copy.
     pub right-copied : n ⊑ s → move s left-over ≡ gs
-    right-copied h = move-merged ∙ keep-all (λ k. not? (str? k n)) (well-r .3) (λ k a e. over a (rw e h))
+    right-copied h = move-merged ∙ keep-all (λ k. not (same-str k n)) (well-r .3) (λ k a. ap not (same-str-other k n (λ e. over a (rw e h))))
 
     -- With the left neighbour (the name is the right slot's): R has one more, the removed name.
     pub left-copied : {w : ℕ} → find n gs ≡ some w → (i : ℕ) × (i < length gs) × (name-at gs i ≡ n) × (without (name-at gs i) gs ≡ move s left-over)
@@ -339,20 +338,20 @@ module _ (b : ℕ) (fs : List Slot) (S : Sound b fs) (L R : ℕ) (l : Low) (s u 
 
     pub find-merged : (m : Map) → Means fs m → (k : Str) → l ◁ k → k ⊑ u → find k left-over ≡ meant (remove n) m k
     find-merged m M k a c = elim (str? k n) [
-      | yes e ↦ rw e (find-drop (λ k. not? (str? k n)) n (es ++ gs) (λ d. d refl) ∙ sym (chosen-yes (str? n n) refl _ _))
-      | no e ↦ find-keep (λ k. not? (str? k n)) k (es ++ gs) e ∙ find-both m M k a c ∙ sym (chosen-no (str? k n) e _ _)
+      | yes e ↦ rw (e, same-str-self n) (find-drop (λ k. not (same-str k n)) n (es ++ gs) (ap not (same-str-self n)))
+      | no e ↦ rw (same-str-other k n e) (find-keep (λ k. not (same-str k n)) k (es ++ gs) (ap not (same-str-other k n e)) ∙ find-both m M k a c)
     ]
 
     -- What each name finds: what it found before, without the removed one.
     pub merge-means : (m : Map) → Means fs m → Means after-second (meant (remove n) m)
-    merge-means m M = join-means left-over m (meant (remove n) m) M (find-merged m M) (λ k h. sym (chosen-no (str? k n) (λ e. h (rw e (tt, lo, up))) _ _))
+    merge-means m M = join-means left-over m (meant (remove n) m) M (find-merged m M) (λ k h. sym (rw (same-str-other k n (λ e. h (rw e (tt, lo, up))))))
 
     -- The merged entries, and their number, by the slot that held the name: one less than both slots had.
     pub entries-right : n ⊑ s → left-over ≡ without n es ++ gs
-    entries-right h = keep-append (λ k. not? (str? k n)) es gs ∙ rw (keep-all (λ k. not? (str? k n)) (well-r .3) (λ k a e. over a (rw e h)))
+    entries-right h = keep-append (λ k. not (same-str k n)) es gs ∙ rw (keep-all (λ k. not (same-str k n)) (well-r .3) (λ k a. ap not (same-str-other k n (λ e. over a (rw e h)))))
 
     pub entries-left : s ≺ n → left-over ≡ es ++ without n gs
-    entries-left h = keep-append (λ k. not? (str? k n)) es gs ∙ rw (keep-row (λ k. not? (str? k n)) (well-l .3) (λ k c a e. h (rw e at a)))
+    entries-left h = keep-append (λ k. not (same-str k n)) es gs ∙ rw (keep-row (λ k. not (same-str k n)) (well-l .3) (λ k c a. ap not (same-str-other k n (λ e. h (rw e at a)))))
 
     pub size-right : {w : ℕ} → find n es ≡ some w → suc (length left-over) ≡ length es + length gs
     size-right h = without-held row-both n (find-held es gs n h) ∙ length-append es gs
@@ -383,7 +382,7 @@ module _ (b : ℕ) (fs : List Slot) (S : Sound b fs) (L R : ℕ) (l : Low) (s u 
 left-ends : (fs : List Slot) (l : Low) → IsUsed (head (slot-at fs (left-of l fs))) → l ≡ at (upper-of (head (slot-at fs (left-of l fs))))
 unfolding left-of
 left-ends fs none h = absurd (rw (List·getD-eq-default fs free {n = length fs} (omega arith)) at h)
-left-ends fs (at s) h = ap at (sym (first-passes (closes? s) fs (used-inside fs (first (closes? s) fs) h) .1))
+left-ends fs (at s) h = ap at (sym (has-upper-upper s (slot-at fs (first (has-upper s) fs)) (first-passes (has-upper s) fs (used-inside fs (first (has-upper s) fs) h)) .1))
 
 -- Two slots with at most b/2 entries together, without the name.
 abbrev pub Few : ℕ → Str → Slot → Slot → Type 0
@@ -410,8 +409,8 @@ module _ (b : ℕ) (fs : List Slot) (n : Str) (A : ℕ) (l : Low) (u : Str) (es 
   unfolding merged-or
   to-right R free e h r = r (λ q. q)
   to-right R (used m v gs) e h r = elim (decLe (length (without n (es ++ gs))) (b / 2)) [
-    | yes k ↦ rw (chosen-yes (decLe (length (without n (es ++ gs))) (b / 2)) k) (rightward (e ∙ ap (λ x. used x v gs) (h tt)) k)
-    | no k ↦ rw (chosen-no (decLe (length (without n (es ++ gs))) (b / 2)) k) (r k)
+    | yes k ↦ rw (le-leb (length (without n (es ++ gs))) (b / 2) k) (rightward (e ∙ ap (λ x. used x v gs) (h tt)) k)
+    | no k ↦ rw (lt-leb (length (without n (es ++ gs))) (b / 2) (omega (arith, k))) (r k)
   ]
 
   to-left : ¬ ToRight → (L : ℕ) (x : Slot) → slot-at fs L ≡ x → (IsUsed (head x) → l ≡ at (upper-of (head x))) → {ss : List Store} → (¬ Few b n x (used l u es) → Removal ss)
@@ -419,13 +418,14 @@ module _ (b : ℕ) (fs : List Slot) (n : Str) (A : ℕ) (l : Low) (u : Str) (es 
   unfolding merged-or
   to-left c L free e h r = r (λ q. q)
   to-left c L (used k s ds) e h r = elim (decLe (length (without n (ds ++ es))) (b / 2)) [
-    | yes q ↦ rw (chosen-yes (decLe (length (without n (ds ++ es))) (b / 2)) q) (leftward c (h tt) e q)
-    | no q ↦ rw (chosen-no (decLe (length (without n (ds ++ es))) (b / 2)) q) (r q)
+    | yes q ↦ rw (le-leb (length (without n (ds ++ es))) (b / 2) q) (leftward c (h tt) e q)
+    | no q ↦ rw (lt-leb (length (without n (ds ++ es))) (b / 2) (omega (arith, q))) (r q)
   ]
 
   right-starts : IsUsed (head (slot-at fs (right-of u fs))) → lower-of (head (slot-at fs (right-of u fs))) ≡ at u
   unfolding right-of
-  right-starts h = first-passes (starts? (at u)) fs (used-inside fs (first (starts? (at u)) fs) h) .1
+  right-starts h =
+      has-lower-lower (at u) (slot-at fs (first (has-lower (at u)) fs)) (first-passes (has-lower (at u)) fs (used-inside fs (first (has-lower (at u)) fs) h)) .1
 
   pub removal-is : Removal (removal b fs n A l u es)
   unfolding removal
@@ -442,19 +442,19 @@ module _ (b : ℕ) (fs : List Slot) (n : Str) (A : ℕ) (l : Low) (u : Str) (es 
   pub removal-right : {R : ℕ} {m : Low} {v : Str} {gs : List Entry} → right-of u fs ≡ R → slot-at fs R ≡ used m v gs → length (without n (es ++ gs)) ≤ b / 2
       → removal b fs n A l u es ≡ merged n A R l v es gs
   unfolding removal merged-or
-  removal-right {gs = gs} e is k = rw (e, is) (chosen-yes (decLe (length (without n (es ++ gs))) (b / 2)) k _ _)
+  removal-right {gs = gs} e is k = rw (e, is) (rw (le-leb (length (without n (es ++ gs))) (b / 2) k))
 
   merged-not : (L : ℕ) (x : Slot) (R : ℕ) (y : Slot) (ss : List Store) → ¬ Few b n x y → merged-or b n L x R y ss ≡ ss
   unfolding merged-or
   merged-not L free R y ss h = refl
   merged-not L (used k s ds) R free ss h = refl
-  merged-not L (used k s ds) R (used m v gs) ss h = chosen-no (decLe (length (without n (ds ++ gs))) (b / 2)) h _ _
+  merged-not L (used k s ds) R (used m v gs) ss h = rw (lt-leb (length (without n (ds ++ gs))) (b / 2) (omega (arith, h)))
 
   pub removal-left : ¬ ToRight → {L : ℕ} {k : Low} {s : Str} {ds : List Entry} → left-of l fs ≡ L → slot-at fs L ≡ used k s ds → length (without n (ds ++ es)) ≤ b / 2
       → removal b fs n A l u es ≡ merged n L A k u ds es
   unfolding removal merged-or
   removal-left c {ds = ds} e is k = merged-not A (used l u es) (right-of u fs) (slot-at fs (right-of u fs)) _ c
-      ∙ rw (e, is) (chosen-yes (decLe (length (without n (ds ++ es))) (b / 2)) k _ _)
+      ∙ rw (e, is) (rw (le-leb (length (without n (ds ++ es))) (b / 2) k))
 
   pub removal-alone : ¬ ToRight → ¬ ToLeft → removal b fs n A l u es ≡ (A, used l u (without n es)) ∷ []
   unfolding removal
@@ -476,11 +476,11 @@ module _ (b : ℕ) {fs : List Slot} (S : Sound b fs) (A : ℕ) (l : Low) (u : St
   used-as free h = absurd h
   used-as (used m v gs) h = (gs, refl)
 
-  ends-one : (s : Str) (B : ℕ) → IsUsed (head (slot-at fs B)) → F .upper B ≡ s → first (closes? s) fs ≡ B
+  ends-one : (s : Str) (B : ℕ) → IsUsed (head (slot-at fs B)) → F .upper B ≡ s → first (has-upper s) fs ≡ B
   ends-one s B k e =
-      let h : Closes s (slot-at fs (first (closes? s) fs)) = first-right (closes? s) fs B (k, e) (λ h. h .0) in
+      let h = has-upper-upper s (slot-at fs (first (has-upper s) fs)) (first-right (has-upper s) fs B (upper-has-upper s (slot-at fs B) k e)) in
       one-range b S s
-      (h .0, subst (λ v. F .lower (first (closes? s) fs) ◁ v) (h .1) (well-head b (S .well (first (closes? s) fs)) (h .0)), rw (h .1) (le-refl s))
+      (h .0, subst (λ v. F .lower (first (has-upper s) fs) ◁ v) (h .1) (well-head b (S .well (first (has-upper s) fs)) (h .0)), rw (h .1) (le-refl s))
       (k, subst (λ v. F .lower B ◁ v) e (well-head b (S .well B) k), rw e (le-refl s))
 
   pub right-next : (Xs : List ℕ) (R : ℕ) (Ys : List ℕ) → order-of fs ≡ Xs ++ (A ∷ R ∷ Ys)

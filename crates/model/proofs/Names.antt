@@ -1,64 +1,13 @@
 -- The tests of names and bounds are what they test; a filled name has one name; within and not above are one; the split
 -- string is the first difference's.
-use Rattle.model.proofs.Prelude.{Bool, List·getD-append, [], _&&_, _++_, _+_, _-_, _<_, _∙_, _∷_, _≡_, _≤_, ap, ap₂, arith, clash, cond, decLe, decLt, eq-eqb, eqb, eqb-true, false, getD, getD-append-add, getD-replicate, le-leb, le-ltb, leb, leb-true, length, length-append, length-replicate, length-take, lt-ltb, ltb, ne-eqb, not, refl, replicate, suc, sym, take, take-append-seam, true, true≢false, zero, ℕ, ℕ-discrete}
-use Rattle.model.specs.Order.{Str, _≺_, _⊑_, at, diff, diff-at, digit, top}
-use Rattle.model.specs.Names.{Bound, Digits, Legal, are-digits, filled, first-digit, is-at-most, is-blank-digit, is-legal-bound, is-legal-filled, is-legal-name, last-of, not-greater, smaller, split-beginning, split-tried, within}
-use Rattle.model.specs.Deciding.{head-le, nil-not-le, tail-le}
+use Rattle.model.proofs.Prelude.{Bool, List·getD-append, [], _&&_, _++_, _+_, _-_, _<_, _∙_, _∷_, _≡_, _≤_, ap, ap₂, arith, clash, cond, decLe, eq-eqb, eqb, eqb-false, eqb-true, false, getD, getD-append-add, getD-replicate, le-leb, le-ltb, leb, leb-true, length, length-append, length-replicate, length-take, lt-ltb, ne-eqb, not, refl, replicate, suc, sym, take, take-append-seam, true, zero, ℕ, ℕ-discrete}
+use Rattle.model.specs.Order.{Str, _≺_, at, diff, digit, first-digit, last-digit, top}
+use Rattle.model.specs.Tests.{are-digits, is-at-most, is-blank-digit, is-legal-bound, is-legal-filled, is-legal-name}
+use Rattle.model.specs.Names.{Bound, Digits, Legal, filled, not-greater, smaller, split-beginning, split-tried, within}
+use Rattle.model.proofs.Deciding.{head-le}
 use Rattle.model.proofs.Lists.{length-made, made-short}
 use Rattle.model.proofs.Order.{diff-lt-left, lt-le, split-shortest}
-
--- How two digits stand.
-data Stand (a b : ℕ) : Type 0 where
-  less : a < b → Stand a b
-  equal : a ≡ b → Stand a b
-  more : b < a → Stand a b
-
-stand : (a b : ℕ) → Stand a b
-stand a b = elim (decLt a b) [ yes h ↦ less h | no h ↦ elim (ℕ-discrete a b) [ yes e ↦ equal e | no n ↦ let k : b < a = omega arith in more k ] ]
-
-pub both-true : (a b : Bool) → (a && b) ≡ true → (a ≡ true) × (b ≡ true)
-both-true true b e = (refl, e)
-both-true false b e = clash cc
-
--- No test is both true and false.
-pub never-both : (t : Bool) → t ≡ true → t ≡ false → ⊥
-never-both t e f = true≢false (sym e ∙ f)
-
-pub le-is-at-most : (x y : Str) → x ⊑ y → is-at-most x y ≡ true
-unfolding is-at-most
-le-is-at-most [] [] p = refl
-le-is-at-most (a ∷ x) [] p = refl
-le-is-at-most [] (b ∷ y) p = absurd (nil-not-le p)
-le-is-at-most (a ∷ x) (b ∷ y) p = go (stand a b) (le-is-at-most x y)
-  where
-    go : Stand a b → (x ⊑ y → is-at-most x y ≡ true) → cond (ltb a b) true (cond (eqb a b) (is-at-most x y) false) ≡ true
-    go (less h) f = rw (lt-ltb a b h)
-    go (equal e) f = rw (le-ltb a b (omega arith), eq-eqb a b e) (f (tail-le p e))
-    go (more h) f = absurd (omega (arith, head-le p))
-
-pub is-at-most-le : (x y : Str) → is-at-most x y ≡ true → x ⊑ y
-unfolding is-at-most
-is-at-most-le [] [] e = top
-is-at-most-le (a ∷ x) [] e = top
-is-at-most-le [] (b ∷ y) e = clash cc
-is-at-most-le (a ∷ x) (b ∷ y) e = go (stand a b) e (is-at-most-le x y)
-  where
-    go : Stand a b → cond (ltb a b) true (cond (eqb a b) (is-at-most x y) false) ≡ true → (is-at-most x y ≡ true → x ⊑ y) → (a ∷ x) ⊑ (b ∷ y)
-    go (less h) e f = let k : a ≤ b = omega arith in digit k (λ q. absurd (omega arith))
-    go (equal q) e f = let k : a ≤ b = omega arith in digit k (λ r. f (rw (le-ltb a b (omega arith), eq-eqb a b q) at e))
-    go (more h) e f =
-        let n : false ≡ true = rw (le-ltb a b (omega arith), ne-eqb a b (λ q. absurd (omega arith))) at e in
-        clash cc
-
-pub is-at-most-lt : (x y : Str) → is-at-most x y ≡ false → y ≺ x
-is-at-most-lt x y e p = never-both (is-at-most x y) (le-is-at-most x y p) e
-
-pub lt-is-at-most : (x y : Str) → y ≺ x → is-at-most x y ≡ false
-lt-is-at-most x y p = go (is-at-most x y) refl
-  where
-    go : (t : Bool) → is-at-most x y ≡ t → t ≡ false
-    go true e = absurd (p (is-at-most-le x y e))
-    go false e = refl
+use Rattle.model.proofs.Tests.{both-true}
 
 -- A name is within a bound exactly where it is not above it.
 pub within-is-at-most : (n p : Str) → length p ≤ length n → within n p ≡ is-at-most n p
@@ -131,7 +80,7 @@ blank-no d e q = let z : not true ≡ true = rw (eq-eqb d 0x20 q) at e in clash 
 pub is-legal-name-legal : (n : Str) → is-legal-name n ≡ true → Legal (filled n)
 unfolding is-legal-name
 is-legal-name-legal n e =
-    let p = both-true (leb 1 (length n) && leb (length n) 24 && are-digits 0x20 n && not (is-blank-digit (first-digit n))) (not (is-blank-digit (last-of n))) e in
+    let p = both-true (leb 1 (length n) && leb (length n) 24 && are-digits 0x20 n && not (is-blank-digit (first-digit n))) (not (is-blank-digit (last-digit n))) e in
     let q = both-true (leb 1 (length n) && leb (length n) 24 && are-digits 0x20 n) (not (is-blank-digit (first-digit n))) (p .0) in
     let r = both-true (leb 1 (length n) && leb (length n) 24) (are-digits 0x20 n) (q .0) in
     let s = both-true (leb 1 (length n)) (leb (length n) 24) (r .0) in
@@ -141,7 +90,7 @@ is-legal-name-legal n e =
       fits = leb-true (length n) 24 (s .1);
       digits = are-digits-digits 0x20 n (r .1);
       first = blank-no (first-digit n) (q .1);
-      last = blank-no (last-of n) (p .1);
+      last = blank-no (last-digit n) (p .1);
       is = refl;
     }
 
@@ -160,16 +109,16 @@ record Ended (n : Str) : Type 0 where
   name : Str
   behind : ℕ
   is : n ≡ name ++ replicate behind 0x20
-  last : 0 < length name → ¬ (last-of name ≡ 0x20)
+  last : 0 < length name → ¬ (last-digit name ≡ 0x20)
 
-pub last-later : (d a : ℕ) (x : Str) → last-of (d ∷ a ∷ x) ≡ last-of (a ∷ x)
+pub last-later : (d a : ℕ) (x : Str) → last-digit (d ∷ a ∷ x) ≡ last-digit (a ∷ x)
 last-later d a x = let e : suc (suc (length x)) - 1 ≡ suc (suc (length x) - 1) = omega arith in rw e
 
 ended : (n : Str) → Ended n
 ended [] = record { name = []; behind = 0; is = refl; last = λ h. absurd (omega arith) }
 ended (d ∷ n) = let r = ended n in go (r .name) (r .behind) (r .is) (r .last)
   where
-    go : (name : Str) (k : ℕ) → n ≡ name ++ replicate k 0x20 → (0 < length name → ¬ (last-of name ≡ 0x20)) → Ended (d ∷ n)
+    go : (name : Str) (k : ℕ) → n ≡ name ++ replicate k 0x20 → (0 < length name → ¬ (last-digit name ≡ 0x20)) → Ended (d ∷ n)
     go [] k i l = elim (ℕ-discrete d 0x20) [
       | yes e ↦ record { name = []; behind = suc k; is = ap₂ (λ (a : ℕ) (x : Str). a ∷ x) e i; last = λ h. absurd (omega arith) }
       | no e ↦ record { name = d ∷ []; behind = k; is = ap (λ (x : Str). d ∷ x) i; last = λ h. e }
@@ -185,7 +134,7 @@ is-legal-filled-legal n e =
     let r = ended n in
     go (r .name) (r .behind) (r .is) (r .last) (eqb-true (length n) 24 (q .0)) (are-digits-digits 0x20 n (q .1)) (blank-no (first-digit n) (p .1))
   where
-    go : (name : Str) (k : ℕ) → n ≡ name ++ replicate k 0x20 → (0 < length name → ¬ (last-of name ≡ 0x20)) → length n ≡ 24 → Digits 0x20 n → ¬ (first-digit n ≡ 0x20) → Legal n
+    go : (name : Str) (k : ℕ) → n ≡ name ++ replicate k 0x20 → (0 < length name → ¬ (last-digit name ≡ 0x20)) → length n ≡ 24 → Digits 0x20 n → ¬ (first-digit n ≡ 0x20) → Legal n
     go [] zero i l len d f = let z : length n ≡ 0 = ap length i in absurd (omega arith)
     go [] (suc k) i l len d f = absurd (f (ap first-digit i))
     go (a ∷ x) k i l len d f =
@@ -218,13 +167,13 @@ legal-is-legal-filled {n} g =
     rw (eq-eqb (length n) 24 (legal-length g), digits-are-digits 0x20 n (legal-digits g), no-blank (first-digit n) (λ e. g .first (sym f ∙ e)))
 
 -- A filled name has one name: what stands before the blanks at its end.
-no-longer : (m n : Str) → length m ≤ 24 → length n ≤ 24 → 0 < length n → ¬ (last-of n ≡ 0x20) → filled m ≡ filled n → length n ≤ length m
+no-longer : (m n : Str) → length m ≤ 24 → length n ≤ 24 → 0 < length n → ¬ (last-digit n ≡ 0x20) → filled m ≡ filled n → length n ≤ length m
 no-longer m n h k s l e = elim (decLe (length n) (length m)) [
   | yes j ↦ j
   | no j ↦ absurd (l (sym (filled-at n (length n - 1) k (omega arith)) ∙ ap (λ (x : Str). getD x (length n - 1) 0) (sym e) ∙ filled-behind m (length n - 1) (omega arith) (omega arith)))
 ]
 
-pub one-name : (m n : Str) → length m ≤ 24 → length n ≤ 24 → 0 < length m → 0 < length n → ¬ (last-of m ≡ 0x20) → ¬ (last-of n ≡ 0x20) → filled m ≡ filled n → m ≡ n
+pub one-name : (m n : Str) → length m ≤ 24 → length n ≤ 24 → 0 < length m → 0 < length n → ¬ (last-digit m ≡ 0x20) → ¬ (last-digit n ≡ 0x20) → filled m ≡ filled n → m ≡ n
 one-name m n h k s r f l e =
     let a = no-longer m n h k r l e in
     let b = no-longer n m k h s f (sym e) in
@@ -246,12 +195,14 @@ smaller-first [] z p h = absurd (p (rw (nil z (sym h)) top))
     nil [] e = refl
     nil (b ∷ z) e = absurd (omega arith)
 smaller-first (a ∷ c) [] p h = absurd (omega arith)
-smaller-first (a ∷ c) (b ∷ z) p h = go (ℕ-discrete a b) (smaller-first c z)
+smaller-first (a ∷ c) (b ∷ z) p h = go (eqb a b) refl (smaller-first c z)
   where
-    go : (d : Dec (a ≡ b)) → (c ≺ z → length c ≡ length z → smaller (take (suc (diff c z)) c) (take (suc (diff c z)) z) ≡ true)
-        → smaller (take (suc (diff-at d (diff c z))) (a ∷ c)) (take (suc (diff-at d (diff c z))) (b ∷ z)) ≡ true
-    go (yes e) f = rw (le-ltb a b (omega arith), eq-eqb a b e) (f (λ t. p (let k : b ≤ a = omega arith in digit k (λ q. t))) (omega arith))
-    go (no n) f = rw (lt-ltb a b (omega (arith, head-le (lt-le p))))
+    go : (t : Bool) → eqb a b ≡ t → (c ≺ z → length c ≡ length z → smaller (take (suc (diff c z)) c) (take (suc (diff c z)) z) ≡ true)
+        → smaller (take (suc (cond t (suc (diff c z)) 0)) (a ∷ c)) (take (suc (cond t (suc (diff c z)) 0)) (b ∷ z)) ≡ true
+    go true t f =
+        let e : a ≡ b = eqb-true a b t in
+        rw (le-ltb a b (omega arith), t) (f (λ x. p (let k : b ≤ a = omega arith in digit k (λ q. x))) (omega arith))
+    go false n f = rw (lt-ltb a b (omega (arith, eqb-false a b n, head-le (lt-le p))))
 
 split-from : (f i : ℕ) (c z : Str) → c ≺ z → length c ≡ length z → i ≤ suc (diff c z) → suc (diff c z) ≤ i + f
     → split-tried f i c z ≡ take (suc (diff c z)) c

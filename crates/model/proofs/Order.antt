@@ -1,7 +1,7 @@
 -- The order is total, transitive and antisymmetric; beginnings, the sandwich, the first difference; lower limits.
-use Rattle.model.proofs.Prelude.{List, [], _++_, _<_, _∙_, _∷_, _≡_, _≤_, _⊎_, ap, arith, decLe, getD, inl, inr, length, refl, suc, sym, take, take-take, zero, ℕ, ℕ-discrete}
-use Rattle.model.specs.Order.{Low, Str, _≺_, _⊑_, _⊴_, _◁_, above, at, below, diff, diff-at, digit, least, none, top}
-use Rattle.model.specs.Deciding.{head-le, le?, nil-not-le, tail-le}
+use Rattle.model.proofs.Prelude.{Bool, List, [], _++_, _<_, _∙_, _∷_, _≡_, _≤_, _⊎_, ap, arith, cond, decLe, eqb, eqb-false, eqb-true, false, getD, inl, inr, length, refl, suc, sym, take, take-take, true, zero, ℕ}
+use Rattle.model.specs.Order.{Low, Str, _≺_, _⊑_, _⊴_, _◁_, above, at, below, diff, digit, least, none, top}
+use Rattle.model.proofs.Deciding.{head-le, le?, nil-not-le, tail-le}
 
 -- Strings in strictly ascending bound order, above l and below u.
 pub data Asc : Low → List Str → Str → Type 0 where
@@ -77,51 +77,51 @@ sandwich (suc k) (a ∷ x) (digit {b = b} {y = y} p f) (digit q g) h =
 pub split-lt : (c z : Str) → c ≺ z → take (suc (diff c z)) c ≺ z
 split-lt [] z p = p
 split-lt (a ∷ c) [] p = nil-not-le
-split-lt (a ∷ c) (b ∷ z) p = go (ℕ-discrete a b) (split-lt c z)
+split-lt (a ∷ c) (b ∷ z) p = go (eqb a b) refl (split-lt c z)
   where
-    go : (d : Dec (a ≡ b)) → (c ≺ z → take (suc (diff c z)) c ≺ z) → take (suc (diff-at d (diff c z))) (a ∷ c) ≺ b ∷ z
-    go (yes e) r q = r (λ t. p (digit (head-le q) (λ e′. t))) (tail-le q (sym e))
-    go (no n) r q = p (digit (head-le q) (λ e. absurd (n (sym e))))
+    go : (t : Bool) → eqb a b ≡ t → (c ≺ z → take (suc (diff c z)) c ≺ z) → take (suc (cond t (suc (diff c z)) 0)) (a ∷ c) ≺ b ∷ z
+    go true e r q = r (λ t. p (digit (head-le q) (λ e′. t))) (tail-le q (sym (eqb-true a b e)))
+    go false n r q = p (digit (head-le q) (λ e. absurd (eqb-false a b n (sym e))))
 
 -- What two strings share.
 pub take-diff : (c z : Str) → take (diff c z) c ≡ take (diff c z) z
 take-diff [] z = refl
 take-diff (a ∷ c) [] = refl
-take-diff (a ∷ c) (b ∷ z) = go (ℕ-discrete a b) (take-diff c z)
+take-diff (a ∷ c) (b ∷ z) = go (eqb a b) refl (take-diff c z)
   where
-    go : (d : Dec (a ≡ b)) → take (diff c z) c ≡ take (diff c z) z → take (diff-at d (diff c z)) (a ∷ c) ≡ take (diff-at d (diff c z)) (b ∷ z)
-    go (yes e) r = cc
-    go (no n) r = refl
+    go : (t : Bool) → eqb a b ≡ t → take (diff c z) c ≡ take (diff c z) z → take (cond t (suc (diff c z)) 0) (a ∷ c) ≡ take (cond t (suc (diff c z)) 0) (b ∷ z)
+    go true t r = let e = eqb-true a b t in cc
+    go false n r = refl
 
 pub diff-le-right : (c z : Str) → diff c z ≤ length z
 diff-le-right [] z = omega arith
 diff-le-right (a ∷ c) [] = omega arith
-diff-le-right (a ∷ c) (b ∷ z) = go (ℕ-discrete a b) (diff-le-right c z)
+diff-le-right (a ∷ c) (b ∷ z) = go (eqb a b) refl (diff-le-right c z)
   where
-    go : (d : Dec (a ≡ b)) → diff c z ≤ length z → diff-at d (diff c z) ≤ suc (length z)
-    go (yes e) r = omega arith
-    go (no n) r = omega arith
+    go : (t : Bool) → eqb a b ≡ t → diff c z ≤ length z → cond t (suc (diff c z)) 0 ≤ suc (length z)
+    go true e r = omega arith
+    go false n r = omega arith
 
 -- There the digits differ, where both strings have one.
 pub diff-apart : (c z : Str) → diff c z < length c → diff c z < length z → ¬ (getD c (diff c z) 0 ≡ getD z (diff c z) 0)
 diff-apart [] z h k e = omega arith
 diff-apart (a ∷ c) [] h k e = omega arith
-diff-apart (a ∷ c) (b ∷ z) h k e = go (ℕ-discrete a b) (diff-apart c z) h k e
+diff-apart (a ∷ c) (b ∷ z) h k e = go (eqb a b) refl (diff-apart c z) h k e
   where
-    go : (d : Dec (a ≡ b)) → (diff c z < length c → diff c z < length z → ¬ (getD c (diff c z) 0 ≡ getD z (diff c z) 0))
-        → diff-at d (diff c z) < suc (length c) → diff-at d (diff c z) < suc (length z) → ¬ (getD (a ∷ c) (diff-at d (diff c z)) 0 ≡ getD (b ∷ z) (diff-at d (diff c z)) 0)
-    go (yes e) r h k f = r (omega arith) (omega arith) f
-    go (no n) r h k f = n f
+    go : (t : Bool) → eqb a b ≡ t → (diff c z < length c → diff c z < length z → ¬ (getD c (diff c z) 0 ≡ getD z (diff c z) 0))
+        → cond t (suc (diff c z)) 0 < suc (length c) → cond t (suc (diff c z)) 0 < suc (length z) → ¬ (getD (a ∷ c) (cond t (suc (diff c z)) 0) 0 ≡ getD (b ∷ z) (cond t (suc (diff c z)) 0) 0)
+    go true e r h k f = r (omega arith) (omega arith) f
+    go false n r h k f = eqb-false a b n f
 
 -- Two strings that differ: the smaller has a digit at the first difference.
 pub diff-lt-left : (c z : Str) → c ≺ z → diff c z < length c
 diff-lt-left [] z p = absurd (p top)
 diff-lt-left (a ∷ c) [] p = omega arith
-diff-lt-left (a ∷ c) (b ∷ z) p = go (ℕ-discrete a b) (diff-lt-left c z)
+diff-lt-left (a ∷ c) (b ∷ z) p = go (eqb a b) refl (diff-lt-left c z)
   where
-    go : (d : Dec (a ≡ b)) → (c ≺ z → diff c z < length c) → diff-at d (diff c z) < suc (length c)
-    go (yes e) r = let h : b ≤ a = omega arith in omega (arith, r (λ t. p (digit h (λ e′. t))))
-    go (no n) r = omega arith
+    go : (t : Bool) → eqb a b ≡ t → (c ≺ z → diff c z < length c) → cond t (suc (diff c z)) 0 < suc (length c)
+    go true e r = let h : b ≤ a = omega (arith, eqb-true a b e) in omega (arith, r (λ t. p (digit h (λ e′. t))))
+    go false n r = omega arith
 
 -- No shorter beginning than the split string is smaller than as many digits: they are the same.
 pub split-shortest : (c z : Str) (i : ℕ) → i ≤ diff c z → take i c ≡ take i z

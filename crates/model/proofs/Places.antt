@@ -1,12 +1,12 @@
 -- The place of the split key, by each version's rule: below b, which is all that the laws of splitting ask of it; the
 -- shortest string, ties in order; and m + 1 never wins.
-use Rattle.model.proofs.Prelude.{List, List·Memᴰ, List·Memᴰ·cases-cons, List·Memᴰ·head, List·Memᴰ·not-nil, List·Memᴰ·tail, [], _+_, _-_, _/_, _<_, _∙_, _≡_, _≢_, _≤_, _∷_, ap, arith, decLe, decLt, eq-eqb, inl, inr, le-leb, le-ltb, length, length-take, lt-leb, lt-ltb, ne-eqb, refl, suc, sym, ℕ, ℕ-discrete}
+use Rattle.model.proofs.Prelude.{List, List·Memᴰ, List·Memᴰ·cases-cons, List·Memᴰ·head, List·Memᴰ·not-nil, List·Memᴰ·tail, [], _+_, _-_, _/_, _<_, _∙_, _∷_, _≡_, _≢_, _≤_, ap, arith, decLe, decLt, eq-eqb, inl, inr, le-leb, le-ltb, length, length-take, lt-leb, lt-ltb, ne-eqb, refl, suc, sym, ℕ, ℕ-discrete}
 use Rattle.model.specs.declared.Layout.{Layout}
-use Rattle.model.specs.Order.{Low, Str, _⊑_, diff, diff-at}
+use Rattle.model.specs.Order.{Low, Str, _⊑_, diff}
 use Rattle.model.specs.Entries.{Entry, Row, name-at}
 use Rattle.model.specs.Changes.{split-string}
 use Rattle.model.specs.Places.{Wins, behind, digits-at, here, only-from, place-of, positions, shortest, winner}
-use Rattle.model.specs.Deciding.{head-le, nil-not-le, tail-le}
+use Rattle.model.proofs.Deciding.{head-le, nil-not-le, tail-le}
 use Rattle.model.proofs.Order.{diff-lt-left, le-refl, lt-le}
 use Rattle.model.proofs.Entries.{row-lt, split-take}
 
@@ -17,9 +17,9 @@ diff-mono (a ∷ c) d [] p q = omega arith
 diff-mono (a ∷ c) [] (e ∷ z) p q = absurd (nil-not-le q)
 diff-mono (a ∷ c) (b ∷ d) (e ∷ z) p q = go (ℕ-discrete a e) (ℕ-discrete b e) (diff-mono c d z)
   where
-    go : (x : Dec (a ≡ e)) (y : Dec (b ≡ e)) → (c ⊑ d → d ⊑ z → diff c z ≤ diff d z) → diff-at x (diff c z) ≤ diff-at y (diff d z)
-    go (no n) y r = omega arith
-    go (yes h) (yes k) r = omega (arith, r (tail-le p (h ∙ sym k)) (tail-le q k))
+    go : Dec (a ≡ e) → Dec (b ≡ e) → (c ⊑ d → d ⊑ z → diff c z ≤ diff d z) → diff (a ∷ c) (e ∷ z) ≤ diff (b ∷ d) (e ∷ z)
+    go (no n) y r = rw (ne-eqb a e n) (omega arith)
+    go (yes h) (yes k) r = rw (eq-eqb a e h, eq-eqb b e k) (omega (arith, r (tail-le p (h ∙ sym k)) (tail-le q k)))
     go (yes h) (no k) r = absurd (k (omega (arith, head-le p, head-le q)))
 
 module _ {l : Low} {u : Str} {ws : List Entry} (R : Row l ws u) where

@@ -4,8 +4,9 @@ use Rattle.model.specs.Order.{Low, Str, _≺_, _⊑_, _⊴_, _◁_, at, 
 use Rattle.model.specs.Files.{Chain, RangeTable, all, bounds, last, next}
 use Rattle.model.specs.Tries.{Leads}
 use Rattle.model.specs.Rebuilding.{label}
-use Rattle.model.specs.Deciding.{low?, over}
+use Rattle.model.proofs.Deciding.{low?, over}
 use Rattle.model.proofs.Order.{Asc, end, le-refl, low-at, low-lower, low-refl, low-trans, lt-or-ge, not-over, step}
+use Rattle.model.proofs.Tests.{above-is-above, not-is-above}
 use Rattle.model.proofs.Tries.{Gap}
 use Rattle.model.proofs.Strings.{asc-mem, begins-all}
 
@@ -28,9 +29,9 @@ module _ (F : RangeTable) where
   label-leads (B ∷ []) m (next us e h b c) l u a gap = absurd (chain-some c)
   label-leads (B ∷ C ∷ Bs) m (next us e h b c) l u a gap = go (low? l (F .upper B)) (λ a′. label-leads (C ∷ Bs) (at (F .upper B)) c l u a′ (λ x m. gap x (List·Memᴰ·tail m)))
     where
-      go : (d : Dec (l ◁ F .upper B)) → (at (F .upper B) ⊴ l → Leads F l u (label F (C ∷ Bs) l)) → Leads F l u (elim d [ yes h ↦ B | no h ↦ label F (C ∷ Bs) l ])
-      go (yes h) f = record { used = us; under = rw e a; within = elim (lt-or-ge (F .upper B) u) [ inl p ↦ absurd (gap (F .upper B) (List·Memᴰ·head refl) h p) | inr p ↦ p ] }
-      go (no h) f = f (not-over l (F .upper B) h)
+      go : Dec (l ◁ F .upper B) → (at (F .upper B) ⊴ l → Leads F l u (label F (C ∷ Bs) l)) → Leads F l u (label F (B ∷ C ∷ Bs) l)
+      go (yes h) f = rw (above-is-above h) record { used = us; under = rw e a; within = elim (lt-or-ge (F .upper B) u) [ inl p ↦ absurd (gap (F .upper B) (List·Memᴰ·head refl) h p) | inr p ↦ p ] }
+      go (no h) f = rw (not-is-above l (F .upper B) h) (f (not-over l (F .upper B) h))
 
   pub bounds-all : (Bs : List ℕ) (l : Low) → Chain F l Bs → (x : Str) → List·Memᴰ x (bounds F Bs) → List·Memᴰ x (all (bounds F Bs))
   bounds-all Bs l c [] m = absurd (asc-mem (bounds-asc Bs l c) m .1 top)

@@ -1,10 +1,10 @@
 -- Of a run, any string with fewest digits serves as root; the middle one has fewest; so the rebuilt trie leads every leaf to its bucket.
-use Rattle.model.proofs.Prelude.{List, List·Memᴰ, List·Memᴰ·append-cases, List·Memᴰ·cases-cons, List·Memᴰ·head, List·Memᴰ·not-nil, List·Memᴰ·tail, Memᴰ·append-left, Memᴰ·append-right, [], _++_, _+_, _-_, _/_, _<_, _∙_, _∷_, _≡_, _≤_, _⊎_, ap, arith, drop, getD, inl, inr, length, length-drop, length-take, min, refl, split-at, sub-zero, subst, suc, sym, take, take-all, take-suc, zero, ℕ, ℕ-discrete}
-use Rattle.model.specs.Order.{Low, Str, _≺_, _⊑_, _◁_, at, least, none, top}
+use Rattle.model.proofs.Prelude.{Bool, List, List·Memᴰ, List·Memᴰ·append-cases, List·Memᴰ·cases-cons, List·Memᴰ·head, List·Memᴰ·not-nil, List·Memᴰ·tail, Memᴰ·append-left, Memᴰ·append-right, [], _++_, _+_, _-_, _/_, _<_, _∙_, _∷_, _≡_, _≤_, _⊎_, ap, arith, cond, drop, eq-eqb, eqb, eqb-false, eqb-true, false, getD, inl, inr, length, length-drop, length-take, min, refl, split-at, sub-zero, subst, suc, sym, take, take-all, take-suc, true, zero, ℕ}
+use Rattle.model.specs.Order.{Low, Str, _≺_, _⊑_, _◁_, at, last-digit, least, none, top}
 use Rattle.model.specs.Files.{Chain, RangeTable, all, bounds}
 use Rattle.model.specs.Tries.{Leads, Tree, cell}
-use Rattle.model.specs.Rebuilding.{build, fewest, kept, label, last-digit, pick, places, rebuilt}
-use Rattle.model.specs.Deciding.{over}
+use Rattle.model.specs.Rebuilding.{build, fewest, label, pick, places, rebuilt}
+use Rattle.model.proofs.Deciding.{over}
 use Rattle.model.proofs.Order.{Asc, le-refl, le-take, le-trans, low-lower, lt-le, lt-le-trans, sandwich}
 use Rattle.model.proofs.Tries.{Spans, cast, cut-at, relabel-same, relabel-trie, tip, walk, walk-ends}
 use Rattle.model.proofs.Strings.{Closed, all-asc, all-closed, asc-mem, asc-split}
@@ -82,17 +82,13 @@ fewest-le x (z ∷ zs) y m = go (List·Memᴰ·cases-cons m) (λ m. fewest-le z 
 
 -- Some string has as few.
 places-some : (x : Str) (xs : List Str) (n i : ℕ) → n ≡ fewest x xs → 0 < length (places n i (x ∷ xs))
-places-some x [] n i e = go (ℕ-discrete (length x) n)
+places-some x [] n i e = rw (eq-eqb (length x) n (sym e)) (omega arith)
+places-some x (y ∷ ys) n i e = go (eqb (length x) n) refl (places-some y ys n (suc i))
   where
-    go : (d : Dec (length x ≡ n)) → 0 < length (kept d i [])
-    go (yes e) = omega arith
-    go (no k) = absurd (k (sym e))
-places-some x (y ∷ ys) n i e = go (ℕ-discrete (length x) n) (places-some y ys n (suc i))
-  where
-    go : (d : Dec (length x ≡ n)) → (n ≡ fewest y ys → 0 < length (places n (suc i) (y ∷ ys)))
-        → 0 < length (kept d i (places n (suc i) (y ∷ ys)))
-    go (yes e) f = omega arith
-    go (no k) f = f (omega arith)
+    go : (t : Bool) → eqb (length x) n ≡ t → (n ≡ fewest y ys → 0 < length (places n (suc i) (y ∷ ys)))
+        → 0 < length (cond t (i ∷ places n (suc i) (y ∷ ys)) (places n (suc i) (y ∷ ys)))
+    go true q f = omega arith
+    go false q f = f (omega (arith, eqb-false (length x) n q))
 
 -- Each place is that of a string with n digits.
 abbrev Place : ℕ → ℕ → List Str → ℕ → Type 0
@@ -105,14 +101,14 @@ place-tail n i x xs p h =
 
 places-right : (n i : ℕ) (xs : List Str) (j : ℕ) → j < length (places n i xs) → Place n i xs (getD (places n i xs) j 0)
 places-right n i [] j h = absurd (omega arith)
-places-right n i (x ∷ xs) j h = go (ℕ-discrete (length x) n) j h (λ j h. places-right n (suc i) xs j h)
+places-right n i (x ∷ xs) j h = go (eqb (length x) n) refl j h (λ j h. places-right n (suc i) xs j h)
   where
-    go : (d : Dec (length x ≡ n)) (j : ℕ) → j < length (kept d i (places n (suc i) xs))
+    go : (t : Bool) → eqb (length x) n ≡ t → (j : ℕ) → j < length (cond t (i ∷ places n (suc i) xs) (places n (suc i) xs))
         → ((j : ℕ) → j < length (places n (suc i) xs) → Place n (suc i) xs (getD (places n (suc i) xs) j 0))
-        → Place n i (x ∷ xs) (getD (kept d i (places n (suc i) xs)) j 0)
-    go (yes e) zero h f = let z : i - i ≡ 0 = omega arith in (omega arith, omega arith, rw z e)
-    go (yes e) (suc j) h f = place-tail n i x xs (getD (places n (suc i) xs) j 0) (f j (omega arith))
-    go (no e) j h f = place-tail n i x xs (getD (places n (suc i) xs) j 0) (f j h)
+        → Place n i (x ∷ xs) (getD (cond t (i ∷ places n (suc i) xs) (places n (suc i) xs)) j 0)
+    go true e zero h f = let z : i - i ≡ 0 = omega arith in (omega arith, omega arith, rw z (eqb-true (length x) n e))
+    go true e (suc j) h f = place-tail n i x xs (getD (places n (suc i) xs) j 0) (f j (omega arith))
+    go false e j h f = place-tail n i x xs (getD (places n (suc i) xs) j 0) (f j h)
 
 pick-place : (x : Str) (xs : List Str) → Place (fewest x xs) 0 (x ∷ xs) (pick (x ∷ xs))
 pick-place x xs =

@@ -1,12 +1,14 @@
 -- All entries of a file, in order, after a removal: those before it, without the name.
-use Rattle.model.proofs.Prelude.{List, List·Memᴰ, List·Memᴰ·head, List·Memᴰ·not-nil, List·Memᴰ·tail, Memᴰ·append-right, [], _++_, _/_, _∙_, _∷_, _≡_, _≢_, _≤_, ap, append-assoc, arith, getD-set-other, getD-set-same, length, refl, set, sym, ℕ, ℕ-discrete}
+use Rattle.model.proofs.Prelude.{List, List·Memᴰ, List·Memᴰ·head, List·Memᴰ·not-nil, List·Memᴰ·tail, Memᴰ·append-right, [], _++_, _/_, _∙_, _∷_, _≡_, _≢_, _≤_, ap, append-assoc, arith, getD-set-other, getD-set-same, length, not, refl, set, sym, ℕ, ℕ-discrete}
 use Rattle.model.specs.Order.{Low, Str, _⊑_, _◁_, above, at, none}
-use Rattle.model.specs.Deciding.{le?, not?, over, str?}
+use Rattle.model.specs.Tests.{same-str}
 use Rattle.model.specs.Entries.{Entry, Row, keep, without}
 use Rattle.model.specs.Files.{Chain, In, RangeTable, Slot, Sound, Well, entries-of, free, head, next, order-of, ranges, slot-at, used}
 use Rattle.model.specs.Changes.{Store, stored}
 use Rattle.model.specs.Calls.{entries-in}
+use Rattle.model.proofs.Deciding.{le?, over}
 use Rattle.model.proofs.Order.{le-trans, low-at, low-lower, lt-le}
+use Rattle.model.proofs.Tests.{same-str-other}
 use Rattle.model.proofs.Entries.{length-keep, row-keep}
 use Rattle.model.proofs.Ranges.{chain-other}
 use Rattle.model.proofs.Files.{one-range, order-right, well-parts}
@@ -17,7 +19,7 @@ use Rattle.model.proofs.Changes.{inside-a, one-sound, well-a}
 pub without-out : (b : ℕ) (n : Str) (x : Slot) → Well b x → ¬ (In (head x) n) → without n (entries-of x) ≡ entries-of x
 unfolding keep
 without-out b n free w h = refl
-without-out b n (used l u es) w h = keep-row (λ k. not? (str? k n)) (well-parts b w .3) (λ k a c e. h (tt, (rw e at a), (rw e at c)))
+without-out b n (used l u es) w h = keep-row (λ k. not (same-str k n)) (well-parts b w .3) (λ k a c. ap not (same-str-other k n (λ e. h (tt, (rw e at a), (rw e at c)))))
 
 pub entries-in-append : (fs : List Slot) (Xs Ys : List ℕ) → entries-in fs (Xs ++ Ys) ≡ entries-in fs Xs ++ entries-in fs Ys
 unfolding entries-in
@@ -28,7 +30,7 @@ pub entries-in-without : (n : Str) (fs gs : List Slot) (Bs : List ℕ) → ((B :
     → without n (entries-in fs Bs) ≡ entries-in gs Bs
 unfolding entries-in keep
 entries-in-without n fs gs [] f = refl
-entries-in-without n fs gs (B ∷ Bs) f = keep-append (λ k. not? (str? k n)) (entries-of (slot-at fs B)) (entries-in fs Bs)
+entries-in-without n fs gs (B ∷ Bs) f = keep-append (λ k. not (same-str k n)) (entries-of (slot-at fs B)) (entries-in fs Bs)
     ∙ rw (f B (List·Memᴰ·head refl), entries-in-without n fs gs Bs (λ C m. f C (List·Memᴰ·tail m)))
 
 -- What stands before L in a chain is another slot than L and what follows.
@@ -45,8 +47,8 @@ chain-behind F (X ∷ []) L R Ys (next u e a b c) B m = chain-behind F [] L R Ys
 chain-behind F (X ∷ Y ∷ Xs) L R Ys (next u e a b c) B m = chain-behind F (Y ∷ Xs) L R Ys c B m
 
 without-parts : (n : Str) (xs es gs ys : List Entry) {xs′ ys′ : List Entry} → without n xs ≡ xs′ → without n ys ≡ ys′ → without n (xs ++ (es ++ (gs ++ ys))) ≡ xs′ ++ (without n (es ++ gs) ++ ys′)
-without-parts n xs es gs ys p q = keep-append (λ k. not? (str? k n)) xs (es ++ (gs ++ ys))
-    ∙ rw (p, ← append-assoc es gs ys, keep-append (λ k. not? (str? k n)) (es ++ gs) ys, q)
+without-parts n xs es gs ys p q = keep-append (λ k. not (same-str k n)) xs (es ++ (gs ++ ys))
+    ∙ rw (p, ← append-assoc es gs ys, keep-append (λ k. not (same-str k n)) (es ++ gs) ys, q)
 
 -- A store that keeps the range keeps the order.
 one-order-of : (b : ℕ) (fs : List Slot) (S : Sound b fs) (A : ℕ) (l : Low) (u : Str) (es : List Entry) (is : slot-at fs A ≡ used l u es) (es′ : List Entry) → Row l es′ u → length es′ ≤ b
@@ -107,8 +109,8 @@ module _ (b : ℕ) (fs : List Slot) (S : Sound b fs) where
       hs = set fs A (used l u (without n es))
 
       order : order-of hs ≡ order-of fs
-      order = one-order-of b fs S A l u es is (without n es) (row-keep (λ k. not? (str? k n)) l u (well-a b fs S A l u es is .3) (λ k p c d. (c, d)))
-          (omega (arith, length-keep (λ k. not? (str? k n)) es, well-a b fs S A l u es is .4))
+      order = one-order-of b fs S A l u es is (without n es) (row-keep (λ k. not (same-str k n)) l u (well-a b fs S A l u es is .3) (λ k p c d. (c, d)))
+          (omega (arith, length-keep (λ k. not (same-str k n)) es, well-a b fs S A l u es is .4))
 
       each : (B : ℕ) → without n (entries-of (slot-at fs B)) ≡ entries-of (slot-at hs B)
       each B = elim (ℕ-discrete B A) [

@@ -3,7 +3,7 @@
 use Rattle.model.proofs.Prelude.{List, List·Memᴰ, List·Memᴰ·head, Memᴰ·append-left, Memᴰ·append-right, [], _++_, _<_, _∙_, _∷_, _≡_, _≤_, ap, arith, decLt, length, length-take-le, refl, sym, take, take-all, take-append-le, take-take, ℕ}
 use Rattle.model.specs.Order.{Low, Str, _≺_, _⊑_, _◁_, at}
 use Rattle.model.specs.Tries.{NumbersFit, Tree, cell, leaf, node, strings}
-use Rattle.model.specs.Deciding.{over}
+use Rattle.model.proofs.Deciding.{over}
 use Rattle.model.proofs.Order.{le-take, le-trans, lt-le, sandwich}
 use Rattle.model.proofs.Tries.{Spans, cell-length, cut, inside, tip}
 

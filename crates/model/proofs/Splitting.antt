@@ -1,12 +1,13 @@
 -- A split of a bucket: N comes right after A, s is added to the bounds, and the grown trie leads every leaf to its bucket.
-use Rattle.model.proofs.Prelude.{List, List·Memᴰ, List·Memᴰ·append-cases, List·Memᴰ·head, List·Memᴰ·tail, Memᴰ·append-left, Memᴰ·append-right, Memᴰ·cast, [], _++_, _<_, _∙_, _∷_, _≡_, _≢_, _≤_, _⊎_, ap, arith, inl, inr, length, length-take-le, refl, suc, sym, take, take-length, take-nil, ℕ, ℕ-discrete}
+use Rattle.model.proofs.Prelude.{List, List·Memᴰ, List·Memᴰ·append-cases, List·Memᴰ·head, List·Memᴰ·tail, Memᴰ·append-left, Memᴰ·append-right, Memᴰ·cast, [], _++_, _<_, _∙_, _∷_, _≡_, _≢_, _≤_, _⊎_, ap, arith, eq-eqb, inl, inr, length, length-take-le, ne-eqb, refl, suc, sym, take, take-length, take-nil, ℕ, ℕ-discrete}
 use Rattle.model.specs.Order.{Low, Str, _≺_, _⊑_, _◁_, above, at, diff, least, none, top}
 use Rattle.model.specs.Files.{Begins, Chain, RangeTable, all, bounds, fresh, last, next}
 use Rattle.model.specs.Tries.{Leads, Tree}
-use Rattle.model.specs.Growth.{turn, turned}
-use Rattle.model.specs.Deciding.{le?}
+use Rattle.model.specs.Growth.{turn}
+use Rattle.model.proofs.Deciding.{le?}
 use Rattle.model.proofs.Lists.{mem-insert, mem-leave}
 use Rattle.model.proofs.Order.{Asc, diff-le-right, diff-lt-left, le-take, le-trans, low-le, low-trans, lt-le-trans, not-over, split-lt}
+use Rattle.model.proofs.Tests.{le-is-at-most, lt-is-at-most}
 use Rattle.model.proofs.Tries.{Gap, Spans, cast, relabel, relabel-trie}
 use Rattle.model.proofs.Growth.{Growth, Shrinks, graft, grow, grow-trie}
 use Rattle.model.proofs.Strings.{Closed, all-asc, all-begins, all-closed, asc-mem, asc-unique, begins, begins-in, fresh-begins, not-top, trie-asc}
@@ -26,11 +27,11 @@ pub split-trie : (F G : RangeTable) (s : Str) (A N : ℕ) → SplitAt F G s A N 
     → List·Memᴰ s ss → l ◁ u → Spans (Leads F) l u t ss → Spans (Leads G) l u (relabel (turn s A N) u t) ss
 split-trie F G s A N S {ss = ss} ms lu T = relabel-trie (Leads F) (Leads G) (turn s A N) T lu λ l u B lm vu mv gap h. go l u B (ℕ-discrete B A) (le? u s) gap h
   where
-    go : (l : Low) (u : Str) (B : ℕ) (x : Dec (B ≡ A)) (y : Dec (u ⊑ s)) → Gap ss l u → Leads F l u B → Leads G l u (turned x y B N)
+    go : (l : Low) (u : Str) (B : ℕ) → Dec (B ≡ A) → Dec (u ⊑ s) → Gap ss l u → Leads F l u B → Leads G l u (turn s A N u B)
     go l u B (no n) y gap h = let o = S .other B n (h .used) in
-        record { used = o .0; under = rw (o .1) (h .under); within = rw (o .2) (h .within) }
-    go l u B (yes e) (yes k) gap h = rw e (record { used = S .old-used; under = rw (S .old-lower) (rw e at (h .under)); within = rw (S .old-upper) k })
-    go l u B (yes e) (no k) gap h = record { used = S .new-used; under = rw (S .new-lower) (not-over l s (λ j. gap s ms j k)); within = rw (S .new-upper) (rw e at (h .within)) }
+        rw (ne-eqb B A n) record { used = o .0; under = rw (o .1) (h .under); within = rw (o .2) (h .within) }
+    go l u B (yes e) (yes k) gap h = rw (eq-eqb B A e, le-is-at-most u s k, e) (record { used = S .old-used; under = rw (S .old-lower) (rw e at (h .under)); within = rw (S .old-upper) k })
+    go l u B (yes e) (no k) gap h = rw (eq-eqb B A e, lt-is-at-most u s k) record { used = S .new-used; under = rw (S .new-lower) (not-over l s (λ j. gap s ms j k)); within = rw (S .new-upper) (rw e at (h .within)) }
 
 pub leads-shrinks : (F : RangeTable) → Shrinks (Leads F)
 leads-shrinks F = record { shrink = λ h a b. record { used = h .used; under = low-trans (h .under) a; within = le-trans b (h .within) } }

@@ -1,5 +1,5 @@
 -- The stores of a change on the bytes of a file are its stores on the file's slots, and what they leave reads back.
-use Rattle.model.proofs.Prelude.{List, [], _++_, _-_, _<_, _^_, _∙_, _∷_, _≡_, getD-set-other, getD-set-same, length, length-set, refl, set, some, suc, take, zero, ℕ, ℕ-discrete}
+use Rattle.model.proofs.Prelude.{Bool, List, [], _++_, _-_, _<_, _^_, _∙_, _∷_, _≡_, getD-set-other, getD-set-same, inl, inr, length, length-set, refl, set, some, suc, take, zero, ℕ, ℕ-discrete}
 use Rattle.model.specs.declared.Layout.{Layout}
 use Rattle.model.specs.declared.Trie.{Trie}
 use Rattle.model.specs.Order.{Str}
@@ -8,8 +8,8 @@ use Rattle.model.specs.Files.{Cut, IsUsed, Slot, Sound, Well, entries-of
 use Rattle.model.specs.Changes.{Request, Store, put, remove, stored, trie-removed}
 use Rattle.model.specs.Format.{AreBytes, Sizes, entry-length, file-bytes, layout-of, read-file, store-bytes}
 use Rattle.model.specs.Calls.{stores-bytes, trie-after-put}
-use Rattle.model.specs.Deciding.{le?, str?}
-use Rattle.model.proofs.Entries.{chosen-no, chosen-yes}
+use Rattle.model.proofs.Deciding.{le?, str?}
+use Rattle.model.proofs.Tests.{equal-same-str, le-is-at-most, lt-is-at-most, same-str-other, true-or-false}
 use Rattle.model.proofs.Files.{cut-inside, used-inside}
 use Rattle.model.proofs.Format.{Contents, bytes-file-bytes, contents-read-file, file-bytes-read-file, headed-layout, read-file-file-bytes, read-file-read, store-bytes-file-bytes}
 use Rattle.model.proofs.Merging.{Removal, alone, leftward, removal-is, rightward}
@@ -43,22 +43,22 @@ contents-stored e (s ∷ ss) fs h v =
       | no d ↦ rw (getD-set-other fs (s .0) B (s .1) free d) (v B)
     ]
 
-contents-keep : (e : ℕ) {P : Str → Type 0} (t : (n : Str) → Dec (P n)) (es : List Entry) → Contents e es → Contents e (keep t es)
+contents-keep : (e : ℕ) (t : Str → Bool) (es : List Entry) → Contents e es → Contents e (keep t es)
 unfolding keep
 contents-keep e t [] v = tt
-contents-keep e t (x ∷ es) v = elim (t (x .0)) [
-  | yes h ↦ rw (chosen-yes (t (x .0)) h) (v .0, contents-keep e t es (v .1))
-  | no h ↦ rw (chosen-no (t (x .0)) h) (contents-keep e t es (v .1))
+contents-keep e t (x ∷ es) v = elim (true-or-false (t (x .0))) [
+  | inl h ↦ rw h (v .0, contents-keep e t es (v .1))
+  | inr h ↦ rw h (contents-keep e t es (v .1))
 ]
 
 contents-insert : (e : ℕ) (n : Str) (w : ℕ) (es : List Entry) → w < 256 ^ (e - 24) → Contents e es → Contents e (insert n w es)
 unfolding insert
 contents-insert e n w [] h v = (h, tt)
 contents-insert e n w (x ∷ es) h v = elim (le? n (x .0)) [
-  | no p ↦ rw (chosen-no (le? n (x .0)) p) (v .0, contents-insert e n w es h (v .1))
+  | no p ↦ rw (lt-is-at-most n (x .0) p) (v .0, contents-insert e n w es h (v .1))
   | yes p ↦ elim (str? n (x .0)) [
-    | yes q ↦ rw (chosen-yes (le? n (x .0)) p, chosen-yes (str? n (x .0)) q) (h, v .1)
-    | no q ↦ rw (chosen-yes (le? n (x .0)) p, chosen-no (str? n (x .0)) q) (h, v)
+    | yes q ↦ rw (le-is-at-most n (x .0) p, equal-same-str n (x .0) q) (h, v .1)
+    | no q ↦ rw (le-is-at-most n (x .0) p, same-str-other n (x .0) q) (h, v)
   ]
 ]
 

@@ -3,7 +3,7 @@ use Rattle.model.proofs.Prelude.{List, List·Memᴰ, List·Memᴰ·appe
 use Rattle.model.specs.Order.{Low, Str, _≺_, _⊑_, _◁_, above, at, diff, top}
 use Rattle.model.specs.Files.{Begins, all, fresh, longer}
 use Rattle.model.specs.Tries.{Tree}
-use Rattle.model.specs.Deciding.{nil-not-le, over}
+use Rattle.model.proofs.Deciding.{nil-not-le, over}
 use Rattle.model.proofs.Order.{Asc, diff-le-right, end, le-antisym, le-refl, low-at, low-lower, lt-le, lt-trans, step, take-diff}
 use Rattle.model.proofs.Growth.{chain-at-leaf}
 use Rattle.model.proofs.Tries.{Spans, cut, tip}

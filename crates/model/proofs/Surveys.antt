@@ -4,7 +4,7 @@ use Rattle.model.specs.Order.{Low, Str, _≺_, _⊴_, _◁_, at, below, 
 use Rattle.model.specs.Entries.{Entry, move}
 use Rattle.model.specs.Files.{Bad, Chain, Copied, Cut, IsUsed, RangeTable, Slot, Sound, Well, free, head, last, lower-of, next, ranges, slot-at, upper-of, used, well-free}
 use Rattle.model.specs.Tries.{occ}
-use Rattle.model.specs.Deciding.{over}
+use Rattle.model.proofs.Deciding.{over}
 use Rattle.model.proofs.Lists.{mem-insert, mem-leave, mem-parts}
 use Rattle.model.proofs.Order.{le-antisym, le-refl, low-at, low-trans, lt-le, lt-le-trans, lt-trans}
 use Rattle.model.proofs.Ranges.{chain-some, chain-used}
@@ -83,13 +83,13 @@ Distinct (B ∷ Bs) = (¬ List·Memᴰ B Bs) × Distinct Bs
 
 pub mem-occ : (i : ℕ) (vs : List ℕ) → List·Memᴰ i vs → 0 < occ i vs
 mem-occ i [] m = absurd (List·Memᴰ·not-nil m)
-mem-occ i (v ∷ vs) (List·Memᴰ·head e) = omega (arith, one-if-equal e (ℕ-discrete i v))
+mem-occ i (v ∷ vs) (List·Memᴰ·head e) = omega (arith, one-if-equal i v e)
 mem-occ i (v ∷ vs) (List·Memᴰ·tail m) = omega (arith, mem-occ i vs m)
 
 once-distinct : (Bs : List ℕ) → ((i : ℕ) → occ i Bs ≤ 1) → Distinct Bs
 once-distinct [] h = tt
 once-distinct (B ∷ Bs) h =
-    (λ m. omega (arith, h B, one-if-equal refl (ℕ-discrete B B), mem-occ B Bs m), once-distinct Bs (λ i. omega (arith, h i)))
+    (λ m. omega (arith, h B, one-if-equal B B refl, mem-occ B Bs m), once-distinct Bs (λ i. omega (arith, h i)))
 
 distinct-insert : (Xs : List ℕ) (A N : ℕ) (Ys : List ℕ) → Distinct (Xs ++ (A ∷ Ys)) → ¬ List·Memᴰ N (Xs ++ (A ∷ Ys)) → Distinct (Xs ++ (A ∷ N ∷ Ys))
 distinct-insert [] A N Ys d n =

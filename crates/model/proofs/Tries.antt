@@ -2,7 +2,7 @@
 use Rattle.model.proofs.Prelude.{List, List·Memᴰ, List·Memᴰ·append-cases, List·Memᴰ·cases-cons, List·Memᴰ·not-nil, [], _++_, _∙_, _∷_, _≡_, _≤_, _⊎_, add-one, ap, arith, inl, inr, length, length-append, length-take-le, refl, subst, suc, take, ℕ}
 use Rattle.model.specs.Order.{Low, Str, _≺_, _⊑_, _⊴_, _◁_, above, at}
 use Rattle.model.specs.Tries.{LeafIntervals, NumbersFit, Tree, cell, leaf, leaf-last, leaf-next, leaves, node, size, strings}
-use Rattle.model.specs.Deciding.{le?, over}
+use Rattle.model.proofs.Deciding.{le?, over}
 use Rattle.model.proofs.Order.{le-refl, le-trans, low-at, low-lower, low-refl, low-trans, lt-le, lt-le-trans, lt-trans}
 
 -- The walk over a tree: a name within the cell's string goes left, with that string as its path; any other goes right.

@@ -1,15 +1,16 @@
 -- Over cells that read as a tree the walk ends, with the path, the side and the slot of the tree's own walk.
-use Rattle.model.proofs.Prelude.{List, List·Memᴰ, List·Memᴰ·head, List·Memᴰ·tail, Memᴰ·append-left, Memᴰ·append-right, _<_, _∷_, _≡_, _≤_, arith, cond, decLt, getD-take, le-leb, le-ltb, length, length-append, length-take, lt-ltb, refl, some, suc, take, zero, ℕ, ℕ-discrete}
+use Rattle.model.proofs.Prelude.{List, List·Memᴰ, List·Memᴰ·head, List·Memᴰ·tail, Memᴰ·append-left, Memᴰ·append-right, _<_, _∷_, _≡_, _≤_, arith, cond, decLt, getD-take, le-leb, le-ltb, length, length-append, length-take, lt-ltb, refl, some, suc, take, zero, ℕ}
 use Rattle.model.specs.declared.Cell.{Cell}
 use Rattle.model.specs.declared.Side.{Side}
 use Rattle.model.specs.declared.Side.the-variants.{Cell as further, Slot as slot}
 use Rattle.model.specs.declared.Trie.{Trie}
 use Rattle.model.specs.Order.{Str, _⊑_}
-use Rattle.model.specs.Names.{is-at-most, limit}
+use Rattle.model.specs.Tests.{is-at-most}
+use Rattle.model.specs.Names.{limit}
 use Rattle.model.specs.Files.{BoundOf, IsString, Slot, Sound, Well, head, lower-bound, slot-at, upper-bound, used, well-used}
 use Rattle.model.specs.Tries.{NumbersFit, Reads, Spot, Tree, at-cell, cell, here, leaf, left, node, occ, right, root-side, strings, there, walk-run, zero-cell}
-use Rattle.model.specs.Deciding.{le?}
-use Rattle.model.proofs.Names.{le-is-at-most, lt-is-at-most}
+use Rattle.model.proofs.Deciding.{le?}
+use Rattle.model.proofs.Tests.{le-is-at-most, lt-is-at-most}
 use Rattle.model.proofs.Tries.{cell-length, walk}
 use Rattle.model.proofs.Cells.{occ-append, one-if-equal}
 
@@ -129,7 +130,7 @@ run-walk count n zero p k here h below num short = refl
 run-walk count n (suc f) p k here h below num short = refl
 run-walk count n zero p k (there i l r) h below num short = absurd (omega arith)
 run-walk count {cs} n (suc f) p k (there {n = m} {L = L} {R = R} {vs = vs} {ws = ws} i l r) h below num short =
-    rw (lt-ltb m count (below m (omega (arith, one-if-equal refl (ℕ-discrete m m)))), le-leb (c .number) (length p) (num .0), le-leb (c .number) 23 number)
+    rw (lt-ltb m count (below m (omega (arith, one-if-equal m m refl))), le-leb (c .number) (length p) (num .0), le-leb (c .number) 23 number)
     (go (le? n q)
     (run-walk count n f q (left m) l (omega (arith, length-append vs ws)) (λ j o. below j (omega (arith, o, occ-append j vs ws))) (num .1) (λ y g. short y (Memᴰ·append-left (q ∷ strings p R) g)))
     (run-walk count n f p (right m) r (omega (arith, length-append vs ws)) (λ j o. below j (omega (arith, o, occ-append j vs ws))) (num .2) (λ y g. short y (Memᴰ·append-right (strings q L) (List·Memᴰ·tail g)))))

@@ -10,10 +10,10 @@ use Rattle.model.specs.declared.Side.{Side}
 use Rattle.model.specs.declared.Side.the-variants.{Cell as further, Slot as slot}
 use Rattle.model.specs.declared.Trie.{Trie}
 use Rattle.model.specs.Order.{Low, Str, at, none}
+use Rattle.model.specs.Tests.{same-str}
 use Rattle.model.specs.Files.{Slot, order-of, ranges, strings-of}
-use Rattle.model.specs.Tries.{Tree, at-cell, cell, leaf, leaves, node, root-side, strings}
+use Rattle.model.specs.Tries.{Tree, at-cell, cell, leaf, leaves, node, occ, root-side, strings}
 use Rattle.model.specs.Rebuilding.{label}
-use Rattle.model.specs.Checks.{same-str}
 
 -- Two parts of a tree and the cells met in them, below the cell m.
 unfoldable pub join-trees : ℕ → ℕ → ℕ → Option (Tree × List ℕ) → Option (Tree × List ℕ) → Option (Tree × List ℕ)
@@ -42,15 +42,10 @@ are-zero-cells [] = true
 are-zero-cells (c ∷ cs) =
     eqb (c .digit) 0 && eqb (c .number) 0 && same-side (c .left) (slot 0) && same-side (c .right) (slot 0) && are-zero-cells cs
 
--- How often a number stands in a list.
-unfoldable pub times : ℕ → List ℕ → ℕ
-times m [] = 0
-times m (n ∷ ns) = let r = times m ns in cond (eqb m n) (suc r) r
-
 -- R5.9: each cell below the count is reached exactly once.
 unfoldable pub is-each-once : ℕ → List ℕ → Bool
 is-each-once zero vs = true
-is-each-once (suc n) vs = eqb (times n vs) 1 && is-each-once n vs
+is-each-once (suc n) vs = eqb (occ n vs) 1 && is-each-once n vs
 
 -- R5.10: no number is greater than the length of its path.
 unfoldable pub are-numbers : Str → Tree → Bool

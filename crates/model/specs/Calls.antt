@@ -22,15 +22,16 @@ use Rattle.model.specs.declared.Trie.{Trie}
 use Rattle.model.specs.declared.TrieAnswer.{TrieAnswer}
 use Rattle.model.specs.declared.TrieAnswer.the-variants.{Given, Refused as TrieRefused}
 use Rattle.model.specs.Order.{Str}
-use Rattle.model.specs.Names.{broken, filled, is-at-most, is-legal-name}
+use Rattle.model.specs.Tests.{is-above, is-at-most, is-legal-name}
+use Rattle.model.specs.Names.{broken, filled}
 use Rattle.model.specs.Entries.{Entry, content-from, find, insert, is-older, name-at, run-of-content, value-of-content}
-use Rattle.model.specs.Files.{Slot, created, entries-of, first, free, order-of, slot-at, string-count, used}
+use Rattle.model.specs.Files.{Slot, created, entries-of, first, free, is-in-range, order-of, slot-at, string-count, used}
 use Rattle.model.specs.Tries.{Spot, walk-of, zero-cell}
 use Rattle.model.specs.Rebuilding.{rebuilt-trie}
 use Rattle.model.specs.Growth.{grown-trie}
-use Rattle.model.specs.Changes.{Result, Store, call, holds?, put, refuse, remove, split-of, stores, trie-removed}
+use Rattle.model.specs.Changes.{Result, Store, call, put, refuse, remove, split-of, stores, trie-removed}
 use Rattle.model.specs.Places.{place-of}
-use Rattle.model.specs.Checks.{Kind, is-above, is-bad, is-cut, is-sound, is-well-formed}
+use Rattle.model.specs.Checks.{Kind, is-bad, is-cut, is-sound, is-well-formed}
 use Rattle.model.specs.Agreeing.{is-agreeing}
 use Rattle.model.specs.Answers.{stale-trie}
 use Rattle.model.specs.Format.{are-legal-sizes, bytes-at-slot, bytes-of-entries, check-file, entry-length, file-bytes, file-size, header-of, kept-run, layout-of, read-file, read-slot, store-bytes}
@@ -178,7 +179,7 @@ put-answer (some old) = Replaced (value-of-content old) (run-of-content old)
 
 -- What is held under a name, in the bucket whose range holds it.
 abbrev pub held : List Slot → Str → Option ℕ
-held fs n = find n (entries-of (slot-at fs (first (holds? n) fs)))
+held fs n = find n (entries-of (slot-at fs (first (is-in-range n) fs)))
 
 -- R10.14: refused where what is held has a higher run; else what the request takes.
 unfoldable pub put-takes : Layout → List Slot → Str → ℕ → ℕ → Result

@@ -1,20 +1,19 @@
 -- Changing the file: put and remove as lists of whole-slot stores, and what refuses them.
-use mathlib.Core.Path.{_≡_, refl}
+use mathlib.Core.Path.{_≡_}
 use mathlib.Core.Logic.{_≢_}
-use mathlib.Core.Bool.{Bool, false, true}
+use mathlib.Core.Bool.{Bool, cond, false, true}
 use mathlib.Core.Option.{Option, none as nothing, some}
 use mathlib.Core.List.{List, [], _++_, _∷_}
 use Prim.Native.Nat.{_/_, _<_, suc, zero, ℕ}
-use native.Mathlib.Decide.{decLe, decLt}
-use native.Mathlib.Omega.{arith}
+use lib.Dec.{leb, ltb}
 use lib.ListN.{length, set}
 use Rattle.model.specs.declared.Trie.{Trie}
 use Rattle.model.specs.Order.{Low, Str, _⊑_, _◁_, at, none}
+use Rattle.model.specs.Tests.{same-str}
 use Rattle.model.specs.Names.{split-beginning}
-use Rattle.model.specs.Entries.{Entry, chosen, find, insert, move, name-at, stay, without}
-use Rattle.model.specs.Files.{In, IsUsed, Slot, entries-of, first, free, head, slot-at, starts?, string-count, upper-of, used}
+use Rattle.model.specs.Entries.{Entry, find, insert, move, name-at, stay, without}
+use Rattle.model.specs.Files.{In, Slot, entries-of, first, free, has-lower, has-upper, head, is-free, is-in-range, slot-at, string-count, used}
 use Rattle.model.specs.Rebuilding.{rebuilt-trie}
-use Rattle.model.specs.Deciding.{le?, low?, str?}
 
 -- Put of a filled name with its value, and remove.
 pub data Request : Type 0 where
@@ -37,19 +36,12 @@ pub record Lowest (fs : List Slot) (N : ℕ) : Type 0 where
 
 -- The neighbours of a bucket: the right one's lower is its upper, the left one's upper is its lower. Where there is none,
 -- the number is that of no slot, which reads as free.
-abbrev pub Closes : Str → Slot → Type 0
-Closes u x = IsUsed (head x) × (upper-of (head x) ≡ u)
-
-unfoldable pub closes? : (u : Str) (x : Slot) → Dec (Closes u x)
-closes? u free = no (λ h. h .0)
-closes? u (used l v es) = elim (str? v u) [ yes e ↦ yes (tt, e) | no n ↦ no (λ h. n (h .1)) ]
-
 unfoldable pub right-of : Str → List Slot → ℕ
-right-of u fs = first (starts? (at u)) fs
+right-of u fs = first (has-lower (at u)) fs
 
 unfoldable pub left-of : Low → List Slot → ℕ
 left-of none fs = length fs
-left-of (at s) fs = first (closes? s) fs
+left-of (at s) fs = first (has-upper s) fs
 
 -- "the left one takes everything in, then the right slot is freed": "Two stores: the widened slot, without the removed name,
 -- then the freed one." L is the left slot, with lower l and entries es, R the right one, with upper u and entries gs.
@@ -68,7 +60,7 @@ module _ (b : ℕ) where
   unfoldable pub merged-or : Str → ℕ → Slot → ℕ → Slot → List Store → List Store
   merged-or n L free R y ss = ss
   merged-or n L (used l s es) R free ss = ss
-  merged-or n L (used l s es) R (used m u gs) ss = chosen (decLe (length (without n (es ++ gs))) (b / 2)) (merged n L R l u es gs) ss
+  merged-or n L (used l s es) R (used m u gs) ss = cond (leb (length (without n (es ++ gs))) (b / 2)) (merged n L R l u es gs) ss
 
   -- The stores of a removal from slot A: with the right neighbour, "If that doesn't apply, the same is tried with the left
   -- neighbour and the bucket", else one store.
@@ -113,19 +105,6 @@ pub data Result : Type 0 where
   refuse : ℕ → Result
   stores : List Store → Result
 
-unfoldable pub holds? : (n : Str) (x : Slot) → Dec (In (head x) n)
-holds? n free = no (λ h. h .0)
-holds? n (used l u es) = go (low? l n) (le? n u)
-  where
-    go : Dec (l ◁ n) → Dec (n ⊑ u) → Dec (Unit {0} × (l ◁ n) × (n ⊑ u))
-    go (yes p) (yes q) = yes (tt, p, q)
-    go (yes p) (no q) = no (λ h. q (h .2))
-    go (no p) q = no (λ h. p (h .1))
-
-unfoldable pub free? : (x : Slot) → Dec (x ≡ free)
-free? free = yes refl
-free? (used l u es) = no (λ e. let y : _≡_ {A = ℕ} 0 1 = cc in absurd (omega arith))
-
 unfoldable pub stores-if : Option ℕ → List Store → List Store
 stores-if nothing ss = []
 stores-if (some v) ss = ss
@@ -137,26 +116,26 @@ module _ (b : ℕ) (place : List Entry → ℕ) (fs : List Slot) where
   put-in n v A free = refuse 2
   put-in n v A (used l u es) =
       let ws = insert n v es in
-      let N = first free? fs in
+      let N = first is-free fs in
       let ss = halves b place N A l u ws in
-      let split = chosen (decLt N (length fs)) (chosen (decLe (string-count (stored ss fs)) 256) (stores ss) (refuse 6)) (refuse 5) in
-      chosen (decLe (length ws) b) (stores ((A, used l u ws) ∷ [])) split
+      let split = cond (ltb N (length fs)) (cond (leb (string-count (stored ss fs)) 256) (stores ss) (refuse 6)) (refuse 5) in
+      cond (leb (length ws) b) (stores ((A, used l u ws) ∷ [])) split
 
   unfoldable pub remove-in : Str → ℕ → Slot → Result
   remove-in n A free = refuse 2
   remove-in n A (used l u es) = let ss = removal b fs n A l u es in stores (stores-if (find n es) ss)
 
   unfoldable pub call : Request → Result
-  call (put n v) = let A = first (holds? n) fs in put-in n v A (slot-at fs A)
-  call (remove n) = let A = first (holds? n) fs in remove-in n A (slot-at fs A)
+  call (put n v) = let A = first (is-in-range n) fs in put-in n v A (slot-at fs A)
+  call (remove n) = let A = first (is-in-range n) fs in remove-in n A (slot-at fs A)
 
 -- What a file's entries say, and what a request makes of it.
 abbrev pub Map : Type 0
 Map = Str → Option ℕ
 
 abbrev pub meant : Request → Map → Map
-meant (put n v) m k = chosen (str? k n) (some v) (m k)
-meant (remove n) m k = chosen (str? k n) nothing (m k)
+meant (put n v) m k = cond (same-str k n) (some v) (m k)
+meant (remove n) m k = cond (same-str k n) nothing (m k)
 
 -- R13.3: a call stopped before its last store counts as never made, but "a merging removal counts as made from its first store
 -- on": does a call that was stopped after j stores count as made?

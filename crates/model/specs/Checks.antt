@@ -5,30 +5,9 @@ use Prim.Native.Nat.{suc, zero, ℕ}
 use lib.Dec.{eqb, leb}
 use lib.ListN.{length, set}
 use Rattle.model.specs.Order.{Low, Str, at, none}
-use Rattle.model.specs.Names.{is-at-most, is-legal-bound, is-legal-filled}
+use Rattle.model.specs.Tests.{is-above, is-at-most, is-legal-bound, is-legal-filled, is-legal-low, same-str}
 use Rattle.model.specs.Entries.{Entry, move, name-at, without}
-use Rattle.model.specs.Files.{Slot, free, head, lower-of, order-of, slot-at, upper-of, used}
-
--- Above a lower limit.
-unfoldable pub is-above : Low → Str → Bool
-is-above none x = true
-is-above (at l) x = not (is-at-most x l)
-
-unfoldable pub is-legal-low : Low → Bool
-is-legal-low none = true
-is-legal-low (at x) = is-legal-bound x
-
-unfoldable pub same-str : Str → Str → Bool
-same-str [] [] = true
-same-str [] (b ∷ y) = false
-same-str (a ∷ x) [] = false
-same-str (a ∷ x) (b ∷ y) = eqb a b && same-str x y
-
-unfoldable pub same-low : Low → Low → Bool
-same-low none none = true
-same-low none (at y) = false
-same-low (at x) none = false
-same-low (at x) (at y) = same-str x y
+use Rattle.model.specs.Files.{Slot, free, has-lower, head, is-free, order-of, slot-at, upper-of, used}
 
 -- R3.13 to R3.16: legal names, ascending, each in the range. What depends on the rule of names takes the test that it rests
 -- on (`With`): an older build is the same with another.
@@ -55,18 +34,13 @@ unfoldable pub all-well : ℕ → List Slot → Bool
 all-well b fs = all-well-with (is-well-formed b) fs
 
 -- The slots in this order are a chain.
-unfoldable pub is-used-slot : Slot → Bool
-is-used-slot free = false
-is-used-slot (used l u es) = true
-
 unfoldable pub is-chain : List Slot → Low → List ℕ → Bool
 is-chain fs l [] = false
 is-chain fs l (B ∷ []) =
-    is-used-slot (slot-at fs B) && same-low (lower-of (head (slot-at fs B))) l && same-str (upper-of (head (slot-at fs B))) []
+    has-lower l (slot-at fs B) && same-str (upper-of (head (slot-at fs B))) []
 is-chain fs l (B ∷ C ∷ Bs) =
     let u = upper-of (head (slot-at fs B)) in
-    is-used-slot (slot-at fs B) && same-low (lower-of (head (slot-at fs B))) l && is-above l u && not (is-at-most [] u)
-    && is-chain fs (at u) (C ∷ Bs)
+    has-lower l (slot-at fs B) && is-above l u && not (is-at-most [] u) && is-chain fs (at u) (C ∷ Bs)
 
 -- Each used slot is in the order; slots are counted from i.
 unfoldable pub is-in : ℕ → List ℕ → Bool
@@ -75,7 +49,7 @@ is-in B (C ∷ Bs) = eqb B C || is-in B Bs
 
 unfoldable pub is-listed : ℕ → List ℕ → List Slot → Bool
 is-listed i Bs [] = true
-is-listed i Bs (x ∷ xs) = (not (is-used-slot x) || is-in i Bs) && is-listed (suc i) Bs xs
+is-listed i Bs (x ∷ xs) = (is-free x || is-in i Bs) && is-listed (suc i) Bs xs
 
 abbrev pub is-sound-with : (List Slot → Bool) → List Slot → Bool
 is-sound-with well fs = well fs && is-chain fs none (order-of fs) && is-listed 0 (order-of fs) fs

@@ -1,13 +1,13 @@
 -- The entries of one bucket: find, insert, keep.
-use mathlib.Core.Bool.{Bool, false}
+use mathlib.Core.Bool.{Bool, cond, false, not}
 use mathlib.Core.Option.{Option, none as nothing, some}
 use mathlib.Core.List.{List, [], _∷_}
 use Prim.Native.Nat.{_%_, _*_, _+_, _/_, _^_, ℕ}
 use lib.Dec.{ltb}
 use lib.ListN.{getD}
 use Rattle.model.specs.Order.{Low, Str, _⊑_, _◁_, at}
+use Rattle.model.specs.Tests.{is-at-most, same-str}
 use Rattle.model.specs.Names.{Legal}
-use Rattle.model.specs.Deciding.{le?, not?, str?}
 
 -- R3.13: an entry is the filled name and the content: value and run as one number.
 abbrev pub Entry : Type 0
@@ -30,37 +30,32 @@ is-older r (some w) = ltb r (run-of-content w)
 abbrev pub name-at : List Entry → ℕ → Str
 name-at es i = getD es i ([], 0) .0
 
--- What a test chooses.
-unfoldable pub chosen : {X Y : Type 0} → Dec X → Y → Y → Y
-chosen (yes h) a b = a
-chosen (no h) a b = b
-
 -- R11.11: the content, or none.
 unfoldable pub find : Str → List Entry → Option ℕ
 find n [] = nothing
-find n (e ∷ es) = chosen (str? n (e .0)) (some (e .1)) (find n es)
+find n (e ∷ es) = cond (same-str n (e .0)) (some (e .1)) (find n es)
 
 -- R7.2: a new name in its place; R7.9: a new content for a name that is held.
 unfoldable pub insert : Str → ℕ → List Entry → List Entry
 insert n v [] = (n, v) ∷ []
 insert n v (e ∷ es) =
-    chosen (le? n (e .0)) (chosen (str? n (e .0)) ((n, v) ∷ es) ((n, v) ∷ e ∷ es)) (e ∷ insert n v es)
+    cond (is-at-most n (e .0)) (cond (same-str n (e .0)) ((n, v) ∷ es) ((n, v) ∷ e ∷ es)) (e ∷ insert n v es)
 
 -- Those whose names pass a test.
-unfoldable pub keep : {P : Str → Type 0} → ((n : Str) → Dec (P n)) → List Entry → List Entry
+unfoldable pub keep : (Str → Bool) → List Entry → List Entry
 keep t [] = []
-keep t (e ∷ es) = chosen (t (e .0)) (e ∷ keep t es) (keep t es)
+keep t (e ∷ es) = let r = keep t es in cond (t (e .0)) (e ∷ r) r
 
 -- What a removal leaves.
 abbrev pub without : Str → List Entry → List Entry
-without n es = keep (λ k. not? (str? k n)) es
+without n es = keep (λ k. not (same-str k n)) es
 
 -- R7.5: names within s stay, the others move.
 abbrev pub stay : Str → List Entry → List Entry
-stay s es = keep (λ k. le? k s) es
+stay s es = keep (λ k. is-at-most k s) es
 
 abbrev pub move : Str → List Entry → List Entry
-move s es = keep (λ k. not? (le? k s)) es
+move s es = keep (λ k. not (is-at-most k s)) es
 
 -- R3.13 to R3.16: legal names, ascending, each above l and within u.
 pub data Row : Low → List Entry → Str → Type 0 where

@@ -1,12 +1,13 @@
 -- The file as a list of slots: well formed, sound, cut, bad; its range order, its bounds, its strings.
 use mathlib.Core.Path.{_≡_}
+use mathlib.Core.Bool.{Bool, _&&_, cond, false, true}
 use mathlib.Core.List.{List, List·Memᴰ, [], _++_, _∷_}
 use Prim.Native.Nat.{_-_, _<_, _≤_, suc, zero, ℕ}
 use lib.ListN.{drop, getD, length, replicate, set, take}
 use Rattle.model.specs.Order.{Low, Str, _≺_, _⊑_, _◁_, at, diff, none}
+use Rattle.model.specs.Tests.{is-above, is-at-most, same-low, same-str}
 use Rattle.model.specs.Names.{Bound, BoundLow}
-use Rattle.model.specs.Entries.{Entry, Row, chosen, move, name-at, without}
-use Rattle.model.specs.Deciding.{low-same?, str?}
+use Rattle.model.specs.Entries.{Entry, Row, move, name-at, without}
 
 -- A slot is free, or used with a lower and an upper bound and entries.
 pub data Slot : Type 0 where
@@ -115,25 +116,35 @@ abbrev pub created : ℕ → List Slot
 created slots = used none [] [] ∷ replicate (slots - 1) free
 
 -- The number of the first slot that passes a test; of none, the number of slots.
-unfoldable pub first : {P : Slot → Type 0} → ((x : Slot) → Dec (P x)) → List Slot → ℕ
+unfoldable pub first : (Slot → Bool) → List Slot → ℕ
 first t [] = 0
-first t (x ∷ xs) = chosen (t x) 0 (suc (first t xs))
+first t (x ∷ xs) = cond (t x) 0 (suc (first t xs))
 
-abbrev pub Starts : Low → Slot → Type 0
-Starts l x = IsUsed (head x) × (lower-of (head x) ≡ l)
+-- A slot that is free; that is used, and has this lower limit; and has this upper bound; and has this name in its range (R1.8).
+unfoldable pub is-free : Slot → Bool
+is-free free = true
+is-free (used l u es) = false
 
-unfoldable pub starts? : (l : Low) (x : Slot) → Dec (Starts l x)
-starts? l free = no (λ h. h .0)
-starts? l (used m u es) = elim (low-same? m l) [ yes e ↦ yes (tt, e) | no n ↦ no (λ h. n (h .1)) ]
+unfoldable pub has-lower : Low → Slot → Bool
+has-lower l free = false
+has-lower l (used m u es) = same-low m l
+
+unfoldable pub has-upper : Str → Slot → Bool
+has-upper u free = false
+has-upper u (used l v es) = same-str v u
+
+unfoldable pub is-in-range : Str → Slot → Bool
+is-in-range n free = false
+is-in-range n (used l u es) = is-above l n && is-at-most n u
 
 -- The range order, found: the slot with this lower limit, then the one whose lower is its upper, and so on.
 unfoldable pub order-from : ℕ → Low → List Slot → List ℕ
 order-from zero l fs = []
 order-from (suc f) l fs =
-    let B = first (starts? l) fs in
+    let B = first (has-lower l) fs in
     let u = upper-of (head (slot-at fs B)) in
     let r = order-from f (at u) fs in
-    B ∷ chosen (str? u []) [] r
+    B ∷ cond (same-str u []) [] r
 
 abbrev pub order-of : List Slot → List ℕ
 order-of fs = order-from (length fs) none fs

@@ -9,9 +9,10 @@ use lib.ListN.{drop, getD, length, replicate, take}
 use lib.Seq.{paste}
 use Rattle.model.specs.declared.Layout.{Layout}
 use Rattle.model.specs.Order.{Low, Str, at, none}
+use Rattle.model.specs.Tests.{same-str}
 use Rattle.model.specs.Entries.{Entry}
 use Rattle.model.specs.Files.{Cut, Slot, Sound, free, used}
-use Rattle.model.specs.Checks.{Kind, check, is-bad, same-str}
+use Rattle.model.specs.Checks.{Kind, check, is-bad}
 
 -- The layouts of a file of version 1, of version 2 and of version 3.
 abbrev pub version-1 : ℕ → Layout

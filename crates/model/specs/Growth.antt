@@ -1,9 +1,8 @@
 -- Growth: what a split makes of the trie, as a tree and in its cells.
-use mathlib.Core.Bool.{cond}
+use mathlib.Core.Bool.{_&&_, cond, not}
 use mathlib.Core.Option.{Option, none as nothing, some}
 use mathlib.Core.List.{List, [], _++_, _∷_}
 use Prim.Native.Nat.{suc, zero, ℕ}
-use native.Mathlib.Decide.{ℕ-discrete}
 use lib.Dec.{eqb}
 use lib.ListN.{drop, length, set, take}
 use Rattle.model.specs.declared.Cell.{Cell}
@@ -11,9 +10,9 @@ use Rattle.model.specs.declared.Side.{Side}
 use Rattle.model.specs.declared.Side.the-variants.{Cell as further, Slot as slot}
 use Rattle.model.specs.declared.Trie.{Trie}
 use Rattle.model.specs.Order.{Str, diff}
+use Rattle.model.specs.Tests.{is-at-most}
 use Rattle.model.specs.Tries.{Spot, Tree, at-cell, cell, leaf, left, node, right, root, root-side, trie-of, walk-of}
 use Rattle.model.specs.Rebuilding.{lay, side-of}
-use Rattle.model.specs.Deciding.{le?}
 
 -- R8.3 and R8.4: one cell for each later digit of s, from digit number i on, each the left side of the one before.
 -- Every new leaf leads to A until leaves are redirected.
@@ -30,13 +29,8 @@ abbrev pub at-leaf : Str → Str → ℕ → Tree
 at-leaf s p A = cond (eqb (diff s p) (length s)) (leaf A) (grown s p A)
 
 -- R8.5: A's leaves whose paths are above s, the right sides of the new cells among them, lead to the new slot.
-abbrev pub turned : {X Y : Type 0} → Dec X → Dec Y → ℕ → ℕ → ℕ
-turned (no h) y B N = B
-turned (yes h) (yes k) B N = B
-turned (yes h) (no k) B N = N
-
 abbrev pub turn : Str → ℕ → ℕ → Str → ℕ → ℕ
-turn s A N p B = turned (ℕ-discrete B A) (le? p s) B N
+turn s A N p B = cond (eqb B A && not (is-at-most p s)) N B
 
 -- In the cells. The side by which the walk came leads to the new cells, which are appended;
 abbrev pub cell-of : Spot → ℕ

@@ -1,61 +1,36 @@
 -- Names and bounds: section 1 of the rules.
 use mathlib.Core.Path.{_≡_}
-use mathlib.Core.Bool.{Bool, _&&_, cond, false, not, true}
+use mathlib.Core.Bool.{Bool, cond, false, true}
 use mathlib.Core.List.{List, [], _++_, _∷_}
-use Prim.Native.Nat.{_-_, _<_, _≤_, suc, zero, ℕ}
-use lib.Dec.{eqb, leb, ltb}
-use lib.ListN.{getD, length, replicate, take}
-use Rattle.model.specs.Order.{Low, Str, at, diff, none}
+use Prim.Native.Nat.{_<_, _≤_, suc, zero, ℕ}
+use lib.Dec.{eqb, ltb}
+use lib.ListN.{length, replicate, take}
+use Rattle.model.specs.Order.{Low, Str, at, diff, first-digit, last-digit, none}
+use Rattle.model.specs.Tests.{is-at-most}
 
 -- R1.3 and R1.5: digits from the lowest one given on.
 abbrev pub Digits : ℕ → Str → Type 0
 Digits lo [] = Unit {0}
 Digits lo (d ∷ x) = (lo ≤ d) × (d ≤ 0x7D) × Digits lo x
 
-unfoldable pub are-digits : ℕ → List ℕ → Bool
-are-digits lo [] = true
-are-digits lo (d ∷ x) = leb lo d && leb d 0x7D && are-digits lo x
-
--- R1.3: the first digit is no blank, nor is the last.
-abbrev pub is-blank-digit : ℕ → Bool
-is-blank-digit d = eqb d 0x20
-
-abbrev pub first-digit : List ℕ → ℕ
-first-digit n = getD n 0 0
-
-abbrev pub last-of : List ℕ → ℕ
-last-of n = getD n (length n - 1) 0
-
--- R1.2 and R1.3: a legal name.
-unfoldable pub is-legal-name : List ℕ → Bool
-is-legal-name n =
-    leb 1 (length n) && leb (length n) 24 && are-digits 0x20 n && not (is-blank-digit (first-digit n)) && not (is-blank-digit (last-of n))
-
 -- R1.4: filled with blanks to 24 digits.
 unfoldable pub filled : List ℕ → List ℕ
 filled n = take 24 (n ++ replicate 24 0x20)
 
--- A legal name, filled.
+-- R1.2 and R1.3: a legal name, filled.
 pub record Legal (n : Str) : Type 0 where
   pub name : Str
   pub some : 0 < length name
   pub fits : length name ≤ 24
   pub digits : Digits 0x20 name
   pub first : ¬ (first-digit name ≡ 0x20)
-  pub last : ¬ (last-of name ≡ 0x20)
+  pub last : ¬ (last-digit name ≡ 0x20)
   pub is : n ≡ filled name
-
--- The same, tested: 24 digits, the first no blank.
-unfoldable pub is-legal-filled : List ℕ → Bool
-is-legal-filled n = eqb (length n) 24 && are-digits 0x20 n && not (is-blank-digit (first-digit n))
 
 -- R1.5: a bound.
 pub record Bound (x : Str) : Type 0 where
   pub fits : length x ≤ 24
   pub digits : Digits 0x20 x
-
-unfoldable pub is-legal-bound : List ℕ → Bool
-is-legal-bound p = leb (length p) 24 && are-digits 0x20 p
 
 -- A lower bound, where the empty one is no limit.
 pub data BoundLow : Low → Type 0 where
@@ -71,12 +46,6 @@ not-greater (a ∷ x) (b ∷ y) = cond (ltb a b) true (cond (eqb a b) (not-great
 -- R1.6: a name within a bound p.
 unfoldable pub within : List ℕ → List ℕ → Bool
 within n p = not-greater (take (length p) n) p
-
--- The order ⊑, tested.
-unfoldable pub is-at-most : List ℕ → List ℕ → Bool
-is-at-most x [] = true
-is-at-most [] (b ∷ y) = false
-is-at-most (a ∷ x) (b ∷ y) = cond (ltb a b) true (cond (eqb a b) (is-at-most x y) false)
 
 -- R1.9: the bound of a range that a name outside the range breaks is the lower one where the name is within it, else the upper. The
 -- digit number is that of the first difference, or the bound's length if there is none.

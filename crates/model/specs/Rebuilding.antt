@@ -1,16 +1,17 @@
 -- Rebuild: the trie of a file's strings, balanced, and its cells.
+use mathlib.Core.Bool.{cond}
 use mathlib.Core.List.{List, [], _++_, _∷_}
 use Prim.Native.Nat.{_+_, _-_, _/_, min, suc, zero, ℕ}
-use native.Mathlib.Decide.{ℕ-discrete}
+use lib.Dec.{eqb}
 use lib.ListN.{drop, getD, length, take}
 use Rattle.model.specs.declared.Cell.{Cell}
 use Rattle.model.specs.declared.Side.{Side}
 use Rattle.model.specs.declared.Side.the-variants.{Cell as further, Slot as slot}
 use Rattle.model.specs.declared.Trie.{Trie}
-use Rattle.model.specs.Order.{Low, Str, at, none}
+use Rattle.model.specs.Order.{Low, Str, at, last-digit, none}
+use Rattle.model.specs.Tests.{is-above}
 use Rattle.model.specs.Files.{RangeTable, Slot, all, bounds, order-of, ranges}
 use Rattle.model.specs.Tries.{Tree, leaf, node, size, trie-of}
-use Rattle.model.specs.Deciding.{low?}
 
 -- R6.2: how many digits the strings with fewest digits have,
 abbrev pub fewest : Str → List Str → ℕ
@@ -18,13 +19,9 @@ fewest x [] = length x
 fewest x (y ∷ ys) = min (length x) (fewest y ys)
 
 -- and their places in the run, counted from i.
-abbrev pub kept : {A : Type 0} → Dec A → ℕ → List ℕ → List ℕ
-kept (yes e) i ps = i ∷ ps
-kept (no e) i ps = ps
-
 abbrev pub places : ℕ → ℕ → List Str → List ℕ
 places n i [] = []
-places n i (x ∷ xs) = kept (ℕ-discrete (length x) n) i (places n (suc i) xs)
+places n i (x ∷ xs) = let r = places n (suc i) xs in cond (eqb (length x) n) (i ∷ r) r
 
 -- R6.2: the middle one, or the lower of two middle ones.
 abbrev pub middle : List ℕ → ℕ
@@ -34,9 +31,6 @@ middle ps = getD ps ((length ps - 1) / 2) 0
 abbrev pub pick : List Str → ℕ
 pick [] = 0
 pick (x ∷ xs) = middle (places (fewest x xs) 0 (x ∷ xs))
-
-abbrev pub last-digit : Str → ℕ
-last-digit r = getD r (length r - 1) 0
 
 -- R6.3: the runs left and right of the root. The run lies between l and u; label gives the slot of a leaf with these
 -- neighbours; n is at least the number of strings.
@@ -54,7 +48,7 @@ module _ (F : RangeTable) where
   abbrev pub label : List ℕ → Low → ℕ
   label [] l = 0
   label (B ∷ []) l = B
-  label (B ∷ C ∷ Bs) l = elim (low? l (F .upper B)) [ yes h ↦ B | no h ↦ label (C ∷ Bs) l ]
+  label (B ∷ C ∷ Bs) l = cond (is-above l (F .upper B)) B (label (C ∷ Bs) l)
 
   -- R6.1: the first run is all strings.
   abbrev pub rebuilt : List ℕ → Tree

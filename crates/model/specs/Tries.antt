@@ -4,15 +4,14 @@ use mathlib.Core.Bool.{_&&_, cond}
 use mathlib.Core.Option.{Option, none as nothing, some}
 use mathlib.Core.List.{List, List·Memᴰ, [], _++_, _∷_}
 use Prim.Native.Nat.{_+_, _-_, _<_, _≤_, suc, zero, ℕ}
-use native.Mathlib.Decide.{ℕ-discrete}
-use lib.Dec.{leb, ltb}
+use lib.Dec.{eqb, leb, ltb}
 use lib.ListN.{getD, length, replicate, take}
 use Rattle.model.specs.declared.Cell.{Cell}
 use Rattle.model.specs.declared.Side.{Side}
 use Rattle.model.specs.declared.Side.the-variants.{Cell as further, Slot as slot}
 use Rattle.model.specs.declared.Trie.{Trie}
 use Rattle.model.specs.Order.{Low, Str, _≺_, _⊑_, _⊴_, _◁_, at, none}
-use Rattle.model.specs.Names.{is-at-most}
+use Rattle.model.specs.Tests.{is-at-most}
 use Rattle.model.specs.Files.{IsString, RangeTable, Slot, first, ranges}
 
 -- A side, unfolded: a leaf that leads to a slot, or a cell with a digit, a digit number and two sides.
@@ -72,13 +71,9 @@ pub data Reads (cs : List Cell) : Side → Tree → List ℕ → Type 0 where
       → Reads cs (further n) (node (at-cell cs n .digit) (at-cell cs n .number) L R) (n ∷ (vs ++ ws))
 
 -- How often a number stands in a list.
-abbrev pub one-if : {A : Type 0} → Dec A → ℕ
-one-if (yes e) = 1
-one-if (no n) = 0
-
 abbrev pub occ : ℕ → List ℕ → ℕ
 occ m [] = 0
-occ m (n ∷ ns) = one-if (ℕ-discrete m n) + occ m ns
+occ m (n ∷ ns) = cond (eqb m n) 1 0 + occ m ns
 
 -- R5.1: cell 0 is the root; R5.6: with count 0 the walk ends at the first leaf.
 abbrev pub root-side : ℕ → ℕ → Side

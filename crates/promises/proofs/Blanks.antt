@@ -1,11 +1,13 @@
 -- Inner blanks, tested: the older tests are today's and the test that there is none.
 use Rattle.model.proofs.Prelude.{Bool, List, List·Memᴰ, List·Memᴰ·head, List·Memᴰ·not-nil, List·Memᴰ·tail, [], _&&_, _-_, _<_, _∙_, _∷_, _≡_, _≤_, and-assoc, and-false, and-true, ap, arith, clash, cond, decLt, eq-eqb, eqb, eqb-true, false, getD, le-leb, leb, leb-true, length, lt-leb, ne-eqb, refl, set, suc, sym, true, zero, ℕ, ℕ-discrete}
 use Rattle.model.specs.Order.{Low, Str, at, none}
-use Rattle.model.specs.Names.{Digits, are-digits, filled, is-at-most, is-blank-digit, is-legal-bound, is-legal-filled, is-legal-name}
+use Rattle.model.specs.Tests.{are-digits, is-above, is-at-most, is-blank-digit, is-legal-bound, is-legal-filled, is-legal-low, is-legal-name}
+use Rattle.model.specs.Names.{Digits, filled}
 use Rattle.model.specs.Entries.{Entry}
 use Rattle.model.specs.Files.{Slot, entries-of, free, order-of, slot-at, used}
-use Rattle.model.specs.Checks.{Kind, all-well, check, cut-among, cut-below-with, has-twin, is-above, is-bad, is-chain, is-cut-by, is-legal-low, is-listed, is-row, is-sound, is-sound-file, is-well-formed}
-use Rattle.model.proofs.Names.{are-digits-digits, both-true, digits-are-digits, filled-at, filled-behind, length-filled}
+use Rattle.model.specs.Checks.{Kind, all-well, check, cut-among, cut-below-with, has-twin, is-bad, is-chain, is-cut-by, is-listed, is-row, is-sound, is-sound-file, is-well-formed}
+use Rattle.model.proofs.Tests.{both-true}
+use Rattle.model.proofs.Names.{are-digits-digits, digits-are-digits, filled-at, filled-behind, length-filled}
 use Rattle.promises.specs.Demand1.{LegalName}
 use Rattle.promises.proofs.Demand1.{name-legal}
 use Rattle.promises.specs.Older.{HoldsBlank, InnerBlank, blank-ended, blanks, is-older-filled, is-older-name, is-older-row, is-older-sound, is-older-well, kind-of-older, older-all-well, older-cut-below, older-cut-by}

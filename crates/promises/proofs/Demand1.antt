@@ -12,21 +12,23 @@ use Rattle.model.specs.declared.RecoverAnswer.the-variants.{Freed, Refused as R
 use Rattle.model.specs.declared.RemoveAnswer.the-variants.{Refused as RemoveRefused, Stopped as RemoveStopped}
 use Rattle.model.specs.declared.TrieAnswer.the-variants.{Given, Refused as TrieRefused}
 use Rattle.model.proofs.Files.{one-range}
-use Rattle.model.specs.Order.{Str}
-use Rattle.model.specs.Names.{Legal, are-digits, broken, filled, first-digit, is-at-most, is-blank-digit, is-legal-name, last-of}
+use Rattle.model.specs.Order.{Str, first-digit, last-digit}
+use Rattle.model.specs.Tests.{are-digits, is-above, is-at-most, is-blank-digit, is-legal-name, same-str}
+use Rattle.model.specs.Names.{Legal, broken, filled}
 use Rattle.model.specs.Entries.{Entry, content-from, find, is-older}
-use Rattle.model.specs.Files.{In, Slot, Well, created, first, free, head, order-of, slot-at, string-count, used, well-free}
+use Rattle.model.specs.Files.{In, Slot, Well, created, first, free, head, is-in-range, order-of, slot-at, string-count, used, well-free}
 use Rattle.model.specs.Tries.{Agrees, root, root-side, walk-of, walk-run}
 use Rattle.model.specs.Rebuilding.{rebuilt-trie}
-use Rattle.model.specs.Changes.{Denied, Request, Result, Store, holds?, no-room, put, remove, too-many, trie-removed}
-use Rattle.model.specs.Checks.{Kind, is-above, is-bad, is-cut, is-sound, is-well-formed, same-str}
+use Rattle.model.specs.Changes.{Denied, Request, Result, Store, no-room, put, remove, too-many, trie-removed}
+use Rattle.model.specs.Checks.{Kind, is-bad, is-cut, is-sound, is-well-formed}
 use Rattle.model.specs.Agreeing.{is-agreeing}
 use Rattle.model.specs.Format.{BadFile, SoundFile, are-legal-sizes, bytes-at-slot, bytes-of-entries, bytes-of-slot, check-file, entry-length, file-bytes, file-size, header-bytes, header-of, is-right-header, kept-run, layout-of, read-file, read-slot, store-bytes}
 use Rattle.model.specs.Answers.{stale-trie}
 use Rattle.model.specs.Places.{place-of}
 use Rattle.model.specs.Calls.{CreateDone, ListDone, Looked, PutDone, RebuildDone, RecoverDone, RemoveDone, arrived-answer, between, create-of, entries-in, fine, headed-answer, held, held-answer, landed, list-entries, list-of, list-on-looked, look-up-of, looked-at-by, looked-of, new-trie, no-rebuilt, put-answer, put-by-stores, put-of, put-on-looked, put-takes, rebuild-by, rebuild-of, recover-by, recover-of, refusal-of, refusing, remove-answer, remove-by-stores, remove-of, remove-on-looked, slot-answer, stores-bytes, trie-after-put}
-use Rattle.model.proofs.Names.{are-digits-digits, blank-no, both-true, digits-are-digits, is-at-most-le, is-legal-name-legal, le-is-at-most, length-filled, never-both, no-blank}
-use Rattle.model.proofs.Checks.{above-is-above, both-join, is-above-above, is-well-formed-well, same-str-equal, same-str-self, well-is-well-formed}
+use Rattle.model.proofs.Tests.{above-is-above, both-join, both-true, is-above-above, is-at-most-le, le-is-at-most, never-both, same-str-equal, same-str-self}
+use Rattle.model.proofs.Names.{are-digits-digits, blank-no, digits-are-digits, is-legal-name-legal, length-filled, no-blank}
+use Rattle.model.proofs.Checks.{is-well-formed-well, well-is-well-formed}
 use Rattle.model.proofs.Agreeing.{agrees-is-agreeing}
 use Rattle.model.proofs.Calls.{Answered, denied-not-made, denied-one, held-older, in-range, is-denied, is-made, older-held, put-right, put-taken, remove-right}
 use Rattle.model.proofs.CheckedFiles.{CheckedFile, check-file-right, sound-not-cut}
@@ -43,7 +45,7 @@ use Rattle.promises.proofs.Walking.{arrives-walked, strays-walked, walk
 pub legal-name : (name : List ℕ) → is-legal-name name ≡ true → LegalName name
 unfolding is-legal-name
 legal-name name e =
-    let p = both-true (leb 1 (length name) && leb (length name) 24 && are-digits 0x20 name && not (is-blank-digit (first-digit name))) (not (is-blank-digit (last-of name))) e in
+    let p = both-true (leb 1 (length name) && leb (length name) 24 && are-digits 0x20 name && not (is-blank-digit (first-digit name))) (not (is-blank-digit (last-digit name))) e in
     let q = both-true (leb 1 (length name) && leb (length name) 24 && are-digits 0x20 name) (not (is-blank-digit (first-digit name))) (p .0) in
     let r = both-true (leb 1 (length name) && leb (length name) 24) (are-digits 0x20 name) (q .0) in
     let s = both-true (leb 1 (length name)) (leb (length name) 24) (r .0) in
@@ -52,13 +54,13 @@ legal-name name e =
       most = leb-true (length name) 24 (s .1);
       digits = are-digits-digits 0x20 name (r .1);
       first = blank-no (first-digit name) (q .1);
-      last = blank-no (last-of name) (p .1);
+      last = blank-no (last-digit name) (p .1);
     }
 
 pub name-legal : {name : List ℕ} → LegalName name → is-legal-name name ≡ true
 unfolding is-legal-name
 name-legal {name} L =
-    rw (le-leb 1 (length name) (L .least), le-leb (length name) 24 (L .most), digits-are-digits 0x20 name (L .digits), no-blank (first-digit name) (L .first), no-blank (last-of name) (L .last))
+    rw (le-leb 1 (length name) (L .least), le-leb (length name) 24 (L .most), digits-are-digits 0x20 name (L .digits), no-blank (first-digit name) (L .first), no-blank (last-digit name) (L .last))
 
 pub illegal : (name : List ℕ) → is-legal-name name ≡ false → ¬ LegalName name
 illegal name e L = never-both (is-legal-name name) (name-legal L) e
@@ -260,7 +262,7 @@ module _ (xs : List ℕ) (t : Trie) (name : List ℕ) (v run limit : ℕ) where
     unfolding put-by-stores refusal-of
     put-taking g = put-taken (λ (r : Result). PutVerdict (higher ∷ rest) (put-by-stores xs t y fs n (content y) limit r)) y fs n (content y) (kept-run y run)
         (λ e. let w = older-held (kept-run y run) (held fs n) e in
-        stop refl (refl, refl) (record { file = record { layout = y; slots = fs; is = p .is; sound = p .sound }; bucket = first (holds? n) fs; in-range = in-range (y .b) (place-of y) fs (p .sound) n; content = w .0; found = w .1; higher = w .2 }))
+        stop refl (refl, refl) (record { file = record { layout = y; slots = fs; is = p .is; sound = p .sound }; bucket = first (is-in-range n) fs; in-range = in-range (y .b) (place-of y) fs (p .sound) n; content = w .0; found = w .1; higher = w .2 }))
         (λ e. skip (λ H. never-both (is-older (kept-run y run) (held fs n)) (here-higher H) e) (put-made (put-right (y .b) (place-of y) fs (p .sound) n (content y) g)))
 
   put-verdict : PutVerdict (put-table xs t name v run limit) (put-of xs t name v run limit)

@@ -5,17 +5,18 @@ use Rattle.model.specs.declared.Layout.{Layout}
 use Rattle.model.specs.declared.Cause.the-variants.{StaleTrie}
 use Rattle.model.specs.declared.LookUpAnswer.the-variants.{Refused}
 use Rattle.model.specs.Order.{Str}
-use Rattle.model.specs.Names.{broken, filled, is-at-most, is-legal-name}
+use Rattle.model.specs.Tests.{is-above, is-at-most, is-legal-name}
+use Rattle.model.specs.Names.{broken, filled}
 use Rattle.model.specs.Entries.{find}
 use Rattle.model.specs.Files.{In, Slot, Sound, entries-of, free, head, slot-at, used}
 use Rattle.model.specs.Tries.{Spot, walk-of, walk-trie}
-use Rattle.model.specs.Checks.{is-above, is-well-formed}
+use Rattle.model.specs.Checks.{is-well-formed}
 use Rattle.model.specs.Format.{SoundFile, header-of}
 use Rattle.model.specs.Answers.{stale-trie}
 use Rattle.model.specs.Calls.{arrived-answer, headed-answer, held-answer, landed, look-up-of, slot-answer}
-use Rattle.model.proofs.Names.{is-at-most-le}
+use Rattle.model.proofs.Tests.{is-above-above, is-at-most-le}
 use Rattle.model.proofs.LookUps.{lookup-agrees}
-use Rattle.model.proofs.Checks.{is-above-above, well-is-well-formed}
+use Rattle.model.proofs.Checks.{well-is-well-formed}
 use Rattle.model.proofs.Format.{headed-header-of, read-file-read, read-slot-read-file}
 use Rattle.promises.specs.Demand2.{Demand2, LeadsRight, Tells, Truthful, stale, told, true-entry, truly-absent}
 use Rattle.promises.specs.Calls.{our-calls}

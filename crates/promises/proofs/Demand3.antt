@@ -9,7 +9,8 @@ use Rattle.model.specs.declared.RecoverAnswer.the-variants.{Freed, Nothing, Sto
 use Rattle.model.specs.declared.RemoveAnswer.the-variants.{Refused as RemoveRefused, Stopped as RemoveStopped}
 use Rattle.model.specs.declared.TrieAnswer.the-variants.{Given, Refused as TrieRefused}
 use Rattle.model.specs.Order.{Str}
-use Rattle.model.specs.Names.{Legal, filled, is-legal-name}
+use Rattle.model.specs.Tests.{is-legal-name}
+use Rattle.model.specs.Names.{Legal, filled}
 use Rattle.model.specs.Entries.{content-from}
 use Rattle.model.specs.Files.{Cut, Slot, Well, created, free, slot-at, string-count}
 use Rattle.model.specs.Tries.{Agrees, walk-trie}
@@ -17,7 +18,8 @@ use Rattle.model.specs.Changes.{Map, Request, Result, Store, counts, meant, put
 use Rattle.model.specs.Format.{CutFile, SoundFile, are-legal-sizes, check-file, entry-length, file-bytes, file-size, kept-run, layout-of, read-file, store-bytes}
 use Rattle.model.specs.Places.{place-of}
 use Rattle.model.specs.Calls.{CreateDone, Looked, PutDone, RecoverDone, RemoveDone, create-of, fine, held, held-answer, looked-of, new-trie, put-answer, put-by-stores, put-of, put-on-looked, put-takes, rebuild-by, rebuild-of, recover-by, recover-of, refusing, remove-answer, remove-by-stores, remove-of, remove-on-looked, stores-bytes, trie-after-put}
-use Rattle.model.proofs.Names.{both-true, is-legal-name-legal}
+use Rattle.model.proofs.Tests.{both-true}
+use Rattle.model.proofs.Names.{is-legal-name-legal}
 use Rattle.model.proofs.Files.{cut-not-sound, cut-well}
 use Rattle.model.proofs.Agreement.{agrees-walk, rebuilt-trie-agrees}
 use Rattle.model.proofs.LookUps.{lookup-agrees}

@@ -1,12 +1,13 @@
 -- The first difference of a name and a bound, and the one bound of a range that a name breaks.
 use Rattle.model.proofs.Prelude.{Bool, List, _<_, _∙_, _≡_, _≤_, ap, arith, cond, decLt, false, getD, getD-take, length, refl, sym, true, ℕ}
 use Rattle.model.specs.Order.{Low, Str, _⊑_, _◁_, above, at, diff, least, none}
-use Rattle.model.specs.Names.{Bound, BoundLow, broken, is-at-most, limit}
+use Rattle.model.specs.Tests.{is-at-most}
+use Rattle.model.specs.Names.{Bound, BoundLow, broken, limit}
 use Rattle.model.specs.Entries.{Entry}
 use Rattle.model.specs.Files.{In, Well, range, used}
-use Rattle.model.specs.Deciding.{over}
+use Rattle.model.proofs.Deciding.{over}
 use Rattle.model.proofs.Order.{diff-apart, diff-le-right, le-trans, lt-le, take-diff}
-use Rattle.model.proofs.Names.{is-at-most-le, is-at-most-lt}
+use Rattle.model.proofs.Tests.{is-at-most-le, is-at-most-lt}
 use Rattle.model.proofs.Files.{well-parts}
 use Rattle.promises.specs.Demand1.{Breaks, Differs, above-upper, within-lower}
 

@@ -6,7 +6,8 @@ use Rattle.model.specs.declared.Cause.the-variants.{IllegalName, ManyStrings, W
 use Rattle.model.specs.declared.PutAnswer.the-variants.{Refused as PutRefused, Stopped as PutStopped}
 use Rattle.model.specs.declared.TrieAnswer.the-variants.{Given, Refused as TrieRefused}
 use Rattle.model.specs.Order.{Str}
-use Rattle.model.specs.Names.{Legal, filled, is-legal-name}
+use Rattle.model.specs.Tests.{is-legal-name}
+use Rattle.model.specs.Names.{Legal, filled}
 use Rattle.model.specs.Entries.{content-from, insert}
 use Rattle.model.specs.Files.{Slot, Sound, created, string-count}
 use Rattle.model.specs.Tries.{Agrees}
@@ -18,7 +19,8 @@ use Rattle.model.specs.Format.{AreBytes, SoundFile, are-legal-sizes, check-file
 use Rattle.model.specs.Places.{place-of}
 use Rattle.model.specs.Answers.{stale-trie}
 use Rattle.model.specs.Calls.{CreateDone, Looked, PutDone, create-of, fine, held, looked-at-by, looked-of, new-trie, no-rebuilt, put-answer, put-by-stores, put-of, put-on-looked, rebuild-by, rebuild-of, refusing, stores-bytes, trie-after-put}
-use Rattle.model.proofs.Names.{both-true, is-legal-name-legal}
+use Rattle.model.proofs.Tests.{both-true}
+use Rattle.model.proofs.Names.{is-legal-name-legal}
 use Rattle.model.proofs.Files.{one-range}
 use Rattle.model.proofs.Agreement.{agrees-walk, rebuilt-trie-agrees}
 use Rattle.model.proofs.Agreeing.{is-agreeing-agrees}

@@ -1,10 +1,11 @@
 -- The stores of a call do not depend on its limit.
-use Rattle.model.proofs.Prelude.{Bool, List, [], _≤_, _∙_, _∷_, _≡_, ap, arith, cond, false, le-ltb, length, ltb, ltb-false, refl, suc, sym, take, take-all, take-nil, true, zero, ℕ}
+use Rattle.model.proofs.Prelude.{Bool, List, [], _∙_, _∷_, _≡_, _≤_, ap, arith, cond, false, le-ltb, length, ltb, ltb-false, refl, suc, sym, take, take-all, take-nil, true, zero, ℕ}
 use Rattle.model.specs.declared.Layout.{Layout}
 use Rattle.model.specs.declared.Trie.{Trie}
 use Rattle.model.specs.Entries.{content-from}
 use Rattle.model.specs.Order.{Str}
-use Rattle.model.specs.Names.{filled, is-legal-name}
+use Rattle.model.specs.Tests.{is-legal-name}
+use Rattle.model.specs.Names.{filled}
 use Rattle.model.specs.Files.{Slot, free}
 use Rattle.model.specs.Changes.{Result, Store, call, put, refuse, remove, stores}
 use Rattle.model.specs.Places.{place-of}

@@ -1,13 +1,13 @@
 -- The entries to be listed are one list, and the buckets in range order give it.
 use Rattle.model.proofs.Prelude.{Bool, List, List·Memᴰ, List·Memᴰ·append-cases, List·Memᴰ·cases-cons, List·Memᴰ·head, List·Memᴰ·not-nil, List·Memᴰ·tail, Memᴰ·append-left, Memᴰ·append-right, [], _&&_, _++_, _∷_, _≡_, _⊎_, ap₂, cond, false, inl, inr, refl, sym, true, ℕ}
 use Rattle.model.specs.Order.{Low, Str, _⊑_, _⊴_, _◁_, at, below, top}
-use Rattle.model.specs.Names.{is-at-most}
+use Rattle.model.specs.Tests.{is-at-most}
 use Rattle.model.specs.Entries.{Entry, Row, entry, no-entries}
 use Rattle.model.specs.Files.{Chain, IsUsed, Slot, Sound, Well, entries-of, free, head, last, lower-of, next, order-of, ranges, slot-at, upper-of, used}
 use Rattle.model.specs.Calls.{between, entries-in}
-use Rattle.model.specs.Deciding.{over}
+use Rattle.model.proofs.Deciding.{over}
 use Rattle.model.proofs.Order.{le-refl, le-trans, low-at, low-lower, lt-le}
-use Rattle.model.proofs.Names.{both-true, is-at-most-le, le-is-at-most}
+use Rattle.model.proofs.Tests.{both-true, is-at-most-le, le-is-at-most}
 use Rattle.model.proofs.Files.{order-right, slot-row, well-head}
 use Rattle.model.proofs.Merging.{row-lower}
 use Rattle.promises.specs.Demand1.{Listing}

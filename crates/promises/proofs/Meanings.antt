@@ -6,7 +6,8 @@ use Rattle.model.specs.declared.ListAnswer.the-variants.{Listed, Refused as Lis
 use Rattle.model.specs.declared.RecoverAnswer.the-variants.{Freed, Nothing, Refused as RecoverRefused, Stopped as RecoverStopped}
 use Rattle.model.specs.declared.Trie.{Trie}
 use Rattle.model.specs.Order.{Low, Str, at}
-use Rattle.model.specs.Names.{filled, is-legal-name}
+use Rattle.model.specs.Tests.{is-legal-name}
+use Rattle.model.specs.Names.{filled}
 use Rattle.model.specs.Entries.{Entry, insert}
 use Rattle.model.specs.Files.{Slot, Sound, free, order-of, string-count, strings-of}
 use Rattle.model.specs.Tries.{Agrees}
@@ -14,12 +15,13 @@ use Rattle.model.specs.Places.{place-of}
 use Rattle.model.specs.Checks.{Kind, is-bad, is-cut, is-sound}
 use Rattle.model.specs.Format.{AreBytes, BadFile, CutFile, SoundFile, bytes-of-entries, bytes-of-slot, check-file, entry-length, layout-of, read-file, slot-size, store-bytes}
 use Rattle.model.specs.Calls.{ListDone, Looked, RecoverDone, between, entries-in, fine, list-entries, list-of, list-on-looked, looked-at-by, looked-of, recover-by, recover-of, refusing}
-use Rattle.model.specs.Deciding.{over}
+use Rattle.model.proofs.Deciding.{over}
 use Rattle.model.proofs.Order.{Asc, end, le-refl, step}
-use Rattle.model.proofs.Names.{is-at-most-le, is-legal-filled-legal, le-is-at-most, legal-is-legal-filled, one-name}
+use Rattle.model.proofs.Tests.{above-is-above, is-above-above, is-at-most-le, le-is-at-most, same-str-equal, same-str-self}
+use Rattle.model.proofs.Names.{is-legal-filled-legal, legal-is-legal-filled, one-name}
 use Rattle.model.proofs.Strings.{asc-mem}
 use Rattle.model.proofs.Files.{cut-inside, strings-asc, strings-every, strings-only}
-use Rattle.model.proofs.Checks.{above-is-above, check-bad, check-cut, check-right, check-sound, is-above-above, is-well-formed-well, same-str-equal, same-str-self, well-is-well-formed}
+use Rattle.model.proofs.Checks.{check-bad, check-cut, check-right, check-sound, is-well-formed-well, well-is-well-formed}
 use Rattle.model.proofs.Agreeing.{agrees-is-agreeing, is-agreeing-agrees}
 use Rattle.model.proofs.CheckedFiles.{CheckedFile, check-file-cut, check-file-right, check-file-sound, one-cut, sound-not-cut}
 use Rattle.model.proofs.Changes.{second-sound}

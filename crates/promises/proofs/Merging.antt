@@ -8,7 +8,8 @@ use Rattle.model.specs.declared.RemoveAnswer.the-variants.{Absent as NotHeld, R
 use Rattle.model.specs.declared.Trie.{Trie}
 use Rattle.model.specs.declared.TrieAnswer.the-variants.{Given}
 use Rattle.model.specs.Order.{Low, Str, _⊑_, _◁_}
-use Rattle.model.specs.Names.{filled, is-legal-name}
+use Rattle.model.specs.Tests.{is-legal-name}
+use Rattle.model.specs.Names.{filled}
 use Rattle.model.specs.Entries.{Entry, find}
 use Rattle.model.specs.Files.{Cut, Slot, Sound, entries-of, free, slot-at, string-count, used}
 use Rattle.model.specs.Tries.{walk-trie}

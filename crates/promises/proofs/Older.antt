@@ -1,5 +1,5 @@
 -- What the build before inner blanks makes of each file is what today's makes of it, or a refusal.
-use Rattle.model.proofs.Prelude.{Bool, List, Option, [], _&&_, _++_, _∷_, _/_, _<_, _^_, _-_, _∙_, _≡_, _≤_, _⊎_, ap, arith, clash, cond, decLt, eqb, false, inl, inr, le-leb, le-ltb, leb, leb-true, length, length-set, ltb, nothing, refl, replicate, set, some, suc, sym, take, take-length, true, zero, ℕ, ℕ-discrete}
+use Rattle.model.proofs.Prelude.{Bool, List, Option, [], _&&_, _++_, _-_, _/_, _<_, _^_, _∙_, _∷_, _≡_, _≤_, _⊎_, ap, arith, clash, cond, decLt, eqb, false, inl, inr, le-leb, le-ltb, leb, leb-true, length, length-set, ltb, not, nothing, refl, replicate, set, some, suc, sym, take, take-length, true, zero, ℕ, ℕ-discrete}
 use Rattle.model.specs.declared.Cause.the-variants.{BadFile as bad-file, IllegalName, StaleTrie, WrongSize}
 use Rattle.model.specs.declared.Layout.{Layout}
 use Rattle.model.specs.declared.ListAnswer.the-variants.{Refused as ListRefused}
@@ -12,18 +12,19 @@ use Rattle.model.specs.declared.Side.{Side}
 use Rattle.model.specs.declared.Trie.{Trie}
 use Rattle.model.specs.declared.TrieAnswer.the-variants.{Given, Refused as TrieRefused}
 use Rattle.model.specs.Order.{Low, Str, _⊑_, _◁_, at}
-use Rattle.model.specs.Names.{broken, filled, is-at-most, is-legal-name}
+use Rattle.model.specs.Tests.{is-above, is-at-most, is-legal-name, same-str}
+use Rattle.model.specs.Names.{broken, filled}
 use Rattle.model.specs.Entries.{Entry, content-from, find, insert, keep, without}
-use Rattle.model.specs.Files.{Slot, Sound, Well, created, first, free, slot-at, used, well-free, well-used}
+use Rattle.model.specs.Files.{Slot, Sound, Well, created, free, slot-at, used, well-free, well-used}
 use Rattle.model.specs.Tries.{root, root-side, walk-of, walk-run}
 use Rattle.model.specs.Changes.{Request, Result, Store, merged, put, remove, stored, trie-removed}
 use Rattle.model.specs.Places.{place-of}
-use Rattle.model.specs.Checks.{Kind, check, is-above, is-bad, is-cut, is-sound, is-well-formed}
+use Rattle.model.specs.Checks.{Kind, check, is-bad, is-cut, is-sound, is-well-formed}
 use Rattle.model.specs.Format.{AreBytes, BadFile, CutFile, are-legal-sizes, bytes-at-slot, check-file, check-read, check-read-with, entry-length, file-bytes, file-size, header-of, is-right-header, kept-run, layout-of, read-file, read-slot, store-bytes}
 use Rattle.model.specs.Calls.{CreateDone, Looked, PutDone, RecoverDone, RemoveDone, arrived-answer, create-of, fine, headed-answer, held, held-answer, landed, list-of, list-on-looked, list-with, look-up-of, look-up-with, looked-at-by, looked-of, new-trie, no-rebuilt, put-answer, put-by-stores, put-made-with, put-of, put-on-looked, rebuild-by, rebuild-of, recover-by, recover-of, recover-with, refusing, remove-answer, remove-by-stores, remove-made-with, remove-of, remove-on-looked, slot-answer, stores-bytes, trie-after-put}
-use Rattle.model.specs.Deciding.{le?, not?, over, str?}
-use Rattle.model.proofs.Names.{both-true, is-legal-name-legal, length-filled}
-use Rattle.model.proofs.Entries.{chosen-no, chosen-yes, length-keep, row-insert, row-keep}
+use Rattle.model.proofs.Deciding.{le?, over, str?}
+use Rattle.model.proofs.Names.{is-legal-name-legal, length-filled}
+use Rattle.model.proofs.Entries.{length-keep, row-insert, row-keep}
 use Rattle.model.proofs.Changes.{Change, absent, fits, inside-a, new-well, old-well, removes, splits, well-a}
 use Rattle.model.proofs.Calls.{Answered, is-denied, is-made, put-right, put-taken, remove-right}
 use Rattle.model.proofs.Created.{created-left}
@@ -34,6 +35,7 @@ use Rattle.model.proofs.CheckedFiles.{CheckedFile, check-file-right}
 use Rattle.model.proofs.Files.{at-set, cut-well}
 use Rattle.model.proofs.Format.{are-legal-sizes-sizes, contents-read-file, file-bytes-read-file, headed-header-of, headed-layout, headed-slots, put-fits, read-file-read, read-slot-read-file}
 use Rattle.model.proofs.Order.{le-trans, low-at, low-lower, lt-le}
+use Rattle.model.proofs.Tests.{both-true, equal-same-str, le-is-at-most, lt-is-at-most, same-str-other, true-or-false}
 use Rattle.model.proofs.Merging.{Removal, alone, leftward, removal-is, rightward, row-merged, whole-low}
 use Rattle.promises.specs.Calls.{our-calls}
 use Rattle.promises.specs.Demand1.{Arrives, RightHeader, here, left-of, right-of, slots-of}
@@ -282,14 +284,14 @@ module _ (xs : List ℕ) (t : Trie) (F : BlankFile xs) where
   refuses-list low high out e f = rw (e, f, bad-looked xs t F)
 
 -- A file without inner blanks stays one. Each store of a change puts a slot that is well formed and plain.
-plain-keep : {P : Str → Type 0} (t : (n : Str) → Dec (P n)) (es : List Entry) → plain-entries es ≡ true → plain-entries (keep t es) ≡ true
+plain-keep : (t : Str → Bool) (es : List Entry) → plain-entries es ≡ true → plain-entries (keep t es) ≡ true
 unfolding keep plain-entries
 plain-keep t [] h = refl
 plain-keep t (e ∷ es) h =
     let p = both-true (is-plain (e .0)) (plain-entries es) h in
-    elim (t (e .0)) [
-      | yes k ↦ rw (chosen-yes (t (e .0)) k, p .0) (plain-keep t es (p .1))
-      | no k ↦ rw (chosen-no (t (e .0)) k) (plain-keep t es (p .1))
+    elim (true-or-false (t (e .0))) [
+      | inl k ↦ rw (k, p .0) (plain-keep t es (p .1))
+      | inr k ↦ rw k (plain-keep t es (p .1))
     ]
 
 plain-insert : (n : Str) (v : ℕ) (es : List Entry) → is-plain n ≡ true → plain-entries es ≡ true → plain-entries (insert n v es) ≡ true
@@ -298,10 +300,10 @@ plain-insert n v [] g h = rw g
 plain-insert n v (e ∷ es) g h =
     let p = both-true (is-plain (e .0)) (plain-entries es) h in
     elim (le? n (e .0)) [
-      | no k ↦ rw (chosen-no (le? n (e .0)) k, p .0) (plain-insert n v es g (p .1))
+      | no k ↦ rw (lt-is-at-most n (e .0) k, p .0) (plain-insert n v es g (p .1))
       | yes k ↦ elim (str? n (e .0)) [
-        | yes j ↦ rw (chosen-yes (le? n (e .0)) k, chosen-yes (str? n (e .0)) j, g) (p .1)
-        | no j ↦ rw (chosen-yes (le? n (e .0)) k, chosen-no (str? n (e .0)) j, g) h
+        | yes j ↦ rw (le-is-at-most n (e .0) k, equal-same-str n (e .0) j, g) (p .1)
+        | no j ↦ rw (le-is-at-most n (e .0) k, same-str-other n (e .0) j, g) h
       ]
     ]
 
@@ -369,8 +371,8 @@ change-fit y two {fs} S (removes A {l = l} {u = u} {es = es} {n = n} is lo up f)
     go (alone c d) =
         let w = well-a (y .b) fs S A l u es is in
         let e : plain-entries es ≡ true = rw is at (p A) in
-        let r = row-keep (λ k. not? (str? k n)) l u (w .3) (λ k p c d. (c, d)) in
-        let k : length (without n es) ≤ y .b = omega (arith, length-keep (λ k. not? (str? k n)) es, w .4) in
+        let r = row-keep (λ k. not (same-str k n)) l u (w .3) (λ k p c d. (c, d)) in
+        let k : length (without n es) ≤ y .b = omega (arith, length-keep (λ k. not (same-str k n)) es, w .4) in
         (inside-a (y .b) fs S A l u es is, (well-used (w .0) (w .1) (w .2) r k, plain-keep _ es e), tt)
     go (rightward {R = R} {v = v} {gs = gs} r-is k) =
         merge A R l u v es gs is r-is lo (le-trans up (lt-le (over (well-a (y .b) fs S R (at u) v gs r-is .2)))) k

@@ -1,5 +1,5 @@
 -- Which run wrote it: what files of version 3 keep and refuse, and that files of versions 1 and 2 stay as they were.
-use Rattle.model.proofs.Prelude.{Bool, List, Option, _&&_, _<_, _∙_, _≡_, _≢_, _≤_, ap, ap₂, arith, clash, cond, false, inl, inr, le-ltb, length, ltb, ne-eqb, nothing, refl, some, subst, sym, take, true, ℕ}
+use Rattle.model.proofs.Prelude.{Bool, List, Option, _&&_, _<_, _∙_, _≡_, _≢_, _≤_, ap, ap₂, arith, clash, cond, false, inl, inr, le-ltb, length, ltb, ne-eqb, not, nothing, refl, some, subst, sym, take, true, ℕ}
 use Rattle.model.specs.declared.Cause.the-variants.{BadFile as bad-file, IllegalName, OlderRun, StaleTrie, WrongSize}
 use Rattle.model.specs.declared.Layout.{Layout}
 use Rattle.model.specs.declared.LookUpAnswer.{LookUpAnswer}
@@ -9,18 +9,19 @@ use Rattle.model.specs.declared.PutAnswer.the-variants.{Refused as PutRefused, 
 use Rattle.model.specs.declared.RemoveAnswer.the-variants.{Refused as RemoveRefused, Removed, Stopped as RemoveStopped}
 use Rattle.model.specs.declared.Trie.{Trie}
 use Rattle.model.specs.Order.{Low, Str, _⊑_, _◁_}
-use Rattle.model.specs.Names.{broken, filled, is-at-most, is-legal-name}
+use Rattle.model.specs.Tests.{is-above, is-at-most, is-legal-name, same-str}
+use Rattle.model.specs.Names.{broken, filled}
 use Rattle.model.specs.Entries.{Entry, content-from, find, insert, run-of-content, value-of-content}
-use Rattle.model.specs.Files.{In, Slot, Well, entries-of, first, free, head, slot-at, used}
+use Rattle.model.specs.Files.{In, Slot, Well, entries-of, first, free, head, is-in-range, slot-at, used}
 use Rattle.model.specs.Tries.{walk-of}
-use Rattle.model.specs.Changes.{Map, Result, Store, holds?, meant, no-room, put, refuse, remove, stored, stores, too-many, trie-removed}
-use Rattle.model.specs.Checks.{is-above, is-well-formed}
-use Rattle.model.specs.Deciding.{not?, str?}
+use Rattle.model.specs.Changes.{Map, Result, Store, meant, no-room, put, refuse, remove, stored, stores, too-many, trie-removed}
+use Rattle.model.specs.Checks.{is-well-formed}
 use Rattle.model.specs.Format.{AreBytes, bytes-at-slot, entry-length, file-size, header-of, is-right-header, kept-run, layout-of, read-file, read-slot, slot-size, version-1, version-2, version-3}
 use Rattle.model.specs.Places.{place-of}
 use Rattle.model.specs.Calls.{Looked, PutDone, RemoveDone, arrived-answer, fine, headed-answer, held, held-answer, landed, look-up-of, looked-of, put-answer, put-by-stores, put-of, put-on-looked, put-takes, refusing, remove-answer, remove-by-stores, remove-of, remove-on-looked, slot-answer, stores-bytes, trie-after-put}
+use Rattle.model.proofs.Tests.{same-str-self}
 use Rattle.model.proofs.Names.{is-legal-name-legal}
-use Rattle.model.proofs.Entries.{chosen-yes, find-drop, insert-new}
+use Rattle.model.proofs.Entries.{find-drop, insert-new}
 use Rattle.model.proofs.Files.{one-range, well-parts}
 use Rattle.model.proofs.Agreement.{agrees-few, agrees-walk}
 use Rattle.model.proofs.LookUps.{lookup-agrees}
@@ -96,7 +97,7 @@ held-room : {b : ℕ} {l : Low} {u : Str} {es : List Entry} → Well b (used l u
 held-room {b} {es = es} W n c w f big =
     let p = well-parts b W in
     let e = insert-new n c (p .3) (omega (arith, p .4, big)) in
-    let z : _≡_ {A = Option ℕ} nothing (some w) = sym (find-drop (λ k. not? (str? k n)) n es (λ d. d refl)) ∙ ap (find n) e ∙ f in
+    let z : _≡_ {A = Option ℕ} nothing (some w) = sym (find-drop (λ k. not (same-str k n)) n es (ap not (same-str-self n))) ∙ ap (find n) e ∙ f in
     clash cc
 
 -- A put that the checks let pass.
@@ -110,7 +111,7 @@ module _ (xs : List ℕ) (t : Trie) (name : List ℕ) (limit : ℕ) (R : Reached
   abbrev n : Str
   n = filled name
 
-  there : In (head (slot-at fs (first (holds? n) fs))) n
+  there : In (head (slot-at fs (first (is-in-range n) fs))) n
   there = in-range (y .b) (place-of y) fs (R .file .sound) n
 
   -- What a lookup finds is what is held.
@@ -122,7 +123,7 @@ module _ (xs : List ℕ) (t : Trie) (name : List ℕ) (limit : ℕ) (R : Reached
   module _ (c w : ℕ) (h : held fs n ≡ some w) (one : 1 ≤ limit) where
     roomy : (A : ℕ) {l : Low} {u : Str} {es : List Entry} → slot-at fs A ≡ used l u es → l ◁ n → n ⊑ u → y .b < length (insert n c es) → ⊥
     roomy A {l} {u} {es} is lo up big =
-        let k : A ≡ first (holds? n) fs = one-range (y .b) (R .file .sound) n (rw is (tt, lo, up)) there in
+        let k : A ≡ first (is-in-range n) fs = one-range (y .b) (R .file .sound) n (rw is (tt, lo, up)) there in
         let f : find n (entries-of (slot-at fs A)) ≡ some w = rw k h in
         held-room (rw is at (R .file .sound .well A)) n c w (rw is at f) big
 
@@ -223,7 +224,7 @@ module _ (xs : List ℕ) (t : Trie) (name : List ℕ) (v run : ℕ) (bytes : Are
         go false nothing h q = clash cc
         go false (some w) h q =
             let z : run-of-content w ≡ old-run = cc in
-            sym z ∙ none-kept y newer m (entries-of (slot-at fs (first (holds? m) fs))) w (contents-read-file xs bytes (p .is) (first (holds? m) fs)) h
+            sym z ∙ none-kept y newer m (entries-of (slot-at fs (first (is-in-range m) fs))) w (contents-read-file xs bytes (p .is) (first (is-in-range m) fs)) h
 
     looked-0 : (l : Looked) → looked-of xs t ≡ l → Without (put-on-looked xs t m v run limit l)
     unfolding put-on-looked
@@ -277,7 +278,7 @@ module _ (xs : List ℕ) (t : Trie) (name : List ℕ) (limit : ℕ) (bytes : Are
         layout = y;
         slots = stored ss fs;
         is = read-stored y xs bytes (p .is) (place-of y) c tt (after .sound);
-        lost = λ B h. after .means k B h ∙ chosen-yes (str? k k) refl _ _;
+        lost = λ B h. (rw (same-str-self k) at (after .means k B h));
       }
 
       go : (s : Bool) (rs : List Store)

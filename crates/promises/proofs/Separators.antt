@@ -1,5 +1,5 @@
 -- Which split string a bucket gets in each version: the laws of the model, put together.
-use Rattle.model.proofs.Prelude.{List, _+_, _-_, _/_, _<_, _≡_, _≢_, _⊎_, _≤_, ap, arith, clash, inl, inr, leb, leb-true, length, refl, subst, true, ℕ, ℕ-discrete}
+use Rattle.model.proofs.Prelude.{List, _+_, _-_, _/_, _<_, _≡_, _≢_, _≤_, _⊎_, ap, arith, clash, inl, inr, leb, leb-true, length, refl, subst, true, ℕ, ℕ-discrete}
 use Rattle.model.specs.Order.{Str}
 use Rattle.model.specs.Names.{Legal}
 use Rattle.model.specs.Entries.{Entry}
@@ -7,7 +7,7 @@ use Rattle.model.specs.Files.{Slot, Sound, string-count}
 use Rattle.model.specs.Changes.{Map, Means, Request, Result, Store, call, counts, put, split-of, split-string, stores}
 use Rattle.model.specs.Places.{digits-at, place-of}
 use Rattle.model.specs.Format.{is-offered, version-1, version-2, version-3}
-use Rattle.model.proofs.Names.{both-true}
+use Rattle.model.proofs.Tests.{both-true}
 use Rattle.model.proofs.Changes.{Change, Fine, change-made, change-stopped}
 use Rattle.model.proofs.Calls.{Answered, is-denied, is-made, put-right}
 use Rattle.model.proofs.Stores.{trie-after-put-is}

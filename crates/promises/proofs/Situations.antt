@@ -1,17 +1,17 @@
 -- The situations of section 14 of the rules hold: both sides compute to the same.
-use Rattle.model.proofs.Prelude.{List, _≡_, decLe, decLt, refl, true, ℕ, ℕ-discrete}
+use Rattle.model.proofs.Prelude.{List, _≡_, refl, true, ℕ}
 use Rattle.model.specs.declared.Trie.{Trie}
-use Rattle.model.specs.Names.{are-digits, broken, filled, is-at-most, is-legal-bound, is-legal-filled, is-legal-name, not-greater, smaller, split-beginning, split-tried, within}
-use Rattle.model.specs.Entries.{chosen, find, insert, keep}
-use Rattle.model.specs.Files.{Slot, first, order-from, starts?, string-count}
+use Rattle.model.specs.Tests.{are-digits, is-above, is-at-most, is-legal-bound, is-legal-filled, is-legal-low, is-legal-name, same-low, same-str}
+use Rattle.model.specs.Names.{broken, filled, not-greater, smaller, split-beginning, split-tried, within}
+use Rattle.model.specs.Entries.{find, insert, keep}
+use Rattle.model.specs.Files.{Slot, first, has-lower, is-free, is-in-range, order-from, string-count}
 use Rattle.model.specs.Tries.{Agrees, walk-of, walk-run}
-use Rattle.model.specs.Changes.{call, counts, free?, holds?, put-in}
-use Rattle.model.specs.Checks.{all-well, are-same-entries, check, cut-among, has-one-more, has-twin, is-above, is-chain, is-copied, is-cut-by, is-in, is-legal-low, is-listed, is-row, is-sound-file, is-twin, is-used-slot, is-well-formed, same-low, same-str}
-use Rattle.model.specs.Agreeing.{are-numbers, are-zero-cells, is-agreeing, is-each-once, is-trie-of, join-trees, read-tree, same-side, same-strs, slots-between, times}
+use Rattle.model.specs.Changes.{call, counts, put-in}
+use Rattle.model.specs.Checks.{all-well, are-same-entries, check, cut-among, has-one-more, has-twin, is-chain, is-copied, is-cut-by, is-in, is-listed, is-row, is-sound-file, is-twin, is-well-formed}
+use Rattle.model.specs.Agreeing.{are-numbers, are-zero-cells, is-agreeing, is-each-once, is-trie-of, join-trees, read-tree, same-side, same-strs, slots-between}
 use Rattle.model.specs.Format.{are-legal-sizes, bytes-at-slot, bytes-of-entries, bytes-of-slot, digits-of-low, entry-length, file-bytes, file-size, header-bytes, header-of, is-offered, is-right-header, layout-of, little-endian, low-of, padded, read-entries, read-slot, read-used-slot, slot-size, slots-bytes, used-of, value-of}
 use Rattle.model.specs.Places.{only-from, place-of, positions, shortest, winner}
 use Rattle.model.specs.Calls.{arrived-answer, headed-answer, look-up-of, slot-answer, trie-after-put}
-use Rattle.model.specs.Deciding.{le?, low-same?, low?, not?, str?}
 use Rattle.model.proofs.Checks.{is-sound-file-sound}
 use Rattle.model.proofs.Agreeing.{is-agreeing-agrees}
 use Rattle.promises.specs.Texts.{bytes}
@@ -27,11 +27,11 @@ pub situations : Situations
 unfolding
     bytes filled names entries is-legal-name are-digits within not-greater split-beginning split-tried smaller
     puts after-put trie-after-put walk-run walk-of place-of winner shortest positions only-from
-    call put-in holds? free? first chosen insert find keep not? le? str? low? decLe decLt ℕ-discrete
-    low-same? starts? order-from string-count
+    call put-in is-in-range is-free first insert find keep
+    has-lower order-from string-count
     run act answered counts recovered check cut-among is-cut-by has-twin is-twin is-copied has-one-more are-same-entries
-    is-sound-file all-well is-well-formed is-row is-chain is-listed is-in is-used-slot is-above is-legal-low is-legal-bound is-legal-filled is-at-most same-str same-low
-    is-agreeing is-trie-of read-tree join-trees are-zero-cells same-side is-each-once times are-numbers same-strs slots-between
+    is-sound-file all-well is-well-formed is-row is-chain is-listed is-in is-above is-legal-low is-legal-bound is-legal-filled is-at-most same-str same-low
+    is-agreeing is-trie-of read-tree join-trees are-zero-cells same-side is-each-once are-numbers same-strs slots-between
     is-offered entry-length slot-size file-size are-legal-sizes header-bytes padded little-endian value-of bytes-of-entries digits-of-low low-of
     bytes-of-slot slots-bytes file-bytes read-entries used-of read-used-slot read-slot bytes-at-slot is-right-header layout-of header-of
     look-up-of headed-answer arrived-answer slot-answer broken

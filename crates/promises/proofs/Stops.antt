@@ -7,23 +7,24 @@ use Rattle.model.specs.declared.RecoverAnswer.the-variants.{Freed, Refused as R
 use Rattle.model.specs.declared.RemoveAnswer.the-variants.{Refused as RemoveRefused, Stopped as RemoveStopped}
 use Rattle.model.specs.declared.Trie.{Trie}
 use Rattle.model.specs.Order.{Low, Str, _⊑_, _◁_, at}
-use Rattle.model.specs.Names.{filled, is-legal-name}
+use Rattle.model.specs.Tests.{is-legal-name}
+use Rattle.model.specs.Names.{filled}
 use Rattle.model.specs.Entries.{Entry, content-from, find, without}
-use Rattle.model.specs.Files.{Slot, free, slot-at, used}
+use Rattle.model.specs.Files.{Slot, free, is-free, slot-at, used}
 use Rattle.model.specs.Changes.{Result, Store, merged, put, remove, trie-removed}
 use Rattle.model.specs.Places.{place-of}
 use Rattle.model.specs.Checks.{Kind, is-bad, is-cut, is-sound}
 use Rattle.model.specs.Format.{AreBytes, bytes-at-slot, bytes-of-slot, check-file, entry-length, file-size, kept-run, layout-of, read-file, read-slot, slot-size, store-bytes}
 use Rattle.model.specs.Calls.{Looked, PutDone, RecoverDone, RemoveDone, fine, held, looked-of, put-answer, put-by-stores, put-of, put-on-looked, recover-by, recover-of, refusing, remove-answer, remove-by-stores, remove-of, remove-on-looked, stores-bytes, trie-after-put}
-use Rattle.model.specs.Deciding.{over, str?}
+use Rattle.model.proofs.Deciding.{over}
 use Rattle.model.proofs.Names.{is-legal-name-legal}
-use Rattle.model.proofs.Entries.{chosen-no, chosen-yes}
 use Rattle.model.proofs.Calls.{Answered, is-denied, is-made, put-right, put-taken, remove-right}
 use Rattle.model.proofs.Format.{bytes-at-slot-store-bytes, bytes-of-slot-read-slot, contents-read-file, headed-layout, headed-slots, others-store-bytes, read-file-read, read-slot-read-file}
 use Rattle.model.proofs.Lists.{at-replicate}
 use Rattle.model.proofs.Changes.{Change, absent, fits, removes, splits}
 use Rattle.model.proofs.Stores.{Legal as LegalStores, change-legal, left-stored, legal-take}
 use Rattle.model.proofs.Order.{le-refl, le-trans, low-at, low-lower, lt-le}
+use Rattle.model.proofs.Tests.{equal-same-str, same-str-other, same-str-self}
 use Rattle.model.proofs.Merging.{Removal, alone, leftward, merge-cut, removal-is, rightward, well-r}
 use Rattle.model.proofs.Files.{cut-well, used-inside, well-parts}
 use Rattle.promises.specs.Demand3.{StoppedAt, differing, replaced}
@@ -33,21 +34,21 @@ use Rattle.promises.proofs.Leading.{Passed, looked-passed}
 differing-none : (k : ℕ) (y : Layout) (xs : List ℕ) → differing k y xs xs ≡ 0
 unfolding differing
 differing-none zero y xs = refl
-differing-none (suc k) y xs = rw (chosen-yes (str? (bytes-at-slot y k xs) (bytes-at-slot y k xs)) refl, differing-none k y xs)
+differing-none (suc k) y xs = rw (same-str-self (bytes-at-slot y k xs), differing-none k y xs)
 
 -- Where one slot differs and the others do not, it counts once.
 module _ (y : Layout) (xs ys : List ℕ) (N : ℕ) (other : bytes-at-slot y N xs ≢ bytes-at-slot y N ys) (same : (k : ℕ) → k ≢ N → bytes-at-slot y k xs ≡ bytes-at-slot y k ys) where
   differing-below : (k : ℕ) → k ≤ N → differing k y xs ys ≡ 0
   unfolding differing
   differing-below zero h = refl
-  differing-below (suc k) h = rw (chosen-yes (str? (bytes-at-slot y k xs) (bytes-at-slot y k ys)) (same k (λ e. absurd (omega arith))), differing-below k (omega arith))
+  differing-below (suc k) h = rw (equal-same-str (bytes-at-slot y k xs) (bytes-at-slot y k ys) (same k (λ e. absurd (omega arith))), differing-below k (omega arith))
 
   differing-one : (k : ℕ) → N < k → differing k y xs ys ≡ 1
   unfolding differing
   differing-one zero h = absurd (omega arith)
   differing-one (suc k) h = elim (ℕ-discrete k N) [
-    | yes e ↦ rw (e, chosen-no (str? (bytes-at-slot y N xs) (bytes-at-slot y N ys)) other, differing-below N (omega arith))
-    | no d ↦ rw (chosen-yes (str? (bytes-at-slot y k xs) (bytes-at-slot y k ys)) (same k d), differing-one k (omega arith))
+    | yes e ↦ rw (e, same-str-other (bytes-at-slot y N xs) (bytes-at-slot y N ys) other, differing-below N (omega arith))
+    | no d ↦ rw (equal-same-str (bytes-at-slot y k xs) (bytes-at-slot y k ys) (same k d), differing-one k (omega arith))
   ]
 
 -- A store of a used slot where a free one was.

@@ -1,5 +1,5 @@
 -- The public statements rule the wrong versions out: files with two or three slots are computed, and the rest follows.
-use Rattle.model.proofs.Prelude.{Bool, List, Option, [], _++_, _+_, _/_, _∙_, _∷_, _≡_, arith, clash, cond, decLe, decLt, false, length, ltb, ltb-true, nothing, refl, replicate, some, sym, take, true, ℕ, ℕ-discrete}
+use Rattle.model.proofs.Prelude.{Bool, List, Option, [], _++_, _+_, _/_, _∙_, _∷_, _≡_, arith, clash, cond, false, length, ltb, ltb-true, nothing, refl, replicate, some, sym, take, true, ℕ}
 use Rattle.model.specs.declared.Side.the-variants.{Slot as slot}
 use Rattle.model.specs.declared.Trie.{Trie}
 use Rattle.model.specs.declared.Layout.{Layout}
@@ -14,24 +14,25 @@ use Rattle.model.specs.Tries.{walk-of, walk-run, walk-trie}
 use Rattle.model.proofs.Agreeing.{agrees-is-agreeing, is-agreeing-agrees}
 use Rattle.model.proofs.Checks.{is-sound-file-sound}
 use Rattle.model.proofs.Created.{created-left}
-use Rattle.model.proofs.Names.{is-legal-name-legal, never-both}
+use Rattle.model.proofs.Names.{is-legal-name-legal}
 use Rattle.model.proofs.Format.{are-legal-sizes-sizes}
 use Rattle.model.specs.declared.LookUpAnswer.the-variants.{Absent as NotFound, Found, Refused as LookUpRefused}
 use Rattle.model.specs.declared.PutAnswer.the-variants.{Added, Refused as PutRefused, Stopped as PutStopped}
 use Rattle.model.specs.declared.RecoverAnswer.the-variants.{Freed, Nothing, Refused as RecoverRefused}
 use Rattle.model.specs.declared.RemoveAnswer.the-variants.{Absent as NotHeld, Refused as RemoveRefused, Removed}
 use Rattle.model.specs.Order.{Str, at}
-use Rattle.model.specs.Names.{are-digits, filled, is-at-most, is-legal-bound, is-legal-filled, is-legal-name, not-greater, smaller, split-beginning, split-tried, within}
-use Rattle.model.specs.Entries.{chosen, content-from, find, insert, is-older, keep, run-of-content, value-of-content, without}
-use Rattle.model.specs.Files.{Slot, created, entries-of, first, free, order-from, order-of, slot-at, starts?, string-count, used}
-use Rattle.model.specs.Changes.{Map, Result, Store, call, closes?, free?, holds?, left-of, merged-or, put, put-in, refuse, removal, remove, remove-in, right-of, split-of, split-string, stores, stores-if, trie-removed}
-use Rattle.model.specs.Checks.{all-well, are-same-entries, check, cut-among, has-one-more, has-twin, is-above, is-bad, is-chain, is-copied, is-cut-by, is-in, is-legal-low, is-listed, is-row, is-sound-file, is-twin, is-used-slot, is-well-formed, same-low, same-str}
-use Rattle.model.specs.Agreeing.{are-numbers, are-zero-cells, is-agreeing, is-each-once, is-trie-of, join-trees, read-tree, same-side, same-strs, slots-between, times}
+use Rattle.model.specs.Tests.{are-digits, is-above, is-at-most, is-legal-bound, is-legal-filled, is-legal-low, is-legal-name, same-low, same-str}
+use Rattle.model.specs.Names.{filled, not-greater, smaller, split-beginning, split-tried, within}
+use Rattle.model.specs.Entries.{content-from, find, insert, is-older, keep, run-of-content, value-of-content, without}
+use Rattle.model.specs.Files.{Slot, created, entries-of, first, free, has-lower, has-upper, is-free, is-in-range, order-from, order-of, slot-at, string-count, used}
+use Rattle.model.specs.Changes.{Map, Result, Store, call, left-of, merged-or, put, put-in, refuse, removal, remove, remove-in, right-of, split-of, split-string, stores, stores-if, trie-removed}
+use Rattle.model.specs.Checks.{all-well, are-same-entries, check, cut-among, has-one-more, has-twin, is-bad, is-chain, is-copied, is-cut-by, is-in, is-listed, is-row, is-sound-file, is-twin, is-well-formed}
+use Rattle.model.specs.Agreeing.{are-numbers, are-zero-cells, is-agreeing, is-each-once, is-trie-of, join-trees, read-tree, same-side, same-strs, slots-between}
 use Rattle.model.specs.Format.{are-legal-sizes, bytes-at-slot, bytes-of-entries, bytes-of-entry, bytes-of-slot, check-file, check-read, digits-of-low, entry-length, file-bytes, file-size, header-bytes, header-of, is-offered, is-right-header, joined, kept-run, laid-out, layout-of, little-endian, low-of, padded, read-by, read-entries, read-file, read-slot, read-slots, read-used-slot, slot-size, slots-bytes, store-bytes, used-of, value-of, version-1}
 use Rattle.model.specs.Places.{place-of}
 use Rattle.model.specs.Answers.{stale-trie}
 use Rattle.model.specs.Calls.{Looked, PutDone, arrived-answer, between, create-of, entries-in, fine, headed-answer, held, held-answer, list-entries, list-of, list-on-looked, look-up-of, looked-at-by, looked-of, new-trie, put-answer, put-by-stores, put-of, put-on-looked, put-takes, rebuild-by, rebuild-of, recover-by, recover-of, refusal-of, refusing, remove-by-stores, remove-of, remove-on-looked, slot-answer, stores-bytes, trie-after-put}
-use Rattle.model.specs.Deciding.{le?, low-same?, low?, not?, str?}
+use Rattle.model.proofs.Tests.{never-both}
 use Rattle.model.proofs.Calls.{Answered, is-denied, is-made, put-right, put-taken}
 use Rattle.promises.specs.Texts.{bytes, name}
 use Rattle.promises.specs.Growing.{of-cells}
@@ -41,7 +42,7 @@ use Rattle.promises.specs.Demand1.{Demand1, LegalName}
 use Rattle.promises.specs.Demand2.{Demand2, LeadsRight, Made, Truthful, true-entry, truly-absent}
 use Rattle.promises.specs.Demand3.{Demand3, Event, Kept, Recovers, State, after, after-freeing, after-put, after-rebuild, after-recover, after-remove, differing, file-of, nothing-to-do, now, put as put-event, put-by, remove as remove-event, remove-by, replaced, said, start, step, stopped-at-0}
 use Rattle.promises.specs.Merging.{Merging, Takes}
-use Rattle.promises.specs.WrongCalls.{IsRefused, OneResult, RefusesAll, absent-instead, both, both-at-once, by-create, by-list, by-look-up, by-put, by-rebuild, by-recover, by-remove, cuts-first, ends?, exchanged, free-outer, idles, inner-kept, keeps-inner, left-first, left-then-right, make, make-looked, make-put, make-remove, miscounts, never-merges, removes-nothing, stores-nothing, take-from, take-looked, unmerged}
+use Rattle.promises.specs.WrongCalls.{IsRefused, OneResult, RefusesAll, absent-instead, both, both-at-once, by-create, by-list, by-look-up, by-put, by-rebuild, by-recover, by-remove, cuts-first, exchanged, free-outer, idles, inner-kept, keeps-inner, left-first, left-then-right, make, make-looked, make-put, make-remove, miscounts, never-merges, removes-nothing, stores-nothing, take-from, take-looked, unmerged}
 use Rattle.promises.specs.Strength.{StoppedAfter, Strength, bare-cells, five, full-file, left-merged, one-turned, right-merged, split-file, stopped-file, three-cells, three-file, three-slots}
 use Rattle.promises.proofs.Situations.{situations}
 use Rattle.promises.proofs.Demand1.{demand-1, legal-name, same-slots}
@@ -155,15 +156,14 @@ record Computed : Type 0 where
 computed : Computed
 unfolding
     bytes entries names
-    le? str? low?
     are-digits is-legal-name filled is-legal-filled is-legal-bound not-greater within is-at-most smaller split-tried
     split-beginning
-    chosen not? find insert keep
-    first low-same? starts? order-from string-count
-    holds? free? closes? left-of right-of merged-or removal trie-removed stores-if put-in remove-in call
-    is-above is-legal-low same-str same-low is-row is-well-formed all-well is-used-slot is-chain is-in is-listed is-sound-file are-same-entries has-one-more
+    find insert keep
+    first has-lower order-from string-count
+    is-in-range is-free has-upper left-of right-of merged-or removal trie-removed stores-if put-in remove-in call
+    is-above is-legal-low same-str same-low is-row is-well-formed all-well is-chain is-in is-listed is-sound-file are-same-entries has-one-more
     is-copied is-twin has-twin is-cut-by cut-among check
-    join-trees read-tree same-side are-zero-cells times is-each-once are-numbers same-strs slots-between is-trie-of is-agreeing
+    join-trees read-tree same-side are-zero-cells is-each-once are-numbers same-strs slots-between is-trie-of is-agreeing
     is-offered entry-length kept-run content-from value-of-content run-of-content is-older put-takes slot-size file-size are-legal-sizes header-bytes padded little-endian value-of bytes-of-entry bytes-of-entries digits-of-low
     low-of bytes-of-slot slots-bytes file-bytes read-entries used-of read-used-slot read-slot bytes-at-slot joined read-slots is-right-header layout-of header-of
     laid-out read-by read-file check-read check-file store-bytes
@@ -171,8 +171,7 @@ unfolding
     looked-of stores-bytes place-of trie-after-put refusal-of put-by-stores put-on-looked put-of remove-by-stores remove-on-looked remove-of entries-in between
     list-entries list-on-looked list-of
     now after-put after-remove after-recover after-rebuild put-by remove-by step after differing
-    make make-looked make-put absent-instead both exchanged ends? free-outer inner-kept take-from take-looked make-remove unmerged left-then-right
-    decLe decLt ℕ-discrete
+    make make-looked make-put absent-instead both exchanged free-outer inner-kept take-from take-looked make-remove unmerged left-then-right
 computed = record {
   create-given = refl;
   recover-nothing = refl;
@@ -414,7 +413,7 @@ removal-but-for xs t name limit = rw (looked (looked-of xs t))
 
     looked : (l : Looked) → take-looked removal xs t (filled name) limit l ≡ remove-on-looked xs t (filled name) limit l
     looked (refusing c) = refl
-    looked (fine y fs) = let A = first (holds? (filled name)) fs in rw (taken y fs A (slot-at fs A))
+    looked (fine y fs) = let A = first (is-in-range (filled name)) fs in rw (taken y fs A (slot-at fs A))
 
 -- What the rule says of the removal of c, whose bucket could merge with either neighbour.
 three-leads : LeadsRight three-file three-cells

@@ -5,10 +5,12 @@ use Rattle.model.specs.declared.Side.{Side}
 use Rattle.model.specs.declared.Side.the-variants.{Cell as further, Slot as slot}
 use Rattle.model.specs.declared.Trie.{Trie}
 use Rattle.model.specs.Order.{Str}
-use Rattle.model.specs.Names.{is-at-most, within}
+use Rattle.model.specs.Tests.{is-at-most}
+use Rattle.model.specs.Names.{within}
 use Rattle.model.specs.Tries.{Spot, at-cell, cell, left, right, walk-run}
 use Rattle.model.specs.Calls.{landed}
-use Rattle.model.proofs.Names.{both-true, never-both, within-is-at-most}
+use Rattle.model.proofs.Tests.{both-true, never-both}
+use Rattle.model.proofs.Names.{within-is-at-most}
 use Rattle.model.proofs.Tries.{cell-length}
 use Rattle.promises.specs.Demand1.{Arrives, Strays}
 use Rattle.promises.specs.Demand1 as D

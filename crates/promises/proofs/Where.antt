@@ -2,11 +2,13 @@
 use Rattle.model.proofs.Prelude.{Bool, List, Option, [], _<_, _∙_, _∷_, _≡_, _≤_, _⊎_, arith, clash, false, inl, inr, nothing, refl, some, sym, true, ℕ}
 use Rattle.model.specs.declared.Cause.the-variants.{StaleTrie}
 use Rattle.model.specs.declared.Trie.{Trie}
-use Rattle.model.specs.Names.{filled, is-legal-name}
+use Rattle.model.specs.Tests.{is-legal-name}
+use Rattle.model.specs.Names.{filled}
 use Rattle.model.specs.Files.{free}
 use Rattle.model.specs.Tries.{root}
 use Rattle.model.specs.Format.{bytes-at-slot, is-right-header, layout-of, read-slot}
-use Rattle.model.proofs.Names.{length-filled, never-both}
+use Rattle.model.proofs.Tests.{never-both}
+use Rattle.model.proofs.Names.{length-filled}
 use Rattle.promises.specs.Calls.{Calls, our-calls}
 use Rattle.promises.specs.Demand1.{Demand1, Ends, FirstHolding, IsMalformed, IsZero, LegalName, Lost, RightHeader, Table, because, create-table, list-table, look-up-table, off-at, put-table, rebuild-table, recover-table, remove-table, slots-of}
 use Rattle.promises.specs.Where.{LeftRange, Where}

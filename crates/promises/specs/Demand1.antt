@@ -19,8 +19,8 @@ use Rattle.model.specs.declared.Side.{Side}
 use Rattle.model.specs.declared.Side.the-variants.{Cell as further, Slot as slot}
 use Rattle.model.specs.declared.Trie.{Trie}
 use Rattle.model.specs.declared.TrieAnswer.the-variants.{Refused as TrieRefused}
-use Rattle.model.specs.Order.{Low, Str, _≺_, _⊑_, at, none}
-use Rattle.model.specs.Names.{Digits, filled, first-digit, last-of, within}
+use Rattle.model.specs.Order.{Low, Str, _≺_, _⊑_, at, first-digit, last-digit, none}
+use Rattle.model.specs.Names.{Digits, filled, within}
 use Rattle.model.specs.Entries.{Entry, Row, content-from, find, run-of-content}
 use Rattle.model.specs.Files.{In, Slot, Well, entries-of, head, slot-at, string-count, used}
 use Rattle.model.specs.Tries.{Agrees, at-cell, cell, root-side}
@@ -76,7 +76,7 @@ pub record LegalName (name : List ℕ) : Type 0 where
   pub most : length name ≤ 24
   pub digits : Digits 0x20 name
   pub first : ¬ (first-digit name ≡ 0x20)
-  pub last : ¬ (last-of name ≡ 0x20)
+  pub last : ¬ (last-digit name ≡ 0x20)
 
 -- 3, cut file.
 abbrev pub IsCut : List ℕ → Type 0

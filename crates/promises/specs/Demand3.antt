@@ -1,5 +1,6 @@
 -- Demand 3 (R13.3), in words: start from a new file, then any calls in any order, each stopped after any of its stores.
 use mathlib.Core.Path.{_≡_}
+use mathlib.Core.Bool.{cond}
 use mathlib.Core.Option.{none as nothing}
 use mathlib.Core.List.{List, [], _∷_}
 use Prim.Native.Nat.{_+_, _<_, _^_, _≤_, suc, zero, ℕ}
@@ -15,12 +16,12 @@ use Rattle.model.specs.declared.Trie.{Trie}
 use Rattle.model.specs.declared.TrieAnswer.{TrieAnswer}
 use Rattle.model.specs.declared.TrieAnswer.the-variants.{Given, Refused as TrieRefused}
 use Rattle.model.specs.Order.{Str}
+use Rattle.model.specs.Tests.{same-str}
 use Rattle.model.specs.Names.{filled}
-use Rattle.model.specs.Entries.{chosen, content-from}
+use Rattle.model.specs.Entries.{content-from}
 use Rattle.model.specs.Changes.{Map, Means, meant, put as to-put, remove as to-remove}
 use Rattle.model.specs.Format.{bytes-at-slot, kept-run, layout-of}
 use Rattle.model.specs.Calls.{CreateDone, held-answer}
-use Rattle.model.specs.Deciding.{str?}
 use Rattle.promises.specs.Calls.{Calls}
 use Rattle.promises.specs.Demand1.{LegalName, slots-of}
 use Rattle.promises.specs.Demand2.{LeadsRight}
@@ -120,7 +121,7 @@ start c = running (c .file) (c .trie) (λ k. nothing)
 -- How many slots two files' bytes differ in, of as many as the first one's header says.
 unfoldable pub differing : ℕ → Layout → List ℕ → List ℕ → ℕ
 differing zero y xs ys = 0
-differing (suc k) y xs ys = chosen (str? (bytes-at-slot y k xs) (bytes-at-slot y k ys)) 0 1 + differing k y xs ys
+differing (suc k) y xs ys = cond (same-str (bytes-at-slot y k xs) (bytes-at-slot y k ys)) 0 1 + differing k y xs ys
 
 abbrev pub replaced : List ℕ → List ℕ → ℕ
 replaced xs ys = differing (slots-of xs) (layout-of xs) xs ys

@@ -6,7 +6,7 @@ use Prim.Native.Nat.{suc, zero, ℕ}
 use lib.Dec.{leb, ltb}
 use lib.ListN.{length, set, take}
 use Rattle.model.specs.Order.{Str}
-use Rattle.model.specs.Names.{is-legal-filled}
+use Rattle.model.specs.Tests.{is-legal-filled}
 use Rattle.model.specs.Entries.{Entry}
 use Rattle.model.specs.Files.{Slot, created, free}
 use Rattle.model.specs.Changes.{Map, Request, Result, call, counts, meant, put, refuse, remove, stored, stores}

@@ -12,13 +12,14 @@ use Rattle.model.specs.declared.ListAnswer.the-variants.{Listed}
 use Rattle.model.specs.declared.RecoverAnswer.the-variants.{Freed, Nothing}
 use Rattle.model.specs.declared.Trie.{Trie}
 use Rattle.model.specs.Order.{Low, Str, _⊑_, _◁_}
-use Rattle.model.specs.Names.{Legal, filled, is-at-most, is-legal-filled, is-legal-name}
+use Rattle.model.specs.Tests.{is-above, is-at-most, is-legal-filled, is-legal-name, same-str}
+use Rattle.model.specs.Names.{Legal, filled}
 use Rattle.model.specs.Entries.{Entry, insert}
 use Rattle.model.specs.Files.{Bad, Cut, IsString, Slot, Sound, Well, free, slot-at, string-count, used}
 use Rattle.model.specs.Tries.{Agrees}
 use Rattle.model.specs.Changes.{Lowest, halves, stored}
 use Rattle.model.specs.Places.{place-of}
-use Rattle.model.specs.Checks.{check, is-above, is-bad, is-cut, is-sound, is-well-formed, same-str}
+use Rattle.model.specs.Checks.{check, is-bad, is-cut, is-sound, is-well-formed}
 use Rattle.model.specs.Agreeing.{is-agreeing}
 use Rattle.model.specs.Format.{AreBytes, BadFile, CutFile, SoundFile, bytes-of-entries, entry-length, layout-of, read-file, slot-size}
 use Rattle.model.specs.Calls.{fine, looked-of}

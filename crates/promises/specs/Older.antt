@@ -18,7 +18,8 @@ use Rattle.model.specs.declared.RecoverAnswer.the-variants.{Refused as RecoverR
 use Rattle.model.specs.declared.RemoveAnswer.the-variants.{Refused as RemoveRefused}
 use Rattle.model.specs.declared.Trie.{Trie}
 use Rattle.model.specs.Order.{Low, Str}
-use Rattle.model.specs.Names.{are-digits, filled}
+use Rattle.model.specs.Tests.{are-digits}
+use Rattle.model.specs.Names.{filled}
 use Rattle.model.specs.Entries.{Entry}
 use Rattle.model.specs.Files.{Slot, entries-of, slot-at}
 use Rattle.model.specs.Tries.{root-side}

@@ -13,7 +13,8 @@ use Rattle.model.specs.declared.Side.{Side}
 use Rattle.model.specs.declared.Side.the-variants.{Cell as further, Slot as slot}
 use Rattle.model.specs.declared.Trie.{Trie}
 use Rattle.model.specs.Order.{Str, at, none}
-use Rattle.model.specs.Names.{broken, is-legal-name, within}
+use Rattle.model.specs.Tests.{is-legal-name}
+use Rattle.model.specs.Names.{broken, within}
 use Rattle.model.specs.Entries.{Entry, find}
 use Rattle.model.specs.Files.{Slot, created, entries-of, free, slot-at, used}
 use Rattle.model.specs.Tries.{Agrees, walk-trie}

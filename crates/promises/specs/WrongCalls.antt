@@ -19,14 +19,14 @@ use Rattle.model.specs.declared.RemoveAnswer.the-variants.{Absent as NotHeld, R
 use Rattle.model.specs.declared.Trie.{Trie}
 use Rattle.model.specs.declared.TrieAnswer.the-variants.{Refused as TrieRefused}
 use Rattle.model.specs.Order.{Low, Str}
-use Rattle.model.specs.Names.{filled, is-legal-name}
+use Rattle.model.specs.Tests.{is-legal-name}
+use Rattle.model.specs.Names.{filled}
 use Rattle.model.specs.Entries.{Entry, content-from, find, without}
-use Rattle.model.specs.Files.{IsUsed, Slot, first, free, head, slot-at, upper-of, used}
-use Rattle.model.specs.Changes.{Result, Store, holds?, left-of, merged-or, refuse, right-of, stores, stores-if}
+use Rattle.model.specs.Files.{IsUsed, Slot, first, free, has-upper, head, is-in-range, slot-at, upper-of, used}
+use Rattle.model.specs.Changes.{Result, Store, left-of, merged-or, refuse, right-of, stores, stores-if}
 use Rattle.model.specs.Places.{place-of}
 use Rattle.model.specs.Format.{check-file, kept-run, layout-of, read-file, store-bytes}
 use Rattle.model.specs.Calls.{Looked, PutDone, RecoverDone, RemoveDone, create-of, fine, held, list-of, look-up-of, looked-of, put-answer, put-of, put-takes, rebuild-of, recover-of, refusal-of, refusing, remove-by-stores, remove-of, stores-bytes, trie-after-put}
-use Rattle.model.specs.Deciding.{str?}
 use Rattle.promises.specs.Calls.{Calls}
 use Rattle.promises.specs.Demand3.{put, remove}
 
@@ -128,12 +128,8 @@ abbrev pub cuts-first : Calls
 cuts-first = with-put (make-put (λ limit ss. take limit (exchanged ss)) (λ made. made) exchanged)
 
 -- R15.9: a recovery that frees A and keeps N, the inner one of the two. A is the other slot with N's upper bound.
-unfoldable pub ends? : (u : Str) (x : Slot) → Dec (IsUsed (head x) × (upper-of (head x) ≡ u))
-ends? u free = no (λ h. h .0)
-ends? u (used l w es) = elim (str? w u) [ yes e ↦ yes (tt, e) | no n ↦ no (λ h. n (h .1)) ]
-
 abbrev pub outer : List Slot → ℕ → ℕ
-outer fs N = first (ends? (upper-of (head (slot-at fs N)))) (set fs N free)
+outer fs N = first (has-upper (upper-of (head (slot-at fs N)))) (set fs N free)
 
 unfoldable pub free-outer : List ℕ → RecoverDone → RecoverAnswer → Option (Layout × List Slot) → RecoverDone
 free-outer xs d (Freed N) nothing = d
@@ -157,7 +153,7 @@ module _ (taken : ℕ → List Slot → Str → ℕ → Low → Str → List Ent
 
   unfoldable pub take-looked : List ℕ → Trie → Str → ℕ → Looked → RemoveDone
   take-looked xs t n limit (refusing c) = record { answer = RemoveRefused c; file = xs; trie = t }
-  take-looked xs t n limit (fine y fs) = let A = first (holds? n) fs in remove-by-stores xs t y fs limit (take-from y fs n A (slot-at fs A))
+  take-looked xs t n limit (fine y fs) = let A = first (is-in-range n) fs in remove-by-stores xs t y fs limit (take-from y fs n A (slot-at fs A))
 
   unfoldable pub make-remove : List ℕ → Trie → List ℕ → ℕ → RemoveDone
   make-remove xs t name limit =

@@ -1,22 +1,22 @@
 -- Put into a full bucket: what refuses the split, and its two stores.
-use Rattle.model.proofs.Prelude.{Bool, List, Option, [], _+_, _-_, _<_, _∙_, _≡_, _≤_, ap, ap₂, arith, clash, decLe, decLt, false, le-ltb, length, lt-ltb, nothing, some, subst, suc, sym, take, true, ℕ}
+use Rattle.model.proofs.Prelude.{Bool, List, Option, [], _+_, _-_, _<_, _∙_, _≡_, _≤_, ap, ap₂, arith, clash, cond, decLe, decLt, false, le-leb, le-ltb, leb, length, lt-leb, lt-ltb, ltb, nothing, some, subst, suc, sym, take, true, ℕ}
 use Rattle.model.specs.declared.Cause.the-variants.{ManyStrings, NoFreeSlot}
 use Rattle.model.specs.declared.Layout.{Layout}
 use Rattle.model.specs.declared.PutAnswer.the-variants.{Added, Refused, Stopped}
 use Rattle.model.specs.declared.Trie.{Trie}
 use Rattle.model.specs.Order.{Low, Str, _⊑_, _◁_, diff, none}
 use Rattle.model.specs.Names.{Legal}
-use Rattle.model.specs.Entries.{Entry, Row, chosen, insert, name-at}
-use Rattle.model.specs.Files.{In, Slot, Sound, first, head, slot-at, string-count, strings-of, used}
+use Rattle.model.specs.Entries.{Entry, Row, insert, name-at}
+use Rattle.model.specs.Files.{In, Slot, Sound, first, head, is-free, slot-at, string-count, strings-of, used}
 use Rattle.model.specs.Tries.{Agrees, root, walk-trie}
 use Rattle.model.specs.Agreeing.{slots-between}
 use Rattle.model.specs.Growth.{grown-trie}
-use Rattle.model.specs.Changes.{Lowest, Store, call, free?, halves, put as asked, put-in, refuse, split-of, stored, stores}
+use Rattle.model.specs.Changes.{Lowest, Store, call, halves, put as asked, put-in, refuse, split-of, stored, stores}
 use Rattle.model.specs.Format.{bytes-at-slot, header-of, laid-out, read-file, read-slots}
 use Rattle.model.specs.Calls.{held, put-answer, put-by-stores, refusal-of, trie-after-put}
 use Rattle.model.specs.Places.{place-of}
 use Rattle.model.proofs.Agreeing.{agrees-is-agreeing}
-use Rattle.model.proofs.Entries.{chosen-no, chosen-yes, row-at, row-insert}
+use Rattle.model.proofs.Entries.{row-at, row-insert}
 use Rattle.model.proofs.Files.{well-parts}
 use Rattle.model.proofs.Format.{headed-header-of, read-file-read}
 use Rattle.model.proofs.Calls.{free-lowest}
@@ -158,14 +158,14 @@ module _ (y : Layout) (two : 2 ≤ y .b) (few : y .b ≤ 16) (xs : List ℕ) {fs
 
   -- What is asked of a full bucket.
   abbrev N : ℕ
-  N = first free? fs
+  N = first is-free fs
 
   abbrev both : List Store
   both = halves (y .b) (place-of y) N A l u ws
 
-  call-split : call (y .b) (place-of y) fs (asked n v) ≡ chosen (decLt N (length fs)) (chosen (decLe (string-count (stored both fs)) 256) (stores both) (refuse 6)) (refuse 5)
+  call-split : call (y .b) (place-of y) fs (asked n v) ≡ cond (ltb N (length fs)) (cond (leb (string-count (stored both fs)) 256) (stores both) (refuse 6)) (refuse 5)
   unfolding call put-in
-  call-split = rw (← F .home .slot-is, F .home .is) (chosen-no (decLe (length ws) (y .b)) (λ h. omega (arith, h, length-all)) _ _)
+  call-split = rw (← F .home .slot-is, F .home .is) (rw (lt-leb (length ws) (y .b) (omega (arith, length-all))))
 
   pub no-room : length fs ≤ N → call (y .b) (place-of y) fs (asked n v) ≡ refuse 5
   no-room h = call-split ∙ chosen-no (decLt N (length fs)) (λ k. omega (arith, h, k)) _ _
@@ -174,23 +174,23 @@ module _ (y : Layout) (two : 2 ≤ y .b) (few : y .b ≤ 16) (xs : List ℕ) {fs
   too-many h k = call-split ∙ chosen-yes (decLt N (length fs)) h _ _ ∙ chosen-no (decLe (string-count (stored both fs)) 256) (λ i. omega (arith, i, k)) _ _
 
   pub both-made : N < length fs → string-count (stored both fs) ≤ 256 → call (y .b) (place-of y) fs (asked n v) ≡ stores both
-  both-made h k = call-split ∙ chosen-yes (decLt N (length fs)) h _ _ ∙ chosen-yes (decLe (string-count (stored both fs)) 256) k _ _
+  both-made h k = call-split ∙ rw (lt-ltb N (length fs) h, le-leb (string-count (stored both fs)) 256 k)
 
 -- The room that was found.
-room-full : (fs : List Slot) → room-of fs ≡ NoRoom → length fs ≤ first free? fs
+room-full : (fs : List Slot) → room-of fs ≡ NoRoom → length fs ≤ first is-free fs
 unfolding room-of
-room-full fs e = elim (decLt (first free? fs) (length fs)) [
+room-full fs e = elim (decLt (first is-free fs) (length fs)) [
   | no h ↦ omega arith
-  | yes h ↦ let q : _≡_ {A = Room} (At (first free? fs)) NoRoom = rw (lt-ltb (first free? fs) (length fs) h) at e in
+  | yes h ↦ let q : _≡_ {A = Room} (At (first is-free fs)) NoRoom = rw (lt-ltb (first is-free fs) (length fs) h) at e in
       clash cc
 ]
 
-room-at : (fs : List Slot) (k : ℕ) → room-of fs ≡ At k → (k ≡ first free? fs) × (first free? fs < length fs)
+room-at : (fs : List Slot) (k : ℕ) → room-of fs ≡ At k → (k ≡ first is-free fs) × (first is-free fs < length fs)
 unfolding room-of
-room-at fs k e = elim (decLt (first free? fs) (length fs)) [
-  | yes h ↦ let q : _≡_ {A = Room} (At (first free? fs)) (At k) = rw (lt-ltb (first free? fs) (length fs) h) at e in
-      let p : k ≡ first free? fs = cc in (p, h)
-  | no h ↦ let q : _≡_ {A = Room} NoRoom (At k) = rw (le-ltb (first free? fs) (length fs) (omega arith)) at e in
+room-at fs k e = elim (decLt (first is-free fs) (length fs)) [
+  | yes h ↦ let q : _≡_ {A = Room} (At (first is-free fs)) (At k) = rw (lt-ltb (first is-free fs) (length fs) h) at e in
+      let p : k ≡ first is-free fs = cc in (p, h)
+  | no h ↦ let q : _≡_ {A = Room} NoRoom (At k) = rw (le-ltb (first is-free fs) (length fs) (omega arith)) at e in
       clash cc
 ]
 
@@ -248,12 +248,12 @@ module _ (image : List ℕ) {c : Checked} {xs : List ℕ} (G : Agreed c xs (trie
             let S = known G e .sound in
             f l u (insert n v es) (row-all y (two G) (few-entries G) xs e S t F) (length-all y (two G) (few-entries G) xs e S t F) (F .row-is)
 
-        found : (N ≡ first free? fs) × (first free? fs < length fs)
+        found : (N ≡ first is-free fs) × (first is-free fs < length fs)
         found = room-at fs N (sym (lowest G R e) ∙ q)
 
-        counted : string-count (stored (halves (y .b) (place-of y) (first free? fs) A l u (insert n v es)) fs) ≡ t .count + (s .len - s .shared)
+        counted : string-count (stored (halves (y .b) (place-of y) (first is-free fs) A l u (insert n v es)) fs) ≡ t .count + (s .len - s .shared)
         counted =
-            count-after y (two G) (few-entries G) xs e (known G e .sound) t F (known G e .agrees) divides (first free? fs) (free-lowest fs (found .1))
+            count-after y (two G) (few-entries G) xs e (known G e .sound) t F (known G e .agrees) divides (first is-free fs) (free-lowest fs (found .1))
 
         -- The stores that are asked for.
         asked-both : t .count + s .len ≤ 256 + s .shared → call (y .b) (place-of y) fs (asked n v) ≡ stores (halves (y .b) (place-of y) N A l u (insert n v es))

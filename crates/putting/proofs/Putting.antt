@@ -1,5 +1,5 @@
 -- Put, put together from the home of the name.
-use Rattle.model.proofs.Prelude.{Bool, List, Option, [], _<_, _∙_, _∷_, _≡_, _≤_, ap, arith, clash, decLe, false, getD, le-ltb, length, lt-ltb, ltb, ltb-false, nothing, refl, some, subst, sym, take-all, take-nil, true, ℕ}
+use Rattle.model.proofs.Prelude.{Bool, List, Option, [], _<_, _∙_, _∷_, _≡_, _≤_, arith, clash, false, getD, le-leb, le-ltb, length, lt-ltb, ltb, ltb-false, nothing, refl, some, subst, sym, take-all, take-nil, true, ℕ}
 use Rattle.model.specs.declared.Cause.{Cause}
 use Rattle.model.specs.declared.Cause.the-variants.{IllegalName, OlderRun, WrongSize}
 use Rattle.model.specs.declared.Layout.{Layout}
@@ -7,14 +7,14 @@ use Rattle.model.specs.declared.PutAnswer.{PutAnswer}
 use Rattle.model.specs.declared.PutAnswer.the-variants.{Added, Refused, Replaced, Stopped}
 use Rattle.model.specs.declared.Trie.{Trie}
 use Rattle.model.specs.Order.{Low, Str}
-use Rattle.model.specs.Names.{filled, is-legal-name}
+use Rattle.model.specs.Tests.{is-legal-name}
+use Rattle.model.specs.Names.{filled}
 use Rattle.model.specs.Entries.{Entry, content-from, find, insert, run-of-content}
 use Rattle.model.specs.Files.{Slot, used}
 use Rattle.model.specs.Changes.{Result, Store, call, put as asked, put-in, refuse, stores}
 use Rattle.model.specs.Calls.{PutDone, fine, held, looked-of, put-answer, put-by-stores, put-of, put-on-looked, put-takes, refusal-of, refusing, stores-bytes, trie-after-put}
 use Rattle.model.specs.Format.{kept-run}
 use Rattle.model.specs.Places.{place-of}
-use Rattle.model.proofs.Entries.{chosen-yes}
 use Rattle.slots.specs.Spots.{Begins}
 use Rattle.image.specs.Images.{image-length, trie-from}
 use Rattle.image.proofs.Images.{image-back}
@@ -33,7 +33,7 @@ module _ (y : Layout) {fs : List Slot} {A : ℕ} {n : Str} (c : ℕ) {l : Low} {
     (k : length (insert n c es) ≤ y .b) where
   call-put : call (y .b) (place-of y) fs (asked n c) ≡ stores ((A, used l u (insert n c es)) ∷ [])
   unfolding call put-in
-  call-put = rw (← H .slot-is, H .is) (chosen-yes (decLe (length (insert n c es)) (y .b)) k _ _)
+  call-put = rw (← H .slot-is, H .is) (rw (le-leb (length (insert n c es)) (y .b) k))
 
   pub put-one : (r : PutPlan) (p : Plan) (bytes : List ℕ) {o : Option ℕ} → find n es ≡ o → Begins bytes y (used l u (insert n c es)) → OneStore p A bytes
       → (r .plan ≡ p) × (r .answer ≡ put-answer o) → PutAsked r y fs n c

@@ -6,12 +6,12 @@ use Rattle.model.specs.declared.LookUpAnswer.{LookUpAnswer}
 use Rattle.model.specs.declared.LookUpAnswer.the-variants.{Absent as NotFound, Found, Refused}
 use Rattle.model.specs.declared.Trie.{Trie}
 use Rattle.model.specs.Order.{Str}
-use Rattle.model.specs.Names.{Legal, broken, filled, is-at-most, is-legal-name}
+use Rattle.model.specs.Tests.{is-above, is-at-most, is-legal-name}
+use Rattle.model.specs.Names.{Legal, broken, filled}
 use Rattle.model.specs.Entries.{find}
 use Rattle.model.specs.Files.{Slot, free, used}
 use Rattle.model.specs.Tries.{Spot, walk-of}
 use Rattle.model.specs.Format.{bytes-at-slot, header-of, read-slot, slot-size}
-use Rattle.model.specs.Checks.{is-above}
 use Rattle.model.specs.Answers.{stale-trie}
 use Rattle.model.specs.Calls.{arrived-answer, headed-answer, held-answer, landed, look-up-of, slot-answer}
 use Rattle.digits.specs.Keys.{is-all-zero, key-value, value}

@@ -9,7 +9,8 @@ use Rattle.model.specs.declared.Layout.{Layout}
 use Rattle.model.specs.declared.LookUpAnswer.{LookUpAnswer}
 use Rattle.model.specs.declared.LookUpAnswer.the-variants.{Refused}
 use Rattle.model.specs.Order.{Str}
-use Rattle.model.specs.Names.{filled, is-legal-name}
+use Rattle.model.specs.Tests.{is-legal-name}
+use Rattle.model.specs.Names.{filled}
 use Rattle.model.specs.Format.{header-of}
 use Rattle.model.specs.Calls.{arrived-answer}
 use Rattle.trie.specs.declared.Place.{Place}

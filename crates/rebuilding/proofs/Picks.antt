@@ -1,7 +1,7 @@
 -- The model's root of a run is the middle one of its strings' lengths, from wherever places are counted.
 use Rattle.model.proofs.Prelude.{Bool, List, [], _+_, _-_, _/_, _∙_, _∷_, _≡_, _≤_, add-suc, add-zero, arith, cond, eq-eqb, eqb, false, getD, length, ltb, ltb-false, ltb-true, map, min, ne-eqb, refl, suc, sym, true, zero, ℕ, ℕ-discrete}
 use Rattle.model.specs.Order.{Str}
-use Rattle.model.specs.Rebuilding.{fewest, kept, pick, places}
+use Rattle.model.specs.Rebuilding.{fewest, pick, places}
 use Rattle.rebuilding.specs.Roots.{least, many, middle, place}
 use Rattle.rebuilding.proofs.Laws.{middle-is}
 
@@ -23,8 +23,8 @@ unfolding many
 many-places n d i [] = omega arith
 many-places n d i (x ∷ xs) = go (ℕ-discrete (length x) d) (λ n. many-places n d (suc i) xs)
   where
-    go : (D : Dec (length x ≡ d)) → ((n : ℕ) → many n d (map length xs) ≡ n + length (places d (suc i) xs))
-        → many (cond (eqb (length x) d) (suc n) n) d (map length xs) ≡ n + length (kept D i (places d (suc i) xs))
+    go : Dec (length x ≡ d) → ((n : ℕ) → many n d (map length xs) ≡ n + length (places d (suc i) xs))
+        → many (cond (eqb (length x) d) (suc n) n) d (map length xs) ≡ n + length (places d i (x ∷ xs))
     go (yes e) f = rw (eq-eqb _ _ e, f (suc n)) (omega arith)
     go (no e) f = rw (ne-eqb _ _ e) (f n)
 
@@ -33,9 +33,9 @@ unfolding place
 place-places z i d m [] = refl
 place-places z i d m (x ∷ xs) = go (ℕ-discrete (length x) d) m (λ m. place-places z (suc i) d m xs)
   where
-    go : (D : Dec (length x ≡ d)) (m : ℕ) → ((m : ℕ) → place z (suc i) d m (map length xs) ≡ getD (places d (suc i) xs) m z)
+    go : Dec (length x ≡ d) → (m : ℕ) → ((m : ℕ) → place z (suc i) d m (map length xs) ≡ getD (places d (suc i) xs) m z)
         → cond (eqb (length x) d) (cond (eqb m 0) i (place z (suc i) d (m - 1) (map length xs))) (place z (suc i) d m (map length xs))
-        ≡ getD (kept D i (places d (suc i) xs)) m z
+        ≡ getD (places d i (x ∷ xs)) m z
     go (yes e) zero f = rw (eq-eqb _ _ e)
     go (yes e) (suc m) f = let k : suc m - 1 ≡ m = omega arith in rw (eq-eqb _ _ e, ne-eqb (suc m) 0 (λ k. omega arith), k) (f m)
     go (no e) m f = rw (ne-eqb _ _ e) (f m)

@@ -1,10 +1,10 @@
 -- The trie that is made of the arrays is that of the rules' section 6: the tree of a run is the one that rebuild takes
 -- of its strings.
 use Rattle.model.proofs.Prelude.{List, [], _+_, _-_, _<_, _∙_, _∷_, _≡_, _≤_, add-zero, ap, arith, drop, getD, getD-drop, getD-take, length, length-drop, length-take, map, refl, suc, sym, take, zero, ℕ}
-use Rattle.model.specs.Order.{Low, Str, at, none}
+use Rattle.model.specs.Order.{Low, Str, at, last-digit, none}
 use Rattle.model.specs.Files.{Slot, Sound, order-of, ranges, strings-of}
 use Rattle.model.specs.Tries.{leaf}
-use Rattle.model.specs.Rebuilding.{build, label, laid, last-digit, pick, rebuilt-trie}
+use Rattle.model.specs.Rebuilding.{build, label, laid, pick, rebuilt-trie}
 use Rattle.model.specs.Agreeing.{slots-between}
 use Rattle.model.proofs.Strings.{mem-at}
 use Rattle.model.proofs.Files.{strings-only}

@@ -1,12 +1,12 @@
 -- The buckets in range order about a place: how many entries they have, what a merge of two of them leaves, and which removal merges.
-use Rattle.model.proofs.Prelude.{List, _++_, _+_, _-_, _/_, _<_, _∙_, _∷_, _≡_, _≤_, [], add-one, ap, append-assoc, arith, drop, drop-cons, drop-length, getD, length, replicate, some, split-at, subst, suc, sym, take, take-suc, ℕ}
+use Rattle.model.proofs.Prelude.{List, [], _++_, _+_, _-_, _/_, _<_, _∙_, _∷_, _≡_, _≤_, add-one, ap, append-assoc, arith, drop, drop-cons, drop-length, getD, length, replicate, some, split-at, subst, suc, sym, take, take-suc, ℕ}
 use Rattle.model.specs.declared.Layout.{Layout}
 use Rattle.model.specs.Order.{Low, Str, _⊑_, _◁_, at}
-use Rattle.model.specs.Deciding.{over}
 use Rattle.model.specs.Entries.{Entry, find, without}
 use Rattle.model.specs.Files.{Slot, Sound, entries-of, order-of, slot-at, used}
 use Rattle.model.specs.Changes.{merged, removal, stores}
 use Rattle.model.specs.Format.{bytes-at-slot, read-file, slot-size}
+use Rattle.model.proofs.Deciding.{over}
 use Rattle.model.proofs.Files.{well-parts}
 use Rattle.model.proofs.Order.{le-trans, low-at, low-lower, lt-le}
 use Rattle.model.proofs.Merging.{ToLeft, ToRight, by-left, by-right, find-held, find-right, first-not-left, last-not-right, left-next, merge-few, merge-order, merge-sound, not-left, not-right, removal-alone, right-next, size-left, size-right, well-l, well-r}

@@ -7,7 +7,8 @@ use Rattle.model.specs.declared.RemoveAnswer.{RemoveAnswer}
 use Rattle.model.specs.declared.RemoveAnswer.the-variants.{Absent, Refused, Removed, Stopped}
 use Rattle.model.specs.declared.Trie.{Trie}
 use Rattle.model.specs.Order.{Low, Str}
-use Rattle.model.specs.Names.{Legal, filled, is-legal-name}
+use Rattle.model.specs.Tests.{is-legal-name}
+use Rattle.model.specs.Names.{Legal, filled}
 use Rattle.model.specs.Entries.{Entry, find}
 use Rattle.model.specs.Files.{Slot, order-of, string-count}
 use Rattle.model.specs.Rebuilding.{rebuilt-trie}

@@ -3,13 +3,14 @@ use Rattle.model.proofs.Prelude.{List, [], _*_, _+_, _-_, _<_, _∙_, _∷_, _�
 use mathlib.Core.Bool.{or-true}
 use Rattle.model.specs.declared.Layout.{Layout}
 use Rattle.model.specs.Order.{Low, Str, _≺_, _⊑_}
+use Rattle.model.specs.Tests.{is-at-most}
 use Rattle.model.specs.Names.{Bound}
 use Rattle.model.specs.Entries.{Entry, Row, name-at, stay}
 use Rattle.model.specs.Format.{entry-length, padded, read-entries}
-use Rattle.model.specs.Deciding.{le?}
+use Rattle.model.proofs.Tests.{le-is-at-most, lt-is-at-most}
 use Rattle.model.proofs.Entries.{keep-parts, row-at}
 use Rattle.model.proofs.Format.{entry-size}
-use Rattle.model.proofs.Names.{bound-is-legal-bound, le-is-at-most, lt-is-at-most}
+use Rattle.model.proofs.Names.{bound-is-legal-bound}
 use Rattle.digits.proofs.Bounds.{name-over}
 use Rattle.digits.specs.Keys.{continued, value}
 use Rattle.entries.specs.Rows.{entries-from, is-not-above, values}
@@ -94,4 +95,4 @@ module _ (y : Layout) (row : List ℕ) (ws : List Entry) (r : RowOf y row ws) (n
       let high : ltb v (value (name-at ws k)) ≡ true = ap (λ (x : ℕ). ltb x (value (name-at ws k))) q ∙ name-over s (name-at ws k) legal (row-at R k (omega arith) .0) ∙ ap not (lt-is-at-most (name-at ws k) s g) in
       ap (λ (x : List ℕ). 1 + is-not-above v x) (values-are e (k - 1) (drop e row) ∙ ap numbers c)
       ∙ middle-counted v k ws n h low high
-      ∙ omega (arith, ap (λ (x : ℕ). is-not-above x (numbers ws)) q, moved s legal R .1, keep-parts (λ x. le? x s) ws)
+      ∙ omega (arith, ap (λ (x : ℕ). is-not-above x (numbers ws)) q, moved s legal R .1, keep-parts (λ x. is-at-most x s) ws)

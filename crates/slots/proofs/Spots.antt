@@ -2,16 +2,16 @@
 use Rattle.model.proofs.Prelude.{Bool, List, Option, [], _&&_, _*_, _++_, _+_, _-_, _<_, _^_, _∙_, _≡_, _≤_, ap, ap₂, arith, clash, cond, drop, eqb, false, length, ltb, ltb-true, nothing, refl, some, suc, sym, take, true, ℕ}
 use Rattle.model.specs.declared.Layout.{Layout}
 use Rattle.model.specs.Order.{Low, Str, at}
-use Rattle.model.specs.Deciding.{over}
 use Rattle.model.specs.Calls.{between}
 use Rattle.model.specs.Entries.{Entry, Row, find, insert, without}
 use Rattle.model.specs.Format.{AreBytes, bytes-of-entries, bytes-of-entry, entry-length, padded, read-entries, value-of}
 use Rattle.model.specs.Names.{Legal}
+use Rattle.model.proofs.Deciding.{over}
 use Rattle.model.proofs.Format.{Contents, bytes-drop, contents-read-slot, entry-size, length-padded}
 use Rattle.model.proofs.Files.{well-parts}
 use Rattle.model.proofs.Merging.{row-join}
-use Rattle.model.proofs.Names.{both-true}
 use Rattle.model.proofs.Order.{low-at, lt-le}
+use Rattle.model.proofs.Tests.{both-true}
 use Rattle.digits.specs.Keys.{value}
 use Rattle.entries.specs.Rows.{below, held-at, held-under, is-at, place, room, spliced-bytes, values}
 use Rattle.entries.proofs.Lists.{content-there, held-find, joined-list, length-read-entries, part-between, rank-place, spliced-held, spliced-new, spliced-without}

@@ -1,19 +1,21 @@
 -- The halves of b + 1 entries as the code finds them: the split string, what stays and what moves.
-use Rattle.model.proofs.Prelude.{List, [], _+_, _-_, _<_, _∙_, _∷_, _≡_, _≤_, ap, ap₂, arith, drop, drop-at, length, length-replicate, length-take, paste, refl, replicate, subst, suc, sym, take, take-all, true, zero, ℕ, ℕ-discrete}
+use Rattle.model.proofs.Prelude.{Bool, List, [], _+_, _-_, _<_, _∙_, _∷_, _≡_, _≤_, ap, ap₂, arith, cond, drop, drop-at, eqb, false, length, length-replicate, length-take, not, paste, refl, replicate, subst, suc, sym, take, take-all, true, zero, ℕ}
 use Rattle.model.specs.declared.Layout.{Layout}
 use Rattle.model.specs.declared.Trie.{Trie}
-use Rattle.model.specs.Order.{Low, Str, _≺_, _⊑_, at, diff, diff-at}
+use Rattle.model.specs.Order.{Low, Str, _≺_, _⊑_, at, diff}
+use Rattle.model.specs.Tests.{is-at-most}
 use Rattle.model.specs.Names.{Bound}
 use Rattle.model.specs.Entries.{Entry, Row, entry, keep, move, name-at, no-entries, stay}
 use Rattle.model.specs.Changes.{new-half, old-half, split-of, split-string}
 use Rattle.model.specs.Format.{bytes-of-slot, padded}
 use Rattle.model.specs.Files.{used}
 use Rattle.model.specs.Places.{place-of}
-use Rattle.model.specs.Deciding.{le?, not?, over}
 use Rattle.model.specs.Tries.{walk-of}
-use Rattle.model.proofs.Entries.{chosen-no, chosen-yes, keep-all, keep-parts, row-at, row-lt, split-bound, split-key, split-last, split-take}
+use Rattle.model.proofs.Deciding.{le?, over}
+use Rattle.model.proofs.Entries.{keep-all, keep-parts, row-at, row-lt, split-bound, split-key, split-last, split-take}
 use Rattle.model.proofs.Format.{padded-short}
 use Rattle.model.proofs.Order.{diff-lt-left, le-refl, le-trans, lt-le}
+use Rattle.model.proofs.Tests.{le-is-at-most, lt-is-at-most}
 use Rattle.model.proofs.Names.{bound-is-legal-bound, legal-length}
 use Rattle.model.proofs.Places.{place-lt, split-digits}
 use Rattle.digits.specs.declared.Key.{Key}
@@ -45,11 +47,11 @@ diff-take : (k : ℕ) (c z : Str) → diff c z ≤ k → diff (take k c) z ≡ d
 diff-take zero c z h = omega arith
 diff-take (suc k) [] z h = refl
 diff-take (suc k) (a ∷ c) [] h = refl
-diff-take (suc k) (a ∷ c) (b ∷ z) h = go (ℕ-discrete a b) h (diff-take k c z)
+diff-take (suc k) (a ∷ c) (b ∷ z) h = go (eqb a b) refl h (diff-take k c z)
   where
-    go : (d : Dec (a ≡ b)) → diff-at d (diff c z) ≤ suc k → (diff c z ≤ k → diff (take k c) z ≡ diff c z) → diff-at d (diff (take k c) z) ≡ diff-at d (diff c z)
-    go (yes e) h f = ap suc (f (omega arith))
-    go (no n) h f = refl
+    go : (t : Bool) → eqb a b ≡ t → cond t (suc (diff c z)) 0 ≤ suc k → (diff c z ≤ k → diff (take k c) z ≡ diff c z) → cond t (suc (diff (take k c) z)) 0 ≡ cond t (suc (diff c z)) 0
+    go true e h f = ap suc (f (omega arith))
+    go false n h f = refl
 
 -- The entries in front are those that stay.
 nil : (xs : List Entry) → length xs ≡ 0 → xs ≡ []
@@ -60,10 +62,10 @@ stayed : {l : Low} {u : Str} {es : List Entry} (s : Str) → Row l es u → take
 unfolding keep
 stayed s no-entries = refl
 stayed s (entry {e = e} {es = es} g a c r) = elim (le? (e .0) s) [
-  | yes p ↦ rw (chosen-yes (le? (e .0) s) p) (ap (λ (x : List Entry). e ∷ x) (stayed s r))
-  | no p ↦ let k : move s es ≡ es = keep-all (λ n. not? (le? n s)) r (λ n d q. p (le-trans (lt-le (over d)) q)) in
-      let z : stay s es ≡ [] = nil (stay s es) (omega (arith, keep-parts (λ n. le? n s) es, ap length k)) in
-      rw (chosen-no (le? (e .0) s) p, z)
+  | yes p ↦ rw (le-is-at-most (e .0) s p) (ap (λ (x : List Entry). e ∷ x) (stayed s r))
+  | no p ↦ let k : move s es ≡ es = keep-all (λ n. not (is-at-most n s)) r (λ n d. ap not (lt-is-at-most n s (λ q. p (le-trans (lt-le (over d)) q)))) in
+      let z : stay s es ≡ [] = nil (stay s es) (omega (arith, keep-parts (λ n. is-at-most n s) es, ap length k)) in
+      rw (lt-is-at-most (e .0) s p, z)
 ]
 
 -- No name of a row is below its first.
@@ -154,7 +156,7 @@ module _ {l : Low} {u : Str} {ws : List Entry} (R : Row l ws u) (b i : ℕ) (i-l
   pub moves-are : drop (length (stay s ws)) ws ≡ move s ws
   moves-are =
       let m = moved s (bound-is-legal-bound s-bound) R in
-      let n : length (stay s ws) ≡ is-not-above (value (continued s)) (numbers ws) = omega (arith, m .1, keep-parts (λ k. le? k s) ws) in
+      let n : length (stay s ws) ≡ is-not-above (value (continued s)) (numbers ws) = omega (arith, m .1, keep-parts (λ k. is-at-most k s) ws) in
       ap (λ (k : ℕ). drop k ws) n ∙ m .0
 
 -- All of it, with the walk of the split key.

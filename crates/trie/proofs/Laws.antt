@@ -5,7 +5,7 @@ use Rattle.model.specs.declared.Side.{Side}
 use Rattle.model.specs.declared.Side.the-variants.{Cell as further, Slot as slot}
 use Rattle.model.specs.declared.Trie.{Trie}
 use Rattle.model.specs.Order.{Str}
-use Rattle.model.specs.Names.{is-at-most}
+use Rattle.model.specs.Tests.{is-at-most}
 use Rattle.model.specs.Tries.{Spot, at-cell, cell, left, right, root, root-side, walk-of, walk-run}
 use Rattle.model.proofs.GrownTries.{root-further}
 use Rattle.trie.specs.declared.Walk.{Walk}

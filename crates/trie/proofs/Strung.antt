@@ -2,9 +2,8 @@
 use Rattle.model.proofs.Prelude.{List, [], _∷_, _≡_, arith, getD, length, length-append, refl, suc, zero, ℕ}
 use Rattle.model.specs.declared.Cell.{Cell}
 use Rattle.model.specs.declared.Side.{Side}
-use Rattle.model.specs.Order.{Str}
+use Rattle.model.specs.Order.{Str, last-digit}
 use Rattle.model.specs.Tries.{Reads, Tree, here, size, there}
-use Rattle.model.specs.Rebuilding.{last-digit}
 use Rattle.trie.specs.Places.{InOrder, cells, no-cells}
 use Rattle.trie.specs.Strung.{last-digits, lengths}
 

@@ -4,8 +4,7 @@ use mathlib.Core.List.{List, [], _∷_}
 use Prim.Native.Nat.{_≤_, suc, ℕ}
 use lib.Dec.{leb}
 use lib.ListN.{length, take}
-use Rattle.model.specs.Order.{Str}
-use Rattle.model.specs.Rebuilding.{last-digit}
+use Rattle.model.specs.Order.{Str, last-digit}
 use Rattle.trie.specs.declared.Strings.{Strings}
 
 -- Each string as its length and its last digit.

@@ -4,7 +4,7 @@ ghost use mathlib.Core.Path.{_≡_};
 ghost use Prim.Native.Nat.{_≤_, _<_, _+_};
 ghost use lib.Dec.{leb};
 ghost use lib.ListN.{take};
-ghost use Rattle.model.specs.Names as names;
+ghost use Rattle.model.specs.Tests as tests;
 ghost use mathlib.Core.List.{[]};
 ghost use Rattle.model.specs.Order.{Str};
 ghost use Rattle.model.specs.Tries.{root-side, trie-of, walk-of};
@@ -64,7 +64,7 @@ pub fn without_cells(first: u16) -> Trie
 // Whether the name is within the string of the first digits, so not above it.
 fn goes_left(name: &[u8; 24], string: &[u8; 24], len: usize) -> bool
     requires { ⌜ len ≤ 24 ⌝ }
-    ensures { λ r. ⌜ r ≡ names.is-at-most (now (name .entry)) (take len (now (string .entry))) ⌝ }
+    ensures { λ r. ⌜ r ≡ tests.is-at-most (now (name .entry)) (take len (now (string .entry))) ⌝ }
 {
     let whole = &string[..];
     let compared = digits::compared(name, &whole[0..len]);

@@ -13,10 +13,10 @@ use Rattle.model.specs.declared.Cell.{Cell}
 use Rattle.model.specs.declared.Side.{Side}
 use Rattle.model.specs.declared.Trie.{Trie}
 use Rattle.model.specs.Order.{Str}
-use Rattle.model.specs.Names.{filled, is-at-most, is-legal-name, split-beginning, within}
+use Rattle.model.specs.Tests.{is-at-most, is-legal-name, same-str}
+use Rattle.model.specs.Names.{filled, split-beginning, within}
 use Rattle.model.specs.Files.{Slot, order-of, strings-of}
 use Rattle.model.specs.Tries.{zero-cell}
-use Rattle.model.specs.Checks.{same-str}
 use Rattle.model.specs.Agreeing.{is-agreeing, same-side, same-strs}
 use Rattle.model.specs.Format.{check-file, read-file}
 use Rattle.model.specs.Answers.{Saying, said-by-check, said-by-create, said-by-list, said-by-look-up, said-by-put, said-by-rebuild, said-by-recover, said-by-remove}

@@ -1,6 +1,6 @@
 -- `bucket::form_by` meets its contract.
 use Rattle.model.proofs.Prelude.{_*_, _+_, _∙_, _≡_, ap, ap₂, arith, drop, getD, ltb, needs, not-false, not-true, sym, take, true, ℕ}
-use Rattle.model.proofs.Names.{never-both}
+use Rattle.model.proofs.Tests.{never-both}
 use Rattle.digits.specs.Keys.{key-value}
 use Rattle.bucket.specs.Forms.{is-all-clear}
 use Rattle.model.proofs.Lists.{rest}

@@ -1,6 +1,6 @@
 -- `digits::are_digits` meets its contract.
 use Rattle.model.proofs.Prelude.{_&&_, _+_, _-_, _∙_, _≡_, _≤_, arith, drop, eqb, getD, leb, length, needs}
-use Rattle.model.specs.Names.{are-digits}
+use Rattle.model.specs.Tests.{are-digits}
 use Rattle.digits.proofs.Laws.{digits-end, digits-next, gathered, gathers, larger-zero}
 use Rattle.digits.proofs.are_digits.Tie as tie
 

@@ -1,5 +1,5 @@
 -- `entries::is_at` meets its contract.
-use Rattle.model.proofs.Prelude.{_*_, _∙_, _≡_, ap, arith, drop, eqb, le-ltb, lt-ltb, needs, sym, take, ℕ}
+use Rattle.model.proofs.Prelude.{_*_, _∙_, _≡_, ap, arith, drop, eqb, le-ltb, lt-ltb, needs, take, ℕ}
 use Rattle.digits.specs.Keys.{key-value, value}
 use Rattle.entries.specs.Rows.{is-at}
 use Rattle.entries.proofs.is_at.Tie as tie

@@ -1,6 +1,6 @@
 -- `entries::step` meets its contract.
 use Rattle.model.proofs.Prelude.{_*_, _≡_, arith, drop, le-ltb, lt-ltb, needs, not-false, not-true, take}
-use Rattle.model.specs.Checks.{same-str}
+use Rattle.model.specs.Tests.{same-str}
 use Rattle.entries.proofs.step.Tie as tie
 
 returns : tie.Need-returns

@@ -1,5 +1,5 @@
 -- `commit` meets its contract: at each turn the file is that of the first `made` stores (proofs/Committing.antt).
-use Rattle.model.proofs.Prelude.{_-_, _≡_, _∙_, _≤_, arith, length, needs, refl}
+use Rattle.model.proofs.Prelude.{_-_, _∙_, _≡_, _≤_, arith, length, needs, refl}
 use Rattle.file.proofs.Committing.{Made, made-all, made-first, made-none, made-second, made-stopped}
 use Rattle.file.proofs.commit.Tie as tie
 

@@ -1,5 +1,5 @@
 -- `freeing` meets its contract: the zeros begin with the bytes of a free slot.
-use Rattle.model.proofs.Prelude.{_∙_, ap, needs, List, ℕ, take}
+use Rattle.model.proofs.Prelude.{List, _∙_, ap, needs, take, ℕ}
 use Rattle.model.specs.Format.{slot-size}
 use Rattle.file.proofs.Committing.{free-begins}
 use Rattle.file.proofs.freeing.Tie as tie

@@ -1,8 +1,7 @@
 -- `lowest_free` meets its contract: where fewer slots are used than there are, the map's complement begins with the used ones.
 use Rattle.model.proofs.Prelude.{_≡_, ap, arith, needs}
 use lib.Count.{ones}
-use Rattle.model.specs.Files.{first}
-use Rattle.model.specs.Changes.{free?}
+use Rattle.model.specs.Files.{first, is-free}
 use Rattle.file.proofs.Maps.{all-used, lowest-of, room-none, room-some}
 use Rattle.file.proofs.lowest_free.Tie as tie
 
@@ -14,7 +13,7 @@ returns-2 c =
     let n = c .before .usize-of-u322 in let map = c .before .before .before .before .args .used in
     record {
       inside = tt;
-      lowest = λ fs e h m. let i : n .result ≡ first free? fs = lowest-of map (n .result) fs (n .ensures) m (omega arith) in room-none fs (omega arith);
+      lowest = λ fs e h m. let i : n .result ≡ first is-free fs = lowest-of map (n .result) fs (n .ensures) m (omega arith) in room-none fs (omega arith);
     }
 
 returns-3 : tie.Need-returns-3

@@ -1,6 +1,6 @@
 -- `sizes` meets its contract: the product of legal sizes fits, and a length that it tells of is whole.
 use Rattle.model.proofs.Prelude.{_*_, _+_, _∙_, ap, arith, needs, not-false, not-true, refl, sym, ℕ}
-use Rattle.model.proofs.Names.{never-both}
+use Rattle.model.proofs.Tests.{never-both}
 use Rattle.file.proofs.Laws.{slots-fit}
 use Rattle.file.proofs.Headers.{illegal}
 use Rattle.file.proofs.sizes.Tie as tie

@@ -1,5 +1,5 @@
--- The tests that carry their proofs: what each of them decides is its type. Read the types; the clauses say no more.
-use mathlib.Core.Path.{_≡_, ap, refl}
+-- Order and equality of strings, decided: for proofs by cases.
+use mathlib.Core.Path.{_≡_, refl}
 use mathlib.Core.List.{[], _∷_}
 use Prim.Native.Nat.{_≤_, ℕ}
 use native.Mathlib.Decide.{decLe, ℕ-discrete}
@@ -43,13 +43,3 @@ over (above p) = p
 unfoldable pub low? : (l : Low) (x : Str) → Dec (l ◁ x)
 low? none x = yes least
 low? (at l) x = elim (le? x l) [ yes p ↦ no (λ h. over h p) | no p ↦ yes (above p) ]
-
-unfoldable pub low-same? : (l m : Low) → Dec (l ≡ m)
-low-same? none none = yes refl
-low-same? none (at y) = no (λ e. let z : _≡_ {A = ℕ} 0 1 = cc in absurd (omega arith))
-low-same? (at x) none = no (λ e. let z : _≡_ {A = ℕ} 0 1 = cc in absurd (omega arith))
-low-same? (at x) (at y) = elim (str? x y) [ yes e ↦ yes (ap at e) | no n ↦ no (λ e. n cc) ]
-
-unfoldable pub not? : {X : Type 0} → Dec X → Dec (¬ X)
-not? (yes h) = no (λ n. n h)
-not? (no h) = yes h
