@@ -1,5 +1,5 @@
 -- List, put together from its stages: the entries between two names stand in the buckets from the first name's to the second's.
-use Rattle.model.proofs.Prelude.{Bool, List, [], _&&_, _*_, _++_, _+_, _-_, _/_, _<_, _∙_, _∷_, _≡_, _≤_, ap, append-assoc, append-nil, ap₂, arith, cond, decLt, drop, drop-cons, false, getD, getD-drop, getD-take, le-ltb, length, length-append, length-drop, length-take, lt-ltb, refl, some, suc, sym, take, take-append-drop, true, zero, ℕ}
+use Rattle.model.proofs.Prelude.{Bool, List, [], _&&_, _*_, _++_, _+_, _-_, _/_, _<_, _∙_, _∷_, _≡_, _≤_, ap, append-assoc, append-nil, ap₂, arith, cond, decLt, drop, drop-cons, false, getD, getD-drop, getD-take, le-ltb, length, length-append, length-drop, length-take, lt-ltb, ltb, ltb-true, refl, some, suc, sym, take, take-append-drop, true, zero, ℕ}
 use native.Mathlib.Nat.{mul-div-cancel-left, mul-zero}
 use Rattle.model.specs.declared.Cause.{Cause}
 use Rattle.model.specs.declared.Cause.the-variants.{IllegalName, ShortOutput}
@@ -12,19 +12,20 @@ use Rattle.model.specs.Entries.{Entry, Row, entry, name-at, no-entries}
 use Rattle.model.specs.Files.{IsUsed, Slot, entries-of, free, head, lower-of, order-of, slot-at, upper-of, used}
 use Rattle.model.specs.Format.{AreBytes, bytes-at-slot, bytes-of-entries, bytes-of-entry, entry-length, read-slot, slot-size}
 use Rattle.model.specs.Calls.{between, entries-in, fine, list-entries, list-of, list-on-looked, looked-of, refusing}
-use Rattle.model.proofs.Order.{le-trans, low-lower}
+use Rattle.model.specs.Deciding.{le?, over}
+use Rattle.model.proofs.Order.{le-trans, low-lower, lt-le}
 use Rattle.model.specs.declared.Layout.{Layout}
 use Rattle.model.specs.Tests.{is-at-most, is-legal-name}
 use Rattle.model.proofs.Deciding.{le?, over}
 use Rattle.model.proofs.Tests.{le-is-at-most, lt-is-at-most}
 use Rattle.model.proofs.Format.{bytes-bytes-at-slot, entry-size, length-bytes-of-entry, length-bytes-of-slot, read-file-read, read-slot-read-file}
-use Rattle.model.proofs.Names.{legal-length}
+use Rattle.model.proofs.Names.{both-true, le-is-at-most, legal-length, lt-is-at-most}
 use Rattle.model.proofs.Entries.{row-at}
 use Rattle.model.proofs.Files.{slot-row, used-inside}
 use Rattle.model.proofs.Removals.{entries-in-append}
 use Rattle.digits.specs.Keys.{value}
-use Rattle.slots.specs.Parts.{part-of}
-use Rattle.slots.proofs.Spots.{part-listed}
+use Rattle.slots.specs.Parts.{all-of, part-of}
+use Rattle.slots.proofs.Spots.{all-listed, part-listed}
 use Rattle.file.specs.declared.Size.{Size}
 use Rattle.file.specs.Holders.{Holder, Ordered, placed, upper-at}
 use Rattle.file.proofs.Holding.{place-number, place-used, places-apart}
@@ -33,7 +34,7 @@ use Rattle.bucket.specs.Forms.{ReadAs}
 use Rattle.bucket.specs.Slots.{OfSize}
 use Rattle.bucket.proofs.Slots.{read-written}
 use Rattle.reading.specs.Outcomes.{listed}
-use Rattle.reading.specs.Listings.{Written, parts}
+use Rattle.reading.specs.Listings.{Written, all-parts, part-at, parts}
 
 -- What lies between two names, of entries put together.
 between-append : (n m : Str) (es fs : List Entry) → between n m (es ++ fs) ≡ between n m es ++ between n m fs
@@ -55,6 +56,14 @@ between-none n m (e ∷ es) f =
       | no p ↦ rw (lt-is-at-most n (e .0) p) rest
       | yes p ↦ rw (le-is-at-most n (e .0) p, lt-is-at-most (e .0) m (f 0 (omega arith) p)) rest
     ]
+
+between-all : (n m : Str) (es : List Entry) → ((i : ℕ) → i < length es → (n ⊑ name-at es i) × (name-at es i ⊑ m)) → between n m es ≡ es
+unfolding between
+between-all n m [] f = refl
+between-all n m (e ∷ es) f =
+    let rest : between n m es ≡ es = between-all n m es (λ i h. f (suc i) (omega arith)) in
+    let p = f 0 (omega arith) in
+    rw (le-is-at-most n (e .0) (p .0), le-is-at-most (e .0) m (p .1), rest)
 
 entries-append : (z : ℕ) (es fs : List Entry) → bytes-of-entries z (es ++ fs) ≡ bytes-of-entries z es ++ bytes-of-entries z fs
 unfolding bytes-of-entries
@@ -112,21 +121,6 @@ module _ {xs : List ℕ} {s : Size} {order : List ℕ} {count : ℕ} {fs : List 
       (ap length (r .1) ∙ length-bytes-of-slot y (used (lower-of (head (placed fs i))) (upper-at fs i) (entries-of (placed fs i))), read-file-read xs (O .is) .headed .sizes .b-most)
 
   module _ (bytes : AreBytes xs) (n m : Str) (f : Legal n) (g : Legal m) where
-    -- The bytes of the slots at places one after another are the entries there.
-    pub parts-entries : (v w : ℕ) → v ≡ value n → w ≡ value m → (k j : ℕ) → j + k ≤ count
-        → parts k xs y order v w j ≡ bytes-of-entries z (between n m (entries-in fs (take k (drop j (order-of fs)))))
-    unfolding parts entries-in bytes-of-entries between
-    parts-entries v w p q zero j h = refl
-    parts-entries v w p q (suc k) j h =
-        let es = entries-of (placed fs j) in
-        let Cs = take k (drop (suc j) (order-of fs)) in
-        let ys = bytes-at-slot y (getD order j 0) xs in
-        let b = bytes-bytes-at-slot y (getD order j 0) xs bytes in
-        let a : part-of y ys v w ≡ bytes-of-entries z (between n m es) = part-listed y ys (place-size j (omega arith)) b (place-read j (omega arith)) n m v w f g p q in
-        let c : take (suc k) (drop j (order-of fs)) ≡ getD (order-of fs) j 0 ∷ Cs = ap (take (suc k)) (drop-cons (order-of fs) j 0 (omega (arith, O .count-is))) in
-        ap₂ (λ (x y : List ℕ). x ++ y) a (parts-entries v w p q k (suc j) (omega arith))
-        ∙ sym (ap (λ (x : List ℕ). bytes-of-entries z (between n m (entries-in fs x))) c ∙ ap (bytes-of-entries z) (between-append n m es (entries-in fs Cs)) ∙ entries-append z (between n m es) (between n m (entries-in fs Cs)))
-
     parts-length : (k j : ℕ) → j + k ≤ count
         → length (bytes-of-entries z (between n m (entries-in fs (take k (drop j (order-of fs)))))) ≡ z * length (between n m (entries-in fs (take k (drop j (order-of fs)))))
     unfolding entries-in bytes-of-entries between
@@ -151,6 +145,44 @@ module _ {xs : List ℕ} {s : Size} {order : List ℕ} {count : ℕ} {fs : List 
       behind-none i h d =
           between-none n m (entries-of (placed fs i))
           (λ k j a c. over (low-lower (places-apart O to i h d) (row-at (place-row i d) k j .1)) (le-trans c (Q .range .2)))
+
+      -- Those of the buckets inside lie between the two.
+      inside-all : (i : ℕ) → from < i → i < to → between n m (entries-of (placed fs i)) ≡ entries-of (placed fs i)
+      inside-all i h d =
+          let r : i < count = omega (arith, Q .inside, O .count-is) in
+          between-all n m (entries-of (placed fs i)) (λ k j.
+          let e = row-at (place-row i r) k j in
+          (le-trans (P .range .2) (lt-le (over (low-lower (places-apart O from i h r) (e .1)))), le-trans (e .2) (lt-le (Q .before i d))))
+
+      -- So the bytes of the slot at a place are those of its entries between the names.
+      part-entries : (v w : ℕ) → v ≡ value n → w ≡ value m → (j : ℕ) → j < count
+          → part-at xs y order v w from to j ≡ bytes-of-entries z (between n m (entries-of (placed fs j)))
+      unfolding part-at
+      part-entries v w p q j h = go (ltb from j && ltb j to) refl
+        where
+          ys : List ℕ
+          ys = slot-bytes j
+
+          b : AreBytes ys
+          b = bytes-bytes-at-slot y (getD order j 0) xs bytes
+
+          go : (t : Bool) → (ltb from j && ltb j to) ≡ t → cond t (all-of y ys) (part-of y ys v w) ≡ bytes-of-entries z (between n m (entries-of (placed fs j)))
+          go true e =
+              let c = both-true (ltb from j) (ltb j to) e in
+              all-listed y ys (place-size j h) b (place-read j h) ∙ ap (bytes-of-entries z) (sym (inside-all j (ltb-true from j (c .0)) (ltb-true j to (c .1))))
+          go false e = part-listed y ys (place-size j h) b (place-read j h) n m v w f g p q
+
+      -- And those of the slots at places one after another are the entries there.
+      parts-entries : (v w : ℕ) → v ≡ value n → w ≡ value m → (k j : ℕ) → j + k ≤ count
+          → parts k xs y order v w from to j ≡ bytes-of-entries z (between n m (entries-in fs (take k (drop j (order-of fs)))))
+      unfolding parts entries-in bytes-of-entries between
+      parts-entries v w p q zero j h = refl
+      parts-entries v w p q (suc k) j h =
+          let es = entries-of (placed fs j) in
+          let Cs = take k (drop (suc j) (order-of fs)) in
+          let c : take (suc k) (drop j (order-of fs)) ≡ getD (order-of fs) j 0 ∷ Cs = ap (take (suc k)) (drop-cons (order-of fs) j 0 (omega (arith, O .count-is))) in
+          ap₂ (λ (x y : List ℕ). x ++ y) (part-entries v w p q j (omega arith)) (parts-entries v w p q k (suc j) (omega arith))
+          ∙ sym (ap (λ (x : List ℕ). bytes-of-entries z (between n m (entries-in fs x))) c ∙ ap (bytes-of-entries z) (between-append n m es (entries-in fs Cs)) ∙ entries-append z (between n m es) (between n m (entries-in fs Cs)))
 
       abbrev listing : ℕ → List Entry
       listing k = between n m (entries-in fs (take k (drop from (order-of fs))))
@@ -184,7 +216,7 @@ module _ {xs : List ℕ} {s : Size} {order : List ℕ} {count : ℕ} {fs : List 
         | yes h ↦ within-none h (entries-in fs (take (to + 1 - from) (drop from (order-of fs)))) ∙ sym (within-none h (entries-in fs (order-of fs)))
       ]
 
-      pub parts-are : (v w : ℕ) → v ≡ value n → w ≡ value m → parts (to + 1 - from) xs y order v w from ≡ bytes-of-entries z (between n m (entries-in fs (order-of fs)))
+      pub parts-are : (v w : ℕ) → v ≡ value n → w ≡ value m → all-parts xs y order v w from to ≡ bytes-of-entries z (between n m (entries-in fs (order-of fs)))
       parts-are v w p q = parts-entries v w p q (to + 1 - from) from (omega (arith, P .inside, Q .inside, O .count-is)) ∙ ap (bytes-of-entries z) all-between
 
       pub all-length : length (bytes-of-entries z (between n m (entries-in fs (order-of fs)))) ≡ z * length (between n m (entries-in fs (order-of fs)))
@@ -193,7 +225,7 @@ module _ {xs : List ℕ} {s : Size} {order : List ℕ} {count : ℕ} {fs : List 
 -- R10.7; else the entries are written over the beginning of the output, and their number is given (R9.8).
 module _ {xs : List ℕ} {s : Size} {order : List ℕ} {count : ℕ} {fs : List Slot} (O : Ordered xs s order count fs) (given : AreBytes xs) (n m : Str) (f : Legal n) (g : Legal m)
     {from to : ℕ} (P : Holder fs n from) (Q : Holder fs m to) {v w : ℕ} (p : v ≡ value n) (q : w ≡ value m) (out : List ℕ) {bytes : ℕ}
-    (e : bytes ≡ length (parts (to + 1 - from) xs (s .layout) order v w from)) where
+    (e : bytes ≡ length (all-parts xs (s .layout) order v w from to)) where
   abbrev all : List Entry
   all = between n m (entries-in fs (order-of fs))
 
@@ -204,7 +236,7 @@ module _ {xs : List ℕ} {s : Size} {order : List ℕ} {count : ℕ} {fs : List 
   unfolding list-entries
   list-short h = rw (lt-ltb (length out) (entry-length (s .layout) * length all) (omega (arith, bytes-are)))
 
-  pub list-all : (left : List ℕ) → bytes ≤ length out → Written (parts (to + 1 - from) xs (s .layout) order v w from) out left → {k : ℕ} → k ≡ bytes / entry-length (s .layout)
+  pub list-all : (left : List ℕ) → bytes ≤ length out → Written (all-parts xs (s .layout) order v w from to) out left → {k : ℕ} → k ≡ bytes / entry-length (s .layout)
       → listed (Listed k) left ≡ list-entries (entry-length (s .layout)) all out
   unfolding list-entries
   list-all left h u {k} r =

@@ -1,31 +1,46 @@
 -- The parts that list counts and writes, one after another.
-use Rattle.model.proofs.Prelude.{List, [], _++_, _+_, _-_, _<_, _∙_, _≡_, _≤_, ap, append-assoc, arith, drop, drop-append-seam, drop-at, drop-drop, getD, length, length-append, length-drop, length-take, paste, refl, suc, sym, take, take-add, take-append-seam, take-at, take-length, ℕ}
+use Rattle.model.proofs.Prelude.{List, [], _&&_, _++_, _+_, _-_, _<_, _∙_, _≡_, _≤_, ap, append-assoc, arith, drop, drop-append-seam, drop-at, drop-drop, false, getD, length, length-append, length-drop, length-take, ltb, paste, refl, sub-zero, suc, sym, take, take-add, take-append-seam, take-at, take-length, true, zero-add, ℕ}
 use Rattle.model.specs.declared.Layout.{Layout}
 use Rattle.model.specs.Format.{bytes-at-slot}
-use Rattle.slots.specs.Parts.{part-of}
-use Rattle.reading.specs.Listings.{Written, parts}
+use Rattle.slots.specs.Parts.{all-of, part-of}
+use Rattle.reading.specs.Listings.{Written, part-at, parts}
 
-module _ (xs : List ℕ) (y : Layout) (order : List ℕ) (v w : ℕ) where
+module _ (xs : List ℕ) (y : Layout) (order : List ℕ) (v w from to : ℕ) where
+  -- A slot inside the first place and the last, and one that is not.
+  pub part-inside : (j k : ℕ) (ys p : List ℕ) → (ltb from j && ltb j to) ≡ true → k ≡ getD order j 0 → ys ≡ bytes-at-slot y k xs
+      → p ≡ all-of y ys → p ≡ part-at xs y order v w from to j
+  unfolding part-at
+  part-inside j k ys p t e f g = g ∙ rw (f, e, t)
+
+  pub part-searched : (j k : ℕ) (ys p : List ℕ) → (ltb from j && ltb j to) ≡ false → k ≡ getD order j 0 → ys ≡ bytes-at-slot y k xs
+      → p ≡ part-of y ys v w → p ≡ part-at xs y order v w from to j
+  unfolding part-at
+  part-searched j k ys p t e f g = g ∙ rw (f, e, t)
+
   -- The slots from place j to the last.
-  abbrev pub rest : ℕ → ℕ → List ℕ
-  rest to j = parts (to + 1 - j) xs y order v w j
+  abbrev pub rest : ℕ → List ℕ
+  rest j = parts (to + 1 - j) xs y order v w from to j
 
-  pub rest-none : (to j : ℕ) → to < j → rest to j ≡ []
+  pub rest-none : (j : ℕ) → to < j → rest j ≡ []
   unfolding parts
-  rest-none to j h = let e : to + 1 - j ≡ 0 = omega arith in rw e
+  rest-none j h = let e : to + 1 - j ≡ 0 = omega arith in rw e
 
-  pub rest-step : (to j k : ℕ) (ys p : List ℕ) → j ≤ to → k ≡ getD order j 0 → ys ≡ bytes-at-slot y k xs
-      → p ≡ part-of y ys v w → rest to j ≡ p ++ rest to (j + 1)
+  pub rest-step : (j : ℕ) (p : List ℕ) → j ≤ to → p ≡ part-at xs y order v w from to j → rest j ≡ p ++ rest (j + 1)
   unfolding parts
-  rest-step to j k ys p h e f g =
+  rest-step j p h e =
       let i : to + 1 - j ≡ suc (to + 1 - (j + 1)) = omega arith in
       let n : j + 1 ≡ suc j = omega arith in
-      let q : p ≡ part-of y (bytes-at-slot y (getD order j 0) xs) v w = g ∙ rw (f, e) in
-      rw (i, n, q)
+      rw (i, n, e)
 
-  pub rest-length : (to j k : ℕ) (ys p : List ℕ) → j ≤ to → k ≡ getD order j 0 → ys ≡ bytes-at-slot y k xs
-      → p ≡ part-of y ys v w → length (rest to j) ≡ length p + length (rest to (j + 1))
-  rest-length to j k ys p h e f g = ap length (rest-step to j k ys p h e f g) ∙ length-append p (rest to (j + 1))
+  pub rest-length : (j : ℕ) (p : List ℕ) → j ≤ to → p ≡ part-at xs y order v w from to j → length (rest j) ≡ length p + length (rest (j + 1))
+  rest-length j p h e = ap length (rest-step j p h e) ∙ length-append p (rest (j + 1))
+
+-- A part put over the output by way of an array: what is read back from the array is the part.
+pub moved-over : (out s d moved left : List ℕ) (at : ℕ) → moved ≡ paste d 0 s (length s) → left ≡ paste out at (take (length s - 0) moved) (length (take (length s - 0) moved))
+    → left ≡ paste out at s (length s)
+moved-over out s d moved left at e f =
+    let g : take (length s - 0) moved ≡ s = rw (sub-zero (length s), e, take-length s, zero-add (length s)) (take-append-seam s (drop (length s) d)) in
+    f ∙ ap (λ (x : List ℕ). paste out at x (length x)) g
 
 -- The output with the first of all bytes written, and what is still to be written.
 pub record Writing (all rest out left : List ℕ) (done : ℕ) : Type 0 where

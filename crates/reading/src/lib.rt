@@ -3,6 +3,7 @@
 ghost use mathlib.Core.Path.{_≡_};
 ghost use Prim.Native.Nat.{_≤_, _<_, _+_, _-_};
 ghost use lib.ListN.{length};
+ghost use lib.Seq.{paste};
 ghost use Rattle.model.specs.Order.{Str};
 ghost use Rattle.model.specs.Names.{Legal, filled};
 ghost use Rattle.model.specs.Format.{entry-length, read-slot};
@@ -13,7 +14,7 @@ ghost use Rattle.image.specs.Images.{image-length, trie-from};
 ghost use Rattle.file.specs.Sizes.{Sized, Below};
 ghost use Rattle.checking.specs.Ready.{Ready};
 ghost use Rattle.reading.specs.Outcomes.{listed};
-ghost use Rattle.reading.specs.Listings.{Written, parts};
+ghost use Rattle.reading.specs.Listings.{Written, all-parts, part-at};
 ghost use Rattle.reading.specs.Walked.{looked-up-from};
 ghost use Rattle.bucket.specs.Slots.{OfSize};
 use bucket::Form;
@@ -26,6 +27,7 @@ use digits::Key;
 use digits::Naming;
 use digits::usize_of_u8;
 use entries::Held;
+use entries::ROOM;
 use file::Header;
 use file::Size;
 use model::Cause;
@@ -91,7 +93,30 @@ pub fn look_up(file: &[u8], trie: Trie, name: &[u8]) -> LookUpAnswer
     look_up_from(file, trie::walk_of(trie, &filled), name, &filled)
 }
 
-// How many bytes the entries take that are to be listed, from the bucket at the place `from` to that at `to`.
+// The entries to be listed of the bucket at place j, from the place `from` to the place `to`. The names at which the list begins and
+// ends are looked for in the first bucket and the last; every entry of a bucket inside lies between them.
+fn part_at<'a>(
+    file: &'a [u8],
+    size: Size,
+    order: &[u8; 64],
+    from: usize,
+    to: usize,
+    first: Key,
+    second: Key,
+    j: usize,
+) -> &'a [u8]
+    requires { ⌜ (Sized (length (now file)) size) × (Below (now order) (size .slots)) × (j < 64) ⌝ }
+    ensures { λ r. ⌜ (length (now r) ≤ 640)
+        × (now r ≡ part-at (now (file .entry)) (size .layout) (now (order .entry)) (key-value first) (key-value second) from to j) ⌝ }
+{
+    let slot = file::slot_at(file, size, usize_of_u8(order[j]));
+    if from < j && j < to {
+        return slots::all_of(slot, size.layout);
+    }
+    slots::part_between(slot, size.layout, first, second)
+}
+
+// How many bytes the entries take that are to be listed.
 fn bytes_between(
     file: &[u8],
     size: Size,
@@ -103,17 +128,28 @@ fn bytes_between(
 ) -> usize
     requires { ⌜ (Sized (length (now file)) size) × (Below (now order) (size .slots)) × (to < 64) ⌝ }
     ensures { λ r. ⌜ (r ≤ 40960)
-        × (r ≡ length (parts (to + 1 - from) (now (file .entry)) (size .layout) (now (order .entry)) (key-value first) (key-value second) from)) ⌝ }
+        × (r ≡ length (all-parts (now (file .entry)) (size .layout) (now (order .entry)) (key-value first) (key-value second) from to)) ⌝ }
 {
     let mut bytes = 0usize;
     let mut j = from;
     while j <= to {
-        let slot = file::slot_at(file, size, usize_of_u8(order[j]));
-        let part = slots::part_between(slot, size.layout, first, second);
+        let part = part_at(file, size, order, from, to, first, second, j);
         bytes += part.len();
         j += 1;
     }
     bytes
+}
+
+// Puts a part over the output from `at` on, by way of an array of its own: the compiler makes one move of the two copies, which it
+// cannot make of a copy between two lent slices.
+fn write_part(output: &mut [u8], at: usize, part: &[u8])
+    requires { ⌜ (at + length (now part) ≤ length (now output)) × (length (now part) ≤ 640) ⌝ }
+    ensures { λ _. ⌜ now (output .exit) ≡ paste (now (output .entry)) at (now (part .entry)) (length (now (part .entry))) ⌝ }
+{
+    let mut moved = [0u8; ROOM];
+    let end = part.len();
+    entries::copy(&mut moved, 0, part);
+    entries::copy(output, at, &moved[0..end]);
 }
 
 // Writes them, one after another.
@@ -128,17 +164,16 @@ fn write_between(
     output: &mut [u8],
 )
     requires { ⌜ (Sized (length (now file)) size) × (Below (now order) (size .slots)) × (to < 64)
-        × (length (parts (to + 1 - from) (now file) (size .layout) (now order) (key-value first) (key-value second) from) ≤ length (now output))
-        × (length (parts (to + 1 - from) (now file) (size .layout) (now order) (key-value first) (key-value second) from) ≤ 40960) ⌝ }
-    ensures { λ _. ⌜ Written (parts (to + 1 - from) (now (file .entry)) (size .layout) (now (order .entry)) (key-value first) (key-value second) from)
+        × (length (all-parts (now file) (size .layout) (now order) (key-value first) (key-value second) from to) ≤ length (now output))
+        × (length (all-parts (now file) (size .layout) (now order) (key-value first) (key-value second) from to) ≤ 40960) ⌝ }
+    ensures { λ _. ⌜ Written (all-parts (now (file .entry)) (size .layout) (now (order .entry)) (key-value first) (key-value second) from to)
         (now (output .entry)) (now (output .exit)) ⌝ }
 {
     let mut at = 0usize;
     let mut j = from;
     while j <= to {
-        let slot = file::slot_at(file, size, usize_of_u8(order[j]));
-        let part = slots::part_between(slot, size.layout, first, second);
-        entries::copy(output, at, part);
+        let part = part_at(file, size, order, from, to, first, second, j);
+        write_part(output, at, part);
         at += part.len();
         j += 1;
     }

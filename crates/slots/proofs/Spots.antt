@@ -1,5 +1,5 @@
 -- A slot that is used and well formed, read: the spot of a name, what is held there, and the entries from one name to another.
-use Rattle.model.proofs.Prelude.{Bool, List, Option, [], _&&_, _*_, _++_, _+_, _-_, _<_, _^_, _∙_, _≡_, _≤_, ap, ap₂, arith, clash, cond, drop, eqb, false, length, ltb, ltb-true, nothing, refl, some, suc, sym, take, true, ℕ}
+use Rattle.model.proofs.Prelude.{Bool, List, Option, [], _&&_, _*_, _++_, _+_, _-_, _<_, _^_, _∙_, _≡_, _≤_, ap, ap₂, arith, clash, cond, drop, eqb, false, length, ltb, ltb-true, nothing, refl, some, sub-zero, suc, sym, take, take-length, true, ℕ}
 use Rattle.model.specs.declared.Layout.{Layout}
 use Rattle.model.specs.Order.{Low, Str, at}
 use Rattle.model.specs.Calls.{between}
@@ -14,13 +14,13 @@ use Rattle.model.proofs.Order.{low-at, lt-le}
 use Rattle.model.proofs.Tests.{both-true}
 use Rattle.digits.specs.Keys.{value}
 use Rattle.entries.specs.Rows.{below, held-at, held-under, is-at, place, room, spliced-bytes, values}
-use Rattle.entries.proofs.Lists.{content-there, held-find, joined-list, length-read-entries, part-between, rank-place, spliced-held, spliced-new, spliced-without}
+use Rattle.entries.proofs.Lists.{content-there, held-find, joined-list, length-read-entries, part-between, part-row, rank-place, spliced-held, spliced-new, spliced-without}
 use Rattle.entries.proofs.Products.{room-most}
 use Rattle.entries.proofs.Places.{place-found}
 use Rattle.bucket.specs.Forms.{ReadAs}
 use Rattle.bucket.specs.Slots.{OfSize, count-at}
 use Rattle.bucket.proofs.Slots.{Reads, count-is, entries-fit, read-used, reads, row-read}
-use Rattle.slots.specs.Parts.{part-of}
+use Rattle.slots.specs.Parts.{all-of, part-of}
 use Rattle.slots.specs.Spots.{RowOf, SpotIn, is-some-value}
 use Rattle.slots.specs.declared.Spot.{Spot}
 
@@ -126,12 +126,19 @@ module _ (y : Layout) (xs : List ℕ) (size : OfSize xs y) (bytes : AreBytes xs)
     entry-gone w f =
         rw (counted, placed) (spliced-without e count behind least (entry-size y .most) slot-fits slot-most slot-is-row n w (found f) ∙ ap (without n) slot-row)
 
-  -- The bytes from one name to another are those of the entries between them.
+  -- The bytes from one name to another are those of the entries between them, and all bytes those of all entries.
   pub part-listed : (n m : Str) (v w : ℕ) → Legal n → Legal m → v ≡ value n → w ≡ value m → part-of y xs v w ≡ bytes-of-entries e (between n m es)
   unfolding part-of
   part-listed n m v w f g p q =
       part-between e count behind n m v w (omega (arith, entry-size y .least)) slot-fits (bytes-drop 64 xs bytes) slot-is-row f g p q
       ∙ ap (λ (x : List Entry). bytes-of-entries e (between n m x)) slot-row
+
+  pub all-listed : all-of y xs ≡ bytes-of-entries e es
+  unfolding all-of
+  all-listed =
+      let k : length (read-entries e count behind) ≡ count = length-read-entries e count behind in
+      part-row e count 0 count behind (omega (arith, entry-size y .least)) slot-fits (bytes-drop 64 xs bytes) (omega arith) (omega arith)
+      ∙ ap (bytes-of-entries e) (ap (λ (i : ℕ). take i (read-entries e count behind)) (sub-zero count ∙ sym k) ∙ take-length (read-entries e count behind) ∙ slot-row)
 
 -- Two neighbours: the entries of both, in one row, and this row without a name.
 module _ (y : Layout) (xs zs : List ℕ) (size-x : OfSize xs y) (size-z : OfSize zs y) (bytes-x : AreBytes xs) (bytes-z : AreBytes zs)

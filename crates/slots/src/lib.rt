@@ -1,5 +1,5 @@
 // One slot as its bounds and its entries: the place of a name and what is held there, the slot with a name put in or taken out, the two
-// halves of a split, two neighbours as one, and the part that a list gives out.
+// halves of a split, two neighbours as one, and the parts that a list gives out.
 ghost use mathlib.Core.Path.{_≡_};
 ghost use Prim.Native.Nat.{_*_, _+_, _/_, _<_, _^_, _≤_};
 ghost use lib.ListN.{drop, length, take};
@@ -7,7 +7,7 @@ ghost use Rattle.model.specs.Format.{AreBytes, entry-length};
 ghost use Rattle.digits.specs.Keys.{key-value};
 ghost use Rattle.entries.specs.Rows.{Valued};
 ghost use Rattle.bucket.specs.Slots.{OfSize, lower-bytes, upper-bytes};
-ghost use Rattle.slots.specs.Parts.{part-of};
+ghost use Rattle.slots.specs.Parts.{all-of, part-of};
 ghost use Rattle.slots.specs.Halves.{LowerTold, NameTold, StayTold, UpperTold};
 ghost use Rattle.slots.specs.Spots.{AddedTold, ContentTold, HeldTold, LessenedTold, OverfullTold, ReplacedTold, SpotTold, Spotted, WidenedTold};
 ghost use Rattle.slots.specs.Written.{entries-room, written-bytes};
@@ -284,6 +284,21 @@ pub fn part_between(slot: &[u8], layout: Layout, first: Key, second: Key) -> &[u
         bucket::count_of(slot, layout.b),
         first,
         second,
+    )
+}
+
+// The bytes of all entries.
+pub fn all_of(slot: &[u8], layout: Layout) -> &[u8]
+    requires { ⌜ OfSize (now slot) layout ⌝ }
+    ensures { λ r. ⌜ (length (now r) ≤ entries-room) × (now r ≡ all-of layout (now (slot .entry))) ⌝ }
+{
+    let count = bucket::count_of(slot, layout.b);
+    entries::part(
+        bucket::entries_of(slot, layout),
+        bucket::entry_size(layout),
+        count,
+        0,
+        count,
     )
 }
 

@@ -6,45 +6,46 @@ use Rattle.reading.proofs.write_between.Tie as tie
 
 abbrev Inv-loop : tie.InvT-loop
 Inv-loop file size order from to first second output₀ at₀ j₀ output at j =
-    Writing (rest file (size .layout) order (key-value first) (key-value second) to from) (rest file (size .layout) order (key-value first) (key-value second) to j) output₀ output at
+    Writing (rest file (size .layout) order (key-value first) (key-value second) from to from) (rest file (size .layout) order (key-value first) (key-value second) from to j) output₀ output at
 
 abbrev μ-loop : tie.MeasureT-loop
 μ-loop file size order from to first second output₀ at₀ j₀ output at j = 64 - j
 
-slot-at-requires : tie.Need-slot-at-requires Inv-loop μ-loop
-slot-at-requires c κs =
-    let s = c .before .before .before .before .before .before in
-    (s .pre .0, omega (arith, s .pre .1 (c .before .before .before .loop .j)))
+part-at-requires : tie.Need-part-at-requires Inv-loop μ-loop
+part-at-requires c κs =
+    let s = c .before .before .before .before in
+    (s .pre .0, s .pre .1, omega (arith, s .pre .2))
 
-copy-requires : tie.Need-copy-requires Inv-loop μ-loop
-copy-requires c κs =
-    let a = c .before .before .before .before .before .before .before .before .before .args in
-    let l = c .before .before .before .before .before .before .loop in
-    let e = rest-length (a .file .now) (a .size .layout) (a .order .now) (key-value (a .first)) (key-value (a .second)) (a .to) (l .j) _ _ _ (omega arith) (c .before .before .before .usize-of-u8 .ensures .0) (c .before .before .slot-at .ensures .0) (c .before .part-between .ensures .1) in
-    omega (arith, writing-rest (l .inv), e, writing-length (l .inv), l .inv .room)
+write-part-requires : tie.Need-write-part-requires Inv-loop μ-loop
+write-part-requires c κs =
+    let a = c .before .before .before .before .before .before .args in
+    let l = c .before .before .before .loop in
+    let e = rest-length (a .file .now) (a .size .layout) (a .order .now) (key-value (a .first)) (key-value (a .second)) (a .from) (a .to) (l .j) _ (omega arith) (c .before .part-at .ensures .1) in
+    (omega (arith, writing-rest (l .inv), e, writing-length (l .inv), l .inv .room), c .before .part-at .ensures .0)
 
 add-at : tie.Need-add-at Inv-loop μ-loop
 add-at c =
-    let a = c .before .before .before .before .before .before .before .before .before .before .before .before .args in
-    let l = c .before .before .before .before .before .before .before .before .before .loop in
-    let e = rest-length (a .file .now) (a .size .layout) (a .order .now) (key-value (a .first)) (key-value (a .second)) (a .to) (l .j) _ _ _ (omega arith) (c .before .before .before .before .before .before .usize-of-u8 .ensures .0) (c .before .before .before .before .before .slot-at .ensures .0) (c .before .before .before .before .part-between .ensures .1) in
-    omega (arith, writing-rest (l .inv), e, c .before .before .before .before .before .before .before .before .before .before .before .before .pre .4)
+    let at-part-at = c .before .before .before .before in
+    let start = at-part-at .before .before .before .before .before in
+    let a = start .args in
+    let l = at-part-at .before .before .loop in
+    let e = rest-length (a .file .now) (a .size .layout) (a .order .now) (key-value (a .first)) (key-value (a .second)) (a .from) (a .to) (l .j) _ (omega arith) (at-part-at .part-at .ensures .1) in
+    omega (arith, writing-rest (l .inv), e, start .pre .4)
 
 loop-again : tie.Need-loop-again Inv-loop μ-loop
 loop-again c =
-    let at-part-between = c .before .before .before .before in
-    let a = at-part-between .before .before .before .before .before .before .before .before .args in
-    let l = at-part-between .before .before .before .before .before .loop in
-    let e = rest-step (a .file .now) (a .size .layout) (a .order .now) (key-value (a .first)) (key-value (a .second)) (a .to) (l .j) _ _ _ (omega arith) (at-part-between .before .before .usize-of-u8 .ensures .0) (at-part-between .before .slot-at .ensures .0) (at-part-between .part-between .ensures .1) in
-    writing-step (l .inv) (at-part-between .part-between .result .now) _ _ e (c .before .before .copy .ensures)
+    let at-part-at = c .before .before .before .before in
+    let a = at-part-at .before .before .before .before .before .args in
+    let l = at-part-at .before .before .loop in
+    let e = rest-step (a .file .now) (a .size .layout) (a .order .now) (key-value (a .first)) (key-value (a .second)) (a .from) (a .to) (l .j) _ (omega arith) (at-part-at .part-at .ensures .1) in
+    writing-step (l .inv) (at-part-at .part-at .result .now) _ _ e (c .before .before .write-part .ensures)
 
 returns : tie.Need-returns Inv-loop μ-loop
 returns c =
     let a = c .before .before .before .before .args in let l = c .before .loop in
-    writing-end (l .inv) (rest-none (a .file .now) (a .size .layout) (a .order .now) (key-value (a .first)) (key-value (a .second)) (a .to) (l .j) (omega arith))
+    writing-end (l .inv) (rest-none (a .file .now) (a .size .layout) (a .order .now) (key-value (a .first)) (key-value (a .second)) (a .from) (a .to) (l .j) (omega arith))
 
 pub write-between-spec : {M : Type 1} → Rattle.reading.proofs.write_between.Statement.statement M
 write-between-spec =
-    tie.close (tie.spec Inv-loop μ-loop (λ c. writing-start _ _ (c .before .before .pre .3)) (λ c. search needs) (λ c κs. search needs)
-    slot-at-requires (λ c κs. search needs) copy-requires add-at (λ c. search needs) (λ c. search needs) loop-again
-    (λ c. writing-length (c .before .loop .inv)) returns)
+    tie.close (tie.spec Inv-loop μ-loop (λ c. writing-start _ _ (c .before .before .pre .3)) part-at-requires write-part-requires add-at
+    (λ c. search needs) (λ c. search needs) loop-again (λ c. writing-length (c .before .loop .inv)) returns)
