@@ -19,9 +19,9 @@ use Rattle.entries.proofs.Lists.{bytes-entries, length-read-entries}
 use Rattle.entries.proofs.Products.{part-least}
 use Rattle.entries.proofs.Tested.{entries-is-row}
 use Rattle.entries.specs.Rows.{are-entries}
-use Rattle.bucket.proofs.Reading.{are-zeros, bound-legal, bound-short, bounded, first-four, high-in, is-a-bound, low-digits, low-in, padded-bound, padded-part, take-bound, zeros-are}
+use Rattle.bucket.proofs.Reading.{are-zeros, bound-legal, bound-short, bounded, first-four, low-digits, padded-bound, padded-part, take-bound, zeros-are}
 use Rattle.bucket.specs.Forms.{Formed, WellRead, is-all-clear}
-use Rattle.bucket.specs.Slots.{bound-bytes-at, count-at, lower-bytes, upper-bytes}
+use Rattle.bucket.specs.Slots.{bound-bytes-at, count-at, high-in, is-a-bound, low-in, lower-bytes, upper-bytes}
 use Rattle.bucket.specs.declared.Bucket.{Bucket}
 use Rattle.bucket.specs.declared.Form.the-variants.{Ill, Well}
 
@@ -159,7 +159,7 @@ module _ (y : Layout) (xs : List ℕ) (size : length xs ≡ 64 + entry-length y 
   legal-low [] e = refl
   legal-low (d ∷ x) e = e
 
-  is-well : is-well-formed (y .b) (used (low-of low) (high-in xs) es) ≡ true
+  pub is-well : is-well-formed (y .b) (used (low-of low) (high-in xs) es) ≡ true
   unfolding is-well-formed
   is-well =
       let g = legal-low low (bound-legal 8 (getD xs 2 0) xs (t .lower)) in
@@ -169,15 +169,19 @@ module _ (y : Layout) (xs : List ℕ) (size : length xs ≡ 64 + entry-length y 
       let r = sym (entries-is-row (entry-length y) n (drop 64 xs) (low-of low) (high-in xs) g h k) ∙ t .rowed in
       rw (g, h, a, r, length-read-entries (entry-length y) n (drop 64 xs)) (le-leb n (y .b) (t .fits))
 
-  pub well-read : (k : Bucket) → key-value (k .low) ≡ low-value (low-in xs) → key-value (k .high) ≡ value (continued (high-in xs)) → WellRead y xs k
+  pub is-read : read-used-slot y xs ≡ some (used (low-in xs) (high-in xs) es)
   unfolding read-used-slot used-of
-  well-read k f g =
+  is-read =
       let same : same-str xs (bytes-of-slot y (used-of (entry-length y) xs)) ≡ true = ap (same-str xs) (sym is-written) ∙ same-str-self xs in
+      rw same
+
+  pub well-read : (k : Bucket) → key-value (k .low) ≡ low-value (low-in xs) → key-value (k .high) ≡ value (continued (high-in xs)) → WellRead y xs k
+  well-read k f g =
       record {
         lower = low-of low;
         upper = high-in xs;
         entries = es;
-        is = rw same;
+        is = is-read;
         well = is-well;
         low-is = f;
         high-is = g;

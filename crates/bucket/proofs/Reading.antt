@@ -1,22 +1,14 @@
 -- Bounds in their 24 bytes, and zeros.
-use Rattle.model.proofs.Prelude.{Bool, List, [], _&&_, _++_, _+_, _-_, _∙_, _∷_, _≡_, _≤_, ap, ap₂, arith, drop, drop-at, drop-drop, eqb, eqb-true, getD, le-leb, leb, leb-true, length, length-drop, length-take-le, refl, replicate, suc, sym, take, take-append-drop, take-at, take-take, true, zero, ℕ}
+use Rattle.model.proofs.Prelude.{List, [], _&&_, _++_, _+_, _-_, _∙_, _∷_, _≡_, _≤_, ap, ap₂, arith, drop, drop-at, drop-drop, eqb, eqb-true, getD, le-leb, leb, leb-true, length, length-drop, length-take-le, refl, replicate, suc, sym, take, take-append-drop, take-at, take-take, true, zero, ℕ}
 use Rattle.model.specs.Format.{digits-of-low, low-of, padded}
-use Rattle.model.specs.Order.{Low, Str}
+use Rattle.model.specs.Order.{Str}
 use Rattle.model.specs.Tests.{is-legal-bound}
 use Rattle.model.proofs.Tests.{both-true}
 use Rattle.model.proofs.Format.{padded-short}
 use Rattle.model.proofs.Lists.{drop-take}
 use Rattle.model.proofs.Names.{is-legal-bound-bound}
 use Rattle.digits.specs.Keys.{is-all-zero}
-
-unfoldable pub is-a-bound : ℕ → List ℕ → Bool
-is-a-bound len s = leb len 24 && is-legal-bound (take len s) && is-all-zero (drop len s)
-
-abbrev pub low-in : List ℕ → Low
-low-in xs = low-of (take (getD xs 2 0) (drop 8 xs))
-
-abbrev pub high-in : List ℕ → Str
-high-in xs = take (getD xs 3 0) (drop 32 xs)
+use Rattle.bucket.specs.Slots.{is-a-bound}
 
 -- A bound in its 24 bytes.
 pub record Bounded (len : ℕ) (s : List ℕ) : Type 0 where

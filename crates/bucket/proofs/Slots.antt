@@ -15,9 +15,9 @@ use Rattle.model.proofs.Format.{Contents, bytes-of-slot-read-slot, entries-read
 use Rattle.digits.specs.Keys.{continued, is-all-zero, low-value, value}
 use Rattle.entries.proofs.Products.{part-least}
 use Rattle.bucket.proofs.Layouts.{Tested, count-at-slot, entries-slot, lower-bytes-slot, upper-bytes-slot, well-tested}
-use Rattle.bucket.proofs.Reading.{are-zeros, by-bound, high-in, low-digits, low-in}
+use Rattle.bucket.proofs.Reading.{are-zeros, by-bound, low-digits}
 use Rattle.bucket.specs.Forms.{Formed, WellRead, ranged, vacant}
-use Rattle.bucket.specs.Slots.{HighTold, LowTold, count-at, lower-bytes, upper-bytes}
+use Rattle.bucket.specs.Slots.{HighTold, LowTold, count-at, high-in, low-in, lower-bytes, upper-bytes}
 use Rattle.bucket.specs.declared.Bucket.{Bucket}
 use Rattle.bucket.specs.declared.Form.the-variants.{Ill}
 use Rattle.model.proofs.Names.{is-legal-bound-bound, within-is-at-most}

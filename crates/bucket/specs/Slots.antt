@@ -1,12 +1,14 @@
 -- The size of a slot, and its parts as they are read.
-use mathlib.Core.Bool.{cond, true}
+use mathlib.Core.Bool.{Bool, _&&_, cond, true}
 use mathlib.Core.List.{List, []}
 use mathlib.Core.Path.{_≡_}
-use Prim.Native.Nat.{_*_, _+_, _-_, _<_, _≤_, ℕ}
-use lib.Dec.{ltb}
+use Prim.Native.Nat.{_*_, _+_, _-_, _≤_, ℕ}
+use lib.Dec.{leb, ltb}
 use lib.ListN.{drop, getD, length, take}
 use Rattle.model.specs.declared.Layout.{Layout}
 use Rattle.model.specs.Format.{entry-length, low-of}
+use Rattle.model.specs.Order.{Low, Str}
+use Rattle.model.specs.Tests.{is-legal-bound}
 use Rattle.digits.specs.Keys.{continued, is-all-zero, low-value, value}
 
 -- Bytes as many as a slot of this layout has.
@@ -16,6 +18,17 @@ OfSize xs y = (length xs ≡ 64 + entry-length y * y .b) × (y .b ≤ 16)
 -- A bound from `at` on, its length in byte k. A length above 24 is none that a bound has, and reads as empty.
 unfoldable pub bound-bytes-at : ℕ → ℕ → List ℕ → List ℕ
 bound-bytes-at k at xs = cond (ltb 24 (getD xs k 0)) [] (take (getD xs k 0) (drop at xs))
+
+-- The same without that limit, as a slot is read.
+abbrev pub low-in : List ℕ → Low
+low-in xs = low-of (take (getD xs 2 0) (drop 8 xs))
+
+abbrev pub high-in : List ℕ → Str
+high-in xs = take (getD xs 3 0) (drop 32 xs)
+
+-- A bound of `len` digits in its 24 bytes.
+unfoldable pub is-a-bound : ℕ → List ℕ → Bool
+is-a-bound len s = leb len 24 && is-legal-bound (take len s) && is-all-zero (drop len s)
 
 -- The ends of a slot's range, as they are told where its bounds stand there: zeros behind them, and not above 24 digits.
 abbrev pub LowTold : List ℕ → ℕ → Type 0
@@ -33,9 +46,9 @@ lower-bytes xs = bound-bytes-at 2 8 xs
 abbrev pub upper-bytes : List ℕ → List ℕ
 upper-bytes xs = bound-bytes-at 3 32 xs
 
--- The lower bound is there, and it is the upper bound of the slot before.
+-- The lower bound is the upper bound of the slot before, in its length and in all 24 bytes.
 abbrev pub Following : List ℕ → List ℕ → Type 0
-Following xs before = (0 < getD xs 2 0) × (lower-bytes xs ≡ upper-bytes before)
+Following xs before = (getD xs 2 0 ≡ getD before 3 0) × (take 24 (drop 8 xs) ≡ take 24 (drop 32 before))
 
 -- R3.3: the number of entries.
 unfoldable pub count-at : ℕ → List ℕ → ℕ

@@ -13,11 +13,13 @@ ghost use Rattle.model.specs.declared.Layout.{Layout};
 ghost use Rattle.model.specs.Tests.{is-legal-bound};
 ghost use Rattle.digits.specs.Keys.{is-all-zero, key-value};
 ghost use Rattle.bucket.specs.Copies.{CopyTold, is-upper-part};
-ghost use Rattle.bucket.specs.Forms.{Formed, is-all-clear, ranged, vacant};
-ghost use Rattle.bucket.specs.Slots.{Following, HighTold, LowTold, OfSize, count-at, lower-bytes, upper-bytes};
+ghost use Rattle.gathering.specs.Names.{Fine, Rising, names};
+ghost use Rattle.bucket.specs.Forms.{Formed, Framed, Stocked, is-all-clear, ranged, vacant};
+ghost use Rattle.bucket.specs.Slots.{Following, HighTold, LowTold, OfSize, count-at, is-a-bound, lower-bytes, upper-bytes};
 use digits::Key;
 use digits::u64_of_usize;
 use digits::usize_of_u8;
+use gathering::Seen;
 use model::Layout;
 
 // The bytes of the largest slot: 64, and 16 entries of 40.
@@ -145,15 +147,15 @@ pub fn entries_of(slot: &[u8], layout: Layout) -> &[u8]
     &slot[64..]
 }
 
-// Whether the bytes that a used slot leaves zero are zero; its entries reach to `end`.
+// Whether the bytes that a used slot leaves zero are zero; its entries reach to `end`. Bytes 4 to 7 are the upper half of the first word.
 fn is_clear(slot: &[u8], end: usize) -> bool
     requires { ⌜ (64 ≤ end) × (end ≤ length (now slot)) ⌝ }
     ensures { λ r. ⌜ r ≡ is-all-clear (now (slot .entry)) end ⌝ }
 {
-    if !digits::is_zero(&slot[4..8]) {
+    if digits::little_endian(slot, 0) >> 32 != 0 {
         return false;
     }
-    if !digits::is_zero(&slot[56..64]) {
+    if digits::little_endian(slot, 56) != 0 {
         return false;
     }
     digits::is_zero(&slot[end..])
@@ -222,14 +224,6 @@ pub fn is_used(slot: &[u8]) -> bool
     slot[0] == 1
 }
 
-// Whether it has no lower bound.
-pub fn is_lowest(slot: &[u8]) -> bool
-    requires { ⌜ 64 ≤ length (now slot) ⌝ }
-    ensures { λ r. ⌜ r ≡ eqb (getD (now (slot .entry)) 2 0) 0 ⌝ }
-{
-    slot[2] == 0
-}
-
 // Whether its upper bound is empty.
 pub fn is_highest(slot: &[u8]) -> bool
     requires { ⌜ 64 ≤ length (now slot) ⌝ }
@@ -238,18 +232,75 @@ pub fn is_highest(slot: &[u8]) -> bool
     slot[3] == 0
 }
 
-// Whether a slot's range begins where that of the slot before ends: the bytes of the two bounds are the same, all 24 of them.
+// Whether a slot's range begins where that of the slot before ends: the bytes of the two bounds are the same, all 24 of them. So the
+// lowest slot follows on the highest: both bounds are empty.
 pub fn follows(slot: &[u8], before: &[u8]) -> bool
     requires { ⌜ (64 ≤ length (now slot)) × (64 ≤ length (now before)) ⌝ }
     ensures { λ r. ⌜ (r ≡ true → Following (now (slot .entry)) (now (before .entry))) ⌝ }
 {
-    if slot[2] == 0 {
-        return false;
-    }
     if slot[2] != before[3] {
         return false;
     }
     digits::is_same(digits::key_at(slot, 8), digits::key_at(before, 32))
+}
+
+// Whether the upper bound is seen to be one. Most bounds end within the first word, and the compiler puts their test in place.
+fn is_upper(slot: &[u8]) -> bool
+    requires { ⌜ 64 ≤ length (now slot) ⌝ }
+    ensures { λ r. ⌜ (r ≡ true → is-a-bound (getD (now (slot .entry)) 3 0) (take 24 (drop 32 (now (slot .entry)))) ≡ true) ⌝ }
+{
+    let len = usize_of_u8(slot[3]);
+    let upper = &slot[32..56];
+    if len <= 8 {
+        return gathering::is_short(upper, len);
+    }
+    gathering::is_plain(upper, len)
+}
+
+// Whether a slot is used, leaves zero what it does not use, and its first and last name are between the limits.
+fn is_stocked(slot: &[u8], e: usize, b: usize, low: Key, high: Key) -> bool
+    requires { ⌜ (length (now slot) ≡ 64 + e * b) × (b ≤ 16) × (32 ≤ e) × (e ≤ 40) ⌝ }
+    ensures { λ r. ⌜ (r ≡ true → Stocked e b (now (slot .entry)) (key-value low) (key-value high)) ⌝ }
+{
+    if slot[0] != 1 {
+        return false;
+    }
+    let count = usize_of_u8(slot[1]);
+    if b < count {
+        return false;
+    }
+    let end = 64 + entries::entry_at(e, count, b);
+    if !is_clear(slot, end) {
+        return false;
+    }
+    entries::are_between(&slot[64..], e, count, low, high)
+}
+
+// Whether a slot is seen to be a well-formed one behind another in range order, but for its names, which `with_names` gathers: its
+// range reaches from low, where that of the slot before ends, to high. So its lower bound needs no test of its own.
+pub fn is_framed(slot: &[u8], layout: Layout, before: &[u8], low: Key, high: Key) -> bool
+    requires { ⌜ (OfSize (now slot) layout) × (64 ≤ length (now before)) ⌝ }
+    ensures { λ r. ⌜ (r ≡ true → Framed (entry-length layout) (layout .b) (now (slot .entry)) (now (before .entry)) (key-value low) (key-value high)) ⌝ }
+{
+    if !follows(slot, before) {
+        return false;
+    }
+    if !is_upper(slot) {
+        return false;
+    }
+    if !is_stocked(slot, entry_size(layout), layout.b, low, high) {
+        return false;
+    }
+    digits::is_below(low, high)
+}
+
+// Gathers the names of a slot.
+pub fn with_names(seen: Seen, slot: &[u8], layout: Layout) -> Seen
+    requires { ⌜ OfSize (now slot) layout ⌝ }
+    ensures { λ r. ⌜ (Fine r → Fine seen × Rising 0 (names (entry-length layout) (count-at (layout .b) (now (slot .entry))) (drop 64 (now (slot .entry))))) ⌝ }
+{
+    let entries = entries_of(slot, layout);
+    gathering::with_names(seen, entries, entry_size(layout), count_of(slot, layout.b))
 }
 
 // A number below 256 made of the 24 bytes of a bound; it serves to guess where the bound stands.

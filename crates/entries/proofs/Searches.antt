@@ -1,12 +1,12 @@
 -- What the code counts and finds in entries of e bytes, entry by entry: going down for a name and for a string, and which rows of names pass.
-use Rattle.model.proofs.Prelude.{Bool, List, [], _&&_, _*_, _++_, _+_, _-_, _<_, _∙_, _∷_, _≡_, _≤_, and-false, ap, arith, drop, drop-drop, eqb, false, le-ltb, length, lt-ltb, ltb, ltb-true, not, nothing, refl, some, suc, take, true, zero, ℕ}
+use Rattle.model.proofs.Prelude.{Bool, List, [], _&&_, _*_, _++_, _+_, _-_, _<_, _∙_, _∷_, _≡_, _≤_, ap, arith, drop, drop-drop, eqb, eqb-false, eqb-true, false, le-ltb, length, lt-ltb, ltb, ltb-true, not, nothing, refl, some, suc, sym, take, true, zero, ℕ}
 use Rattle.model.specs.Tests.{is-legal-filled}
 use native.Mathlib.Nat.{mul-zero}
 use Rattle.model.specs.Format.{value-of}
 use Rattle.model.proofs.Tests.{both-true}
 use Rattle.digits.specs.Keys.{value}
-use Rattle.gathering.specs.Names.{Rising, last-value, names}
-use Rattle.entries.specs.Rows.{are-entries, below, held-at, is-not-above, values}
+use Rattle.gathering.specs.Names.{Rising, names}
+use Rattle.entries.specs.Rows.{are-between, are-entries, below, held-at, is-not-above, values}
 use Rattle.entries.proofs.Products.{next-is}
 
 -- The number behind the others decides first.
@@ -86,11 +86,13 @@ module _ (e i j : ℕ) (xs : List ℕ) (count v : ℕ) (q : i ≡ j) where
   unfolding held-at
   held-here h t = rw (← q, lt-ltb i count h, t)
 
--- The test of the names: those of a row that rises pass where the last is not above the upper limit, and no others.
-rising-entries : (e n : ℕ) (xs : List ℕ) (last high : ℕ) → Rising last (names e n xs) → are-entries e n xs last high ≡ not (ltb high (last-value last (names e n xs)))
+-- The test of the names: a row that rises passes by its ends, and no other row passes.
+rising-entries : (e n : ℕ) (xs : List ℕ) (last high : ℕ) → Rising last (names e (suc n) xs) → are-entries e (suc n) xs last high ≡ not (ltb high (value (take 24 (drop (e * n) xs))))
 unfolding are-entries names
-rising-entries e zero xs last high r = refl
-rising-entries e (suc n) xs last high r = rw (r .0, lt-ltb last (value (take 24 xs)) (r .1)) (rising-entries e n (drop e xs) (value (take 24 xs)) high (r .2))
+rising-entries e zero xs last high r = rw (r .0, lt-ltb last (value (take 24 xs)) (r .1), mul-zero e)
+rising-entries e (suc n) xs last high r =
+    rw (r .0, lt-ltb last (value (take 24 xs)) (r .1)) (rising-entries e n (drop e xs) (value (take 24 xs)) high (r .2)
+    ∙ ap (λ (ys : List ℕ). not (ltb high (value (take 24 ys)))) (drop-next e n xs))
 
 entries-rising : (e n : ℕ) (xs : List ℕ) (last high : ℕ) → are-entries e n xs last high ≡ true → Rising last (names e n xs)
 unfolding are-entries names
@@ -101,31 +103,55 @@ entries-rising e (suc n) xs last high h =
     let q = both-true (is-legal-filled x) (ltb last (value x)) (p .0) in
     (q .0, ltb-true last (value x) (q .1), entries-rising e n (drop e xs) (value x) high (p .1))
 
-pub entries-none : (e count : ℕ) (xs : List ℕ) (low high : ℕ) → count ≡ 0 → are-entries e count xs low high ≡ not (ltb high low)
-unfolding are-entries
-entries-none e count xs low high z = rw z
-
-pub entries-low : (e count : ℕ) (xs : List ℕ) (low high : ℕ) → 0 < count → ltb low (value (take 24 xs)) ≡ false → are-entries e count xs low high ≡ false
-unfolding are-entries
-entries-low e zero xs low high h t = absurd (omega arith)
-entries-low e (suc n) xs low high h t = rw (t, and-false (is-legal-filled (take 24 xs)))
-
 lowered : (e n : ℕ) (xs : List ℕ) (low : ℕ) → Rising low (names e n xs) → Rising 0 (names e n xs)
 unfolding names
 lowered e zero xs low r = tt
 lowered e (suc n) xs low r = (r .0, omega (arith, r .1), r .2)
 
-pub entries-faulty : (e count : ℕ) (xs : List ℕ) (low high : ℕ) → (Rising 0 (names e count xs) → ⊥) → are-entries e count xs low high ≡ false
+entries-faulty : (e count : ℕ) (xs : List ℕ) (low high : ℕ) → (Rising 0 (names e count xs) → ⊥) → are-entries e count xs low high ≡ false
 entries-faulty e count xs low high n = go (are-entries e count xs low high) refl
   where
     go : (b : Bool) → are-entries e count xs low high ≡ b → b ≡ false
     go true h = absurd (n (lowered e count xs low (entries-rising e count xs low high h)))
     go false h = refl
 
-pub entries-all : (e count : ℕ) (xs : List ℕ) (low high : ℕ) → 0 < count → ltb low (value (take 24 xs)) ≡ true → Rising 0 (names e count xs)
-    → are-entries e count xs low high ≡ not (ltb high (last-value 0 (names e count xs)))
-unfolding names
-entries-all e zero xs low high h t r = absurd (omega arith)
-entries-all e (suc n) xs low high h t r =
-    let s : Rising low (names e (suc n) xs) = (r .0, ltb-true low (value (take 24 xs)) t, r .2) in
-    rising-entries e (suc n) xs low high s
+pub entries-ends : (e count : ℕ) (xs : List ℕ) (low high : ℕ) → Rising 0 (names e count xs) → are-entries e count xs low high ≡ are-between e count xs low high
+unfolding are-entries are-between names
+entries-ends e zero xs low high r = refl
+entries-ends e (suc n) xs low high r = go (ltb low (value (take 24 xs))) refl
+  where
+    go : (b : Bool) → ltb low (value (take 24 xs)) ≡ b
+        → are-entries e (suc n) xs low high ≡ (ltb low (value (take 24 xs)) && not (ltb high (value (take 24 (drop (e * n) xs)))))
+    go true t = rising-entries e n xs low high (r .0, ltb-true low (value (take 24 xs)) t, r .2) ∙ rw t
+    go false t = rw (r .0, t)
+
+-- A row that passes passes by its ends.
+pub ends-faulty : (e count : ℕ) (xs : List ℕ) (low high : ℕ) → are-between e count xs low high ≡ false → are-entries e count xs low high ≡ false
+ends-faulty e count xs low high f = go (are-entries e count xs low high) refl
+  where
+    go : (b : Bool) → are-entries e count xs low high ≡ b → b ≡ false
+    go true h = let r = lowered e count xs low (entries-rising e count xs low high h) in sym h ∙ entries-ends e count xs low high r ∙ f
+    go false h = refl
+
+-- The code's test: f is 0 exactly where the row rises.
+pub entries-tested : (e count : ℕ) (xs : List ℕ) (low high f : ℕ) → are-between e count xs low high ≡ true → (f ≡ 0 → Rising 0 (names e count xs)) → (Rising 0 (names e count xs) → f ≡ 0)
+    → eqb f 0 ≡ are-entries e count xs low high
+entries-tested e count xs low high f t rises none = go (eqb f 0) refl
+  where
+    go : (b : Bool) → eqb f 0 ≡ b → b ≡ are-entries e count xs low high
+    go true z = sym (entries-ends e count xs low high (rises (eqb-true f 0 z)) ∙ t)
+    go false z = sym (entries-faulty e count xs low high (λ r. eqb-false f 0 z (none r)))
+
+-- The ends, as the code reads them.
+module _ (e count : ℕ) (xs : List ℕ) (low high : ℕ) where
+  pub between-none : count ≡ 0 → not (ltb high low) ≡ are-between e count xs low high
+  unfolding are-between
+  between-none z = rw z
+
+  pub between-low : (n : ℕ) → count ≡ suc n → ltb low (value (take 24 xs)) ≡ false → false ≡ are-between e count xs low high
+  unfolding are-between
+  between-low n z t = rw (z, t)
+
+  pub between-high : (n : ℕ) → count ≡ suc n → ltb low (value (take 24 xs)) ≡ true → not (ltb high (value (take 24 (drop (e * n) xs)))) ≡ are-between e count xs low high
+  unfolding are-between
+  between-high n z t = rw (z, t)

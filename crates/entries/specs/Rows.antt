@@ -86,6 +86,11 @@ are-entries e zero xs last high = not (ltb high last)
 are-entries e (suc n) xs last high =
     is-legal-filled (take 24 xs) && ltb last (value (take 24 xs)) && are-entries e n (drop e xs) (value (take 24 xs)) high
 
+-- The ends alone: the first name is above `low`, the last not above `high`.
+unfoldable pub are-between : ℕ → ℕ → List ℕ → ℕ → ℕ → Bool
+are-between e zero xs low high = not (ltb high low)
+are-between e (suc n) xs low high = ltb low (value (take 24 xs)) && not (ltb high (value (take 24 (drop (e * n) xs))))
+
 -- The bytes of the entries from one place on to another, and from one name to another.
 unfoldable pub entries-from : ℕ → ℕ → ℕ → List ℕ → List ℕ
 entries-from e i j xs = take (e * (j - i)) (drop (e * i) xs)

@@ -13,7 +13,7 @@ ghost use Rattle.model.specs.Tests.{same-str};
 ghost use Rattle.model.specs.Format.{bytes-of-entry, little-endian, padded, value-of};
 ghost use Rattle.model.proofs.Format.{EntrySize};
 ghost use Rattle.digits.specs.Keys.{key-value};
-ghost use Rattle.entries.specs.Rows.{Stands, Valued, Whole, are-among, are-entries, below, content-number, entries-from, held-number, held-under, is-at, is-not-above, part-in-between, pieces, room, spliced-bytes, values};
+ghost use Rattle.entries.specs.Rows.{Stands, Valued, Whole, are-among, are-between, are-entries, below, content-number, entries-from, held-number, held-under, is-at, is-not-above, part-in-between, pieces, room, spliced-bytes, values};
 use digits::Key;
 
 // The most bytes that the entries of one bucket and one more have: 17 of 40.
@@ -79,10 +79,10 @@ pub fn not_above(entries: &[u8], e: usize, count: usize, string: Key) -> usize
     0
 }
 
-// Names are legal, strictly ascending and in the range: the first is above the lower limit, the last not above the upper one.
-pub fn are_entries(entries: &[u8], e: usize, count: usize, low: Key, high: Key) -> bool
-    requires { ⌜ (e * count ≤ length (now entries)) × (count ≤ 17) × (32 ≤ e) × (e ≤ 40) ⌝ }
-    ensures { λ r. ⌜ r ≡ are-entries e count (now (entries .entry)) (key-value low) (key-value high) ⌝ }
+// The ends of a row of names: the first is above the lower limit, the last not above the upper one.
+pub fn are_between(entries: &[u8], e: usize, count: usize, low: Key, high: Key) -> bool
+    requires { ⌜ (e * count ≤ length (now entries)) × (count ≤ 17) × (24 ≤ e) × (e ≤ 40) ⌝ }
+    ensures { λ r. ⌜ r ≡ are-between e count (now (entries .entry)) (key-value low) (key-value high) ⌝ }
 {
     if count == 0 {
         return !digits::is_below(high, low);
@@ -90,11 +90,20 @@ pub fn are_entries(entries: &[u8], e: usize, count: usize, low: Key, high: Key) 
     if !digits::is_below(low, digits::key_at(entries, 0)) {
         return false;
     }
-    let seen = gathering::seen_of(entries, e, count);
-    if gathering::faults(seen) != 0 {
+    let last = whole_at(e, count - 1, count);
+    !digits::is_below(high, digits::key_at(entries, last))
+}
+
+// Names are legal, strictly ascending and in the range.
+pub fn are_entries(entries: &[u8], e: usize, count: usize, low: Key, high: Key) -> bool
+    requires { ⌜ (e * count ≤ length (now entries)) × (count ≤ 17) × (32 ≤ e) × (e ≤ 40) ⌝ }
+    ensures { λ r. ⌜ r ≡ are-entries e count (now (entries .entry)) (key-value low) (key-value high) ⌝ }
+{
+    if !are_between(entries, e, count, low, high) {
         return false;
     }
-    !digits::is_below(high, seen.last)
+    let seen = gathering::with_names(gathering::nothing_seen(), entries, e, count);
+    gathering::faults(seen) == 0
 }
 
 // The content of entry i of so many.

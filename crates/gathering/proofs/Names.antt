@@ -1,5 +1,5 @@
 -- What gathering keeps: one name more, and the whole row, read in both directions.
-use Rattle.model.proofs.Prelude.{List, [], _&&_, _*_, _+_, _-_, _/_, _<_, _^_, _∙_, _∷_, _≡_, _≤_, _⊎_, ap, arith, drop, drop-cons, drop-drop, eqb, getD, getD-drop, getD-replicate, getD-set-other, getD-set-same, getD-take, length, not, refl, replicate, set, suc, sym, take, true, zero, ℕ, ℕ-discrete, ⊎-elim}
+use Rattle.model.proofs.Prelude.{List, [], _&&_, _*_, _+_, _-_, _/_, _<_, _^_, _∙_, _∷_, _≡_, _≤_, _⊎_, arith, drop, drop-cons, drop-drop, eqb, getD, getD-drop, getD-replicate, getD-set-other, getD-set-same, getD-take, length, not, refl, replicate, set, suc, sym, take, true, zero, ℕ, ℕ-discrete, ⊎-elim}
 use Rattle.model.specs.Order.{first-digit}
 use Rattle.model.specs.Tests.{are-digits, is-blank-digit, is-legal-filled}
 use native.Mathlib.Nat.{mul-suc}
@@ -11,7 +11,7 @@ use Rattle.digits.specs.declared.Key.{Key}
 use Rattle.digits.specs.Keys.{key-value, value}
 use Rattle.digits.proofs.Keys.{bytes-part, length-part, value-lt}
 use Rattle.digits.proofs.Laws.{filled-name}
-use Rattle.gathering.specs.Names.{Clean, Rising, Small, WordsAt, last-value, names}
+use Rattle.gathering.specs.Names.{Clean, Rising, Small, WordsAt, names}
 
 -- The first i bytes from `at` on are gathered.
 pub record Grown (s : List ℕ) (at i : ℕ) (most₀ least₀ most least : List ℕ) : Type 0 where
@@ -154,13 +154,12 @@ module _ {s : List ℕ} {at i : ℕ} (most₀ least₀ most least : List ℕ) (G
   }
 
 -- The row as far as it is gathered: what is left of it, above the last name, is as good as the whole.
-pub record Held (s : List ℕ) (e count : ℕ) (most least : List ℕ) (ascents : ℕ) (last : Key) (at left : ℕ) : Type 0 where
-  pub sound : Clean most least ascents → Small last × (Rising (key-value last) (names e left (drop at s)) → Rising 0 (names e count s))
-  pub complete : Rising 0 (names e count s) → Clean most least ascents × Small last × Rising (key-value last) (names e left (drop at s))
-  pub ends : last-value (key-value last) (names e left (drop at s)) ≡ last-value 0 (names e count s)
-  pub lowest : (j : ℕ) → getD least j 0 ≤ 0x7D
+pub record Held (s : List ℕ) (e count : ℕ) (most₀ least₀ : List ℕ) (ascents₀ : ℕ) (most least : List ℕ) (ascents : ℕ) (last : Key) (at left : ℕ) : Type 0 where
+  pub sound : Clean most least ascents → Clean most₀ least₀ ascents₀ × Small last × (Rising (key-value last) (names e left (drop at s)) → Rising 0 (names e count s))
+  pub complete : Clean most₀ least₀ ascents₀ → Rising 0 (names e count s) → Clean most least ascents × Small last × Rising (key-value last) (names e left (drop at s))
+  pub under : (j : ℕ) → getD least j 0 ≤ getD least₀ j 0
 
-clean-start : Clean (replicate 32 0) (replicate 32 0x7D) 18446744073709551615
+pub clean-start : Clean (replicate 32 0) (replicate 32 0x7D) 18446744073709551615
 clean-start = record {
   above = λ j h. omega (arith, getD-replicate {A = ℕ} 32 j 0 0 (omega arith));
   under = λ j h. omega (arith, getD-replicate {A = ℕ} 32 j 0x7D 0 (omega arith));
@@ -168,55 +167,54 @@ clean-start = record {
   rising = omega arith;
 }
 
-replicate-most : (n c j : ℕ) → getD (replicate n c) j 0 ≤ c
+pub replicate-most : (n c j : ℕ) → getD (replicate n c) j 0 ≤ c
 replicate-most zero c j = omega arith
 replicate-most (suc n) c zero = omega arith
 replicate-most (suc n) c (suc j) = replicate-most n c j
 
-pub held-none : (s : List ℕ) (e count : ℕ) → Held s e count (replicate 32 0) (replicate 32 0x7D) 18446744073709551615 (record { a = 0; b = 0; c = 0 }) 0 count
+pub held-none : (s : List ℕ) (e count : ℕ) (most least : List ℕ) (ascents : ℕ) → Held s e count most least ascents most least ascents (record { a = 0; b = 0; c = 0 }) 0 count
 unfolding key-value
-held-none s e count =
+held-none s e count most least ascents =
     let S : Small (record { a = 0; b = 0; c = 0 }) = record { first = omega arith; second = omega arith; third = omega arith } in
     record {
-      sound = λ C. (S, λ R. R);
-      complete = λ R. (clean-start, S, R);
-      ends = refl;
-      lowest = replicate-most 32 0x7D;
+      sound = λ C. (C, S, λ R. R);
+      complete = λ C R. (C, S, R);
+      under = λ j. omega arith;
     }
 
 pub left-entry : (e left : ℕ) → 0 < left → e * left ≡ e + e * (left - 1)
 left-entry e zero h = absurd (omega arith)
 left-entry e (suc n) h = let q : suc n - 1 ≡ n = omega arith in rw q (omega (arith, mul-suc e n))
 
-pub held-all : (s : List ℕ) (e count : ℕ) (most least : List ℕ) (ascents : ℕ) (last : Key) (at left : ℕ) → left ≡ 0 → Held s e count most least ascents last at left
-    → (Clean most least ascents → Rising 0 (names e count s)) × (Rising 0 (names e count s) → Clean most least ascents)
-    × ((j : ℕ) → getD least j 0 ≤ 0x7D) × (key-value last ≡ last-value 0 (names e count s))
-unfolding names
-held-all s e count most least ascents last at zero z H = (λ C. H .sound C .1 tt, λ R. H .complete R .0, H .lowest, H .ends)
-held-all s e count most least ascents last at (suc n) z H = absurd (omega arith)
+module _ (s : List ℕ) (e count : ℕ) (most₀ least₀ : List ℕ) (ascents₀ : ℕ) where
+  pub held-all : (most least : List ℕ) (ascents : ℕ) (last : Key) (at left : ℕ) → left ≡ 0 → Held s e count most₀ least₀ ascents₀ most least ascents last at left
+      → (Clean most least ascents → Clean most₀ least₀ ascents₀ × Rising 0 (names e count s)) × (Clean most₀ least₀ ascents₀ → Rising 0 (names e count s) → Clean most least ascents)
+      × (((j : ℕ) → getD least₀ j 0 ≤ 0x7D) → (j : ℕ) → getD least j 0 ≤ 0x7D)
+  unfolding names
+  held-all most least ascents last at zero z H = (λ C. (H .sound C .0, H .sound C .2 tt), λ C R. H .complete C R .0, λ f j. omega (arith, f j, H .under j))
+  held-all most least ascents last at (suc n) z H = absurd (omega arith)
 
-pub held-next : (s : List ℕ) (e count : ℕ) (most₀ least₀ : List ℕ) (ascents : ℕ) (last : Key) (at left i : ℕ) (most least : List ℕ) (name : Key) (up : ℕ)
-    → Held s e count most₀ least₀ ascents last at left → 0 < left → at + 24 ≤ length s → ((i : ℕ) → getD s i 0 < 256) → ascents < 2 ^ 64 → up < 2 ^ 64
-    → Grown s at i most₀ least₀ most least → 24 ≤ i → WordsAt name at s
-    → (Small last → Small name → (2 ^ 63 ≤ up → key-value last < key-value name) × (key-value last < key-value name → 2 ^ 63 ≤ up))
-    → Held s e count most least (bitAnd ascents up) name (at + e) (left - 1)
-unfolding names
-held-next s e count most₀ least₀ ascents last at zero i most least name up H l room bytes fa fu G h W f = absurd (omega arith)
-held-next s e count most₀ least₀ ascents last at (suc n) i most least name up H l room bytes fa fu G h W f =
-    let m : suc n - 1 ≡ n = omega arith in
-    let v : value (take 24 (drop at s)) ≡ key-value name = sym (W .whole) in
-    let d : drop (at + e) s ≡ drop e (drop at s) = sym (drop-drop e at s) in
-    rw m record {
-      sound = λ C.
-          let p = clean-parts most₀ least₀ most least G h ascents up C in
-          let t = H .sound (p .0) in
-          let S = name-small s at room bytes W (p .1) in
-          (S, λ R. t .1 (name-legal s at room (p .1), rw v (f (t .0) S .0 (p .2)), rw v (rw d at R)));
-      complete = λ R.
-          let t = H .complete R in
-          let N = legal-name s at room (t .2 .0) in
-          let S = name-small s at room bytes W N in
-          (clean-both most₀ least₀ most least G h ascents up fa fu (t .0) N (f (t .1) S .1 (rw v at (t .2 .1))), S, rw d (rw v at (t .2 .2)));
-      ends = rw d (ap (λ (k : ℕ). last-value k (names e n (drop e (drop at s)))) (sym v) ∙ H .ends);
-      lowest = λ j. omega (arith, G .under-before j, H .lowest j);
-    }
+  pub held-next : (most₁ least₁ : List ℕ) (ascents : ℕ) (last : Key) (at left i : ℕ) (most least : List ℕ) (name : Key) (up : ℕ)
+      → Held s e count most₀ least₀ ascents₀ most₁ least₁ ascents last at left → 0 < left → at + 24 ≤ length s → ((i : ℕ) → getD s i 0 < 256) → ascents < 2 ^ 64 → up < 2 ^ 64
+      → Grown s at i most₁ least₁ most least → 24 ≤ i → WordsAt name at s
+      → (Small last → Small name → (2 ^ 63 ≤ up → key-value last < key-value name) × (key-value last < key-value name → 2 ^ 63 ≤ up))
+      → Held s e count most₀ least₀ ascents₀ most least (bitAnd ascents up) name (at + e) (left - 1)
+  unfolding names
+  held-next most₁ least₁ ascents last at zero i most least name up H l room bytes fa fu G h W f = absurd (omega arith)
+  held-next most₁ least₁ ascents last at (suc n) i most least name up H l room bytes fa fu G h W f =
+      let m : suc n - 1 ≡ n = omega arith in
+      let v : value (take 24 (drop at s)) ≡ key-value name = sym (W .whole) in
+      let d : drop (at + e) s ≡ drop e (drop at s) = sym (drop-drop e at s) in
+      rw m record {
+        sound = λ C.
+            let p = clean-parts most₁ least₁ most least G h ascents up C in
+            let t = H .sound (p .0) in
+            let S = name-small s at room bytes W (p .1) in
+            (t .0, S, λ R. t .2 (name-legal s at room (p .1), rw v (f (t .1) S .0 (p .2)), rw v (rw d at R)));
+        complete = λ C R.
+            let t = H .complete C R in
+            let N = legal-name s at room (t .2 .0) in
+            let S = name-small s at room bytes W N in
+            (clean-both most₁ least₁ most least G h ascents up fa fu (t .0) N (f (t .1) S .1 (rw v at (t .2 .1))), S, rw d (rw v at (t .2 .2)));
+        under = λ j. omega (arith, G .under-before j, H .under j);
+      }

@@ -20,11 +20,6 @@ abbrev pub Rising : ℕ → List Str → Type 0
 Rising low [] = Unit {0}
 Rising low (x ∷ xs) = (is-legal-filled x ≡ true) × (low < value x) × Rising (value x) xs
 
--- The number of the last name, or low where there is none.
-abbrev pub last-value : ℕ → List Str → ℕ
-last-value low [] = low
-last-value low (x ∷ xs) = last-value (value x) xs
-
 -- A key with the highest bit of no word set.
 pub record Small (k : Key) : Type 0 where
   pub first : k .a < 2 ^ 63

@@ -1,5 +1,5 @@
-// The names of a row of entries, tested together: the largest and the smallest byte at each place are gathered, and in one bit
-// whether the names ascend. The test of what was gathered is exact, and costs the same for one name and for sixteen.
+// The names of rows of entries, tested together: the largest and the smallest byte at each place are gathered, and in one bit
+// whether the names of each row ascend. The test of what was gathered is exact, and costs the same for one name and for a thousand.
 ghost use mathlib.Core.Bool.{_&&_, true};
 ghost use mathlib.Core.Path.{_≡_};
 ghost use Prim.Native.Nat.{_≤_, _<_, _+_, _*_, _-_, _^_, ℕ};
@@ -10,20 +10,18 @@ ghost use Rattle.model.specs.Format.{value-of};
 ghost use Rattle.model.specs.Order.{Str};
 ghost use Rattle.model.specs.Tests.{is-legal-bound};
 ghost use Rattle.digits.specs.Keys.{is-all-zero, key-value};
-ghost use Rattle.gathering.specs.Names.{AreLow, BoundIn, Fine, Lowest, Rising, Small, WordsAt, last-value, names};
+ghost use Rattle.gathering.specs.Names.{AreLow, BoundIn, Fine, Lowest, Rising, Small, WordsAt, names};
 use digits::Key;
 
 const BLANKS: u64 = 0x2020_2020_2020_2020;
 
 const HIGH: u64 = 0x8080_8080_8080_8080;
 
-// What is gathered: the largest and the smallest byte at each place, whether all names ascend, in the highest bit, and the last
-// name.
+// What is gathered: the largest and the smallest byte at each place, and whether all names ascend, in the highest bit.
 pub struct Seen {
     pub most: [u8; 32],
     pub least: [u8; 32],
     pub ascents: u64,
-    pub last: Key,
 }
 
 fn smaller(x: u8, y: u8) -> u8
@@ -66,16 +64,27 @@ fn name_at(s: &[u8], at: usize) -> Key
     }
 }
 
-// Gathers the names of `count` entries of e bytes each. The compiler keeps the two arrays in four registers, since they have 32
-// bytes, eight of them behind the name, and since both loops are in one function.
-pub fn seen_of(s: &[u8], e: usize, count: usize) -> Seen
-    requires { ⌜ (32 ≤ e) × (e * count ≤ length (now s)) ⌝ }
-    ensures { λ r. ⌜ (Fine r → Rising 0 (names e count (now (s .entry)))) × (Rising 0 (names e count (now (s .entry))) → Fine r)
-        × Lowest r × (key-value (r .last) ≡ last-value 0 (names e count (now (s .entry)))) ⌝ }
+// Nothing is gathered yet.
+pub fn nothing_seen() -> Seen
+    ensures { λ r. ⌜ Fine r × Lowest r ⌝ }
 {
-    let mut most = [0u8; 32];
-    let mut least = [0x7Du8; 32];
-    let mut ascents = 0xFFFF_FFFF_FFFF_FFFFu64;
+    Seen {
+        most: [0u8; 32],
+        least: [0x7Du8; 32],
+        ascents: 0xFFFF_FFFF_FFFF_FFFFu64,
+    }
+}
+
+// Gathers the names of a row: `count` entries of e bytes each. The compiler keeps the two arrays in four registers, since they
+// have 32 bytes, eight of them behind the name, and since both loops are in one function.
+pub fn with_names(seen: Seen, s: &[u8], e: usize, count: usize) -> Seen
+    requires { ⌜ (32 ≤ e) × (e * count ≤ length (now s)) ⌝ }
+    ensures { λ r. ⌜ (Fine r → Fine seen × Rising 0 (names e count (now (s .entry)))) × (Fine seen → Rising 0 (names e count (now (s .entry))) → Fine r)
+        × (Lowest seen → Lowest r) ⌝ }
+{
+    let mut most = seen.most;
+    let mut least = seen.least;
+    let mut ascents = seen.ascents;
     let mut last = Key { a: 0, b: 0, c: 0 };
     let mut at = 0usize;
     let mut left = count;
@@ -96,7 +105,6 @@ pub fn seen_of(s: &[u8], e: usize, count: usize) -> Seen
         most,
         least,
         ascents,
-        last,
     }
 }
 
@@ -150,44 +158,44 @@ fn part_faults(s: &[u8], at: usize, k: usize) -> u64
     behind | above | (std::num::wrapping_sub_u64(v, BLANKS) & HIGH)
 }
 
-// 0 where a bound of at most 8 digits stands in 24 bytes, with zeros behind it.
-fn short_faults(s: &[u8], len: usize) -> u64
+// Whether a bound of at most 8 digits is seen to stand in these 24 bytes, with zeros behind it; nothing is promised of a no.
+pub fn is_short(s: &[u8], len: usize) -> bool
     requires { ⌜ (length (now s) ≡ 24) × (len ≤ 8) ⌝ }
-    ensures { λ r. ⌜ (r ≡ 0 → BoundIn len (now (s .entry))) ⌝ }
+    ensures { λ r. ⌜ (r ≡ true → BoundIn len (now (s .entry))) ⌝ }
 {
-    part_faults(s, 0, len) | digits::little_endian(s, 8) | digits::little_endian(s, 16)
+    part_faults(s, 0, len) | digits::little_endian(s, 8) | digits::little_endian(s, 16) == 0
 }
 
 // One of 8 to 16.
-fn middle_faults(s: &[u8], len: usize) -> u64
+fn is_middle(s: &[u8], len: usize) -> bool
     requires { ⌜ (length (now s) ≡ 24) × (8 ≤ len) × (len ≤ 16) ⌝ }
-    ensures { λ r. ⌜ (r ≡ 0 → BoundIn len (now (s .entry))) ⌝ }
+    ensures { λ r. ⌜ (r ≡ true → BoundIn len (now (s .entry))) ⌝ }
 {
-    part_faults(s, 0, 8) | part_faults(s, 8, len - 8) | digits::little_endian(s, 16)
+    part_faults(s, 0, 8) | part_faults(s, 8, len - 8) | digits::little_endian(s, 16) == 0
 }
 
 // One of 16 to 24.
-fn long_faults(s: &[u8], len: usize) -> u64
+fn is_long(s: &[u8], len: usize) -> bool
     requires { ⌜ (length (now s) ≡ 24) × (16 ≤ len) × (len ≤ 24) ⌝ }
-    ensures { λ r. ⌜ (r ≡ 0 → BoundIn len (now (s .entry))) ⌝ }
+    ensures { λ r. ⌜ (r ≡ true → BoundIn len (now (s .entry))) ⌝ }
 {
-    part_faults(s, 0, 8) | part_faults(s, 8, 8) | part_faults(s, 16, len - 16)
+    part_faults(s, 0, 8) | part_faults(s, 8, 8) | part_faults(s, 16, len - 16) == 0
 }
 
-// Whether these 24 bytes are seen to be a bound of `len` digits; nothing is promised of a no.
+// Whether these 24 bytes are seen to be a bound of `len` digits.
 pub fn is_plain(s: &[u8], len: usize) -> bool
     requires { ⌜ length (now s) ≡ 24 ⌝ }
     ensures { λ r.
         ⌜ (r ≡ true → (leb len 24 && is-legal-bound (take len (now (s .entry))) && is-all-zero (drop len (now (s .entry)))) ≡ true) ⌝ }
 {
     if len <= 8 {
-        return short_faults(s, len) == 0;
+        return is_short(s, len);
     }
     if len <= 16 {
-        return middle_faults(s, len) == 0;
+        return is_middle(s, len);
     }
     if len <= 24 {
-        return long_faults(s, len) == 0;
+        return is_long(s, len);
     }
     false
 }

@@ -8,25 +8,23 @@ ghost use lib.ListN.{length};
 ghost use Rattle.file.specs.Sizes.{Sized};
 ghost use Rattle.file.specs.Surveys.{Surveyed};
 ghost use Rattle.surveying.specs.Rows.{TallyTold};
-use bucket::Form;
 use bucket::Vacancy;
-use digits::usize_of_u32;
 use file::Kind;
 use file::Size;
 use file::Survey;
 
 mod row;
 
-// The used slots as a map, where each slot is free or well formed.
+// The used slots as a map, where each slot is free or stands in the order.
 pub enum Tally {
     Well(u64),
     Ill,
 }
 
-// Each slot on its own, from the last to the first.
-fn tally_of(file: &[u8], size: Size) -> Tally
-    requires { ⌜ Sized (length (now file)) size ⌝ }
-    ensures { λ r. ⌜ TallyTold r (now (file .entry)) size ⌝ }
+// Each slot, from the last to the first.
+fn tally_of(file: &[u8], size: Size, order: &[u8; 64], count: usize, places: &[u8; 64]) -> Tally
+    requires { ⌜ (Sized (length (now file)) size) × (count ≤ 64) × (length (now order) ≡ 64) ⌝ }
+    ensures { λ r. ⌜ TallyTold r (now (file .entry)) size (now (order .entry)) count ⌝ }
 {
     let mut used = 0u64;
     let mut k = size.slots;
@@ -39,10 +37,9 @@ fn tally_of(file: &[u8], size: Size) -> Tally
                 used = file::with_next(used, 0);
             }
             Vacancy::Taken => {
-                let form = bucket::form_of(slot, size.layout);
-                let Form::Well(_) = form else {
+                if !row::is_placed(order, count, places, k) {
                     return Tally::Ill;
-                };
+                }
                 used = file::with_next(used, 1);
             }
         }
@@ -50,30 +47,19 @@ fn tally_of(file: &[u8], size: Size) -> Tally
     Tally::Well(used)
 }
 
-// How many slots a map has.
-fn count_of(used: u64) -> usize
-    ensures { λ r. ⌜ r ≤ 64 ⌝ }
-{
-    usize_of_u32(u64::count_ones(used))
-}
-
 // The whole file.
 pub fn survey_of(file: &[u8], size: Size) -> Survey
     requires { ⌜ Sized (length (now file)) size ⌝ }
     ensures { λ r. ⌜ Surveyed r (now (file .entry)) size ⌝ }
 {
-    let Tally::Well(used) = tally_of(file, size) else {
-        return file::survey_of(file, size);
-    };
-    let count = count_of(used);
-    let guess = row::guessed(file, size, count);
+    let guess = row::guessed(file, size);
     let order = guess.order;
     let places = guess.places;
-    if !row::is_row(file, size, &order, count) {
+    if !row::is_row(file, size, &order, guess.count) {
         return file::survey_of(file, size);
     }
-    if !row::is_all(file, size, &order, count, &places) {
+    let Tally::Well(used) = tally_of(file, size, &order, guess.count, &places) else {
         return file::survey_of(file, size);
-    }
-    file::found(Kind::Sound, used, count, &order, 0)
+    };
+    file::found(Kind::Sound, used, guess.count, &order, 0)
 }

@@ -1,13 +1,10 @@
 // A guess of the range order, and the check of it. The guess is trusted for nothing but that its numbers are slots.
 ghost use mathlib.Core.Bool.{true};
-ghost use mathlib.Core.List.{List, List·Memᴰ};
 ghost use mathlib.Core.Path.{_≡_};
 ghost use Prim.Native.Nat.{ℕ, _≤_, _<_};
-ghost use lib.ListN.{length, take};
-ghost use Rattle.model.specs.Order.{none};
-ghost use Rattle.model.specs.Files.{Chain, IsUsed, Slot, head, ranges, slot-at};
+ghost use lib.ListN.{getD, length};
 ghost use Rattle.file.specs.Sizes.{Sized, Below};
-ghost use Rattle.surveying.specs.Rows.{Begins, Ends, Links, Seen};
+ghost use Rattle.surveying.specs.Rows.{AllFramed, AllNamed, Rowed};
 use digits::u8_of_usize;
 use digits::usize_of_u8;
 use file::Size;
@@ -16,9 +13,16 @@ use file::slot_at;
 // Where no slot stands in a table.
 const NONE: u8 = 255;
 
-// A guess of the used slots in range order, and the place of each slot in it.
+// The used slots, each at the mark of its upper bound or behind it, and how many they are.
+struct Uppers {
+    table: [u8; 320],
+    count: usize,
+}
+
+// A guess of the used slots in range order, how many they are, and the place of each slot in the order.
 pub struct Guess {
     pub order: [u8; 64],
+    pub count: usize,
     pub places: [u8; 64],
 }
 
@@ -37,28 +41,32 @@ fn free_spot(table: &[u8; 320], mark: usize) -> usize
     spot
 }
 
-// Enters slot k, if it is used, at the mark of its upper bound or behind it.
-fn enter(table: &mut [u8; 320], slot: &[u8], k: u8)
+// Enters slot k, if it is used, at the mark of its upper bound or behind it. 1 where it is used, else 0.
+fn enter(table: &mut [u8; 320], slot: &[u8], k: u8) -> usize
     requires { ⌜ 64 ≤ length (now slot) ⌝ }
+    ensures { λ r. ⌜ r ≤ 1 ⌝ }
 {
     if !bucket::is_used(slot) {
-        return;
+        return 0;
     }
     let spot = free_spot(table, bucket::upper_mark(slot));
     table[spot] = k;
+    1
 }
 
 // The used slots by their upper bounds.
-fn by_upper(file: &[u8], size: Size) -> [u8; 320]
+fn by_upper(file: &[u8], size: Size) -> Uppers
     requires { ⌜ Sized (length (now file)) size ⌝ }
+    ensures { λ r. ⌜ r .count ≤ 64 ⌝ }
 {
     let mut table = [NONE; 320];
+    let mut count = 0;
     let mut k = 0;
     while k < size.slots {
-        enter(&mut table, slot_at(file, size, k), u8_of_usize(k));
+        count += enter(&mut table, slot_at(file, size, k), u8_of_usize(k));
         k += 1;
     }
-    table
+    Uppers { table, count }
 }
 
 // The slot that has no upper limit.
@@ -100,11 +108,13 @@ fn under(file: &[u8], size: Size, table: &[u8; 320], slot: &[u8]) -> u8
 }
 
 // From the slot without an upper limit down, each slot and then the one on which it follows.
-pub fn guessed(file: &[u8], size: Size, count: usize) -> Guess
-    requires { ⌜ (Sized (length (now file)) size) × (count ≤ 64) ⌝ }
-    ensures { λ r. ⌜ (Below (r .order) (size .slots)) × (length (r .order) ≡ 64) ⌝ }
+pub fn guessed(file: &[u8], size: Size) -> Guess
+    requires { ⌜ Sized (length (now file)) size ⌝ }
+    ensures { λ r. ⌜ (Below (r .order) (size .slots)) × (length (r .order) ≡ 64) × (r .count ≤ 64) ⌝ }
 {
-    let table = by_upper(file, size);
+    let uppers = by_upper(file, size);
+    let table = uppers.table;
+    let count = uppers.count;
     let mut order = [0u8; 64];
     let mut places = [0u8; 64];
     let mut k = highest(file, size, &table);
@@ -115,95 +125,76 @@ pub fn guessed(file: &[u8], size: Size, count: usize) -> Guess
         places[usize_of_u8(k)] = u8_of_usize(place);
         k = under(file, size, &table, slot_at(file, size, usize_of_u8(k)));
     }
-    Guess { order, places }
+    Guess {
+        order,
+        count,
+        places,
+    }
 }
 
-// Whether a used slot has no lower limit.
-fn is_first(file: &[u8], size: Size, k: u8) -> bool
-    requires { ⌜ (Sized (length (now file)) size) × (k < size .slots) ⌝ }
-    ensures { λ r. ⌜ (r ≡ true → (fs : List Slot) → Seen (now (file .entry)) size fs → Begins fs k) ⌝ }
+// Whether the slots in this order, from no lower limit to no upper limit, are well-formed ones that follow on each other, but for their
+// names. The first is taken to follow on the last.
+fn are_framed(file: &[u8], size: Size, order: &[u8; 64], count: usize) -> bool
+    requires { ⌜ (Sized (length (now file)) size) × (Below (now order) (size .slots)) × (count ≤ 64) × (length (now order) ≡ 64) × (0 < count) ⌝ }
+    ensures { λ r. ⌜ (r ≡ true → AllFramed (now (file .entry)) size (now (order .entry)) count) ⌝ }
 {
-    let slot = slot_at(file, size, usize_of_u8(k));
-    if !bucket::is_used(slot) {
+    let mut before = usize_of_u8(order[count - 1]);
+    if !bucket::is_highest(slot_at(file, size, before)) {
         return false;
     }
-    bucket::is_lowest(slot)
-}
-
-// Whether a used slot follows on the one before.
-fn is_next(file: &[u8], size: Size, before: u8, k: u8) -> bool
-    requires { ⌜ (Sized (length (now file)) size) × (before < size .slots) × (k < size .slots) ⌝ }
-    ensures { λ r. ⌜ (r ≡ true → (fs : List Slot) → Seen (now (file .entry)) size fs → Links fs before k) ⌝ }
-{
-    let slot = slot_at(file, size, usize_of_u8(k));
-    if !bucket::is_used(slot) {
-        return false;
+    let mut low = digits::lowest_key();
+    let mut j = 0;
+    while j < count {
+        let k = usize_of_u8(order[j]);
+        let slot = slot_at(file, size, k);
+        let high = bucket::high_key(slot);
+        if !bucket::is_framed(slot, size.layout, slot_at(file, size, before), low, high) {
+            return false;
+        }
+        low = high;
+        before = k;
+        j += 1;
     }
-    bucket::follows(slot, slot_at(file, size, usize_of_u8(before)))
+    true
 }
 
-// Whether a used slot has no upper limit.
-fn is_last(file: &[u8], size: Size, k: u8) -> bool
-    requires { ⌜ (Sized (length (now file)) size) × (k < size .slots) ⌝ }
-    ensures { λ r. ⌜ (r ≡ true → (fs : List Slot) → Seen (now (file .entry)) size fs → Ends fs k) ⌝ }
+// Whether the names in each of these slots are legal and ascend: all are gathered and then judged once.
+fn are_named(file: &[u8], size: Size, order: &[u8; 64], count: usize) -> bool
+    requires { ⌜ (Sized (length (now file)) size) × (Below (now order) (size .slots)) × (count ≤ 64) × (length (now order) ≡ 64) ⌝ }
+    ensures { λ r. ⌜ (r ≡ true → AllNamed (now (file .entry)) size (now (order .entry)) count) ⌝ }
 {
-    bucket::is_highest(slot_at(file, size, usize_of_u8(k)))
+    let mut seen = gathering::nothing_seen();
+    let mut j = 0;
+    while j < count {
+        let slot = slot_at(file, size, usize_of_u8(order[j]));
+        seen = bucket::with_names(seen, slot, size.layout);
+        j += 1;
+    }
+    gathering::faults(seen) == 0
 }
 
-// Whether the slots in this order are used and follow on each other, from no lower limit to no upper limit.
+// Whether the slots in this order are used, well formed and follow on each other, from no lower limit to no upper limit.
 pub fn is_row(file: &[u8], size: Size, order: &[u8; 64], count: usize) -> bool
     requires { ⌜ (Sized (length (now file)) size) × (Below (now order) (size .slots)) × (count ≤ 64) × (length (now order) ≡ 64) ⌝ }
-    ensures { λ r. ⌜ (r ≡ true → (fs : List Slot) → Seen (now (file .entry)) size fs → Chain (ranges fs) none (take count (now (order .entry)))) ⌝ }
+    ensures { λ r. ⌜ (r ≡ true → Rowed (now (file .entry)) size (now (order .entry)) count) ⌝ }
 {
     if count == 0 {
         return false;
     }
-    if !is_first(file, size, order[0]) {
+    if !are_framed(file, size, order, count) {
         return false;
     }
-    let mut j = 1;
-    while j < count {
-        if !is_next(file, size, order[j - 1], order[j]) {
-            return false;
-        }
-        j += 1;
-    }
-    is_last(file, size, order[count - 1])
+    are_named(file, size, order, count)
 }
 
-// Whether slot k, if it is used, stands at its place in the order.
-fn is_placed(
-    file: &[u8],
-    size: Size,
-    order: &[u8; 64],
-    count: usize,
-    places: &[u8; 64],
-    k: usize,
-) -> bool
-    requires { ⌜ (Sized (length (now file)) size) × (count ≤ 64) × (length (now order) ≡ 64) × (k < size .slots) ⌝ }
-    ensures { λ r. ⌜ (r ≡ true → (fs : List Slot) → Seen (now (file .entry)) size fs → IsUsed (head (slot-at fs k)) → List·Memᴰ k (take count (now (order .entry)))) ⌝ }
+// Whether slot k stands at its place in the order.
+pub fn is_placed(order: &[u8; 64], count: usize, places: &[u8; 64], k: usize) -> bool
+    requires { ⌜ (count ≤ 64) × (length (now order) ≡ 64) × (k < 64) ⌝ }
+    ensures { λ r. ⌜ (r ≡ true → (p : ℕ) × (p < count) × (getD (now (order .entry)) p 0 ≡ k)) ⌝ }
 {
-    if !bucket::is_used(slot_at(file, size, k)) {
-        return true;
-    }
     let place = usize_of_u8(places[k]);
     if count <= place {
         return false;
     }
     usize_of_u8(order[place]) == k
-}
-
-// Whether each used slot stands in the order.
-pub fn is_all(file: &[u8], size: Size, order: &[u8; 64], count: usize, places: &[u8; 64]) -> bool
-    requires { ⌜ (Sized (length (now file)) size) × (count ≤ 64) × (length (now order) ≡ 64) ⌝ }
-    ensures { λ r. ⌜ (r ≡ true → (fs : List Slot) → Seen (now (file .entry)) size fs → (B : ℕ) → IsUsed (head (slot-at fs B)) → List·Memᴰ B (take count (now (order .entry)))) ⌝ }
-{
-    let mut k = 0;
-    while k < size.slots {
-        if !is_placed(file, size, order, count, places, k) {
-            return false;
-        }
-        k += 1;
-    }
-    true
 }

@@ -3,9 +3,10 @@ use Rattle.model.proofs.Prelude.{_*_, _+_, _∙_, _≡_, ap, ap₂, arith, drop
 use Rattle.model.proofs.Tests.{never-both}
 use Rattle.digits.specs.Keys.{key-value}
 use Rattle.bucket.specs.Forms.{is-all-clear}
+use Rattle.bucket.specs.Slots.{is-a-bound}
 use Rattle.model.proofs.Lists.{rest}
 use Rattle.bucket.proofs.Layouts.{Tested, ill, same-entries, well-formed}
-use Rattle.bucket.proofs.Reading.{by-bound, is-a-bound}
+use Rattle.bucket.proofs.Reading.{by-bound}
 use Rattle.bucket.proofs.form_by.Tie as tie
 
 returns : tie.Need-returns

@@ -1,22 +1,22 @@
 -- `is_plain` meets its contract.
-use Rattle.model.proofs.Prelude.{arith, clash, eqb-true, needs}
+use Rattle.model.proofs.Prelude.{arith, clash, needs}
 use Rattle.gathering.proofs.Bounds.{bound-in}
 use Rattle.gathering.proofs.is_plain.Tie as tie
 
 returns : tie.Need-returns
 returns c t =
     let s = c .before .before .before in
-    bound-in (s .args .s .now) (s .args .len) (s .pre) (omega arith) (c .short-faults .ensures (eqb-true _ 0 t))
+    bound-in (s .args .s .now) (s .args .len) (s .pre) (omega arith) (c .is-short .ensures t)
 
 returns-2 : tie.Need-returns-2
 returns-2 c t =
     let s = c .before .before .before .before in
-    bound-in (s .args .s .now) (s .args .len) (s .pre) (omega arith) (c .middle-faults .ensures (eqb-true _ 0 t))
+    bound-in (s .args .s .now) (s .args .len) (s .pre) (omega arith) (c .is-middle .ensures t)
 
 returns-3 : tie.Need-returns-3
 returns-3 c t =
     let s = c .before .before .before .before .before in
-    bound-in (s .args .s .now) (s .args .len) (s .pre) (omega arith) (c .long-faults .ensures (eqb-true _ 0 t))
+    bound-in (s .args .s .now) (s .args .len) (s .pre) (omega arith) (c .is-long .ensures t)
 
 returns-4 : tie.Need-returns-4
 returns-4 c t =
