@@ -6,7 +6,7 @@ use Rattle.slots.specs.Parts.{all-of, part-of}
 use Rattle.reading.specs.Listings.{Written, part-at, parts}
 
 module _ (xs : List ℕ) (y : Layout) (order : List ℕ) (v w from to : ℕ) where
-  -- A slot inside the first place and the last, and one that is not.
+  -- A slot between the first place and the last, and one that is not.
   pub part-inside : (j k : ℕ) (ys p : List ℕ) → (ltb from j && ltb j to) ≡ true → k ≡ getD order j 0 → ys ≡ bytes-at-slot y k xs
       → p ≡ all-of y ys → p ≡ part-at xs y order v w from to j
   unfolding part-at

@@ -9,7 +9,8 @@ use Rattle.model.specs.declared.Layout.{Layout}
 use Rattle.model.specs.Format.{bytes-at-slot}
 use Rattle.slots.specs.Parts.{all-of, part-of}
 
--- Of the slot whose number stands at place j of a list: where j lies inside the first place and the last, all its entries.
+-- Of the slot whose number stands at place j of a list: all its entries where j lies between the first place and the last, else those from
+-- one name to the other.
 unfoldable pub part-at : List ℕ → Layout → List ℕ → ℕ → ℕ → ℕ → ℕ → ℕ → List ℕ
 part-at xs y order v w from to j =
     let s = bytes-at-slot y (getD order j 0) xs in

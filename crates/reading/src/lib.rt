@@ -93,8 +93,8 @@ pub fn look_up(file: &[u8], trie: Trie, name: &[u8]) -> LookUpAnswer
     look_up_from(file, trie::walk_of(trie, &filled), name, &filled)
 }
 
-// The entries to be listed of the bucket at place j, from the place `from` to the place `to`. The names at which the list begins and
-// ends are looked for in the first bucket and the last; every entry of a bucket inside lies between them.
+// What is listed of the bucket at place j, where the first name's bucket is at the place `from` and the second's at `to`. Only these two are
+// searched: every entry of a bucket between them lies between the names.
 fn part_at<'a>(
     file: &'a [u8],
     size: Size,
@@ -116,7 +116,7 @@ fn part_at<'a>(
     slots::part_between(slot, size.layout, first, second)
 }
 
-// How many bytes the entries take that are to be listed.
+// How many bytes the entries take that are to be listed, from the bucket at the place `from` to that at `to`.
 fn bytes_between(
     file: &[u8],
     size: Size,
@@ -140,8 +140,8 @@ fn bytes_between(
     bytes
 }
 
-// Puts a part over the output from `at` on, by way of an array of its own: the compiler makes one move of the two copies, which it
-// cannot make of a copy between two lent slices.
+// Puts a part over the output from `at` on, by way of an array of its own. The compiler makes one `memmove` of these two copies; a copy from
+// one lent slice to another it leaves a loop.
 fn write_part(output: &mut [u8], at: usize, part: &[u8])
     requires { ⌜ (at + length (now part) ≤ length (now output)) × (length (now part) ≤ 640) ⌝ }
     ensures { λ _. ⌜ now (output .exit) ≡ paste (now (output .entry)) at (now (part .entry)) (length (now (part .entry))) ⌝ }
@@ -152,7 +152,7 @@ fn write_part(output: &mut [u8], at: usize, part: &[u8])
     entries::copy(output, at, &moved[0..end]);
 }
 
-// Writes them, one after another.
+// Writes the entries to be listed, one bucket after another.
 fn write_between(
     file: &[u8],
     size: Size,
