@@ -1,5 +1,5 @@
 -- Put into a full bucket: what refuses the split, and its two stores.
-use Rattle.model.proofs.Prelude.{Bool, List, Option, [], _+_, _-_, _<_, _∙_, _≡_, _≤_, ap, ap₂, arith, clash, cond, decLe, decLt, false, le-leb, le-ltb, leb, length, lt-leb, lt-ltb, ltb, nothing, some, subst, suc, sym, take, true, ℕ}
+use Rattle.model.proofs.Prelude.{Bool, List, Option, [], _+_, _-_, _<_, _∙_, _≡_, _≤_, ap, ap₂, arith, clash, cond, decLt, false, le-leb, le-ltb, leb, length, lt-leb, lt-ltb, ltb, nothing, some, subst, suc, sym, take, true, ℕ}
 use Rattle.model.specs.declared.Cause.the-variants.{ManyStrings, NoFreeSlot}
 use Rattle.model.specs.declared.Layout.{Layout}
 use Rattle.model.specs.declared.PutAnswer.the-variants.{Added, Refused, Stopped}
@@ -168,10 +168,10 @@ module _ (y : Layout) (two : 2 ≤ y .b) (few : y .b ≤ 16) (xs : List ℕ) {fs
   call-split = rw (← F .home .slot-is, F .home .is) (rw (lt-leb (length ws) (y .b) (omega (arith, length-all))))
 
   pub no-room : length fs ≤ N → call (y .b) (place-of y) fs (asked n v) ≡ refuse 5
-  no-room h = call-split ∙ chosen-no (decLt N (length fs)) (λ k. omega (arith, h, k)) _ _
+  no-room h = call-split ∙ rw (le-ltb N (length fs) h)
 
   pub too-many : N < length fs → 256 < string-count (stored both fs) → call (y .b) (place-of y) fs (asked n v) ≡ refuse 6
-  too-many h k = call-split ∙ chosen-yes (decLt N (length fs)) h _ _ ∙ chosen-no (decLe (string-count (stored both fs)) 256) (λ i. omega (arith, i, k)) _ _
+  too-many h k = call-split ∙ rw (lt-ltb N (length fs) h, lt-leb (string-count (stored both fs)) 256 k)
 
   pub both-made : N < length fs → string-count (stored both fs) ≤ 256 → call (y .b) (place-of y) fs (asked n v) ≡ stores both
   both-made h k = call-split ∙ rw (lt-ltb N (length fs) h, le-leb (string-count (stored both fs)) 256 k)

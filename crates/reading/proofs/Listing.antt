@@ -12,14 +12,13 @@ use Rattle.model.specs.Entries.{Entry, Row, entry, name-at, no-entries}
 use Rattle.model.specs.Files.{IsUsed, Slot, entries-of, free, head, lower-of, order-of, slot-at, upper-of, used}
 use Rattle.model.specs.Format.{AreBytes, bytes-at-slot, bytes-of-entries, bytes-of-entry, entry-length, read-slot, slot-size}
 use Rattle.model.specs.Calls.{between, entries-in, fine, list-entries, list-of, list-on-looked, looked-of, refusing}
-use Rattle.model.specs.Deciding.{le?, over}
 use Rattle.model.proofs.Order.{le-trans, low-lower, lt-le}
 use Rattle.model.specs.declared.Layout.{Layout}
 use Rattle.model.specs.Tests.{is-at-most, is-legal-name}
 use Rattle.model.proofs.Deciding.{le?, over}
-use Rattle.model.proofs.Tests.{le-is-at-most, lt-is-at-most}
+use Rattle.model.proofs.Tests.{both-true, le-is-at-most, lt-is-at-most}
 use Rattle.model.proofs.Format.{bytes-bytes-at-slot, entry-size, length-bytes-of-entry, length-bytes-of-slot, read-file-read, read-slot-read-file}
-use Rattle.model.proofs.Names.{both-true, le-is-at-most, legal-length, lt-is-at-most}
+use Rattle.model.proofs.Names.{legal-length}
 use Rattle.model.proofs.Entries.{row-at}
 use Rattle.model.proofs.Files.{slot-row, used-inside}
 use Rattle.model.proofs.Removals.{entries-in-append}
