@@ -10,7 +10,7 @@ use Rattle.model.specs.declared.PutAnswer.the-variants.{Added, Refused as PutRe
 use Rattle.model.specs.declared.RemoveAnswer.{RemoveAnswer}
 use Rattle.model.specs.declared.RemoveAnswer.the-variants.{Absent as NotHeld, Refused as RemoveRefused, Removed, Stopped as RemoveStopped}
 use Rattle.model.specs.declared.Trie.{Trie}
-use Rattle.model.specs.Answers.{Saying, said-by-check, said-by-create, said-by-list, said-by-look-up, said-by-put, said-by-rebuild, said-by-recover, said-by-remove}
+use Rattle.model.specs.Sayings.{Saying, said-by-check, said-by-create, said-by-list, said-by-look-up, said-by-put, said-by-rebuild, said-by-recover, said-by-remove}
 use Rattle.model.specs.Calls.{create-of, list-of, look-up-of, put-of, rebuild-of, recover-of, remove-of}
 use Rattle.model.specs.Format.{check-file}
 use Rattle.image.specs.Images.{image-length, image-of, trie-from}

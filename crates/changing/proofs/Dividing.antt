@@ -7,7 +7,8 @@ use Rattle.model.specs.declared.Trie.{Trie}
 use Rattle.model.specs.Order.{Low, Str, _⊑_, _◁_, diff}
 use Rattle.model.specs.Names.{Legal}
 use Rattle.model.specs.Entries.{Entry, Row, find, insert, name-at}
-use Rattle.model.specs.Files.{In, Slot, Sound, entries-of, first, head, is-free, is-in-range, slot-at, string-count, strings-of, used}
+use Rattle.model.specs.Files.{In, Slot, Sound, entries-of, head, slot-at, used}
+use Rattle.model.specs.Searches.{first, is-free, is-in-range, string-count, strings-of}
 use Rattle.model.specs.Tries.{Agrees, root, walk-trie}
 use Rattle.model.specs.Growth.{grown-trie}
 use Rattle.model.specs.Changes.{Lowest, Store, call, halves, put as asked, put-in, refuse, split-of, stored, stores}

@@ -4,7 +4,8 @@ use Rattle.model.specs.declared.Layout.{Layout}
 use Rattle.model.specs.Order.{Low, Str}
 use Rattle.model.specs.declared.PutAnswer.the-variants.{Replaced}
 use Rattle.model.specs.Entries.{Entry, content-from, find, insert, is-older, run-of-content}
-use Rattle.model.specs.Files.{In, Slot, Sound, free, head, order-of, slot-at, used}
+use Rattle.model.specs.Files.{In, Slot, Sound, free, head, slot-at, used}
+use Rattle.model.specs.Searches.{order-of}
 use Rattle.model.specs.Changes.{call, put as asked, refuse}
 use Rattle.model.specs.Calls.{held, put-answer, put-takes}
 use Rattle.model.specs.Places.{place-of}

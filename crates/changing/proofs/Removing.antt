@@ -11,7 +11,8 @@ use Rattle.model.specs.Order.{Low, Str}
 use Rattle.model.specs.Tests.{is-legal-name}
 use Rattle.model.specs.Names.{Legal, filled}
 use Rattle.model.specs.Entries.{Entry, find}
-use Rattle.model.specs.Files.{Slot, order-of, string-count}
+use Rattle.model.specs.Files.{Slot}
+use Rattle.model.specs.Searches.{order-of, string-count}
 use Rattle.model.specs.Rebuilding.{rebuilt-trie}
 use Rattle.model.specs.Changes.{Result, call, refuse, removal, remove, remove-in, stored, stores, stores-if, trie-removed}
 use Rattle.model.specs.Format.{AreBytes, read-file, read-slots}

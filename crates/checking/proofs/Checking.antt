@@ -3,7 +3,8 @@ use Rattle.model.proofs.Prelude.{Bool, List, _∙_, _≡_, _≤_, ap, arith, co
 use Rattle.model.specs.declared.Cause.the-variants.{BadFile, CutFile}
 use Rattle.model.specs.declared.Layout.{Layout}
 use Rattle.model.specs.declared.Trie.{Trie}
-use Rattle.model.specs.Files.{Slot, strings-of}
+use Rattle.model.specs.Files.{Slot}
+use Rattle.model.specs.Searches.{strings-of}
 use Rattle.model.specs.Checks.{is-bad, is-cut, is-sound}
 use Rattle.model.specs.Agreeing.{is-agreeing}
 use Rattle.model.specs.Format.{check-file, read-file}

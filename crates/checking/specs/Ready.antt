@@ -6,7 +6,8 @@ use Prim.Native.Nat.{_≤_, ℕ}
 use lib.ListN.{length, take}
 use Rattle.model.specs.declared.Trie.{Trie}
 use Rattle.model.specs.Order.{none}
-use Rattle.model.specs.Files.{Slot, Sound, order-of, strings-of}
+use Rattle.model.specs.Files.{Slot, Sound}
+use Rattle.model.specs.Searches.{order-of, strings-of}
 use Rattle.model.specs.Tries.{Agrees}
 use Rattle.model.specs.Agreeing.{slots-between}
 use Rattle.model.specs.Format.{read-file}

@@ -16,6 +16,7 @@ ghost use Rattle.model.specs.Tests as tests;
 ghost use Rattle.model.specs.Tests as tests;
 ghost use Rattle.model.specs.Tests as tests;
 ghost use Rattle.model.specs.Tests as tests;
+ghost use Rattle.model.specs.Tests as tests;
 ghost use Rattle.model.specs.Order.{Str, diff};
 ghost use Rattle.digits.specs.Words.{Word};
 ghost use Rattle.digits.specs.Keys.{NamingTold, continued, is-all-zero, key-value, value};

@@ -11,7 +11,8 @@ use mathlib.Core.Option.{some}
 use Rattle.model.specs.Order.{Low, Str, _⊑_, _◁_}
 use Rattle.model.specs.Names.{filled}
 use Rattle.model.specs.Entries.{Entry, find, without}
-use Rattle.model.specs.Files.{Slot, Sound, free, order-of, slot-at, string-count, used}
+use Rattle.model.specs.Files.{Slot, Sound, free, slot-at, used}
+use Rattle.model.specs.Searches.{order-of, string-count}
 use Rattle.model.specs.Changes.{call, remove, stores}
 use Rattle.model.specs.Format.{AreBytes, CutFile, SoundFile, store-bytes}
 use Rattle.model.specs.Calls.{RemoveDone, entries-in}

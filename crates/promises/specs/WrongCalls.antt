@@ -22,7 +22,8 @@ use Rattle.model.specs.Order.{Str}
 use Rattle.model.specs.Tests.{is-legal-name}
 use Rattle.model.specs.Names.{filled}
 use Rattle.model.specs.Entries.{content-from}
-use Rattle.model.specs.Files.{Slot, first, free, has-upper, head, slot-at, upper-of}
+use Rattle.model.specs.Files.{Slot, free, head, slot-at, upper-of}
+use Rattle.model.specs.Searches.{first, has-upper}
 use Rattle.model.specs.Changes.{Result, Store, refuse, stores}
 use Rattle.model.specs.Places.{place-of}
 use Rattle.model.specs.Format.{check-file, kept-run, layout-of, read-file, store-bytes}

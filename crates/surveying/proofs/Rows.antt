@@ -2,7 +2,8 @@
 use Rattle.model.proofs.Prelude.{List, List·Memᴰ, [], _*_, _+_, _<_, _^_, _∙_, _∷_, _≡_, _≤_, ap, arith, clash, drop, getD, getD-take, length, length-drop, length-take, length-take-le, refl, some, subst, suc, sym, take, true, zero, zero-add, ℕ}
 use Rattle.model.specs.declared.Layout.{Layout}
 use Rattle.model.specs.Order.{Low, Str, at, none}
-use Rattle.model.specs.Files.{Chain, IsUsed, RangeTable, Slot, Sound, Well, entries-of, free, head, lower-of, order-of, ranges, slot-at, upper-of, used, well-free}
+use Rattle.model.specs.Files.{Chain, IsUsed, RangeTable, Slot, Sound, Well, entries-of, free, head, lower-of, ranges, slot-at, upper-of, used, well-free}
+use Rattle.model.specs.Searches.{order-of}
 use Rattle.model.specs.Checks.{is-sound}
 use Rattle.model.specs.Format.{bytes-at-slot, digits-of-low, joined, low-of, read-slot, read-slots, slot-size}
 use Rattle.model.proofs.Checks.{check-sound}
