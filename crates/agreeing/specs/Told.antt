@@ -6,9 +6,10 @@ use mathlib.Core.List.{List}
 use Prim.Native.Nat.{ℕ}
 use lib.ListN.{length, take}
 use Rattle.model.specs.declared.Trie.{Trie}
-use Rattle.model.specs.Files.{Slot, Sound, order-of}
+use Rattle.model.specs.Files.{Slot, Sound}
 use Rattle.model.specs.Agreeing.{is-agreeing}
 use Rattle.model.specs.Format.{read-slots}
+use Rattle.model.specs.Searches.{order-of}
 use Rattle.file.specs.declared.Size.{Size}
 
 abbrev pub AgreeingTold : Bool → List ℕ → Size → List ℕ → ℕ → Trie → Type 0

@@ -4,7 +4,8 @@ use Rattle.model.specs.declared.Cell.{Cell}
 use Rattle.model.specs.declared.Side.{Side}
 use Rattle.model.specs.declared.Trie.{Trie}
 use Rattle.model.specs.Order.{Str, _≺_, none, top}
-use Rattle.model.specs.Files.{Slot, Sound, all, bounds, ranges, strings-of}
+use Rattle.model.specs.Files.{Slot, Sound, ranges}
+use Rattle.model.specs.Searches.{all, bounds, strings-of}
 use Rattle.model.specs.Tries.{Agrees, Leads, NumbersFit, Tree, at-cell, leaves, occ, root-side, size, strings, zero-cell}
 use Rattle.model.specs.Rebuilding.{rebuilt}
 use Rattle.model.specs.Agreeing.{are-zero-cells, is-agreeing, slots-between}

@@ -5,7 +5,8 @@ use mathlib.Core.List.{List}
 use Prim.Native.Nat.{ℕ}
 use Rattle.model.specs.declared.Trie.{Trie}
 use Rattle.model.specs.Order.{none}
-use Rattle.model.specs.Files.{Slot, Sound, strings-of}
+use Rattle.model.specs.Files.{Slot, Sound}
+use Rattle.model.specs.Searches.{strings-of}
 use Rattle.model.specs.Agreeing.{is-agreeing, slots-between}
 use Rattle.trie.specs.declared.Strings.{Strings}
 use Rattle.trie.specs.Places.{Placed}

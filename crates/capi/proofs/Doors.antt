@@ -8,7 +8,7 @@ use Rattle.model.specs.declared.RemoveAnswer.{RemoveAnswer}
 use Rattle.model.specs.declared.Trie.{Trie}
 use Rattle.model.specs.declared.TrieAnswer.{TrieAnswer}
 use Rattle.model.specs.declared.TrieGiven.{TrieGiven}
-use Rattle.model.specs.Answers.{said-by-check, said-by-create, said-by-list, said-by-look-up, said-by-put, said-by-rebuild, said-by-recover, said-by-remove}
+use Rattle.model.specs.Sayings.{said-by-check, said-by-create, said-by-list, said-by-look-up, said-by-put, said-by-rebuild, said-by-recover, said-by-remove}
 use Rattle.model.specs.Calls.{create-of, list-of, look-up-of, put-of, rebuild-of, recover-of, remove-of}
 use Rattle.model.specs.Checks.{Kind, is-bad, is-cut, is-sound}
 use Rattle.model.specs.Names.{filled}

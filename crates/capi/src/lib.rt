@@ -4,7 +4,8 @@
 // is not 1,540 bytes long.
 ghost use mathlib.Core.Path.{_≡_};
 ghost use lib.Seq.{sets};
-ghost use Rattle.model.specs.Answers.{carried, number};
+ghost use Rattle.model.specs.Answers.{number};
+ghost use Rattle.model.specs.Sayings.{carried};
 ghost use Rattle.capi.specs.Doors.{pal-check-of, pal-create-of, pal-list-of, pal-look-up-of, pal-put-of, pal-rebuild-of, pal-recover-of, pal-remove-of};
 use digits::u64_of_usize;
 use file::Kind;

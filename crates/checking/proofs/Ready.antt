@@ -3,10 +3,11 @@ use Rattle.model.proofs.Prelude.{List, Option, _∙_, _≡_, ap, arith, getD, g
 use Rattle.model.specs.declared.Layout.{Layout}
 use Rattle.model.specs.Order.{Low, Str}
 use Rattle.model.specs.Entries.{Entry}
-use Rattle.model.specs.Files.{In, Slot, Sound, free, head, order-of, slot-at, used}
+use Rattle.model.specs.Files.{In, Slot, Sound, free, head, slot-at, used}
 use Rattle.model.specs.Format.{bytes-at-slot, read-file}
 use Rattle.model.proofs.Files.{first-right, found-in, one-range, used-inside}
 use Rattle.model.proofs.Format.{read-slot-read-file}
+use Rattle.model.specs.Searches.{order-of}
 use Rattle.bucket.specs.Forms.{ReadAs}
 use Rattle.file.specs.Holders.{Holder, Ordered}
 use Rattle.file.proofs.Readings.{used-read}

@@ -5,7 +5,8 @@ use mathlib.Core.List.{List}
 use Prim.Native.Nat.{_<_, ℕ}
 use Rattle.model.specs.Order.{Low, Str, _⊑_, _◁_}
 use Rattle.model.specs.Entries.{Entry}
-use Rattle.model.specs.Files.{Slot, first, is-in-range, slot-at, used}
+use Rattle.model.specs.Files.{Slot, slot-at, used}
+use Rattle.model.specs.Searches.{first, is-in-range}
 use Rattle.model.specs.Format.{read-file}
 use Rattle.file.specs.declared.Size.{Size}
 

@@ -5,10 +5,11 @@ use mathlib.Core.List.{List}
 use Prim.Native.Nat.{_≤_, ℕ}
 use lib.ListN.{length, take}
 use Rattle.model.specs.declared.Trie.{Trie}
-use Rattle.model.specs.Files.{Slot, Sound, order-of, strings-of}
+use Rattle.model.specs.Files.{Slot, Sound}
 use Rattle.model.specs.Tries.{Agrees}
 use Rattle.model.specs.Format.{read-file}
 use Rattle.model.specs.Calls.{fine, looked-of, refusing}
+use Rattle.model.specs.Searches.{order-of, strings-of}
 use Rattle.file.specs.Sizes.{Below, Saying}
 use Rattle.file.specs.Maps.{map-of}
 use Rattle.checking.specs.declared.Checked.{Checked}

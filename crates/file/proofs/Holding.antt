@@ -3,7 +3,8 @@ use Rattle.model.proofs.Prelude.{Bool, List, [], _+_, _-_, _<_, _∙_, _∷_, _
 use Rattle.model.specs.Order.{Low, Str, _≺_, _⊑_, _⊴_, _◁_, above, at, least as unlimited, none, top}
 use Rattle.model.specs.Tests.{is-at-most}
 use Rattle.model.specs.Names.{Legal, within}
-use Rattle.model.specs.Files.{Chain, IsUsed, RangeTable, Slot, entries-of, head, last, lower-of, next, order-of, ranges, slot-at}
+use Rattle.model.specs.Files.{Chain, IsUsed, RangeTable, Slot, entries-of, head, last, lower-of, next, ranges, slot-at}
+use Rattle.model.specs.Searches.{order-of}
 use Rattle.model.specs.Format.{bytes-at-slot, read-slot}
 use Rattle.model.proofs.Deciding.{over}
 use Rattle.model.proofs.Lists.{at-taken}

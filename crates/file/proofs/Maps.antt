@@ -2,7 +2,8 @@
 use Rattle.model.proofs.Prelude.{List, [], _%_, _*_, _+_, _-_, _/_, _<_, _^_, _∙_, _∷_, _≡_, _≤_, ap, arith, le-ltb, length, lt-ltb, pow-suc, refl, suc, zero, ℕ}
 use lib.Count.{ones, ones-le, ones-step, trailingZeros}
 use lib.Pow.{pow-pos}
-use Rattle.model.specs.Files.{Slot, first, free, is-free, used}
+use Rattle.model.specs.Files.{Slot, free, used}
+use Rattle.model.specs.Searches.{first, is-free}
 use Rattle.file.specs.declared.Room.the-variants.{At, Full}
 use Rattle.file.specs.Maps.{map-of, room-of}
 

@@ -2,7 +2,8 @@
 use Rattle.model.proofs.Prelude.{Bool, List, List·Memᴰ, [], _++_, _-_, _<_, _∙_, _∷_, _≡_, _≤_, ap, append-snoc, arith, decLe, drop, drop-cons, false, getD, getD-take, length, length-take-le, nothing, refl, some, split-at, subst, suc, sym, take, take-suc, take-take, true, zero-add, ℕ}
 use Rattle.model.specs.declared.Layout.{Layout}
 use Rattle.model.specs.Order.{at, none}
-use Rattle.model.specs.Files.{Chain, IsUsed, Slot, Sound, free, head, order-of, ranges, slot-at, upper-of, used}
+use Rattle.model.specs.Files.{Chain, IsUsed, Slot, Sound, free, head, ranges, slot-at, upper-of, used}
+use Rattle.model.specs.Searches.{order-of}
 use Rattle.model.specs.Checks.{Kind, check, is-bad, is-cut, is-sound}
 use Rattle.model.specs.Format.{bytes-at-slot, check-read, laid-out, read-slots, read-used-slot}
 use Rattle.model.proofs.Lists.{mem-insert}

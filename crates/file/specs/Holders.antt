@@ -6,7 +6,8 @@ use Prim.Native.Nat.{_<_, ℕ}
 use lib.ListN.{getD, length, take}
 use Rattle.model.specs.Order.{Str, _≺_}
 use Rattle.model.specs.Names.{Legal}
-use Rattle.model.specs.Files.{In, Slot, Sound, head, order-of, slot-at, upper-of}
+use Rattle.model.specs.Files.{In, Slot, Sound, head, slot-at, upper-of}
+use Rattle.model.specs.Searches.{order-of}
 use Rattle.model.specs.Format.{read-file}
 use Rattle.file.specs.declared.Size.{Size}
 

@@ -5,7 +5,8 @@ use mathlib.Core.List.{List, [], _∷_}
 use Prim.Native.Nat.{_*_, _+_, _≤_, ℕ}
 use lib.Dec.{ltb}
 use lib.ListN.{length}
-use Rattle.model.specs.Files.{Slot, first, free, is-free, used}
+use Rattle.model.specs.Files.{Slot, free, used}
+use Rattle.model.specs.Searches.{first, is-free}
 use Rattle.file.specs.declared.Room.{Room}
 use Rattle.file.specs.declared.Room.the-variants.{At, Full}
 use Rattle.file.specs.Sizes.{Inside}

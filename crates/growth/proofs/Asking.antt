@@ -2,7 +2,8 @@
 use Rattle.model.proofs.Prelude.{List, [], _<_, _∙_, _≡_, ap, length, some, suc, sym, take, ℕ}
 use Rattle.model.specs.declared.Trie.{Trie}
 use Rattle.model.specs.Order.{Str, diff}
-use Rattle.model.specs.Files.{In, Slot, Sound, head, slot-at, strings-of}
+use Rattle.model.specs.Files.{In, Slot, Sound, head, slot-at}
+use Rattle.model.specs.Searches.{strings-of}
 use Rattle.model.specs.Tries.{Agrees, Spot, root, walk-of, walk-trie}
 use Rattle.model.proofs.Files.{one-range}
 use Rattle.model.proofs.Agreement.{agrees-walk}

@@ -2,7 +2,8 @@
 use Rattle.model.proofs.Prelude.{List, List·Memᴰ, List·getD-eq-default, [], _<_, _∙_, _≡_, _≤_, _⊎_, add-one, ap, arith, decLt, false, getD, getD-take, inl, inr, length, length-take, length-take-le, lt-leb, some, subst, suc, sym, take, take-all, take-length, true, ℕ}
 use Rattle.model.specs.declared.Trie.{Trie}
 use Rattle.model.specs.Order.{Str, _⊑_, diff, least, none, top}
-use Rattle.model.specs.Files.{all, bounds, ranges}
+use Rattle.model.specs.Files.{ranges}
+use Rattle.model.specs.Searches.{all, bounds}
 use Rattle.model.specs.Tries.{Spot, left, root, walk-trie}
 use Rattle.model.proofs.Lists.{mem-place}
 use Rattle.model.proofs.Order.{Asc, diff-le-right, le-refl, le-take, le-trans, lt-le, sandwich, take-diff}

@@ -6,7 +6,8 @@ use Prim.Native.Nat.{_<_, ℕ}
 use lib.ListN.{length, take}
 use Rattle.model.specs.declared.Trie.{Trie}
 use Rattle.model.specs.Order.{Str, diff}
-use Rattle.model.specs.Files.{Slot, Sound, strings-of}
+use Rattle.model.specs.Files.{Slot, Sound}
+use Rattle.model.specs.Searches.{strings-of}
 use Rattle.model.specs.Tries.{Agrees, Spot, walk-of}
 use Rattle.model.specs.Growth.{grown-trie}
 use Rattle.trie.specs.declared.Walk.{Walk}

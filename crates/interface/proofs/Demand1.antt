@@ -13,7 +13,7 @@ use Rattle.model.specs.declared.RemoveAnswer.{RemoveAnswer}
 use Rattle.model.specs.declared.RemoveAnswer.the-variants.{Absent as NotHeld, Refused as RemoveRefused, Removed, Stopped as RemoveStopped}
 use Rattle.model.specs.declared.TrieAnswer.{TrieAnswer}
 use Rattle.model.specs.declared.TrieAnswer.the-variants.{Given, Refused as TrieRefused}
-use Rattle.model.specs.Answers.{said-by-check, said-by-create, said-by-list, said-by-look-up, said-by-put, said-by-rebuild, said-by-recover, said-by-remove}
+use Rattle.model.specs.Sayings.{said-by-check, said-by-create, said-by-list, said-by-look-up, said-by-put, said-by-rebuild, said-by-recover, said-by-remove}
 use Rattle.model.specs.Calls.{create-of, list-of, look-up-of, new-trie, put-of, rebuild-of, recover-of, remove-of}
 use Rattle.model.specs.Checks.{Kind, is-bad, is-cut, is-sound}
 use Rattle.model.specs.Format.{check-file}

@@ -9,7 +9,7 @@ use Rattle.model.specs.declared.TrieAnswer.the-variants.{Given, Refused as Trie
 use Rattle.model.specs.Order.{Str}
 use Rattle.model.specs.Files.{Slot}
 use Rattle.model.specs.Format.{AreBytes}
-use Rattle.model.specs.Answers.{said-by-create, said-by-look-up, said-by-put, said-by-rebuild}
+use Rattle.model.specs.Sayings.{said-by-create, said-by-look-up, said-by-put, said-by-rebuild}
 use Rattle.model.specs.Calls.{create-of, put-of, rebuild-of}
 use Rattle.promises.specs.Demand2.{LeadsRight, Made, Tells, Truthful, stale, told, true-entry, truly-absent}
 use Rattle.promises.proofs.Demand2.{demand-2}

@@ -15,7 +15,8 @@ use Rattle.model.specs.Names.{filled}
 use Rattle.model.specs.Entries.{content-from}
 use Rattle.model.specs.Changes.{Map}
 use Rattle.model.specs.Format.{kept-run, layout-of}
-use Rattle.model.specs.Answers.{number, said-by-look-up, said-by-put, said-by-rebuild, said-by-recover, said-by-remove}
+use Rattle.model.specs.Answers.{number}
+use Rattle.model.specs.Sayings.{said-by-look-up, said-by-put, said-by-rebuild, said-by-recover, said-by-remove}
 use Rattle.model.specs.Calls.{create-of, held-answer, put-of, rebuild-of, recover-of, remove-of}
 use Rattle.promises.specs.Calls.{our-calls}
 use Rattle.promises.specs.Demand3.{Event, Holds, Kept, Recovers, State, StoppedAt, after, after-freeing, after-put, after-rebuild, after-recover, after-remove, down, file-of, kill, nothing-to-do, now, put, put-by, put-with, rebuild, recover, remove, remove-by, remove-with, running, step, stopped-at-0}

@@ -11,7 +11,8 @@ use Rattle.model.specs.Order.{Str}
 use Rattle.model.specs.Tests.{is-legal-name}
 use Rattle.model.specs.Names.{Legal, filled}
 use Rattle.model.specs.Entries.{content-from, find}
-use Rattle.model.specs.Files.{In, Slot, entries-of, first, head, is-in-range, slot-at}
+use Rattle.model.specs.Files.{In, Slot, entries-of, head, slot-at}
+use Rattle.model.specs.Searches.{first, is-in-range}
 use Rattle.model.specs.Changes.{Result, Store, call, put, refuse, remove, stores, trie-removed}
 use Rattle.model.specs.Places.{place-of}
 use Rattle.model.specs.Format.{kept-run}

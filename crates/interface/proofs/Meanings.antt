@@ -4,7 +4,7 @@ use Rattle.model.specs.declared.ListAnswer.{ListAnswer}
 use Rattle.model.specs.declared.ListAnswer.the-variants.{Listed, Refused as ListRefused}
 use Rattle.model.specs.declared.RecoverAnswer.{RecoverAnswer}
 use Rattle.model.specs.declared.RecoverAnswer.the-variants.{Freed, Nothing, Refused as RecoverRefused, Stopped as RecoverStopped}
-use Rattle.model.specs.Answers.{said-by-check, said-by-list, said-by-recover}
+use Rattle.model.specs.Sayings.{said-by-check, said-by-list, said-by-recover}
 use Rattle.model.specs.Calls.{list-of, recover-of}
 use Rattle.model.specs.Checks.{Kind, is-bad, is-cut, is-sound}
 use Rattle.model.specs.Format.{SoundFile, check-file}

@@ -14,7 +14,8 @@ use Rattle.model.specs.declared.RemoveAnswer.{RemoveAnswer}
 use Rattle.model.specs.declared.RemoveAnswer.the-variants.{Absent as NotHeld, Refused as RemoveRefused, Removed, Stopped as RemoveStopped}
 use Rattle.model.specs.declared.TrieAnswer.{TrieAnswer}
 use Rattle.model.specs.declared.TrieAnswer.the-variants.{Given, Refused as TrieRefused}
-use Rattle.model.specs.Answers.{number, said-by-create, said-by-list, said-by-look-up, said-by-put, said-by-rebuild, said-by-recover, said-by-remove}
+use Rattle.model.specs.Answers.{number}
+use Rattle.model.specs.Sayings.{said-by-create, said-by-list, said-by-look-up, said-by-put, said-by-rebuild, said-by-recover, said-by-remove}
 use Rattle.model.specs.Calls.{create-of, list-of, look-up-of, put-of, rebuild-of, recover-of, remove-of}
 use Rattle.image.specs.Images.{image-length, image-of, trie-from}
 use Rattle.putting.specs.Outcomes.{image-after}

@@ -6,7 +6,8 @@ use Prim.Native.Nat.{ℕ}
 use lib.ListN.{replicate}
 use lib.Seq.{sets}
 use Rattle.model.specs.declared.Cause.{Cause}
-use Rattle.model.specs.Answers.{carried, number}
+use Rattle.model.specs.Answers.{number}
+use Rattle.model.specs.Sayings.{carried}
 use Rattle.promises.specs.Demand1.{Exactly, create-table, list-table, look-up-table, put-table, rebuild-table, recover-table, remove-table}
 use Rattle.image.specs.Images.{image-length, trie-from}
 use Rattle.capi.specs.Doors.{malformed}

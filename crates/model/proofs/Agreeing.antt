@@ -6,7 +6,8 @@ use Rattle.model.specs.declared.Side.the-variants.{Cell as further, Slot
 use Rattle.model.specs.declared.Trie.{Trie}
 use Rattle.model.specs.Order.{Low, Str, none}
 use Rattle.model.specs.Tests.{same-str}
-use Rattle.model.specs.Files.{Slot, Sound, all, bounds, order-of, ranges, strings-of}
+use Rattle.model.specs.Files.{Slot, Sound, ranges}
+use Rattle.model.specs.Searches.{all, bounds, order-of, strings-of}
 use Rattle.model.specs.Tries.{Agrees, Leads, LeafIntervals, NumbersFit, Reads, Tree, at-cell, cell, here, leaf, leaf-last, leaf-next, leaves, node, occ, root-side, strings, there, zero-cell}
 use Rattle.model.specs.Rebuilding.{label}
 use Rattle.model.specs.Agreeing.{are-numbers, are-zero-cells, is-agreeing, is-each-once, is-trie-of, join-trees, read-tree, same-side, same-strs, slots-between}

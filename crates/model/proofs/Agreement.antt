@@ -6,7 +6,8 @@ use Rattle.model.specs.declared.Side.the-variants.{Cell as further, Slot
 use Rattle.model.specs.declared.Trie.{Trie}
 use Rattle.model.specs.Order.{Low, Str, _≺_, _⊑_, above, at, least, none, top}
 use Rattle.model.specs.Tests.{is-above}
-use Rattle.model.specs.Files.{Chain, In, IsString, RangeTable, Slot, Sound, all, bounds, fresh, head, last, next, ranges, slot-at, string-count, strings-of}
+use Rattle.model.specs.Files.{Chain, In, IsString, RangeTable, Slot, Sound, head, last, next, ranges, slot-at}
+use Rattle.model.specs.Searches.{all, bounds, fresh, string-count, strings-of}
 use Rattle.model.specs.Tries.{Agrees, Leads, LeafIntervals, NumbersFit, Reads, Tree, at-cell, first-leaf-of, leaf, leaves, node, occ, root as no-side, root-side, size, strings, trie-of, walk-of, walk-trie, zero-cell}
 use Rattle.model.specs.Rebuilding.{label, laid, lay, rebuilt, rebuilt-trie, side-of}
 use Rattle.model.proofs.Deciding.{over}

@@ -3,7 +3,8 @@ use Rattle.model.proofs.Prelude.{Bool, List, Option, _<_, _∙_, _≡_,
 use Rattle.model.specs.Order.{Low, Str, _⊑_, _◁_, at}
 use Rattle.model.specs.Names.{Legal}
 use Rattle.model.specs.Entries.{Entry, find, insert, is-older, run-of-content}
-use Rattle.model.specs.Files.{In, Slot, Sound, entries-of, first, free, head, is-free, is-in-range, slot-at, string-count, used}
+use Rattle.model.specs.Files.{In, Slot, Sound, entries-of, free, head, slot-at, used}
+use Rattle.model.specs.Searches.{first, is-free, is-in-range, string-count}
 use Rattle.model.specs.Changes.{Denied, Lowest, Request, Result, Store, call, halves, no-room, put, put-in, refuse, removal, remove, remove-in, stored, stores, stores-if, too-many}
 use Rattle.model.proofs.Files.{bucket, first-before, first-passes, found-in, free-is-free, is-free-free, one-range}
 use Rattle.model.specs.declared.Layout.{Layout}

@@ -4,7 +4,8 @@ use Rattle.model.proofs.Prelude.{List, List·Memᴰ, List·Memᴰ·head
 use Rattle.model.specs.Order.{Low, Str, _≺_, _⊑_, _◁_, above, at, none}
 use Rattle.model.specs.Names.{Bound, BoundLow, Legal, limit}
 use Rattle.model.specs.Entries.{Entry, Row, find, insert, move, name-at, stay, without}
-use Rattle.model.specs.Files.{Chain, Copied, Cut, In, IsUsed, Slot, Sound, Well, all, bounds, by-heads, entries-of, exactly, free, head, one-more, range, ranges, slot-at, string-count, used, well-used}
+use Rattle.model.specs.Files.{Chain, Copied, Cut, In, IsUsed, Slot, Sound, Well, by-heads, entries-of, exactly, free, head, one-more, range, ranges, slot-at, used, well-used}
+use Rattle.model.specs.Searches.{all, bounds, string-count}
 use Rattle.model.specs.Changes.{Lowest, Map, Means, Request, Store, counts, halves, meant, merged, put, removal, remove, split-of, split-string, stored, trie-removed}
 use Rattle.model.proofs.Lists.{mem-insert, mem-parts}
 use Rattle.model.proofs.Order.{le-trans, low-at, low-lower, lt-le}

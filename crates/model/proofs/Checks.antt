@@ -4,7 +4,8 @@ use Rattle.model.specs.Order.{Low, Str, _◁_, above, at, none}
 use Rattle.model.specs.Tests.{is-above, is-at-most, is-legal-bound, is-legal-filled, is-legal-low, same-str}
 use Rattle.model.specs.Names.{BoundLow, limit, unlimited}
 use Rattle.model.specs.Entries.{Entry, Row, entry, move, name-at, no-entries, without}
-use Rattle.model.specs.Files.{Bad, Chain, Copied, Cut, IsUsed, Slot, Sound, Well, exactly, free, has-lower, head, is-free, last, next, one-more, order-of, ranges, slot-at, upper-of, used, well-free, well-used}
+use Rattle.model.specs.Files.{Bad, Chain, Copied, Cut, IsUsed, Slot, Sound, Well, exactly, free, head, last, next, one-more, ranges, slot-at, upper-of, used, well-free, well-used}
+use Rattle.model.specs.Searches.{has-lower, is-free, order-of}
 use Rattle.model.specs.Checks.{Kind, all-well, are-same-entries, check, cut-among, has-one-more, has-twin, is-bad, is-chain, is-copied, is-cut, is-cut-by, is-in, is-listed, is-row, is-sound, is-sound-file, is-twin, is-well-formed}
 use Rattle.model.proofs.Tests.{above-is-above, both-true, either-true, is-above-above, is-at-most-le, is-at-most-lt, le-is-at-most, lt-is-at-most, never-both, same-str-equal, same-str-self, true-left, true-right}
 use Rattle.model.proofs.Names.{bound-is-legal-bound, is-legal-bound-bound, is-legal-filled-legal, legal-is-legal-filled}

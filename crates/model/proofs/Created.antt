@@ -4,7 +4,8 @@ use Rattle.model.specs.declared.Layout.{Layout}
 use Rattle.model.specs.Order.{at, least}
 use Rattle.model.specs.Names.{unlimited}
 use Rattle.model.specs.Entries.{find, no-entries}
-use Rattle.model.specs.Files.{IsUsed, Sound, Well, created, entries-of, free, head, last, order-of, slot-at, well-free, well-used}
+use Rattle.model.specs.Files.{IsUsed, Sound, Well, created, entries-of, free, head, last, slot-at, well-free, well-used}
+use Rattle.model.specs.Searches.{order-of}
 use Rattle.model.specs.Tries.{Agrees}
 use Rattle.model.specs.Changes.{Means}
 use Rattle.model.specs.Format.{Sizes, entry-length, file-bytes}

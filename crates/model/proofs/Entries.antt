@@ -8,7 +8,7 @@ use Rattle.model.specs.Changes.{split-string}
 use Rattle.model.proofs.Deciding.{le?, over, str?}
 use Rattle.model.proofs.Order.{le-antisym, le-refl, le-take, low-at, low-le, low-lower, lt-le-trans, split-lt}
 use Rattle.model.proofs.Tests.{equal-same-str, le-is-at-most, lt-is-at-most, never-both, same-str-other, same-str-self, true-or-false}
-use Rattle.model.proofs.Names.{legal-bound, legal-length, split-is}
+use Rattle.model.proofs.Names.{legal-bound, split-is}
 
 pub find-insert-same : (n : Str) (v : ℕ) (es : List Entry) → find n (insert n v es) ≡ some v
 unfolding find insert
@@ -188,7 +188,7 @@ module _ {l : Low} {u : Str} {ws : List Entry} (R : Row l ws u) (i j : ℕ) (i-l
   i-in = omega arith
 
   pub split-take : split-string i j ws ≡ take (suc (diff (name-at ws i) (name-at ws j))) (name-at ws i)
-  split-take = split-is (name-at ws i) (name-at ws j) (row-lt R i j i-lt j-lt) (legal-length (row-at R i i-in .0) ∙ sym (legal-length (row-at R j j-lt .0)))
+  split-take = split-is (name-at ws i) (name-at ws j) (row-lt R i j i-lt j-lt)
 
   pub split-key : name-at ws i ⊑ split-string i j ws
   split-key = rw split-take (le-take (suc (diff (name-at ws i) (name-at ws j))) (name-at ws i))

@@ -4,7 +4,8 @@ use Rattle.model.specs.Order.{Low, Str, _≺_, _◁_, at, none}
 use Rattle.model.specs.Tests.{is-above, is-at-most}
 use Rattle.model.specs.Names.{Bound, BoundLow}
 use Rattle.model.specs.Entries.{Entry, Row}
-use Rattle.model.specs.Files.{Begins, BoundOf, Chain, Cut, In, IsString, IsUsed, RangeTable, Slot, SlotHead, Sound, Well, all, bounds, entries-of, first, free, has-lower, has-upper, head, is-free, is-in-range, last, lower-bound, lower-of, next, no-range, order-from, order-of, range, ranges, slot-at, string-count, strings-of, upper-bound, upper-of, used, well-free, well-used}
+use Rattle.model.specs.Files.{Begins, BoundOf, Chain, Cut, In, IsString, IsUsed, RangeTable, Slot, SlotHead, Sound, Well, entries-of, free, head, last, lower-bound, lower-of, next, no-range, range, ranges, slot-at, upper-bound, upper-of, used, well-free, well-used}
+use Rattle.model.specs.Searches.{all, bounds, first, has-lower, has-upper, is-free, is-in-range, order-from, order-of, string-count, strings-of}
 use Rattle.model.specs.Tries.{occ}
 use Rattle.model.specs.Rebuilding.{rebuilt}
 use Rattle.model.proofs.Deciding.{le?, nil-not-le, over}
@@ -43,6 +44,11 @@ first-passes t (x ∷ xs) h = elim (true-or-false (t x)) [
   where
     lower : (i j : ℕ) → suc i < suc j → i < j
     lower i j h = omega arith
+
+pub first-inside : (t : Slot → Bool) (fs : List Slot) → first t fs ≤ length fs
+unfolding first
+first-inside t [] = omega arith
+first-inside t (x ∷ xs) = elim (true-or-false (t x)) [ inl p ↦ rw p (omega arith) | inr p ↦ rw p (omega (arith, first-inside t xs)) ]
 
 pub first-before : (t : Slot → Bool) (fs : List Slot) (B : ℕ) → B < first t fs → t (slot-at fs B) ≡ false
 unfolding first

@@ -4,7 +4,8 @@ use Rattle.model.specs.declared.Cell.{Cell}
 use Rattle.model.specs.declared.Side.{Side}
 use Rattle.model.specs.declared.Side.the-variants.{Cell as further}
 use Rattle.model.specs.Order.{Low, Str, _≺_, _⊑_, _◁_, above, at, diff, least, none, top}
-use Rattle.model.specs.Files.{Chain, RangeTable, all, bounds}
+use Rattle.model.specs.Files.{Chain, RangeTable}
+use Rattle.model.specs.Searches.{all, bounds}
 use Rattle.model.specs.Tries.{Leads, Reads, Spot, Tree, at-cell, cell, here, leaf, left, node, occ, right, root, size, there, zero-cell}
 use Rattle.model.specs.Rebuilding.{lay, side-of}
 use Rattle.model.specs.Growth.{cell-of, changed, grow-cells, grown, placed, turn, turn-cell, turn-cells, turn-side}

@@ -5,7 +5,8 @@ use Rattle.model.specs.Order.{Low, Str, _≺_, _⊑_, _⊴_, _◁_, abov
 use Rattle.model.specs.Tests.{is-at-most, same-str}
 use Rattle.model.specs.Names.{Bound, BoundLow}
 use Rattle.model.specs.Entries.{Entry, Row, entry, find, keep, move, name-at, no-entries, without}
-use Rattle.model.specs.Files.{BoundOf, Chain, Copied, Cut, In, IsString, IsUsed, RangeTable, Slot, Sound, Well, entries-of, exactly, first, free, has-lower, has-upper, head, last, lower-bound, lower-of, next, no-range, one-more, order-of, range, ranges, slot-at, string-count, upper-bound, upper-of, used, well-free, well-used}
+use Rattle.model.specs.Files.{BoundOf, Chain, Copied, Cut, In, IsString, IsUsed, RangeTable, Slot, Sound, Well, entries-of, exactly, free, head, last, lower-bound, lower-of, next, no-range, one-more, range, ranges, slot-at, upper-bound, upper-of, used, well-free, well-used}
+use Rattle.model.specs.Searches.{first, has-lower, has-upper, order-of, string-count}
 use Rattle.model.specs.Changes.{Map, Means, Store, left-of, meant, merged, merged-or, removal, remove, right-of}
 use Rattle.model.proofs.Deciding.{le?, over, str?}
 use Rattle.model.proofs.Lists.{mem-leave, mem-parts}

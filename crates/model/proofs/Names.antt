@@ -1,13 +1,12 @@
 -- The tests of names and bounds are what they test; a filled name has one name; within and not above are one; the split
 -- string is the first difference's.
-use Rattle.model.proofs.Prelude.{Bool, List·getD-append, [], _&&_, _++_, _+_, _-_, _<_, _∙_, _∷_, _≡_, _≤_, ap, ap₂, arith, clash, cond, decLe, eq-eqb, eqb, eqb-false, eqb-true, false, getD, getD-append-add, getD-replicate, le-leb, le-ltb, leb, leb-true, length, length-append, length-replicate, length-take, lt-ltb, ne-eqb, not, refl, replicate, suc, sym, take, take-append-seam, true, zero, ℕ, ℕ-discrete}
-use Rattle.model.specs.Order.{Str, _≺_, at, diff, digit, first-digit, last-digit, top}
+use Rattle.model.proofs.Prelude.{List·getD-append, [], _&&_, _++_, _+_, _-_, _<_, _∙_, _∷_, _≡_, _≤_, ap, ap₂, arith, clash, decLe, eq-eqb, eqb, eqb-true, false, getD, getD-append-add, getD-replicate, le-leb, leb, leb-true, length, length-append, length-replicate, length-take, ne-eqb, not, refl, replicate, suc, sym, take, take-append-seam, true, zero, ℕ, ℕ-discrete}
+use Rattle.model.specs.Order.{Str, _≺_, at, diff, first-digit, last-digit}
 use Rattle.model.specs.Tests.{are-digits, is-at-most, is-blank-digit, is-legal-bound, is-legal-filled, is-legal-name}
-use Rattle.model.specs.Names.{Bound, Digits, Legal, filled, not-greater, smaller, split-beginning, split-tried, within}
-use Rattle.model.proofs.Deciding.{head-le}
+use Rattle.model.specs.Names.{Bound, Digits, Legal, filled, not-greater, split-beginning, split-tried, within}
 use Rattle.model.proofs.Lists.{length-made, made-short}
-use Rattle.model.proofs.Order.{diff-lt-left, lt-le, split-shortest}
-use Rattle.model.proofs.Tests.{both-true}
+use Rattle.model.proofs.Order.{diff-lt-left, le-refl, le-take, lt-le-trans, split-lt, split-shortest}
+use Rattle.model.proofs.Tests.{both-true, le-is-at-most, lt-is-at-most}
 
 -- A name is within a bound exactly where it is not above it.
 pub within-is-at-most : (n p : Str) → length p ≤ length n → within n p ≡ is-at-most n p
@@ -182,37 +181,18 @@ one-name m n h k s r f l e =
     sym (front m h) ∙ ap (take (length m)) e ∙ ap (λ (j : ℕ). take j (filled n)) (sym c) ∙ front n k
 
 -- The split string.
-smaller-same : (x : Str) → smaller x x ≡ false
-unfolding smaller
-smaller-same [] = refl
-smaller-same (a ∷ x) = rw (le-ltb a a (omega arith), eq-eqb a a refl) (smaller-same x)
+is-below : (c z : Str) → c ≺ z → is-at-most (take (suc (diff c z)) z) (take (suc (diff c z)) c) ≡ false
+is-below c z p = let k : ℕ = suc (diff c z) in lt-is-at-most (take k z) (take k c) (lt-le-trans (split-lt c z p) (le-take k z))
 
-smaller-first : (c z : Str) → c ≺ z → length c ≡ length z → smaller (take (suc (diff c z)) c) (take (suc (diff c z)) z) ≡ true
-unfolding smaller
-smaller-first [] z p h = absurd (p (rw (nil z (sym h)) top))
-  where
-    nil : (z : Str) → length z ≡ 0 → z ≡ []
-    nil [] e = refl
-    nil (b ∷ z) e = absurd (omega arith)
-smaller-first (a ∷ c) [] p h = absurd (omega arith)
-smaller-first (a ∷ c) (b ∷ z) p h = go (eqb a b) refl (smaller-first c z)
-  where
-    go : (t : Bool) → eqb a b ≡ t → (c ≺ z → length c ≡ length z → smaller (take (suc (diff c z)) c) (take (suc (diff c z)) z) ≡ true)
-        → smaller (take (suc (cond t (suc (diff c z)) 0)) (a ∷ c)) (take (suc (cond t (suc (diff c z)) 0)) (b ∷ z)) ≡ true
-    go true t f =
-        let e : a ≡ b = eqb-true a b t in
-        rw (le-ltb a b (omega arith), t) (f (λ x. p (let k : b ≤ a = omega arith in digit k (λ q. x))) (omega arith))
-    go false n f = rw (lt-ltb a b (omega (arith, eqb-false a b n, head-le (lt-le p))))
-
-split-from : (f i : ℕ) (c z : Str) → c ≺ z → length c ≡ length z → i ≤ suc (diff c z) → suc (diff c z) ≤ i + f
+split-from : (f i : ℕ) (c z : Str) → c ≺ z → i ≤ suc (diff c z) → suc (diff c z) ≤ i + f
     → split-tried f i c z ≡ take (suc (diff c z)) c
 unfolding split-tried
-split-from zero i c z p h lo up = let e : i ≡ suc (diff c z) = omega arith in rw e
-split-from (suc f) i c z p h lo up = elim (decLe i (diff c z)) [
-  | yes k ↦ rw (split-shortest c z i k, smaller-same (take i z)) (split-from f (suc i) c z p h (omega arith) (omega arith))
-  | no k ↦ let e : i ≡ suc (diff c z) = omega arith in rw (e, smaller-first c z p h)
+split-from zero i c z p lo up = let e : i ≡ suc (diff c z) = omega arith in rw e
+split-from (suc f) i c z p lo up = elim (decLe i (diff c z)) [
+  | yes k ↦ rw (split-shortest c z i k, le-is-at-most (take i z) (take i z) (le-refl (take i z))) (split-from f (suc i) c z p (omega arith) (omega arith))
+  | no k ↦ let e : i ≡ suc (diff c z) = omega arith in rw (e, is-below c z p)
 ]
 
-pub split-is : (c z : Str) → c ≺ z → length c ≡ length z → split-beginning c z ≡ take (suc (diff c z)) c
+pub split-is : (c z : Str) → c ≺ z → split-beginning c z ≡ take (suc (diff c z)) c
 unfolding split-beginning
-split-is c z p h = split-from (length c) 0 c z p h (omega arith) (omega (arith, diff-lt-left c z p))
+split-is c z p = split-from (length c) 0 c z p (omega arith) (omega (arith, diff-lt-left c z p))

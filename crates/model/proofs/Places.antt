@@ -5,7 +5,8 @@ use Rattle.model.specs.declared.Layout.{Layout}
 use Rattle.model.specs.Order.{Low, Str, _⊑_, diff}
 use Rattle.model.specs.Entries.{Entry, Row, name-at}
 use Rattle.model.specs.Changes.{split-string}
-use Rattle.model.specs.Places.{Wins, behind, digits-at, here, only-from, place-of, positions, shortest, winner}
+use Rattle.model.specs.Places.{Wins, behind, digits-at, here, only-from, place-of, positions}
+use Rattle.model.specs.Searches.{shortest, winner}
 use Rattle.model.proofs.Deciding.{head-le, nil-not-le, tail-le}
 use Rattle.model.proofs.Order.{diff-lt-left, le-refl, lt-le}
 use Rattle.model.proofs.Entries.{row-lt, split-take}

@@ -1,7 +1,8 @@
 -- Slots in range order: each name in the range of one slot, each leaf with one slot; the bounds ascend.
 use Rattle.model.proofs.Prelude.{List, List·Memᴰ, List·Memᴰ·cases-cons, List·Memᴰ·head, List·Memᴰ·not-nil, List·Memᴰ·tail, Memᴰ·cast, [], _<_, _∙_, _∷_, _≡_, _≢_, _⊎_, ap, arith, inl, inr, length, refl, sym, take-length, ℕ}
 use Rattle.model.specs.Order.{Low, Str, _≺_, _⊑_, _⊴_, _◁_, at, top}
-use Rattle.model.specs.Files.{Chain, RangeTable, all, bounds, last, next}
+use Rattle.model.specs.Files.{Chain, RangeTable, last, next}
+use Rattle.model.specs.Searches.{all, bounds}
 use Rattle.model.specs.Tries.{Leads}
 use Rattle.model.specs.Rebuilding.{label}
 use Rattle.model.proofs.Deciding.{low?, over}

@@ -1,7 +1,8 @@
 -- Of a run, any string with fewest digits serves as root; the middle one has fewest; so the rebuilt trie leads every leaf to its bucket.
 use Rattle.model.proofs.Prelude.{Bool, List, List·Memᴰ, List·Memᴰ·append-cases, List·Memᴰ·cases-cons, List·Memᴰ·head, List·Memᴰ·not-nil, List·Memᴰ·tail, Memᴰ·append-left, Memᴰ·append-right, [], _++_, _+_, _-_, _/_, _<_, _∙_, _∷_, _≡_, _≤_, _⊎_, ap, arith, cond, drop, eq-eqb, eqb, eqb-false, eqb-true, false, getD, inl, inr, length, length-drop, length-take, min, refl, split-at, sub-zero, subst, suc, sym, take, take-all, take-suc, true, zero, ℕ}
 use Rattle.model.specs.Order.{Low, Str, _≺_, _⊑_, _◁_, at, last-digit, least, none, top}
-use Rattle.model.specs.Files.{Chain, RangeTable, all, bounds}
+use Rattle.model.specs.Files.{Chain, RangeTable}
+use Rattle.model.specs.Searches.{all, bounds}
 use Rattle.model.specs.Tries.{Leads, Tree, cell}
 use Rattle.model.specs.Rebuilding.{build, fewest, label, pick, places, rebuilt}
 use Rattle.model.proofs.Deciding.{over}

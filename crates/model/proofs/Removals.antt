@@ -3,7 +3,8 @@ use Rattle.model.proofs.Prelude.{List, List·Memᴰ, List·Memᴰ·head
 use Rattle.model.specs.Order.{Low, Str, _⊑_, _◁_, above, at, none}
 use Rattle.model.specs.Tests.{same-str}
 use Rattle.model.specs.Entries.{Entry, Row, keep, without}
-use Rattle.model.specs.Files.{Chain, In, RangeTable, Slot, Sound, Well, entries-of, free, head, next, order-of, ranges, slot-at, used}
+use Rattle.model.specs.Files.{Chain, In, RangeTable, Slot, Sound, Well, entries-of, free, head, next, ranges, slot-at, used}
+use Rattle.model.specs.Searches.{order-of}
 use Rattle.model.specs.Changes.{Store, stored}
 use Rattle.model.specs.Calls.{entries-in}
 use Rattle.model.proofs.Deciding.{le?, over}

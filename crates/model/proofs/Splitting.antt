@@ -1,7 +1,8 @@
 -- A split of a bucket: N comes right after A, s is added to the bounds, and the grown trie leads every leaf to its bucket.
 use Rattle.model.proofs.Prelude.{List, List·Memᴰ, List·Memᴰ·append-cases, List·Memᴰ·head, List·Memᴰ·tail, Memᴰ·append-left, Memᴰ·append-right, Memᴰ·cast, [], _++_, _<_, _∙_, _∷_, _≡_, _≢_, _≤_, _⊎_, ap, arith, eq-eqb, inl, inr, length, length-take-le, ne-eqb, refl, suc, sym, take, take-length, take-nil, ℕ, ℕ-discrete}
 use Rattle.model.specs.Order.{Low, Str, _≺_, _⊑_, _◁_, above, at, diff, least, none, top}
-use Rattle.model.specs.Files.{Begins, Chain, RangeTable, all, bounds, fresh, last, next}
+use Rattle.model.specs.Files.{Begins, Chain, RangeTable, last, next}
+use Rattle.model.specs.Searches.{all, bounds, fresh}
 use Rattle.model.specs.Tries.{Leads, Tree}
 use Rattle.model.specs.Growth.{turn}
 use Rattle.model.proofs.Deciding.{le?}

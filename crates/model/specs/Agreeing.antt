@@ -11,7 +11,8 @@ use Rattle.model.specs.declared.Side.the-variants.{Cell as further, Slot
 use Rattle.model.specs.declared.Trie.{Trie}
 use Rattle.model.specs.Order.{Low, Str, at, none}
 use Rattle.model.specs.Tests.{same-str}
-use Rattle.model.specs.Files.{Slot, order-of, ranges, strings-of}
+use Rattle.model.specs.Files.{Slot, ranges}
+use Rattle.model.specs.Searches.{order-of, strings-of}
 use Rattle.model.specs.Tries.{Tree, at-cell, cell, leaf, leaves, node, occ, root-side, strings}
 use Rattle.model.specs.Rebuilding.{label}
 

@@ -25,7 +25,8 @@ use Rattle.model.specs.Order.{Str}
 use Rattle.model.specs.Tests.{is-above, is-at-most, is-legal-name}
 use Rattle.model.specs.Names.{broken, filled}
 use Rattle.model.specs.Entries.{Entry, content-from, find, insert, is-older, name-at, run-of-content, value-of-content}
-use Rattle.model.specs.Files.{Slot, created, entries-of, first, free, is-in-range, order-of, slot-at, string-count, used}
+use Rattle.model.specs.Files.{Slot, created, entries-of, free, slot-at, used}
+use Rattle.model.specs.Searches.{first, is-in-range, order-of, string-count}
 use Rattle.model.specs.Tries.{Spot, walk-of, zero-cell}
 use Rattle.model.specs.Rebuilding.{rebuilt-trie}
 use Rattle.model.specs.Growth.{grown-trie}
@@ -40,15 +41,33 @@ use Rattle.model.specs.Format.{are-legal-sizes, bytes-at-slot, bytes-of-
 abbrev pub new-trie : Trie
 new-trie = record { cells = replicate 256 zero-cell; count = 0; first = 0 }
 
--- What create leaves, and what rebuild does. Refused, they give the empty trie too (R10.12).
+-- What each call leaves. Refused, create and rebuild give the empty trie too (R10.12).
 pub record CreateDone : Type 0 where
   pub answer : TrieAnswer
   pub file : List ℕ
   pub trie : Trie
 
+pub record RecoverDone : Type 0 where
+  pub answer : RecoverAnswer
+  pub file : List ℕ
+
 pub record RebuildDone : Type 0 where
   pub answer : TrieAnswer
   pub trie : Trie
+
+pub record PutDone : Type 0 where
+  pub answer : PutAnswer
+  pub file : List ℕ
+  pub trie : Trie
+
+pub record RemoveDone : Type 0 where
+  pub answer : RemoveAnswer
+  pub file : List ℕ
+  pub trie : Trie
+
+pub record ListDone : Type 0 where
+  pub answer : ListAnswer
+  pub output : List ℕ
 
 -- R9.1: a new file in the whole buffer, and its trie; or refused by R10.8.
 unfoldable pub create-of : List ℕ → ℕ → ℕ → ℕ → CreateDone
@@ -59,11 +78,6 @@ create-of xs v b slots =
     (record { answer = TrieRefused WrongSize; file = xs; trie = new-trie })
 
 -- R9.2: check is `check-file`.
-
--- What recover leaves.
-pub record RecoverDone : Type 0 where
-  pub answer : RecoverAnswer
-  pub file : List ℕ
 
 -- R9.3: recover frees N and names it; on a sound file there is nothing to do.
 unfoldable pub recover-by : List ℕ → ℕ → Kind → RecoverDone
@@ -166,12 +180,6 @@ trie-after-put b place fs n v (x ∷ y ∷ ss) t =
     let ws = insert n v (entries-of (slot-at fs (y .0))) in
     grown-trie t (name-at ws (place ws)) (split-of b place ws) (y .0) (x .0)
 
--- What put leaves.
-pub record PutDone : Type 0 where
-  pub answer : PutAnswer
-  pub file : List ℕ
-  pub trie : Trie
-
 -- R7.2 and R7.8: added; R7.9: replaced, with the old value and run.
 abbrev pub put-answer : Option ℕ → PutAnswer
 put-answer nothing = Added
@@ -193,13 +201,9 @@ refusal-of r = cond (eqb r 12) OlderRun (cond (eqb r 5) NoFreeSlot ManyStrings)
 unfoldable pub put-by-stores : List ℕ → Trie → Layout → List Slot → Str → ℕ → ℕ → Result → PutDone
 put-by-stores xs t y fs n v limit (refuse r) = record { answer = PutRefused (refusal-of r); file = xs; trie = t }
 put-by-stores xs t y fs n v limit (stores ss) =
-    cond (ltb limit (length ss))
-    (record { answer = PutStopped limit; file = stores-bytes y (take limit ss) xs; trie = t })
-    (record {
-      answer = put-answer (held fs n);
-      file = stores-bytes y ss xs;
-      trie = trie-after-put (y .b) (place-of y) fs n v ss t;
-    })
+    let u = trie-after-put (y .b) (place-of y) fs n v ss t in
+    cond (ltb limit (length ss)) (record { answer = PutStopped limit; file = stores-bytes y (take limit ss) xs; trie = t })
+    (record { answer = put-answer (held fs n); file = stores-bytes y ss xs; trie = u })
 
 unfoldable pub put-on-looked : List ℕ → Trie → Str → ℕ → ℕ → ℕ → Looked → PutDone
 put-on-looked xs t n v r limit (refusing c) = record { answer = PutRefused c; file = xs; trie = t }
@@ -216,12 +220,6 @@ put-made-with legal looked xs t name v r limit =
 
 unfoldable pub put-of : List ℕ → Trie → List ℕ → ℕ → ℕ → ℕ → PutDone
 put-of xs t name v r limit = put-made-with is-legal-name looked-of xs t name v r limit
-
--- What remove leaves. "The trie after a merge is the rebuilt one"; else it stays.
-pub record RemoveDone : Type 0 where
-  pub answer : RemoveAnswer
-  pub file : List ℕ
-  pub trie : Trie
 
 -- R7.10: removed, in one store or the two of a merge; R7.11: absent, without a store.
 abbrev pub remove-answer : List Store → RemoveAnswer
@@ -247,11 +245,6 @@ remove-made-with legal looked xs t name limit =
 
 unfoldable pub remove-of : List ℕ → Trie → List ℕ → ℕ → RemoveDone
 remove-of xs t name limit = remove-made-with is-legal-name looked-of xs t name limit
-
--- What list leaves.
-pub record ListDone : Type 0 where
-  pub answer : ListAnswer
-  pub output : List ℕ
 
 -- All entries, ascending: the buckets in range order.
 unfoldable pub entries-in : List Slot → List ℕ → List Entry

@@ -12,7 +12,8 @@ use Rattle.model.specs.Order.{Low, Str, _⊑_, _◁_, at, none}
 use Rattle.model.specs.Tests.{same-str}
 use Rattle.model.specs.Names.{split-beginning}
 use Rattle.model.specs.Entries.{Entry, find, insert, move, name-at, stay, without}
-use Rattle.model.specs.Files.{In, Slot, entries-of, first, free, has-lower, has-upper, head, is-free, is-in-range, slot-at, string-count, used}
+use Rattle.model.specs.Files.{In, Slot, entries-of, free, head, slot-at, used}
+use Rattle.model.specs.Searches.{first, has-lower, has-upper, is-free, is-in-range, string-count}
 use Rattle.model.specs.Rebuilding.{rebuilt-trie}
 
 -- Put of a filled name with its value, and remove.
@@ -81,16 +82,11 @@ module _ (b : ℕ) (place : List Entry → ℕ) where
   abbrev pub split-of : List Entry → Str
   split-of ws = split-string (place ws) b ws
 
-  -- R7.7: the bounds of the new slot and of A.
-  abbrev pub new-half : List Entry → Str → Slot
-  new-half ws u = used (at (split-of ws)) u (move (split-of ws) ws)
-
-  abbrev pub old-half : List Entry → Low → Slot
-  old-half ws l = used l (split-of ws) (stay (split-of ws) ws)
-
-  -- R7.8: two stores, the new slot first.
+  -- R7.8: two stores, the new slot first; R7.7: their bounds.
   abbrev pub halves : ℕ → ℕ → Low → Str → List Entry → List Store
-  halves N A l u ws = (N, new-half ws u) ∷ (A, old-half ws l) ∷ []
+  halves N A l u ws =
+      let s = split-of ws in
+      (N, used (at s) u (move s ws)) ∷ (A, used l s (stay s ws)) ∷ []
 
   -- R10.5 and R10.6.
   pub data Denied (fs : List Slot) : Request → ℕ → Type 0 where

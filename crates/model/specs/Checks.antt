@@ -7,7 +7,8 @@ use lib.ListN.{length, set}
 use Rattle.model.specs.Order.{Low, Str, at, none}
 use Rattle.model.specs.Tests.{is-above, is-at-most, is-legal-bound, is-legal-filled, is-legal-low, same-str}
 use Rattle.model.specs.Entries.{Entry, move, name-at, without}
-use Rattle.model.specs.Files.{Slot, free, has-lower, head, is-free, order-of, slot-at, upper-of, used}
+use Rattle.model.specs.Files.{Slot, free, head, slot-at, upper-of, used}
+use Rattle.model.specs.Searches.{has-lower, is-free, order-of}
 
 -- R3.13 to R3.16: legal names, ascending, each in the range. What depends on the rule of names takes the test that it rests
 -- on (`With`): an older build is the same with another.

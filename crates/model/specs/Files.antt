@@ -1,11 +1,9 @@
--- The file as a list of slots: well formed, sound, cut, bad; its range order, its bounds, its strings.
+-- The file as a list of slots: well formed, sound, cut, bad; its strings.
 use mathlib.Core.Path.{_≡_}
-use mathlib.Core.Bool.{Bool, _&&_, cond, false, true}
-use mathlib.Core.List.{List, List·Memᴰ, [], _++_, _∷_}
-use Prim.Native.Nat.{_-_, _<_, _≤_, suc, zero, ℕ}
-use lib.ListN.{drop, getD, length, replicate, set, take}
-use Rattle.model.specs.Order.{Low, Str, _≺_, _⊑_, _◁_, at, diff, none}
-use Rattle.model.specs.Tests.{is-above, is-at-most, same-low, same-str}
+use mathlib.Core.List.{List, List·Memᴰ, [], _∷_}
+use Prim.Native.Nat.{_-_, _<_, _≤_, ℕ}
+use lib.ListN.{getD, length, replicate, set, take}
+use Rattle.model.specs.Order.{Low, Str, _≺_, _⊑_, _◁_, at, none}
 use Rattle.model.specs.Names.{Bound, BoundLow}
 use Rattle.model.specs.Entries.{Entry, Row, move, name-at, without}
 
@@ -66,12 +64,6 @@ module _ (F : RangeTable) where
     next : {l : Low} {B : ℕ} {Bs : List ℕ} → F .Used B → F .lower B ≡ l → l ◁ F .upper B → F .upper B ≺ []
         → Chain (at (F .upper B)) Bs → Chain l (B ∷ Bs)
 
-  -- The non-empty bounds of slots in such an order, ascending: all uppers but the last.
-  abbrev pub bounds : List ℕ → List Str
-  bounds [] = []
-  bounds (B ∷ []) = []
-  bounds (B ∷ C ∷ Bs) = F .upper B ∷ bounds (C ∷ Bs)
-
 -- R4.13: exactly A's entries in N's range, or these and one more.
 pub data Copied (es : List Entry) : List Entry → Type 0 where
   exactly : Copied es es
@@ -115,40 +107,6 @@ module _ (b : ℕ) where
 abbrev pub created : ℕ → List Slot
 created slots = used none [] [] ∷ replicate (slots - 1) free
 
--- The number of the first slot that passes a test; of none, the number of slots.
-unfoldable pub first : (Slot → Bool) → List Slot → ℕ
-first t [] = 0
-first t (x ∷ xs) = cond (t x) 0 (suc (first t xs))
-
--- A slot that is free; that is used, and has this lower limit; and has this upper bound; and has this name in its range (R1.8).
-unfoldable pub is-free : Slot → Bool
-is-free free = true
-is-free (used l u es) = false
-
-unfoldable pub has-lower : Low → Slot → Bool
-has-lower l free = false
-has-lower l (used m u es) = same-low m l
-
-unfoldable pub has-upper : Str → Slot → Bool
-has-upper u free = false
-has-upper u (used l v es) = same-str v u
-
-unfoldable pub is-in-range : Str → Slot → Bool
-is-in-range n free = false
-is-in-range n (used l u es) = is-above l n && is-at-most n u
-
--- The range order, found: the slot with this lower limit, then the one whose lower is its upper, and so on.
-unfoldable pub order-from : ℕ → Low → List Slot → List ℕ
-order-from zero l fs = []
-order-from (suc f) l fs =
-    let B = first (has-lower l) fs in
-    let u = upper-of (head (slot-at fs B)) in
-    let r = order-from f (at u) fs in
-    B ∷ cond (same-str u []) [] r
-
-abbrev pub order-of : List Slot → List ℕ
-order-of fs = order-from (length fs) none fs
-
 -- x is a non-empty beginning of s.
 pub record Begins (s x : Str) : Type 0 where
   pub count : ℕ
@@ -166,25 +124,3 @@ pub record IsString (fs : List Slot) (x : Str) : Type 0 where
   pub bound : Str
   pub is-bound : BoundOf (head (slot-at fs bucket)) bound
   pub begins : Begins bound x
-
--- The same, listed in ascending order. A beginning comes after all that it begins: the beginnings of p ++ ds that are
--- longer than p, longest first;
-abbrev pub longer : Str → Str → List Str
-longer p [] = []
-longer p (d ∷ ds) = longer (p ++ (d ∷ [])) ds ++ ((p ++ (d ∷ [])) ∷ [])
-
--- the beginnings of s that are longer than what s and p share;
-abbrev pub fresh : Str → Str → List Str
-fresh s p = longer (take (diff s p) s) (drop (diff s p) s)
-
--- after a bound x, before the next: the beginnings of x longer than what the two share.
-abbrev pub all : List Str → List Str
-all [] = []
-all (x ∷ []) = fresh x []
-all (x ∷ y ∷ ys) = fresh x y ++ all (y ∷ ys)
-
-abbrev pub strings-of : List Slot → List Str
-strings-of fs = all (bounds (ranges fs) (order-of fs))
-
-unfoldable pub string-count : List Slot → ℕ
-string-count fs = length (strings-of fs)

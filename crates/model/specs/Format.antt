@@ -14,16 +14,6 @@ use Rattle.model.specs.Entries.{Entry}
 use Rattle.model.specs.Files.{Cut, Slot, Sound, free, used}
 use Rattle.model.specs.Checks.{Kind, check, is-bad}
 
--- The layouts of a file of version 1, of version 2 and of version 3.
-abbrev pub version-1 : ℕ → Layout
-version-1 b = record { version = 1; b = b }
-
-abbrev pub version-2 : ℕ → Layout
-version-2 b = record { version = 2; b = b }
-
-abbrev pub version-3 : ℕ → Layout
-version-3 b = record { version = 3; b = b }
-
 -- R2.3: the versions that are offered.
 unfoldable pub is-offered : ℕ → Bool
 is-offered v = leb 1 v && leb v 3

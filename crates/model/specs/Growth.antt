@@ -20,13 +20,10 @@ abbrev pub chain-of : ℕ → Str → ℕ → Tree
 chain-of i [] A = leaf A
 chain-of i (d ∷ ds) A = node d i (chain-of (suc i) ds A) (leaf A)
 
--- R8.3: what stands at the leaf, whose path is p and slot A, for the digits of s past those shared with p.
+-- R8.3: what stands at the leaf, whose path is p and slot A: a cell for each digit of s past those shared with p. R8.2: where all are
+-- shared, s is the string of a cell already, and no cell is added.
 abbrev pub grown : Str → Str → ℕ → Tree
 grown s p A = chain-of (diff s p) (drop (diff s p) s) A
-
--- R8.2: where s shares all its digits with the leaf's path, it is the string of a cell already, and no cell is added.
-abbrev pub at-leaf : Str → Str → ℕ → Tree
-at-leaf s p A = cond (eqb (diff s p) (length s)) (leaf A) (grown s p A)
 
 -- R8.5: A's leaves whose paths are above s, the right sides of the new cells among them, lead to the new slot.
 abbrev pub turn : Str → ℕ → ℕ → Str → ℕ → ℕ
@@ -76,20 +73,13 @@ module _ (f : Str → ℕ → ℕ) where
       (set cs m (turn-cell p (at-cell cs m))))
 
 -- All of it, where the split key's walk came by the side k to a leaf with the path p and the slot B.
-module _ (cs : List Cell) (a : Side) (p : Str) (k : Spot) (B : ℕ) (s : Str) (A N : ℕ) where
-  abbrev pub cells-with : List Cell
-  cells-with = grow-cells cs k (at-leaf s p B)
-
-  abbrev pub root-with : Side
-  root-with = placed a (side-of (length cs) (at-leaf s p B))
-
-  abbrev pub trie-with : Trie
-  trie-with =
-      trie-of (turn-cells (turn s A N) (suc (length cells-with)) [] root-with cells-with) (turn-side (turn s A N) [] root-with)
-
 abbrev pub grown-by : Trie → Str → ℕ → ℕ → Option (Str × Spot × ℕ) → Trie
 grown-by t s A N nothing = t
-grown-by t s A N (some (p, k, B)) = trie-with (take (t .count) (t .cells)) (root-side (t .count) (t .first)) p k B s A N
+grown-by t s A N (some (p, k, B)) =
+    let cs = take (t .count) (t .cells) in
+    let ds = grow-cells cs k (grown s p B) in
+    let a = placed (root-side (t .count) (t .first)) (side-of (length cs) (grown s p B)) in
+    trie-of (turn-cells (turn s A N) (suc (length ds)) [] a ds) (turn-side (turn s A N) [] a)
 
 -- The trie after A was split at s, the split key being c, and N took the names above s.
 abbrev pub grown-trie : Trie → Str → Str → ℕ → ℕ → Trie

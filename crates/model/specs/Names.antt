@@ -53,18 +53,12 @@ unfoldable pub broken : Low → List ℕ → List ℕ → ℕ
 broken none u n = diff n u
 broken (at l) u n = cond (is-at-most n l) (diff n l) (diff n u)
 
--- Of two strings with as many digits: it is smaller.
-unfoldable pub smaller : List ℕ → List ℕ → Bool
-smaller [] y = false
-smaller (a ∷ x) [] = false
-smaller (a ∷ x) (b ∷ y) = cond (ltb a b) true (cond (eqb a b) (smaller x y) false)
-
--- R7.4: the split string of the split key c and the last name z, both filled; beginnings are tried from i digits on.
+-- R7.4: of the split key c and the last name z, both filled: the first beginning of c, from i digits on, below as many digits of z.
 unfoldable pub split-tried : ℕ → ℕ → List ℕ → List ℕ → List ℕ
 split-tried zero i c z = take i c
 split-tried (suc f) i c z =
     let r = split-tried f (suc i) c z in
-    cond (smaller (take i c) (take i z)) (take i c) r
+    cond (is-at-most (take i z) (take i c)) r (take i c)
 
 unfoldable pub split-beginning : List ℕ → List ℕ → List ℕ
 split-beginning c z = split-tried (length c) 0 c z

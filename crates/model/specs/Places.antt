@@ -2,10 +2,11 @@
 use mathlib.Core.Bool.{_&&_, cond}
 use mathlib.Core.List.{List, List·Memᴰ, [], _∷_}
 use Prim.Native.Nat.{_+_, _-_, _/_, _<_, _≤_, ℕ}
-use lib.Dec.{eqb, leb, ltb}
+use lib.Dec.{eqb, leb}
 use lib.ListN.{length}
 use Rattle.model.specs.declared.Layout.{Layout}
 use Rattle.model.specs.Entries.{Entry}
+use Rattle.model.specs.Searches.{winner}
 use Rattle.model.specs.Changes.{split-string}
 
 -- Of some positions those from one to another only.
@@ -27,16 +28,6 @@ digits-at b ws p = length (split-string (p - 1) b ws)
 pub data Wins (f : ℕ → ℕ) (p : ℕ) : List ℕ → Type 0 where
   here : {ps : List ℕ} → ((q : ℕ) → List·Memᴰ q ps → f p ≤ f q) → Wins f p (p ∷ ps)
   behind : {q : ℕ} {ps : List ℕ} → f p < f q → Wins f p ps → Wins f p (q ∷ ps)
-
--- The same as a function: p, unless a later one is shorter than all before it.
-unfoldable pub shortest : (ℕ → ℕ) → ℕ → List ℕ → ℕ
-shortest f p [] = p
-shortest f p (q ∷ qs) = shortest f (cond (ltb (f q) (f p)) q p) qs
-
--- The winner of some positions. Those of R7.3 have one, for m is always among them.
-unfoldable pub winner : (ℕ → ℕ) → List ℕ → ℕ
-winner f [] = 1
-winner f (p ∷ ps) = shortest f p ps
 
 -- R7.3: the place of the split key, counted from 0, is its position less one. Version 1 has it at m = b/2 + 1, versions 2
 -- and 3 at the position that wins.

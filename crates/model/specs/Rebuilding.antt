@@ -10,7 +10,8 @@ use Rattle.model.specs.declared.Side.the-variants.{Cell as further, Slot
 use Rattle.model.specs.declared.Trie.{Trie}
 use Rattle.model.specs.Order.{Low, Str, at, last-digit, none}
 use Rattle.model.specs.Tests.{is-above}
-use Rattle.model.specs.Files.{RangeTable, Slot, all, bounds, order-of, ranges}
+use Rattle.model.specs.Files.{RangeTable, Slot, ranges}
+use Rattle.model.specs.Searches.{all, bounds, order-of}
 use Rattle.model.specs.Tries.{Tree, leaf, node, size, trie-of}
 
 -- R6.2: how many digits the strings with fewest digits have,

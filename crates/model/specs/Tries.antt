@@ -1,7 +1,7 @@
 -- The trie: its tree and its strings; how it lies in cells; the walk; when it agrees with a file.
 use mathlib.Core.Path.{_≡_}
 use mathlib.Core.Bool.{_&&_, cond}
-use mathlib.Core.Option.{Option, none as nothing, some}
+use mathlib.Core.Option.{Option, Option·getD, Option·map, none as nothing, some}
 use mathlib.Core.List.{List, List·Memᴰ, [], _++_, _∷_}
 use Prim.Native.Nat.{_+_, _-_, _<_, _≤_, suc, zero, ℕ}
 use lib.Dec.{eqb, leb, ltb}
@@ -12,7 +12,7 @@ use Rattle.model.specs.declared.Side.the-variants.{Cell as further, Slot
 use Rattle.model.specs.declared.Trie.{Trie}
 use Rattle.model.specs.Order.{Low, Str, _≺_, _⊑_, _⊴_, _◁_, at, none}
 use Rattle.model.specs.Tests.{is-at-most}
-use Rattle.model.specs.Files.{IsString, RangeTable, Slot, first, ranges}
+use Rattle.model.specs.Files.{IsString, RangeTable, Slot, ranges}
 
 -- A side, unfolded: a leaf that leads to a slot, or a cell with a digit, a digit number and two sides.
 pub data Tree : Type 0 where
@@ -115,12 +115,8 @@ walk-of t n =
     cond (leb (t .count) 256) w nothing
 
 -- The slot that a name leads to.
-abbrev pub slot-reached : Option (Str × Spot × ℕ) → ℕ
-slot-reached nothing = 0
-slot-reached (some (p, k, s)) = s
-
 abbrev pub walk-trie : Trie → Str → ℕ
-walk-trie t n = slot-reached (walk-of t n)
+walk-trie t n = Option·getD (Option·map (λ (w : Str × Spot × ℕ). w .2) (walk-of t n)) 0
 
 -- Section 5 of the rules: a trie agrees with a sound file.
 pub record Agrees (fs : List Slot) (t : Trie) : Type 0 where

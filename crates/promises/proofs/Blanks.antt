@@ -4,7 +4,8 @@ use Rattle.model.specs.Order.{Low, Str, at, none}
 use Rattle.model.specs.Tests.{are-digits, is-above, is-at-most, is-blank-digit, is-legal-bound, is-legal-filled, is-legal-low, is-legal-name}
 use Rattle.model.specs.Names.{Digits, filled}
 use Rattle.model.specs.Entries.{Entry}
-use Rattle.model.specs.Files.{Slot, entries-of, free, order-of, slot-at, used}
+use Rattle.model.specs.Files.{Slot, entries-of, free, slot-at, used}
+use Rattle.model.specs.Searches.{order-of}
 use Rattle.model.specs.Checks.{Kind, all-well, check, cut-among, cut-below-with, has-twin, is-bad, is-chain, is-cut-by, is-listed, is-row, is-sound, is-sound-file, is-well-formed}
 use Rattle.model.proofs.Tests.{both-true}
 use Rattle.model.proofs.Names.{are-digits-digits, digits-are-digits, filled-at, filled-behind, length-filled}

@@ -16,7 +16,8 @@ use Rattle.model.specs.Order.{Str, first-digit, last-digit}
 use Rattle.model.specs.Tests.{are-digits, is-above, is-at-most, is-blank-digit, is-legal-name, same-str}
 use Rattle.model.specs.Names.{Legal, broken, filled}
 use Rattle.model.specs.Entries.{Entry, content-from, find, is-older}
-use Rattle.model.specs.Files.{In, Slot, Well, created, first, free, head, is-in-range, order-of, slot-at, string-count, used, well-free}
+use Rattle.model.specs.Files.{In, Slot, Well, created, free, head, slot-at, used, well-free}
+use Rattle.model.specs.Searches.{first, is-in-range, order-of, string-count}
 use Rattle.model.specs.Tries.{Agrees, root, root-side, walk-of, walk-run}
 use Rattle.model.specs.Rebuilding.{rebuilt-trie}
 use Rattle.model.specs.Changes.{Denied, Request, Result, Store, no-room, put, remove, too-many, trie-removed}

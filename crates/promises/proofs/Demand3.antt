@@ -12,7 +12,8 @@ use Rattle.model.specs.Order.{Str}
 use Rattle.model.specs.Tests.{is-legal-name}
 use Rattle.model.specs.Names.{Legal, filled}
 use Rattle.model.specs.Entries.{content-from}
-use Rattle.model.specs.Files.{Cut, Slot, Well, created, free, slot-at, string-count}
+use Rattle.model.specs.Files.{Cut, Slot, Well, created, free, slot-at}
+use Rattle.model.specs.Searches.{string-count}
 use Rattle.model.specs.Tries.{Agrees, walk-trie}
 use Rattle.model.specs.Changes.{Map, Request, Result, Store, counts, meant, put as to-put, remove as to-remove, stored, trie-removed}
 use Rattle.model.specs.Format.{CutFile, SoundFile, are-legal-sizes, check-file, entry-length, file-bytes, file-size, kept-run, layout-of, read-file, store-bytes}

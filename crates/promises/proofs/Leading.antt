@@ -9,7 +9,8 @@ use Rattle.model.specs.Order.{Str}
 use Rattle.model.specs.Tests.{is-legal-name}
 use Rattle.model.specs.Names.{Legal, filled}
 use Rattle.model.specs.Entries.{content-from, insert}
-use Rattle.model.specs.Files.{Slot, Sound, created, string-count}
+use Rattle.model.specs.Files.{Slot, Sound, created}
+use Rattle.model.specs.Searches.{string-count}
 use Rattle.model.specs.Tries.{Agrees}
 use Rattle.model.specs.Rebuilding.{rebuilt-trie}
 use Rattle.model.specs.Changes.{Result, Store, put, stored}

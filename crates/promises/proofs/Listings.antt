@@ -3,7 +3,8 @@ use Rattle.model.proofs.Prelude.{Bool, List, List·Memᴰ, List·Memᴰ·append
 use Rattle.model.specs.Order.{Low, Str, _⊑_, _⊴_, _◁_, at, below, top}
 use Rattle.model.specs.Tests.{is-at-most}
 use Rattle.model.specs.Entries.{Entry, Row, entry, no-entries}
-use Rattle.model.specs.Files.{Chain, IsUsed, Slot, Sound, Well, entries-of, free, head, last, lower-of, next, order-of, ranges, slot-at, upper-of, used}
+use Rattle.model.specs.Files.{Chain, IsUsed, Slot, Sound, Well, entries-of, free, head, last, lower-of, next, ranges, slot-at, upper-of, used}
+use Rattle.model.specs.Searches.{order-of}
 use Rattle.model.specs.Calls.{between, entries-in}
 use Rattle.model.proofs.Deciding.{over}
 use Rattle.model.proofs.Order.{le-refl, le-trans, low-at, low-lower, lt-le}

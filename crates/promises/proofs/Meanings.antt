@@ -1,5 +1,5 @@
 -- Check, recover, list and the tests mean what the rules say.
-use Rattle.model.proofs.Prelude.{Bool, List, List·Memᴰ, List·Memᴰ·cases-cons, List·Memᴰ·head, List·Memᴰ·not-nil, List·Memᴰ·tail, [], _&&_, _*_, _++_, _<_, _∙_, _∷_, _≡_, _≤_, _⊎_, ap, arith, clash, cond, drop, false, inl, inr, length, length-replicate, ltb, ltb-false, ltb-true, refl, replicate, set, some, suc, sym, take, take-all, true, ℕ}
+use Rattle.model.proofs.Prelude.{Bool, List, List·Memᴰ, List·Memᴰ·cases-cons, List·Memᴰ·head, List·Memᴰ·not-nil, List·Memᴰ·tail, [], _&&_, _*_, _++_, _<_, _∙_, _∷_, _≡_, _≤_, _⊎_, ap, arith, clash, cond, decLt, drop, false, inl, inr, length, length-replicate, ltb, ltb-false, ltb-true, refl, replicate, set, some, suc, sym, take, take-all, true, ℕ}
 use Rattle.model.specs.declared.Cause.the-variants.{BadFile as is-a-bad-file, IllegalName, ShortOutput, WrongSize}
 use Rattle.model.specs.declared.Layout.{Layout}
 use Rattle.model.specs.declared.ListAnswer.the-variants.{Listed, Refused as ListRefused}
@@ -9,7 +9,8 @@ use Rattle.model.specs.Order.{Low, Str, at}
 use Rattle.model.specs.Tests.{is-legal-name}
 use Rattle.model.specs.Names.{filled}
 use Rattle.model.specs.Entries.{Entry, insert}
-use Rattle.model.specs.Files.{Slot, Sound, free, order-of, string-count, strings-of}
+use Rattle.model.specs.Files.{Slot, Sound, free}
+use Rattle.model.specs.Searches.{first, order-of, string-count, strings-of}
 use Rattle.model.specs.Tries.{Agrees}
 use Rattle.model.specs.Places.{place-of}
 use Rattle.model.specs.Checks.{Kind, is-bad, is-cut, is-sound}
@@ -20,7 +21,7 @@ use Rattle.model.proofs.Order.{Asc, end, le-refl, step}
 use Rattle.model.proofs.Tests.{above-is-above, is-above-above, is-at-most-le, le-is-at-most, same-str-equal, same-str-self}
 use Rattle.model.proofs.Names.{is-legal-filled-legal, legal-is-legal-filled, one-name}
 use Rattle.model.proofs.Strings.{asc-mem}
-use Rattle.model.proofs.Files.{cut-inside, strings-asc, strings-every, strings-only}
+use Rattle.model.proofs.Files.{chain-right, cut-inside, first-before, first-inside, first-passes, free-is-free, has-lower-lower, has-upper-upper, in-is-in-range, is-free-free, is-in-range-in, lower-has-lower, strings-asc, strings-every, strings-only, upper-has-upper}
 use Rattle.model.proofs.Checks.{check-bad, check-cut, check-right, check-sound, is-well-formed-well, well-is-well-formed}
 use Rattle.model.proofs.Agreeing.{agrees-is-agreeing, is-agreeing-agrees}
 use Rattle.model.proofs.CheckedFiles.{CheckedFile, check-file-cut, check-file-right, check-file-sound, one-cut, sound-not-cut}
@@ -29,7 +30,7 @@ use Rattle.model.proofs.Places.{place-lt}
 use Rattle.model.proofs.Format.{headed-slots, read-file-read}
 use Rattle.model.proofs.Stores.{left-freed}
 use Rattle.promises.specs.Calls.{our-calls}
-use Rattle.promises.specs.Meanings.{AllStrings, Distinct, Meanings, OneFreed, Tests, Wrote}
+use Rattle.promises.specs.Meanings.{AllStrings, Ascending, Distinct, Meanings, OneFreed, Tests, Wrote}
 use Rattle.promises.proofs.Demand1.{legal-name, name-legal}
 use Rattle.promises.proofs.Leading.{Passed, looked-passed}
 use Rattle.promises.proofs.Listings.{listed-right}
@@ -198,6 +199,10 @@ distinct : {l : Low} {u : Str} (ss : List Str) → Asc l ss u → Distinct ss
 distinct [] end = tt
 distinct (x ∷ ss) (step a c r) = (λ m. over (asc-mem r m .0) (le-refl x), distinct ss r)
 
+ascending : {l : Low} {u : Str} (ss : List Str) → Asc l ss u → Ascending ss
+ascending [] end = tt
+ascending (x ∷ ss) (step a c r) = (λ y m. over (asc-mem r m .0), ascending ss r)
+
 all-strings : (b : ℕ) (fs : List Slot) → Sound b fs → AllStrings fs (strings-of fs)
 all-strings b fs S = record { once = distinct (strings-of fs) (strings-asc b S); only = strings-only b S; every = strings-every b S }
 
@@ -242,7 +247,14 @@ tests = record {
   bad = λ b fs. (λ e. rw e at (check-right b fs), check-bad b fs);
   agreeing = λ b fs t S. (is-agreeing-agrees b S t, agrees-is-agreeing b S);
   passes = λ xs t y fs. (λ e. let p = looked-passed xs t y fs e in (p .is, p .sound, p .agrees), λ h. passed-looked xs t y fs (h .0) (h .1) (h .2));
-  listable = λ b fs S. (strings-of fs, all-strings b fs S);
+  slot-free = λ x. (is-free-free x, free-is-free x);
+  slot-lower = λ l x. (has-lower-lower l x, λ h. lower-has-lower l x (h .0) (h .1));
+  slot-upper = λ u x. (has-upper-upper u x, λ h. upper-has-upper u x (h .0) (h .1));
+  slot-in-range = λ n x. (is-in-range-in n x, in-is-in-range n x);
+  first-passes = λ t fs. elim (decLt (first t fs) (length fs)) [ yes h ↦ inl (first-passes t fs h) | no h ↦ inr (omega (arith, first-inside t fs)) ];
+  first-before = λ t fs B h. (omega (arith, first-inside t fs), first-before t fs B h);
+  ordered = λ b fs S. chain-right b S;
+  listed = λ b fs S. (all-strings b fs S, ascending (strings-of fs) (strings-asc b S));
   counted = λ b fs S ss A.
       let L = all-strings b fs S in
       omega (arith, fewer (strings-of fs) ss (L .once) (λ x m. A .every x (L .only x m)), fewer ss (strings-of fs) (A .once) (λ x m. L .every x (A .only x m)));

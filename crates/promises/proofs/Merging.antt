@@ -11,7 +11,8 @@ use Rattle.model.specs.Order.{Low, Str, _⊑_, _◁_}
 use Rattle.model.specs.Tests.{is-legal-name}
 use Rattle.model.specs.Names.{filled}
 use Rattle.model.specs.Entries.{Entry, find}
-use Rattle.model.specs.Files.{Cut, Slot, Sound, entries-of, free, slot-at, string-count, used}
+use Rattle.model.specs.Files.{Cut, Slot, Sound, entries-of, free, slot-at, used}
+use Rattle.model.specs.Searches.{string-count}
 use Rattle.model.specs.Tries.{walk-trie}
 use Rattle.model.specs.Rebuilding.{rebuilt-trie}
 use Rattle.model.specs.Changes.{Map, Result, Store, call, counts, meant, refuse, removal, remove, stored, stores, trie-removed}

@@ -12,11 +12,12 @@ use Rattle.model.specs.Order.{Low, Str, _⊑_, _◁_}
 use Rattle.model.specs.Tests.{is-above, is-at-most, is-legal-name, same-str}
 use Rattle.model.specs.Names.{broken, filled}
 use Rattle.model.specs.Entries.{Entry, content-from, find, insert, run-of-content, value-of-content}
-use Rattle.model.specs.Files.{In, Slot, Well, entries-of, first, free, head, is-in-range, slot-at, used}
+use Rattle.model.specs.Files.{In, Slot, Well, entries-of, free, head, slot-at, used}
+use Rattle.model.specs.Searches.{first, is-in-range}
 use Rattle.model.specs.Tries.{walk-of}
 use Rattle.model.specs.Changes.{Map, Result, Store, meant, no-room, put, refuse, remove, stored, stores, too-many, trie-removed}
 use Rattle.model.specs.Checks.{is-well-formed}
-use Rattle.model.specs.Format.{AreBytes, bytes-at-slot, entry-length, file-size, header-of, is-right-header, kept-run, layout-of, read-file, read-slot, slot-size, version-1, version-2, version-3}
+use Rattle.model.specs.Format.{AreBytes, bytes-at-slot, entry-length, file-size, header-of, is-right-header, kept-run, layout-of, read-file, read-slot, slot-size}
 use Rattle.model.specs.Places.{place-of}
 use Rattle.model.specs.Calls.{Looked, PutDone, RemoveDone, arrived-answer, fine, headed-answer, held, held-answer, landed, look-up-of, looked-of, put-answer, put-by-stores, put-of, put-on-looked, put-takes, refusing, remove-answer, remove-by-stores, remove-of, remove-on-looked, slot-answer, stores-bytes, trie-after-put}
 use Rattle.model.proofs.Tests.{same-str-self}
@@ -31,7 +32,7 @@ use Rattle.model.proofs.Calls.{Answered, in-range, is-denied, is-made, older-he
 use Rattle.model.proofs.CheckedFiles.{sound-not-cut}
 use Rattle.model.proofs.Stores.{read-stored}
 use Rattle.model.proofs.Format.{Contents, bytes-bytes-at-slot, contents-find, contents-read-file, contents-read-slot, file-bytes-read-file, headed-layout, no-run, read-file-read, run-part, value-part}
-use Rattle.promises.specs.Calls.{our-calls}
+use Rattle.promises.specs.Calls.{our-calls, version-1, version-2, version-3}
 use Rattle.promises.specs.Demand1.{FirstHolding, HeldHigher, put-table, slots-of}
 use Rattle.promises.specs.Runs.{Reached, Runs}
 use Rattle.promises.proofs.Demand1.{demand-1, name-legal, same-slots}

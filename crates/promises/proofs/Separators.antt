@@ -3,16 +3,18 @@ use Rattle.model.proofs.Prelude.{List, _+_, _-_, _/_, _<_, _≡_, _≢_, _≤_,
 use Rattle.model.specs.Order.{Str}
 use Rattle.model.specs.Names.{Legal}
 use Rattle.model.specs.Entries.{Entry}
-use Rattle.model.specs.Files.{Slot, Sound, string-count}
+use Rattle.model.specs.Files.{Slot, Sound}
+use Rattle.model.specs.Searches.{string-count}
 use Rattle.model.specs.Changes.{Map, Means, Request, Result, Store, call, counts, put, split-of, split-string, stores}
 use Rattle.model.specs.Places.{digits-at, place-of}
-use Rattle.model.specs.Format.{is-offered, version-1, version-2, version-3}
+use Rattle.model.specs.Format.{is-offered}
 use Rattle.model.proofs.Tests.{both-true}
 use Rattle.model.proofs.Changes.{Change, Fine, change-made, change-stopped}
 use Rattle.model.proofs.Calls.{Answered, is-denied, is-made, put-right}
 use Rattle.model.proofs.Stores.{trie-after-put-is}
 use Rattle.model.proofs.GrownTries.{change-agrees}
 use Rattle.model.proofs.Places.{place-first, place-lt, place-not-after, place-shortest, place-wins, positions-m, positions-three, positions-two, wins-one}
+use Rattle.promises.specs.Calls.{version-1, version-2, version-3}
 use Rattle.promises.specs.Separators.{PutLeaves, Separators}
 
 -- A version that is offered is one of the three.

@@ -2,15 +2,16 @@
 use Rattle.model.proofs.Prelude.{List, _≡_, refl, true, ℕ}
 use Rattle.model.specs.declared.Trie.{Trie}
 use Rattle.model.specs.Tests.{are-digits, is-above, is-at-most, is-legal-bound, is-legal-filled, is-legal-low, is-legal-name, same-low, same-str}
-use Rattle.model.specs.Names.{broken, filled, not-greater, smaller, split-beginning, split-tried, within}
+use Rattle.model.specs.Names.{broken, filled, not-greater, split-beginning, split-tried, within}
 use Rattle.model.specs.Entries.{find, insert, keep}
-use Rattle.model.specs.Files.{Slot, first, has-lower, is-free, is-in-range, order-from, string-count}
+use Rattle.model.specs.Files.{Slot}
+use Rattle.model.specs.Searches.{first, has-lower, is-free, is-in-range, order-from, shortest, string-count, winner}
 use Rattle.model.specs.Tries.{Agrees, walk-of, walk-run}
 use Rattle.model.specs.Changes.{call, counts, put-in}
 use Rattle.model.specs.Checks.{all-well, are-same-entries, check, cut-among, has-one-more, has-twin, is-chain, is-copied, is-cut-by, is-in, is-listed, is-row, is-sound-file, is-twin, is-well-formed}
 use Rattle.model.specs.Agreeing.{are-numbers, are-zero-cells, is-agreeing, is-each-once, is-trie-of, join-trees, read-tree, same-side, same-strs, slots-between}
 use Rattle.model.specs.Format.{are-legal-sizes, bytes-at-slot, bytes-of-entries, bytes-of-slot, digits-of-low, entry-length, file-bytes, file-size, header-bytes, header-of, is-offered, is-right-header, layout-of, little-endian, low-of, padded, read-entries, read-slot, read-used-slot, slot-size, slots-bytes, used-of, value-of}
-use Rattle.model.specs.Places.{only-from, place-of, positions, shortest, winner}
+use Rattle.model.specs.Places.{only-from, place-of, positions}
 use Rattle.model.specs.Calls.{arrived-answer, headed-answer, look-up-of, slot-answer, trie-after-put}
 use Rattle.model.proofs.Checks.{is-sound-file-sound}
 use Rattle.model.proofs.Agreeing.{is-agreeing-agrees}
@@ -25,7 +26,7 @@ agreed b fs t sound e = is-agreeing-agrees b (is-sound-file-sound b fs sound) t 
 
 pub situations : Situations
 unfolding
-    bytes filled names entries is-legal-name are-digits within not-greater split-beginning split-tried smaller
+    bytes filled names entries is-legal-name are-digits within not-greater split-beginning split-tried
     puts after-put trie-after-put walk-run walk-of place-of winner shortest positions only-from
     call put-in is-in-range is-free first insert find keep
     has-lower order-from string-count

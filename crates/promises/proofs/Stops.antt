@@ -10,7 +10,8 @@ use Rattle.model.specs.Order.{Low, Str, _⊑_, _◁_, at}
 use Rattle.model.specs.Tests.{is-legal-name}
 use Rattle.model.specs.Names.{filled}
 use Rattle.model.specs.Entries.{Entry, content-from, find, without}
-use Rattle.model.specs.Files.{Slot, free, is-free, slot-at, used}
+use Rattle.model.specs.Files.{Slot, free, slot-at, used}
+use Rattle.model.specs.Searches.{is-free}
 use Rattle.model.specs.Changes.{Result, Store, merged, put, remove, trie-removed}
 use Rattle.model.specs.Places.{place-of}
 use Rattle.model.specs.Checks.{Kind, is-bad, is-cut, is-sound}

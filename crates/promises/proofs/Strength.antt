@@ -22,18 +22,19 @@ use Rattle.model.specs.declared.RecoverAnswer.the-variants.{Freed, Nothing, Ref
 use Rattle.model.specs.declared.RemoveAnswer.the-variants.{Absent as NotHeld, Refused as RemoveRefused, Removed}
 use Rattle.model.specs.Order.{Str, at}
 use Rattle.model.specs.Tests.{are-digits, is-above, is-at-most, is-legal-bound, is-legal-filled, is-legal-low, is-legal-name, same-low, same-str}
-use Rattle.model.specs.Names.{filled, not-greater, smaller, split-beginning, split-tried, within}
+use Rattle.model.specs.Names.{filled, first, not-greater, smaller, split-beginning, split-tried, within}
 use Rattle.model.specs.Entries.{content-from, find, insert, is-older, keep, run-of-content, value-of-content, without}
-use Rattle.model.specs.Files.{Slot, created, entries-of, first, free, has-lower, has-upper, is-free, is-in-range, order-from, order-of, slot-at, string-count, used}
+use Rattle.model.specs.Files.{Slot, created, entries-of, free, slot-at, used}
 use Rattle.model.specs.Changes.{Map, Result, Store, call, left-of, merged-or, put, put-in, refuse, removal, remove, remove-in, right-of, split-of, split-string, stores, stores-if, trie-removed}
 use Rattle.model.specs.Checks.{all-well, are-same-entries, check, cut-among, has-one-more, has-twin, is-bad, is-chain, is-copied, is-cut-by, is-in, is-listed, is-row, is-sound-file, is-twin, is-well-formed}
 use Rattle.model.specs.Agreeing.{are-numbers, are-zero-cells, is-agreeing, is-each-once, is-trie-of, join-trees, read-tree, same-side, same-strs, slots-between}
-use Rattle.model.specs.Format.{are-legal-sizes, bytes-at-slot, bytes-of-entries, bytes-of-entry, bytes-of-slot, check-file, check-read, digits-of-low, entry-length, file-bytes, file-size, header-bytes, header-of, is-offered, is-right-header, joined, kept-run, laid-out, layout-of, little-endian, low-of, padded, read-by, read-entries, read-file, read-slot, read-slots, read-used-slot, slot-size, slots-bytes, store-bytes, used-of, value-of, version-1}
+use Rattle.model.specs.Format.{are-legal-sizes, bytes-at-slot, bytes-of-entries, bytes-of-entry, bytes-of-slot, check-file, check-read, digits-of-low, entry-length, file-bytes, file-size, header-bytes, header-of, is-offered, is-right-header, joined, kept-run, laid-out, layout-of, little-endian, low-of, padded, read-by, read-entries, read-file, read-slot, read-slots, read-used-slot, slot-size, slots-bytes, store-bytes, used-of, value-of}
 use Rattle.model.specs.Places.{place-of}
 use Rattle.model.specs.Answers.{stale-trie}
 use Rattle.model.specs.Calls.{Looked, PutDone, arrived-answer, between, create-of, entries-in, fine, headed-answer, held, held-answer, list-entries, list-of, list-on-looked, look-up-of, looked-at-by, looked-of, new-trie, put-answer, put-by-stores, put-of, put-on-looked, put-takes, rebuild-by, rebuild-of, recover-by, recover-of, refusal-of, refusing, remove-by-stores, remove-of, remove-on-looked, slot-answer, stores-bytes, trie-after-put}
 use Rattle.model.proofs.Tests.{never-both}
 use Rattle.model.proofs.Calls.{Answered, is-denied, is-made, put-right, put-taken}
+use Rattle.model.specs.Searches.{has-lower, has-upper, is-free, is-in-range, order-from, order-of, string-count}
 use Rattle.promises.specs.Texts.{bytes, name}
 use Rattle.promises.specs.Growing.{of-cells}
 use Rattle.promises.specs.Situations.{a-cell, entries, i-file, names, rates-slots, rz-slots}
@@ -156,7 +157,7 @@ record Computed : Type 0 where
 computed : Computed
 unfolding
     bytes entries names
-    are-digits is-legal-name filled is-legal-filled is-legal-bound not-greater within is-at-most smaller split-tried
+    are-digits is-legal-name filled is-legal-filled is-legal-bound not-greater within is-at-most split-tried
     split-beginning
     find insert keep
     first has-lower order-from string-count

@@ -1,6 +1,7 @@
--- The eight calls as one value, so that a demand can be put to any calls, right or wrong.
+-- The eight calls as one value, so that a demand can be put to any calls, right or wrong; the layouts of the versions.
 use mathlib.Core.List.{List}
 use Prim.Native.Nat.{ℕ}
+use Rattle.model.specs.declared.Layout.{Layout}
 use Rattle.model.specs.declared.LookUpAnswer.{LookUpAnswer}
 use Rattle.model.specs.declared.Trie.{Trie}
 use Rattle.model.specs.Checks.{Kind}
@@ -31,3 +32,13 @@ our-calls = record {
   remove = remove-of;
   list = list-of;
 }
+
+-- The layouts of a file of each version (R2.3).
+abbrev pub version-1 : ℕ → Layout
+version-1 b = record { version = 1; b = b }
+
+abbrev pub version-2 : ℕ → Layout
+version-2 b = record { version = 2; b = b }
+
+abbrev pub version-3 : ℕ → Layout
+version-3 b = record { version = 3; b = b }

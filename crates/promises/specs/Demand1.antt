@@ -22,7 +22,8 @@ use Rattle.model.specs.declared.TrieAnswer.the-variants.{Refused as TrieRefused
 use Rattle.model.specs.Order.{Low, Str, _≺_, _⊑_, at, first-digit, last-digit, none}
 use Rattle.model.specs.Names.{Digits, filled, within}
 use Rattle.model.specs.Entries.{Entry, Row, content-from, find, run-of-content}
-use Rattle.model.specs.Files.{In, Slot, Well, entries-of, head, slot-at, string-count, used}
+use Rattle.model.specs.Files.{In, Slot, Well, entries-of, head, slot-at, used}
+use Rattle.model.specs.Searches.{string-count}
 use Rattle.model.specs.Tries.{Agrees, at-cell, cell, root-side}
 use Rattle.model.specs.Changes.{Denied, put}
 use Rattle.model.specs.Places.{place-of}

@@ -1,8 +1,8 @@
 -- What check, recover and list mean, and what the tests in the definitions mean, in the relations that render the
--- rules. Whoever reads this need not read the tests in the model's `Checks.antt` and `Agreeing.antt`.
+-- rules. Whoever reads this need not read the model's `Tests.antt`, `Searches.antt`, `Checks.antt` and `Agreeing.antt`.
 use mathlib.Core.Path.{_≡_}
-use mathlib.Core.Logic.{_↔_}
-use mathlib.Core.Bool.{true}
+use mathlib.Core.Logic.{_↔_, _⊎_}
+use mathlib.Core.Bool.{Bool, false, true}
 use mathlib.Core.Option.{some}
 use mathlib.Core.List.{List, List·Memᴰ, [], _++_, _∷_}
 use Prim.Native.Nat.{_*_, _+_, _<_, _≤_, ℕ}
@@ -11,11 +11,12 @@ use Rattle.model.specs.declared.Layout.{Layout}
 use Rattle.model.specs.declared.ListAnswer.the-variants.{Listed}
 use Rattle.model.specs.declared.RecoverAnswer.the-variants.{Freed, Nothing}
 use Rattle.model.specs.declared.Trie.{Trie}
-use Rattle.model.specs.Order.{Low, Str, _⊑_, _◁_}
+use Rattle.model.specs.Order.{Low, Str, _≺_, _⊑_, _◁_, none}
 use Rattle.model.specs.Tests.{is-above, is-at-most, is-legal-filled, is-legal-name, same-str}
 use Rattle.model.specs.Names.{Legal, filled}
 use Rattle.model.specs.Entries.{Entry, insert}
-use Rattle.model.specs.Files.{Bad, Cut, IsString, Slot, Sound, Well, free, slot-at, string-count, used}
+use Rattle.model.specs.Files.{Bad, Chain, Cut, In, IsString, IsUsed, Slot, Sound, Well, free, head, lower-of, ranges, slot-at, upper-of, used}
+use Rattle.model.specs.Searches.{first, has-lower, has-upper, is-free, is-in-range, order-of, string-count, strings-of}
 use Rattle.model.specs.Tries.{Agrees}
 use Rattle.model.specs.Changes.{Lowest, halves, stored}
 use Rattle.model.specs.Places.{place-of}
@@ -41,10 +42,14 @@ pub record Wrote (xs low high out : List ℕ) (count : ℕ) (ys : List ℕ) : Ty
   pub fits : entry-length (file .layout) * count ≤ length out
   pub written : ys ≡ bytes-of-entries (entry-length (file .layout)) listed ++ drop (entry-length (file .layout) * count) out
 
--- R5.7: the file's strings, each once.
+-- R5.7: the file's strings, each once; in ascending order.
 abbrev pub Distinct : List Str → Type 0
 Distinct [] = Unit {0}
 Distinct (x ∷ xs) = (¬ List·Memᴰ x xs) × Distinct xs
+
+abbrev pub Ascending : List Str → Type 0
+Ascending [] = Unit {0}
+Ascending (x ∷ xs) = ((y : Str) → List·Memᴰ y xs → x ≺ y) × Ascending xs
 
 pub record AllStrings (fs : List Slot) (ss : List Str) : Type 0 where
   pub once : Distinct ss
@@ -88,9 +93,18 @@ pub record Tests : Type 0 where
   -- R9.10: put, remove and list look at the whole file and at the whole trie.
   pub passes : (xs : List ℕ) (t : Trie) (y : Layout) (fs : List Slot)
       → (looked-of xs t ≡ fine y fs) ↔ ((read-file xs ≡ some (y, fs)) × Sound (y .b) fs × Agrees fs t)
-  -- R10.6: a sound file's strings can be listed, and what is counted is how many there are, however they are listed.
-  -- The file after a split, whose strings put counts, is sound.
-  pub listable : (b : ℕ) (fs : List Slot) → Sound b fs → (ss : List Str) × AllStrings fs ss
+  -- Searches: how slots are tested, and which slot is the first to pass.
+  pub slot-free : (x : Slot) → (is-free x ≡ true) ↔ (x ≡ free)
+  pub slot-lower : (l : Low) (x : Slot) → (has-lower l x ≡ true) ↔ (IsUsed (head x) × (lower-of (head x) ≡ l))
+  pub slot-upper : (u : Str) (x : Slot) → (has-upper u x ≡ true) ↔ (IsUsed (head x) × (upper-of (head x) ≡ u))
+  pub slot-in-range : (n : Str) (x : Slot) → (is-in-range n x ≡ true) ↔ In (head x) n
+  pub first-passes : (t : Slot → Bool) (fs : List Slot) → (t (slot-at fs (first t fs)) ≡ true) ⊎ (first t fs ≡ length fs)
+  pub first-before : (t : Slot → Bool) (fs : List Slot) (B : ℕ) → B < first t fs → (B < length fs) × (t (slot-at fs B) ≡ false)
+  -- The range order of a sound file, and its strings.
+  pub ordered : (b : ℕ) (fs : List Slot) → Sound b fs → Chain (ranges fs) none (order-of fs)
+  pub listed : (b : ℕ) (fs : List Slot) → Sound b fs → AllStrings fs (strings-of fs) × Ascending (strings-of fs)
+  -- R10.6: what is counted is how many strings there are, however they are listed. The file after a split, whose strings put
+  -- counts, is sound.
   pub counted : (b : ℕ) (fs : List Slot) → Sound b fs → (ss : List Str) → AllStrings fs ss → string-count fs ≡ length ss
   pub after-split : (y : Layout) (fs : List Slot) (A N : ℕ) (l : Low) (u : Str) (es : List Entry) (n : Str) (v : ℕ) → 2 ≤ y .b → Sound (y .b) fs
       → slot-at fs A ≡ used l u es → Legal n → l ◁ n → n ⊑ u → y .b < length (insert n v es) → Lowest fs N

@@ -12,10 +12,11 @@ use mathlib.Core.Option.{some}
 use Rattle.model.specs.Order.{Low, Str}
 use Rattle.model.specs.Names.{filled}
 use Rattle.model.specs.Entries.{Entry, find, without}
-use Rattle.model.specs.Files.{Slot, free, order-of, slot-at, string-count, used}
+use Rattle.model.specs.Files.{Slot, free, slot-at, used}
 use Rattle.model.specs.Changes.{Store}
 use Rattle.model.specs.Format.{AreBytes, CutFile, SoundFile, store-bytes}
 use Rattle.model.specs.Calls.{RemoveDone, entries-in, stores-bytes}
+use Rattle.model.specs.Searches.{order-of, string-count}
 use Rattle.promises.specs.Calls.{Calls}
 use Rattle.promises.specs.Demand1.{LegalName}
 use Rattle.promises.specs.Demand2.{LeadsRight}

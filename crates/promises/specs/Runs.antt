@@ -12,8 +12,8 @@ use Rattle.model.specs.declared.Trie.{Trie}
 use Rattle.model.specs.Entries.{content-from}
 use Rattle.model.specs.Tries.{Agrees}
 use Rattle.model.specs.Calls.{held-answer, put-answer}
-use Rattle.model.specs.Format.{AreBytes, SoundFile, entry-length, file-size, kept-run, layout-of, version-1, version-2, version-3}
-use Rattle.promises.specs.Calls.{Calls}
+use Rattle.model.specs.Format.{AreBytes, SoundFile, entry-length, file-size, kept-run, layout-of}
+use Rattle.promises.specs.Calls.{Calls, version-1, version-2, version-3}
 use Rattle.promises.specs.Demand1.{HeldHigher, LegalName}
 
 -- A put that none of the refusals before 12 meets.

@@ -10,12 +10,14 @@ use Rattle.model.specs.declared.Trie.{Trie}
 use Rattle.model.specs.Order.{Low, Str}
 use Rattle.model.specs.Names.{Legal}
 use Rattle.model.specs.Entries.{Entry, Row}
-use Rattle.model.specs.Files.{Cut, Slot, Sound, free, string-count}
+use Rattle.model.specs.Files.{Cut, Slot, Sound, free}
+use Rattle.model.specs.Searches.{string-count}
 use Rattle.model.specs.Tries.{Agrees}
 use Rattle.model.specs.Changes.{Map, Means, Store, call, meant, put, split-of, split-string, stored, stores}
 use Rattle.model.specs.Places.{Wins, digits-at, place-of, positions}
-use Rattle.model.specs.Format.{is-offered, version-1, version-2, version-3}
+use Rattle.model.specs.Format.{is-offered}
 use Rattle.model.specs.Calls.{trie-after-put}
+use Rattle.promises.specs.Calls.{version-1, version-2, version-3}
 
 -- What the stores of a put leave, by a rule that takes any position from 1 to b.
 pub record PutLeaves (b : ℕ) (place : List Entry → ℕ) (fs : List Slot) (m : Map) (n : Str) (v : ℕ) (ss : List Store) : Type 0 where

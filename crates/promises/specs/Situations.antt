@@ -19,13 +19,14 @@ use Rattle.model.specs.Entries.{Entry, find}
 use Rattle.model.specs.Files.{Slot, created, entries-of, free, slot-at, used}
 use Rattle.model.specs.Tries.{Agrees, walk-trie}
 use Rattle.model.specs.Rebuilding.{rebuilt-trie}
-use Rattle.model.specs.Format.{file-bytes, version-1, version-2}
+use Rattle.model.specs.Format.{file-bytes}
 use Rattle.model.specs.Changes.{call, put, split-of, stores}
 use Rattle.model.specs.Places.{place-of}
 use Rattle.model.specs.Checks.{check, is-cut, is-sound, is-sound-file}
 use Rattle.model.specs.Agreeing.{is-agreeing}
 use Rattle.promises.specs.Texts.{bytes, name}
 use Rattle.model.specs.Calls.{look-up-of, new-trie}
+use Rattle.promises.specs.Calls.{version-1, version-2}
 use Rattle.promises.specs.Growing.{Held, of-cells, puts}
 use Rattle.promises.specs.Histories.{Action, World, ask, down, ready, recover, run}
 

@@ -19,13 +19,13 @@ use Rattle.model.specs.Files.{Slot, free, used}
 use Rattle.model.specs.Changes.{Store, call, put, removal, split-of, split-string, stores}
 use Rattle.model.specs.Places.{place-of}
 use Rattle.model.specs.Checks.{is-bad}
-use Rattle.model.specs.Format.{check-file, file-bytes, kept-run, read-file, store-bytes, version-1}
+use Rattle.model.specs.Format.{check-file, file-bytes, kept-run, read-file, store-bytes}
 use Rattle.model.specs.Answers.{stale-trie}
 use Rattle.model.specs.Calls.{new-trie, put-of, recover-of, remove-of, stores-bytes}
 use Rattle.promises.specs.Texts.{bytes}
 use Rattle.promises.specs.Growing.{of-cells}
 use Rattle.promises.specs.Situations.{a-cell, entries, i-file, names, rates-slots, rz-slots}
-use Rattle.promises.specs.Calls.{Calls}
+use Rattle.promises.specs.Calls.{Calls, version-1}
 use Rattle.promises.specs.Demand1.{Demand1}
 use Rattle.promises.specs.Demand2.{Demand2, LeadsRight}
 use Rattle.promises.specs.Demand3.{Demand3}

@@ -9,7 +9,8 @@ use Rattle.model.specs.declared.Trie.{Trie}
 use Rattle.model.specs.Order.{Low, Str, _⊑_}
 use Rattle.model.specs.Names.{Legal, filled}
 use Rattle.model.specs.Entries.{Entry, Row, entry, name-at, no-entries}
-use Rattle.model.specs.Files.{IsUsed, Slot, entries-of, free, head, lower-of, order-of, slot-at, upper-of, used}
+use Rattle.model.specs.Files.{IsUsed, Slot, entries-of, free, head, lower-of, slot-at, upper-of, used}
+use Rattle.model.specs.Searches.{order-of}
 use Rattle.model.specs.Format.{AreBytes, bytes-at-slot, bytes-of-entries, bytes-of-entry, entry-length, read-slot, slot-size}
 use Rattle.model.specs.Calls.{between, entries-in, fine, list-entries, list-of, list-on-looked, looked-of, refusing}
 use Rattle.model.proofs.Order.{le-trans, low-lower, lt-le}

@@ -7,7 +7,7 @@ ghost use lib.Seq.{paste};
 ghost use Rattle.model.specs.Order.{Str};
 ghost use Rattle.model.specs.Names.{Legal, filled};
 ghost use Rattle.model.specs.Format.{entry-length, read-slot};
-ghost use Rattle.model.specs.Files.{order-of};
+ghost use Rattle.model.specs.Searches.{order-of};
 ghost use Rattle.model.specs.Calls.{between, entries-in, list-entries, list-of, look-up-of, slot-answer};
 ghost use Rattle.digits.specs.Keys.{key-value, value};
 ghost use Rattle.image.specs.Images.{image-length, trie-from};

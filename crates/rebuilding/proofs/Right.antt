@@ -2,7 +2,8 @@
 -- of its strings.
 use Rattle.model.proofs.Prelude.{List, [], _+_, _-_, _<_, _∙_, _∷_, _≡_, _≤_, add-zero, ap, arith, drop, getD, getD-drop, getD-take, length, length-drop, length-take, map, refl, suc, sym, take, zero, ℕ}
 use Rattle.model.specs.Order.{Low, Str, at, last-digit, none}
-use Rattle.model.specs.Files.{Slot, Sound, order-of, ranges, strings-of}
+use Rattle.model.specs.Files.{Slot, Sound, ranges}
+use Rattle.model.specs.Searches.{order-of, strings-of}
 use Rattle.model.specs.Tries.{leaf}
 use Rattle.model.specs.Rebuilding.{build, label, laid, pick, rebuilt-trie}
 use Rattle.model.specs.Agreeing.{slots-between}

@@ -3,7 +3,8 @@ use Rattle.model.proofs.Prelude.{List, [], _++_, _+_, _-_, _/_, _<_, _∙_, _�
 use Rattle.model.specs.declared.Layout.{Layout}
 use Rattle.model.specs.Order.{Low, Str, _⊑_, _◁_, at}
 use Rattle.model.specs.Entries.{Entry, find, without}
-use Rattle.model.specs.Files.{Slot, Sound, entries-of, order-of, slot-at, used}
+use Rattle.model.specs.Files.{Slot, Sound, entries-of, slot-at, used}
+use Rattle.model.specs.Searches.{order-of}
 use Rattle.model.specs.Changes.{merged, removal, stores}
 use Rattle.model.specs.Format.{bytes-at-slot, read-file, slot-size}
 use Rattle.model.proofs.Deciding.{over}

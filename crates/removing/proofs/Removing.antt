@@ -10,7 +10,7 @@ use Rattle.model.specs.Order.{Low, Str}
 use Rattle.model.specs.Tests.{is-legal-name}
 use Rattle.model.specs.Names.{Legal, filled}
 use Rattle.model.specs.Entries.{Entry, find}
-use Rattle.model.specs.Files.{Slot, order-of, string-count}
+use Rattle.model.specs.Files.{Slot}
 use Rattle.model.specs.Rebuilding.{rebuilt-trie}
 use Rattle.model.specs.Changes.{Result, call, refuse, removal, remove, remove-in, stored, stores, stores-if, trie-removed}
 use Rattle.model.specs.Format.{AreBytes, read-file, read-slots}
@@ -19,6 +19,7 @@ use Rattle.model.specs.Calls.{RemoveDone, looked-of, refusing, remove-by-stores
 use Rattle.model.proofs.Calls.{Answered, is-made, remove-right}
 use Rattle.model.proofs.Format.{headed-header-of, read-file-read}
 use Rattle.model.proofs.Stores.{read-stored}
+use Rattle.model.specs.Searches.{order-of, string-count}
 use Rattle.image.specs.Images.{image-of, trie-from}
 use Rattle.trie.specs.declared.Strings.{Strings}
 use Rattle.strings.specs.Arrays.{Listed}

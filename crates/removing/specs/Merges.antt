@@ -9,7 +9,8 @@ use Rattle.model.specs.declared.Trie.{Trie}
 use Rattle.model.specs.Order.{Low, Str, _⊑_, _◁_, at}
 use Rattle.model.specs.Names.{Legal}
 use Rattle.model.specs.Entries.{Entry, find, without}
-use Rattle.model.specs.Files.{Slot, Sound, entries-of, order-of, string-count, used}
+use Rattle.model.specs.Files.{Slot, Sound, entries-of, used}
+use Rattle.model.specs.Searches.{order-of, string-count}
 use Rattle.model.specs.Rebuilding.{rebuilt-trie}
 use Rattle.model.specs.Changes.{Result, Store, call, merged, refuse, removal, remove, stored, stores}
 use Rattle.model.specs.Format.{read-file}

@@ -8,7 +8,8 @@ use Rattle.model.specs.declared.Trie.{Trie}
 use Rattle.model.specs.Order.{Low, Str, _⊑_, _◁_, diff}
 use Rattle.model.specs.Names.{Legal}
 use Rattle.model.specs.Entries.{Entry, insert, name-at}
-use Rattle.model.specs.Files.{RangeTable, Slot, Sound, all, bounds, slot-at, string-count, used}
+use Rattle.model.specs.Files.{RangeTable, Slot, Sound, slot-at, used}
+use Rattle.model.specs.Searches.{all, bounds, string-count}
 use Rattle.model.specs.Tries.{Agrees, at-cell, cell, root, root-side}
 use Rattle.model.specs.Rebuilding.{lay, side-of}
 use Rattle.model.specs.Growth.{cell-of, changed, turn, turn-cell, turn-cells}

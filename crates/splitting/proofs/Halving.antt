@@ -6,7 +6,7 @@ use Rattle.model.specs.Order.{Low, Str, _≺_, _⊑_, at, diff}
 use Rattle.model.specs.Tests.{is-at-most}
 use Rattle.model.specs.Names.{Bound}
 use Rattle.model.specs.Entries.{Entry, Row, entry, keep, move, name-at, no-entries, stay}
-use Rattle.model.specs.Changes.{new-half, old-half, split-of, split-string}
+use Rattle.model.specs.Changes.{split-of, split-string}
 use Rattle.model.specs.Format.{bytes-of-slot, padded}
 use Rattle.model.specs.Files.{used}
 use Rattle.model.specs.Places.{place-of}

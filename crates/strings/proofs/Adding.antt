@@ -1,7 +1,7 @@
 -- The beginnings of a bound are added one after the other, each one digit shorter.
 use Rattle.model.proofs.Prelude.{List, [], _++_, _+_, _-_, _<_, _∙_, _∷_, _≡_, _≤_, add-one, ap, append-assoc, append-nil, arith, drop, drop-cons, drop-length, getD, getD-take, length, length-append, length-drop, length-set, length-take-le, refl, set, suc, sym, take, take-suc, take-suc-set, zero, ℕ}
 use Rattle.model.specs.Order.{Str, last-digit}
-use Rattle.model.specs.Files.{longer}
+use Rattle.model.specs.Searches.{longer}
 use Rattle.trie.specs.Strung.{last-digits, lengths}
 use Rattle.strings.specs.Arrays.{Added, Whole, beyond, lefts}
 

@@ -2,7 +2,8 @@
 use Rattle.model.proofs.Prelude.{List, [], _++_, _+_, _-_, _<_, _∙_, _∷_, _≡_, _≤_, add-one, ap, append-assoc, append-nil, arith, drop, drop-cons, drop-of-length-le, false, getD, le-leb, length, length-append, lt-leb, refl, set, some, suc, sym, take, take-suc-set, true, zero-add, ℕ}
 use Rattle.model.specs.declared.Layout.{Layout}
 use Rattle.model.specs.Order.{Low, Str, _≺_, at, diff, none}
-use Rattle.model.specs.Files.{Chain, IsUsed, RangeTable, Slot, Sound, Well, all, bounds, free, fresh, head, last, next, order-of, ranges, slot-at, strings-of, upper-of, used, well-used}
+use Rattle.model.specs.Files.{Chain, IsUsed, RangeTable, Slot, Sound, Well, free, head, last, next, ranges, slot-at, upper-of, used, well-used}
+use Rattle.model.specs.Searches.{all, bounds, fresh, order-of, strings-of}
 use Rattle.model.specs.Rebuilding.{label}
 use Rattle.model.specs.Agreeing.{slots-between}
 use Rattle.model.specs.Format.{bytes-at-slot, bytes-of-slot, read-slots}

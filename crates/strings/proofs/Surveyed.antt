@@ -1,7 +1,7 @@
 -- The order and the strings of a sound file, by its survey.
 use Rattle.model.proofs.Prelude.{List, _≡_, length, take, ℕ}
 use Rattle.model.specs.Order.{none}
-use Rattle.model.specs.Files.{order-of, strings-of}
+use Rattle.model.specs.Searches.{order-of, strings-of}
 use Rattle.model.specs.Agreeing.{slots-between}
 use Rattle.file.specs.declared.Size.{Size}
 use Rattle.file.specs.declared.survey.Survey.{Survey}

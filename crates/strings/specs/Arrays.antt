@@ -5,7 +5,8 @@ use mathlib.Core.List.{List, [], _++_, _∷_}
 use Prim.Native.Nat.{_+_, _≤_, ℕ}
 use lib.ListN.{drop, length, take}
 use Rattle.model.specs.Order.{Str, none}
-use Rattle.model.specs.Files.{Slot, Sound, longer, order-of, strings-of}
+use Rattle.model.specs.Files.{Slot, Sound}
+use Rattle.model.specs.Searches.{longer, order-of, strings-of}
 use Rattle.model.specs.Agreeing.{slots-between}
 use Rattle.model.specs.Format.{read-slots}
 use Rattle.file.specs.declared.Size.{Size}

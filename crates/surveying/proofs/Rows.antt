@@ -2,7 +2,7 @@
 use Rattle.model.proofs.Prelude.{List, List·Memᴰ, [], _*_, _+_, _-_, _<_, _^_, _∙_, _∷_, _≡_, _≤_, ap, arith, getD, getD-take, length, length-take-le, refl, some, subst, suc, sym, take, true, zero, zero-add, ℕ}
 use Rattle.model.specs.Order.{Low, at, none}
 use Rattle.model.specs.Tests.{is-legal-bound}
-use Rattle.model.specs.Files.{Chain, IsUsed, RangeTable, Slot, Sound, Well, free, head, lower-of, order-of, ranges, slot-at, upper-of, used, well-free}
+use Rattle.model.specs.Files.{Chain, IsUsed, RangeTable, Slot, Sound, Well, free, head, lower-of, ranges, slot-at, upper-of, used, well-free}
 use Rattle.model.specs.Checks.{is-sound}
 use Rattle.model.specs.Format.{bytes-at-slot, entry-length, joined, low-of, read-slot, read-slots, slot-size}
 use Rattle.model.proofs.Checks.{check-sound}
@@ -10,6 +10,7 @@ use Rattle.model.proofs.Files.{order-right}
 use Rattle.model.proofs.Format.{read-slots-each}
 use Rattle.model.proofs.Strings.{mem-at}
 use Rattle.model.proofs.Surveys.{Follows, follows-chain}
+use Rattle.model.specs.Searches.{order-of}
 use Rattle.digits.specs.Keys.{continued, is-all-zero, low-value, value}
 use Rattle.bucket.specs.Forms.{Framed}
 use Rattle.bucket.specs.Slots.{HighTold, OfSize, high-in, low-in}

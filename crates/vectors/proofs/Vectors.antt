@@ -1,11 +1,11 @@
 -- Every case holds: both sides compute to the same.
 use Rattle.model.proofs.Prelude.{refl}
 use Rattle.model.specs.Tests.{are-digits, is-above, is-at-most, is-legal-bound, is-legal-filled, is-legal-low, is-legal-name, same-low, same-str}
-use Rattle.model.specs.Names.{broken, filled, not-greater, smaller, split-beginning, split-tried, within}
+use Rattle.model.specs.Names.{broken, filled, not-greater, split-beginning, split-tried, within}
 use Rattle.model.specs.Entries.{content-from, find, insert, is-older, keep, run-of-content, value-of-content}
-use Rattle.model.specs.Files.{first, has-lower, has-upper, is-free, is-in-range, order-from, string-count}
+use Rattle.model.specs.Searches.{first, has-lower, has-upper, is-free, is-in-range, order-from, shortest, string-count, winner}
 use Rattle.model.specs.Changes.{call, left-of, merged-or, put-in, removal, remove-in, right-of, stores-if, trie-removed}
-use Rattle.model.specs.Places.{only-from, place-of, positions, shortest, winner}
+use Rattle.model.specs.Places.{only-from, place-of, positions}
 use Rattle.model.specs.Checks.{all-well, are-same-entries, check, cut-among, has-one-more, has-twin, is-chain, is-copied, is-cut-by, is-in, is-listed, is-row, is-sound-file, is-twin, is-well-formed}
 use Rattle.model.specs.Agreeing.{are-numbers, are-zero-cells, is-agreeing, is-each-once, is-trie-of, join-trees, read-tree, same-side, same-strs, slots-between}
 use Rattle.model.specs.Format.{are-legal-sizes, bytes-at-slot, bytes-of-entries, bytes-of-entry, bytes-of-slot, check-file, check-read, digits-of-low, entry-length, file-bytes, file-size, header-bytes, header-of, is-offered, is-right-header, joined, kept-run, laid-out, layout-of, little-endian, low-of, padded, read-by, read-entries, read-file, read-slot, read-slots, read-used-slot, slot-size, slots-bytes, store-bytes, used-of, value-of}
@@ -17,7 +17,7 @@ use Rattle.vectors.specs.Statement.{EveryCase}
 pub every-case : EveryCase
 unfolding
     codes bytes-of-part bytes all-bytes same-bool same-said are-same-cells same-trie is-arranged agrees-with put-all holds cases-hold
-    are-digits is-legal-name filled is-legal-filled is-legal-bound not-greater within is-at-most broken smaller split-tried
+    are-digits is-legal-name filled is-legal-filled is-legal-bound not-greater within is-at-most broken split-tried
     split-beginning
     find insert keep content-from value-of-content run-of-content is-older
     first has-lower order-from string-count

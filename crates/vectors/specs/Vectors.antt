@@ -15,11 +15,12 @@ use Rattle.model.specs.declared.Trie.{Trie}
 use Rattle.model.specs.Order.{Str}
 use Rattle.model.specs.Tests.{is-at-most, is-legal-name, same-str}
 use Rattle.model.specs.Names.{filled, split-beginning, within}
-use Rattle.model.specs.Files.{Slot, order-of, strings-of}
+use Rattle.model.specs.Files.{Slot}
+use Rattle.model.specs.Searches.{order-of, strings-of}
 use Rattle.model.specs.Tries.{zero-cell}
 use Rattle.model.specs.Agreeing.{is-agreeing, same-side, same-strs}
 use Rattle.model.specs.Format.{check-file, read-file}
-use Rattle.model.specs.Answers.{Saying, said-by-check, said-by-create, said-by-list, said-by-look-up, said-by-put, said-by-rebuild, said-by-recover, said-by-remove}
+use Rattle.model.specs.Sayings.{Saying, said-by-check, said-by-create, said-by-list, said-by-look-up, said-by-put, said-by-rebuild, said-by-recover, said-by-remove}
 use Rattle.model.specs.Calls.{create-of, list-of, look-up-of, put-of, rebuild-of, recover-of, remove-of}
 
 -- Bytes, written in parts: a text, so many zeros, so many blanks, or one byte.

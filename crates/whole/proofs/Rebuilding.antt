@@ -3,7 +3,7 @@ use Rattle.model.proofs.Prelude.{Bool, List, _∙_, _≡_, _≤_, false, leb, l
 use Rattle.model.specs.declared.Cause.the-variants.{BadFile, CutFile, ManyStrings}
 use Rattle.model.specs.declared.TrieAnswer.the-variants.{Given, Refused as TrieRefused}
 use Rattle.model.specs.declared.TrieGiven.{TrieGiven}
-use Rattle.model.specs.Files.{string-count, strings-of}
+use Rattle.model.specs.Searches.{string-count, strings-of}
 use Rattle.model.specs.Rebuilding.{rebuilt-trie}
 use Rattle.model.specs.Checks.{is-bad, is-cut, is-sound}
 use Rattle.model.specs.Format.{check-file}

@@ -3,7 +3,7 @@ use Rattle.model.proofs.Prelude.{[], _∷_, _≡_, arith, inl, inr, needs, refl
 use types.Run.{OneOf}
 use Rattle.model.specs.declared.Cause.{Cause}
 use Rattle.model.specs.declared.Cause.the-variants.{BadFile, CutFile, IllegalName, ManyStrings, NoFreeSlot, OlderRun, ShortOutput, StaleTrie, WrongSize}
-use Rattle.model.specs.Answers.{carried}
+use Rattle.model.specs.Sayings.{carried}
 use Rattle.capi.proofs.refused.Tie as tie
 
 -- Every cause but a stale trie carries nothing.

@@ -1,7 +1,7 @@
 -- `lowest_free` meets its contract: where fewer slots are used than there are, the map's complement begins with the used ones.
 use Rattle.model.proofs.Prelude.{_≡_, ap, arith, needs}
 use lib.Count.{ones}
-use Rattle.model.specs.Files.{first, is-free}
+use Rattle.model.specs.Searches.{first, is-free}
 use Rattle.file.proofs.Maps.{all-used, lowest-of, room-none, room-some}
 use Rattle.file.proofs.lowest_free.Tie as tie
 

@@ -1,6 +1,6 @@
 -- `remove_plan` meets its contract: none where the name is absent, else the stores of its removal.
 use Rattle.model.proofs.Prelude.{_∙_, ap, getD, needs, not-false, not-true}
-use Rattle.model.specs.Files.{order-of}
+use Rattle.model.specs.Searches.{order-of}
 use Rattle.file.specs.declared.Plan.{Plan}
 use Rattle.checking.proofs.Plans.{fits-none}
 use Rattle.checking.proofs.Ready.{home-right, ready-ordered, ready-sound}
