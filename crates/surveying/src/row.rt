@@ -164,11 +164,11 @@ fn are_named(file: &[u8], size: Size, order: &[u8; 64], count: usize) -> bool
     ensures { λ r. ⌜ (r ≡ true → AllNamed (now (file .entry)) size (now (order .entry)) count) ⌝ }
 {
     let mut seen = gathering::nothing_seen();
-    let mut j = 0;
-    while j < count {
-        let slot = slot_at(file, size, usize_of_u8(order[j]));
+    let mut place = 0;
+    while place < count {
+        let slot = slot_at(file, size, usize_of_u8(order[place]));
         seen = bucket::with_names(seen, slot, size.layout);
-        j += 1;
+        place += 1;
     }
     gathering::faults(seen) == 0
 }

@@ -6,15 +6,15 @@ use Rattle.surveying.specs.Rows.{NamedAt}
 use Rattle.surveying.proofs.row.are_named.Tie as tie
 
 abbrev Inv-loop : tie.InvT-loop
-Inv-loop file size order count seen₀ j₀ seen j = (j ≤ count) × (Fine seen → (i : ℕ) → i < j → NamedAt file size order i)
+Inv-loop file size order count seen₀ place₀ seen place = (place ≤ count) × (Fine seen → (i : ℕ) → i < place → NamedAt file size order i)
 
 abbrev μ-loop : tie.MeasureT-loop
-μ-loop file size order count seen₀ j₀ seen j = count - j
+μ-loop file size order count seen₀ place₀ seen place = count - place
 
 slot-at-requires : tie.Need-slot-at-requires Inv-loop μ-loop
 slot-at-requires c κs =
     let at-loop = c .before .before .before in let s = at-loop .before .before .before in
-    (s .pre .0, omega (arith, c .usize-of-u8 .ensures .0, s .pre .1 (at-loop .loop .j)))
+    (s .pre .0, omega (arith, c .usize-of-u8 .ensures .0, s .pre .1 (at-loop .loop .place)))
 
 loop-again : tie.Need-loop-again Inv-loop μ-loop
 loop-again c =
@@ -22,7 +22,7 @@ loop-again c =
     let is = at-slot-at .slot-at .ensures .0 ∙ ap (λ (B : ℕ). bytes-at-slot (s .args .size .layout) B (s .args .file .now)) (at-slot-at .before .usize-of-u8 .ensures .0) in (
       omega arith,
       λ f. let r = c .with-names .ensures f in
-          λ i h. elim (ℕ-discrete i (l .j)) [
+          λ i h. elim (ℕ-discrete i (l .place)) [
             | yes e ↦ rw e (rw is at (r .1))
             | no n ↦ l .inv .1 (r .0) i (omega arith)
           ],
