@@ -2,6 +2,7 @@
 use Rattle.model.proofs.Prelude.{List, List·getD-append, [], _++_, _+_, _-_, _<_, _∙_, _∷_, _≡_, _≤_, add-one, arith, decLt, getD, getD-append-seam, getD-replicate, getD-set-other, getD-set-same, length, length-append, length-replicate, length-set, refl, replicate, set, suc, sym, zero, ℕ, ℕ-discrete}
 use Rattle.model.specs.Tries.{occ, one-if}
 use Rattle.model.proofs.Cells.{occ-append, one-if-equal}
+use Rattle.agreement.specs.Passes.{stack}
 
 -- A number that stands in a list stands at a place.
 pub record Stands (k : ℕ) (vs : List ℕ) : Type 0 where
@@ -62,11 +63,6 @@ module _ {seen places : List ℕ} (M : Marks seen places) (k : ℕ) where
       place j i (no l) =
           let q : j ≡ length seen = omega (arith, length-append seen (k ∷ [])) in
           rw (q, getD-append-seam seen k [] 0) (getD-set-same places k d 0 (omega (arith, M .whole)) ∙ sym e)
-
--- The first t numbers of the list, the last one on top.
-unfoldable pub stack : ℕ → List ℕ → List ℕ
-stack zero ks = []
-stack (suc t) ks = getD ks t 0 ∷ stack t ks
 
 stack-set : (t j : ℕ) (ks : List ℕ) (k : ℕ) → t ≤ j → stack t (set ks j k) ≡ stack t ks
 unfolding stack

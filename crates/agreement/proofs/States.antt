@@ -6,8 +6,8 @@ use Rattle.model.specs.declared.Side.the-variants.{Cell as further, Slot as slo
 use Rattle.model.specs.Tries.{at-cell, occ}
 use Rattle.trie.specs.declared.Strings.{Strings}
 use Rattle.agreement.specs.declared.Agreement.{Agreement}
-use Rattle.agreement.specs.Passes.{Passed, Passes, ends, enters, leaves}
-use Rattle.agreement.proofs.Marks.{Marks, length-stack, marks-next, marks-none, marks-unseen, stack, stack-none, stack-pop, stack-push}
+use Rattle.agreement.specs.Passes.{Passed, Passes, ends, enters, leaves, stack}
+use Rattle.agreement.proofs.Marks.{Marks, length-stack, marks-next, marks-none, marks-unseen, stack-none, stack-pop, stack-push}
 
 -- What a rule of the pass asked.
 module _ {cs : List Cell} {s : Strings} where

@@ -2,7 +2,7 @@
 use mathlib.Core.Path.{_≡_}
 use mathlib.Core.Bool.{true}
 use mathlib.Core.List.{List, [], _++_, _∷_}
-use Prim.Native.Nat.{_<_, _≤_, suc, ℕ}
+use Prim.Native.Nat.{_<_, _≤_, suc, zero, ℕ}
 use lib.ListN.{getD, length}
 use Rattle.model.specs.declared.Cell.{Cell}
 use Rattle.model.specs.declared.Side.{Side}
@@ -10,6 +10,11 @@ use Rattle.model.specs.declared.Side.the-variants.{Cell as further, Slot as slo
 use Rattle.model.specs.Tries.{at-cell, occ}
 use Rattle.trie.specs.declared.Strings.{Strings}
 use Rattle.agreement.specs.declared.Agreement.{Agreement}
+
+-- The first t numbers of the list, the last one on top.
+unfoldable pub stack : ℕ → List ℕ → List ℕ
+stack zero ks = []
+stack (suc t) ks = getD ks t 0 ∷ stack t ks
 
 -- With these cells on the stack, whose left parts are under way, the pass stands at this side, where no number may be smaller
 -- than this; the cells of the first list have met their strings, and when all have, it is the last list.
