@@ -78,7 +78,7 @@ pub fn count_of(image: &[u8]) -> usize
 
 pub fn first_of(image: &[u8]) -> usize
     requires { ⌜ length (now image) ≡ image-length ⌝ }
-    ensures { λ r. ⌜ r ≡ trie-from (now (image .entry)) .first ⌝ }
+    ensures { λ r. ⌜ (r ≡ trie-from (now (image .entry)) .first) × (r < 65536) ⌝ }
 {
     usize_of_u16(pair(image[2], image[3]))
 }
