@@ -12,7 +12,7 @@ use Rattle.agreement.specs.declared.Agreement.{Agreement}
 use Rattle.agreement.specs.Decides.{Decides}
 use Rattle.agreement.specs.Passes.{Passed, ends}
 use Rattle.agreement.proofs.States.{at-leaf}
-use Rattle.agreement.proofs.Laws.{agreed-few, agreed-passing, agreed-same, decided, met-agrees, met-placed, refused}
+use Rattle.agreement.proofs.Laws.{Passing, agreed-few, agreed-passing, agreed-same, decided, passing-agrees, passing-placed, refused}
 
 root-slot : (count first : ℕ) → count ≡ 0 → slot first ≡ root-side count first
 root-slot count first e = rw e
@@ -38,9 +38,12 @@ module _ (t : Trie) (s : Strings) where
   module _ (full : length (t .cells) ≡ 256) (few : s .few ≡ true) (small : s .count ≤ 256) (e : t .count ≡ s .count)
       (clear : are-zero-cells (drop (s .count) (t .cells)) ≡ true) where
     passed : {r : Agreement} → (0 < t .count → t .first ≡ 0) → Passed (t .cells) s (root-side (t .count) (t .first)) r → Decides t s r
-    passed first P b fs S H =
-        decided b S t (λ p. (met-agrees b S t H full few small e clear first (P .met p), met-placed b S t H full few small e clear first (P .met p)))
+    passed {r} first P b fs S H =
+        decided b S t (λ p. (passing-agrees b S t H full few small e clear first (met p), passing-placed b S t H full few small e clear first (met p) _ (P .met p .place-is)))
         (λ A. let x = agreed-passing b S t H A in P .every (x .order) (x .passes))
+      where
+        met : r .agrees ≡ true → Passing (t .cells) s (root-side (t .count) (t .first))
+        met p = record { order = P .met p .order; passes = P .met p .passes }
 
     pub by-pass : {r : Agreement} → (s .count ≡ 0 → ⊥) → t .first ≡ 0 → Passed (t .cells) s (further 0) r → Decides t s r
     by-pass {r} n f P =

@@ -7,17 +7,7 @@ use Rattle.model.proofs.Tries.{cell-length}
 use Rattle.trie.specs.declared.Strings.{Strings}
 use Rattle.trie.specs.Strung.{Holds}
 use Rattle.trie.proofs.Strung.{last-digits-at, lengths-at}
-use Rattle.agreement.proofs.Parts.{Fits, Numbered}
-
-pub numbered-numbers : (p : Str) (t : Tree) → Numbered (length p) t → NumbersFit p t
-numbered-numbers p (leaf x) n = tt
-numbered-numbers p (node d i L R) n =
-    (n .0, numbered-numbers (cell d i p) L (rw (cell-length d i p (n .0)) (n .1)), numbered-numbers p R (n .2))
-
-pub numbers-numbered : (p : Str) (t : Tree) → NumbersFit p t → Numbered (length p) t
-numbers-numbered p (leaf x) n = tt
-numbers-numbered p (node d i L R) n =
-    (n .0, rw (cell-length d i p (n .0)) at (numbers-numbered (cell d i p) L (n .1)), numbers-numbered p R (n .2))
+use Rattle.agreement.proofs.Parts.{Fits}
 
 cell-last : (d i : ℕ) (p : Str) → i ≤ length p → last-digit (cell d i p) ≡ d
 cell-last d i p h =

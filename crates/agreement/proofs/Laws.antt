@@ -1,5 +1,5 @@
 -- The pass decides agreement: over the cells of a trie that agrees there is one, and where there is one the trie agrees.
-use Rattle.model.proofs.Prelude.{Bool, List, [], _<_, _∙_, _∷_, _≡_, _≤_, ap, arith, clash, drop, false, getD-take, le-leb, leb-true, length, length-take-le, refl, sym, take, true, ℕ}
+use Rattle.model.proofs.Prelude.{Bool, List, [], _<_, _∙_, _∷_, _≡_, _≤_, ap, arith, clash, drop, false, getD, getD-take, le-leb, leb-true, length, length-take-le, refl, sym, take, true, ℕ}
 use Rattle.model.specs.declared.Cell.{Cell}
 use Rattle.model.specs.declared.Side.{Side}
 use Rattle.model.specs.declared.Trie.{Trie}
@@ -14,7 +14,7 @@ use Rattle.model.proofs.Agreement.{CellsAgree, agrees-cells, cells-agree}
 use Rattle.model.proofs.Cells.{each-once, reads-size, reads-total, total-once, visits-count}
 use Rattle.model.proofs.Files.{strings-right}
 use Rattle.model.proofs.Rebuilding.{rebuilt-agrees}
-use Rattle.model.proofs.Shapes.{Floors, same-shapes, spans-floors}
+use Rattle.model.proofs.Shapes.{Floors, same-shapes, shapes, spans-floors}
 use Rattle.model.proofs.Tries.{Spans, cast, cells-count, flat-trie, inside, strings-are, trie-flat}
 use Rattle.trie.specs.declared.Strings.{Strings}
 use Rattle.trie.specs.Places.{Placed}
@@ -22,9 +22,10 @@ use Rattle.trie.specs.Strung.{Holds, Strung}
 use Rattle.trie.proofs.Strung.{order-size}
 use Rattle.agreement.specs.declared.Agreement.{Agreement}
 use Rattle.agreement.specs.Decides.{Decided}
-use Rattle.agreement.specs.Passes.{Met, Passes}
+use Rattle.agreement.specs.Passes.{Passes}
 use Rattle.agreement.proofs.Parts.{Fits, Rest, Whole, all as all-met, ordered, pass-tree, same-cells, whole}
-use Rattle.agreement.proofs.Fitting.{holds-fits, numbered-numbers, numbers-numbered, same-fits, same-leaves}
+use Rattle.agreement.proofs.Fitting.{holds-fits, same-fits, same-leaves}
+use Rattle.agreement.proofs.Numbers.{numbers-stepped, stepped-numbers}
 
 some-digits : (x : Str) → x ≺ [] → 0 < length x
 some-digits [] h = absurd (h top)
@@ -37,7 +38,7 @@ all-seen (all-met h) = (h, refl)
 -- Cells from a side on over which there is a pass.
 pub record Passing (cs : List Cell) (s : Strings) (a : Side) : Type 0 where
   pub order : List ℕ
-  pub passes : Passes cs s [] a 0 0 [] order
+  pub passes : Passes cs s [] a 0 [] order
 
 module _ (b : ℕ) {fs : List Slot} (S : Sound b fs) where
   abbrev Spanned : Tree → Type 0
@@ -62,13 +63,15 @@ module _ (b : ℕ) {fs : List Slot} (S : Sound b fs) where
 
   -- And a tree that fits is one.
   fits-spanned : {s : Strings} (x : Tree) → Holds s (strings-of fs) (slots-between fs none (strings-of fs)) → size x ≡ length (strings-of fs)
-      → NumbersFit [] x → Floors 0 x → Fits s 0 x → Spanned x
-  fits-spanned {s} x H e n f g =
+      → Floors 0 x → Fits s 0 x → Spanned x
+  fits-spanned {s} x H e f g =
       let r : Tree = rebuilt (ranges fs) (S .order) in
       let T : Spanned r = rebuilt-agrees (ranges fs) (S .order) (S .chain) in
       let q : size x ≡ size r = e ∙ sym (spanned-size r T) in
       let h : Fits s 0 r = spanned-fits r T H in
-      let es : strings [] x ≡ strings [] r = same-shapes 0 [] x r n f (spanned-numbers r T) (spanned-floors r T) (same-fits s 0 x r q g h) in
+      let same-shape : shapes x ≡ shapes r = same-fits s 0 x r q g h in
+      let n : NumbersFit [] x = stepped-numbers 0 [] x f (rw same-shape (numbers-stepped 0 [] r (spanned-floors r T) (spanned-numbers r T))) in
+      let es : strings [] x ≡ strings [] r = same-shapes 0 [] x r n f (spanned-numbers r T) (spanned-floors r T) same-shape in
       let el : leaves x ≡ leaves r = same-leaves s 0 x r q g h in
       let flat = trie-flat (Leads (ranges fs)) T .1 in
       let same : strings [] x ≡ all (bounds (ranges fs) (S .order)) = es ∙ strings-are (Leads (ranges fs)) T in
@@ -110,8 +113,8 @@ module _ (b : ℕ) {fs : List Slot} (S : Sound b fs) where
           let o : (i : ℕ) → occ i (O .order) ≤ 1 = λ i. omega (arith, same-cells (C .reads) (O .in-order) i, each-once (C .reads) (C .each) i) in
           record {
             order = O .order;
-            passes = pass-tree (t .cells) s live l (same-live e) [] 0 0 [] (O .order) (C .reads) (O .in-order) (spanned-fits (C .tree) (C .trie) (held (agreed-few A)))
-                (numbers-numbered [] (C .tree) (spanned-numbers (C .tree) (C .trie))) (spanned-floors (C .tree) (C .trie)) o (n, refl);
+            passes = pass-tree (t .cells) s live l (same-live e) [] 0 [] (O .order) (C .reads) (O .in-order) (spanned-fits (C .tree) (C .trie) (held (agreed-few A)))
+                (spanned-floors (C .tree) (C .trie)) o (n, refl);
           }
 
       module _ (full : length (t .cells) ≡ 256) (few : s .few ≡ true) (small : s .count ≤ 256) (e : t .count ≡ s .count)
@@ -119,8 +122,8 @@ module _ (b : ℕ) {fs : List Slot} (S : Sound b fs) where
         live-is : length live ≡ s .count
         live-is = length-take-le (t .count) (t .cells) (omega arith) ∙ e
 
-        module _ {places : List ℕ} (M : Met (t .cells) s start places) where
-          W : Whole (t .cells) s live live-is (same-live e) [] start 0 0 [] (M .order)
+        module _ (M : Passing (t .cells) s start) where
+          W : Whole (t .cells) s live live-is (same-live e) [] start 0 [] (M .order)
           W = whole (t .cells) s live live-is (same-live e) (M .passes)
 
           order-is : W .order ≡ M .order
@@ -129,8 +132,8 @@ module _ (b : ℕ) {fs : List Slot} (S : Sound b fs) where
           count-is : size (W .part .tree) ≡ s .count
           count-is = sym (order-size (W .part .reads) (W .part .in-order)) ∙ all-seen (W .rest) .0
 
-          met-cells : CellsAgree (ranges fs) (S .order) live start
-          met-cells =
+          passing-cells : CellsAgree (ranges fs) (S .order) live start
+          passing-cells =
               let P = W .part in
               let v : length (P .visits) ≡ length live = reads-size (P .reads) ∙ count-is ∙ sym live-is in
               let once : (i : ℕ) → occ i (P .visits) ≤ 1 = λ i. omega (arith, same-cells (P .reads) (P .in-order) i, P .once (λ j. omega arith) i) in
@@ -139,14 +142,14 @@ module _ (b : ℕ) {fs : List Slot} (S : Sound b fs) where
                 visits = P .visits;
                 reads = P .reads;
                 each = total-once (length live) (P .visits) once (sym (reads-total (P .reads)) ∙ v);
-                trie = fits-spanned (P .tree) (held few) (count-is ∙ held few .count-is) (numbered-numbers [] (P .tree) (P .numbered)) (P .floors) (P .fits);
+                trie = fits-spanned (P .tree) (held few) (count-is ∙ held few .count-is) (P .floors) (P .fits);
               }
 
-          pub met-agrees : Agrees fs t
-          met-agrees = cells-agree b S {t = t} full (omega arith) (zeros-past (t .count) (t .cells) (rw e clear)) first met-cells
+          pub passing-agrees : Agrees fs t
+          passing-agrees = cells-agree b S {t = t} full (omega arith) (zeros-past (t .count) (t .cells) (rw e clear)) first passing-cells
 
-          pub met-placed : Placed t places
-          met-placed = record { order = M .order; in-order = rw order-is at (W .part .in-order); place-is = M .place-is }
+          pub passing-placed : (places : List ℕ) → ((j : ℕ) → j < length (M .order) → getD places (getD (M .order) j 0) 0 ≡ j) → Placed t places
+          passing-placed places h = record { order = M .order; in-order = rw order-is at (W .part .in-order); place-is = h }
 
     -- An answer that is yes where the trie agrees, and then has the places, and only there.
     pub decided : {r : Agreement} → (r .agrees ≡ true → Agrees fs t × Placed t (r .places)) → (Agrees fs t → r .agrees ≡ true) → Decided fs t r

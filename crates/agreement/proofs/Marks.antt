@@ -2,7 +2,7 @@
 use Rattle.model.proofs.Prelude.{Bool, List, List·getD-append, [], _++_, _+_, _-_, _<_, _∙_, _∷_, _≡_, _≤_, add-one, arith, cond, decLt, eqb, eqb-true, false, getD, getD-append-seam, getD-replicate, getD-set-other, getD-set-same, length, length-append, length-replicate, length-set, refl, replicate, set, suc, sym, true, zero, ℕ, ℕ-discrete}
 use Rattle.model.specs.Tries.{occ}
 use Rattle.model.proofs.Cells.{occ-append, one-if-equal}
-use Rattle.agreement.specs.declared.Frame.{Frame}
+use Rattle.agreement.specs.Passes.{stack}
 
 -- A number that stands in a list stands at a place.
 pub record Stands (k : ℕ) (vs : List ℕ) : Type 0 where
@@ -64,37 +64,25 @@ module _ {seen places : List ℕ} (M : Marks seen places) (k : ℕ) where
           let q : j ≡ length seen = omega (arith, length-append seen (k ∷ [])) in
           rw (q, getD-append-seam seen k [] 0) (getD-set-same places k d 0 (omega (arith, M .whole)) ∙ sym e)
 
-abbrev pub no-frame : Frame
-no-frame = record { cell = 0; len = 0 }
-
-abbrev pub at-frame : List Frame → ℕ → Frame
-at-frame frames t = getD frames t no-frame
-
--- The first t frames, the last one on top.
-unfoldable pub stack : ℕ → List Frame → List Frame
-stack zero frames = []
-stack (suc t) frames = at-frame frames t ∷ stack t frames
-
-stack-set : (t j : ℕ) (frames : List Frame) (f : Frame) → t ≤ j → stack t (set frames j f) ≡ stack t frames
+stack-set : (t j : ℕ) (ks : List ℕ) (k : ℕ) → t ≤ j → stack t (set ks j k) ≡ stack t ks
 unfolding stack
-stack-set zero j frames f h = refl
-stack-set (suc t) j frames f h =
-    rw (getD-set-other frames j t f no-frame (λ e. omega arith), stack-set t j frames f (omega arith))
+stack-set zero j ks k h = refl
+stack-set (suc t) j ks k h = rw (getD-set-other ks j t k 0 (λ e. omega arith), stack-set t j ks k (omega arith))
 
-pub stack-push : (t : ℕ) (frames : List Frame) (f : Frame) → t < length frames → stack (t + 1) (set frames t f) ≡ f ∷ stack t frames
+pub stack-push : (t : ℕ) (ks : List ℕ) (k : ℕ) → t < length ks → stack (t + 1) (set ks t k) ≡ k ∷ stack t ks
 unfolding stack
-stack-push t frames f h = rw (add-one t, getD-set-same frames t f no-frame h, stack-set t t frames f (omega arith))
+stack-push t ks k h = rw (add-one t, getD-set-same ks t k 0 h, stack-set t t ks k (omega arith))
 
-pub stack-none : (t : ℕ) (frames : List Frame) → t ≡ 0 → stack t frames ≡ []
+pub stack-none : (t : ℕ) (ks : List ℕ) → t ≡ 0 → stack t ks ≡ []
 unfolding stack
-stack-none t frames e = rw e
+stack-none t ks e = rw e
 
-pub stack-pop : (t : ℕ) (frames : List Frame) → (t ≡ 0 → ⊥) → stack t frames ≡ at-frame frames (t - 1) ∷ stack (t - 1) frames
+pub stack-pop : (t : ℕ) (ks : List ℕ) → (t ≡ 0 → ⊥) → stack t ks ≡ getD ks (t - 1) 0 ∷ stack (t - 1) ks
 unfolding stack
-stack-pop zero frames h = absurd (h refl)
-stack-pop (suc t) frames h = let e : suc t - 1 ≡ t = omega arith in rw e
+stack-pop zero ks h = absurd (h refl)
+stack-pop (suc t) ks h = let e : suc t - 1 ≡ t = omega arith in rw e
 
-pub length-stack : (t : ℕ) (frames : List Frame) → length (stack t frames) ≡ t
+pub length-stack : (t : ℕ) (ks : List ℕ) → length (stack t ks) ≡ t
 unfolding stack
-length-stack zero frames = refl
-length-stack (suc t) frames = omega (arith, length-stack t frames)
+length-stack zero ks = refl
+length-stack (suc t) ks = omega (arith, length-stack t ks)

@@ -9,7 +9,6 @@ use Rattle.model.proofs.Shapes.{Floors}
 use Rattle.trie.specs.declared.Strings.{Strings}
 use Rattle.trie.specs.Places.{InOrder, cells, no-cells}
 use Rattle.trie.proofs.Strung.{order-size}
-use Rattle.agreement.specs.declared.Frame.{Frame}
 use Rattle.agreement.specs.Passes.{Passes, ends, enters, leaves}
 
 -- The same, where the cell is known by an equation.
@@ -34,11 +33,6 @@ same-cells here no-cells i = refl
 same-cells (there {n = m} {vs = vs} {ws = ws} h l r) (cells {vs = xs} {ws = ys} h′ x y) i =
     omega (arith, same-cells l x i, same-cells r y i, occ-append i vs ws, occ-append i xs (m ∷ ys))
 
--- No number exceeds the length of the path, which begins so long.
-abbrev pub Numbered : ℕ → Tree → Type 0
-Numbered len (leaf s) = Unit {0}
-Numbered len (node d i L R) = (i ≤ len) × Numbered (suc i) L × Numbered len R
-
 -- In order, the tree's cells have the numbers and digits of the strings from the place on, and its leaves the slots.
 abbrev pub Fits : Strings → ℕ → Tree → Type 0
 Fits s at (leaf x) = x ≡ getD (s .slots) at 0
@@ -47,49 +41,47 @@ Fits s at (node d i L R) =
 
 module _ (cs : List Cell) (s : Strings) (live : List Cell) (live-is : length live ≡ s .count) (same : (k : ℕ) → k < s .count → at-cell live k ≡ at-cell cs k) where
   -- A side read, whose cells in order come after those seen.
-  pub record Part (a : Side) (len least : ℕ) (seen order : List ℕ) : Type 0 where
+  pub record Part (a : Side) (least : ℕ) (seen order : List ℕ) : Type 0 where
     pub tree : Tree
     pub visits : List ℕ
     pub reads : Reads live a tree visits
     pub in-order : InOrder live a order
     pub fits : Fits s (length seen) tree
-    pub numbered : Numbered len tree
     pub floors : Floors least tree
     pub once : ((i : ℕ) → occ i seen ≤ 1) → (i : ℕ) → occ i (seen ++ order) ≤ 1
 
   -- The right parts of the cells on the stack, read.
-  pub data Rest : List Frame → List ℕ → List ℕ → Type 0 where
+  pub data Rest : List ℕ → List ℕ → List ℕ → Type 0 where
     all : {seen : List ℕ} → length seen ≡ s .count → Rest [] seen seen
-    next : {f : Frame} {fs : List Frame} {seen order last : List ℕ}
-        → suc (at-cell cs (f .cell) .number) ≡ getD (s .lens) (length seen) 0
-        → at-cell cs (f .cell) .digit ≡ getD (s .digits) (length seen) 0
-        → occ (f .cell) seen ≡ 0
-        → Part (at-cell cs (f .cell) .right) (f .len) (at-cell cs (f .cell) .number) (seen ++ (f .cell ∷ [])) order
-        → Rest fs ((seen ++ (f .cell ∷ [])) ++ order) last
-        → Rest (f ∷ fs) seen last
+    next : {k : ℕ} {ks seen order last : List ℕ}
+        → suc (at-cell cs k .number) ≡ getD (s .lens) (length seen) 0
+        → at-cell cs k .digit ≡ getD (s .digits) (length seen) 0
+        → occ k seen ≡ 0
+        → Part (at-cell cs k .right) (at-cell cs k .number) (seen ++ (k ∷ [])) order
+        → Rest ks ((seen ++ (k ∷ [])) ++ order) last
+        → Rest (k ∷ ks) seen last
 
-  pub record Whole (fs : List Frame) (a : Side) (len least : ℕ) (seen last : List ℕ) : Type 0 where
+  pub record Whole (ks : List ℕ) (a : Side) (least : ℕ) (seen last : List ℕ) : Type 0 where
     pub order : List ℕ
-    pub part : Part a len least seen order
-    pub rest : Rest fs (seen ++ order) last
+    pub part : Part a least seen order
+    pub rest : Rest ks (seen ++ order) last
 
-  leaf-part : (x len least : ℕ) (seen : List ℕ) → x ≡ getD (s .slots) (length seen) 0 → Part (slot x) len least seen []
-  leaf-part x len least seen e = record {
+  leaf-part : (x least : ℕ) (seen : List ℕ) → x ≡ getD (s .slots) (length seen) 0 → Part (slot x) least seen []
+  leaf-part x least seen e = record {
     tree = leaf x;
     visits = [];
     reads = here;
     in-order = no-cells;
     fits = e;
-    numbered = tt;
     floors = tt;
     once = λ h i. rw append-nil (h i);
   }
 
-  join : (k len least : ℕ) (fs : List Frame) (seen vs last : List ℕ) → k < s .count → at-cell cs k .number ≤ len → least ≤ at-cell cs k .number
-      → Part (at-cell cs k .left) (suc (at-cell cs k .number)) least seen vs
-      → Rest (record { cell = k; len = len } ∷ fs) (seen ++ vs) last
-      → Whole fs (further k) len least seen last
-  join k len least fs seen vs last h n l L (next {order = ws} en ed eo R rest) =
+  join : (k least : ℕ) (ks seen vs last : List ℕ) → k < s .count → least ≤ at-cell cs k .number
+      → Part (at-cell cs k .left) least seen vs
+      → Rest (k ∷ ks) (seen ++ vs) last
+      → Whole ks (further k) least seen last
+  join k least ks seen vs last h l L (next {order = ws} en ed eo R rest) =
       let c : Cell = at-cell cs k in
       let here-is : length (seen ++ vs) ≡ length seen + size (L .tree) = length-append seen vs ∙ rw (order-size (L .reads) (L .in-order)) in
       let after-is : length ((seen ++ vs) ++ (k ∷ [])) ≡ suc (length seen + size (L .tree)) = length-append (seen ++ vs) (k ∷ []) ∙ rw (here-is, add-one) in
@@ -102,39 +94,38 @@ module _ (cs : List Cell) (s : Strings) (live : List Cell) (live-is : length liv
           reads = there-at (omega (arith, live-is)) (same k h) (L .reads) (R .reads);
           in-order = cells-at (omega (arith, live-is)) (same k h) (L .in-order) (R .in-order);
           fits = (L .fits, rw here-is at en, rw here-is at ed, rw after-is at (R .fits));
-          numbered = (n, L .numbered, R .numbered);
           floors = (l, L .floors, R .floors);
           once = λ q i. rw (← all-is) (R .once (occ-snoc k (seen ++ vs) eo (L .once q)) i);
         };
         rest = rw all-is at rest;
       }
 
-  pub whole : {fs : List Frame} {a : Side} {len least : ℕ} {seen last : List ℕ} → Passes cs s fs a len least seen last → Whole fs a len least seen last
-  whole (ends {x = x} {len = len} {least = least} {seen = seen} e h) =
-      record { order = []; part = leaf-part x len least seen e; rest = rw append-nil (all h) }
-  whole (leaves {x = x} {len = len} {least = least} {seen = seen} e n d o p) =
+  pub whole : {ks : List ℕ} {a : Side} {least : ℕ} {seen last : List ℕ} → Passes cs s ks a least seen last → Whole ks a least seen last
+  whole (ends {x = x} {least = least} {seen = seen} e h) =
+      record { order = []; part = leaf-part x least seen e; rest = rw append-nil (all h) }
+  whole (leaves {x = x} {least = least} {seen = seen} e n d o p) =
       let W = whole p in
-      record { order = []; part = leaf-part x len least seen e; rest = rw append-nil (next n d o (W .part) (W .rest)) }
-  whole (enters {k = k} {len = len} {least = least} {fs = fs} {seen = seen} {last = last} h n l p) =
+      record { order = []; part = leaf-part x least seen e; rest = rw append-nil (next n d o (W .part) (W .rest)) }
+  whole (enters {k = k} {least = least} {ks = ks} {seen = seen} {last = last} h l p) =
       let W = whole p in
-      join k len least fs seen (W .order) last h n l (W .part) (W .rest)
+      join k least ks seen (W .order) last h l (W .part) (W .rest)
 
   -- What comes after a side is passed.
-  abbrev pub After : List Frame → List ℕ → List ℕ → Type 0
+  abbrev pub After : List ℕ → List ℕ → List ℕ → Type 0
   After [] seen last = (length seen ≡ s .count) × (seen ≡ last)
-  After (f ∷ fs) seen last =
-      (suc (at-cell cs (f .cell) .number) ≡ getD (s .lens) (length seen) 0) × (at-cell cs (f .cell) .digit ≡ getD (s .digits) (length seen) 0) × (occ (f .cell) seen ≡ 0)
-      × Passes cs s fs (at-cell cs (f .cell) .right) (f .len) (at-cell cs (f .cell) .number) (seen ++ (f .cell ∷ [])) last
+  After (k ∷ ks) seen last =
+      (suc (at-cell cs k .number) ≡ getD (s .lens) (length seen) 0) × (at-cell cs k .digit ≡ getD (s .digits) (length seen) 0) × (occ k seen ≡ 0)
+      × Passes cs s ks (at-cell cs k .right) (at-cell cs k .number) (seen ++ (k ∷ [])) last
 
-  pass-leaf : (fs : List Frame) (x len least : ℕ) (seen last : List ℕ) → x ≡ getD (s .slots) (length seen) 0 → After fs seen last → Passes cs s fs (slot x) len least seen last
-  pass-leaf [] x len least seen last e r = rw (← r .1) (ends e (r .0))
-  pass-leaf (f ∷ fs) x len least seen last e r = leaves e (r .0) (r .1) (r .2) (r .3)
+  pass-leaf : (ks : List ℕ) (x least : ℕ) (seen last : List ℕ) → x ≡ getD (s .slots) (length seen) 0 → After ks seen last → Passes cs s ks (slot x) least seen last
+  pass-leaf [] x least seen last e r = rw (← r .1) (ends e (r .0))
+  pass-leaf (k ∷ ks) x least seen last e r = leaves e (r .0) (r .1) (r .2) (r .3)
 
-  pub pass-tree : {a : Side} {t : Tree} {visits order : List ℕ} (fs : List Frame) (len least : ℕ) (seen last : List ℕ) → Reads live a t visits → InOrder live a order
-      → Fits s (length seen) t → Numbered len t → Floors least t → ((i : ℕ) → occ i (seen ++ order) ≤ 1)
-      → After fs (seen ++ order) last → Passes cs s fs a len least seen last
-  pass-tree fs len least seen last (here {s = x}) no-cells e n l o r = pass-leaf fs x len least seen last e (rw append-nil at r)
-  pass-tree fs len least seen last (there {n = k} {L = L} {R = R} h x y) (cells {vs = vs} {ws = ws} h′ v w) e n l o r =
+  pub pass-tree : {a : Side} {t : Tree} {visits order : List ℕ} (ks : List ℕ) (least : ℕ) (seen last : List ℕ) → Reads live a t visits → InOrder live a order
+      → Fits s (length seen) t → Floors least t → ((i : ℕ) → occ i (seen ++ order) ≤ 1)
+      → After ks (seen ++ order) last → Passes cs s ks a least seen last
+  pass-tree ks least seen last (here {s = x}) no-cells e l o r = pass-leaf ks x least seen last e (rw append-nil at r)
+  pass-tree ks least seen last (there {n = k} {L = L} {R = R} h x y) (cells {vs = vs} {ws = ws} h′ v w) e l o r =
       let c : Cell = at-cell cs k in
       let below : k < s .count = omega (arith, live-is) in
       let q : at-cell live k ≡ c = same k below in
@@ -144,13 +135,11 @@ module _ (cs : List Cell) (s : Strings) (live : List Cell) (live-is : length liv
       let o′ : (i : ℕ) → occ i (((seen ++ vs) ++ (k ∷ [])) ++ ws) ≤ 1 = rw all-is at o in
       let once : (i : ℕ) → occ i (seen ++ vs) ≤ 1 = λ i. omega (arith, o′ i, occ-append i ((seen ++ vs) ++ (k ∷ [])) ws, occ-append i (seen ++ vs) (k ∷ [])) in
       let new : occ k (seen ++ vs) ≡ 0 = omega (arith, o′ k, occ-append k ((seen ++ vs) ++ (k ∷ [])) ws, occ-append k (seen ++ vs) (k ∷ []), one-if-equal k k refl) in
-      let n₀ : c .number ≤ len = rw q at (n .0) in
-      let n₁ : Numbered (suc (c .number)) L = rw q at (n .1) in
       let l₀ : least ≤ c .number = rw q at (l .0) in
       let l₂ : Floors (c .number) R = rw q at (l .2) in
       let e₁ : suc (c .number) ≡ getD (s .lens) (length (seen ++ vs)) 0 = rw (here-is, ← q) (e .1) in
       let e₂ : c .digit ≡ getD (s .digits) (length (seen ++ vs)) 0 = rw (here-is, ← q) (e .2) in
       let e₃ : Fits s (length ((seen ++ vs) ++ (k ∷ []))) R = rw after-is (e .3) in
-      let right = rw q at (pass-tree fs len (c .number) ((seen ++ vs) ++ (k ∷ [])) last y w e₃ (n .2) l₂ o′ (rw all-is at r)) in
-      let left = rw q at (pass-tree (record { cell = k; len = len } ∷ fs) (suc (c .number)) least seen last x v (e .0) n₁ (l .1) once (e₁, e₂, new, right)) in
-      enters below n₀ l₀ left
+      let right = rw q at (pass-tree ks (c .number) ((seen ++ vs) ++ (k ∷ [])) last y w e₃ l₂ o′ (rw all-is at r)) in
+      let left = rw q at (pass-tree (k ∷ ks) least seen last x v (e .0) (l .1) once (e₁, e₂, new, right)) in
+      enters below l₀ left

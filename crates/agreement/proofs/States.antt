@@ -6,57 +6,54 @@ use Rattle.model.specs.declared.Side.the-variants.{Cell as further, Slot as slo
 use Rattle.model.specs.Tries.{at-cell, occ}
 use Rattle.trie.specs.declared.Strings.{Strings}
 use Rattle.agreement.specs.declared.Agreement.{Agreement}
-use Rattle.agreement.specs.declared.Frame.{Frame}
-use Rattle.agreement.specs.Passes.{Passed, Passes, ends, enters, leaves}
-use Rattle.agreement.proofs.Marks.{Marks, at-frame, length-stack, marks-next, marks-none, marks-unseen, no-frame, stack, stack-none, stack-pop, stack-push}
+use Rattle.agreement.specs.Passes.{Passed, Passes, ends, enters, leaves, stack}
+use Rattle.agreement.proofs.Marks.{Marks, length-stack, marks-next, marks-none, marks-unseen, stack-none, stack-pop, stack-push}
 
 -- What a rule of the pass asked.
 module _ {cs : List Cell} {s : Strings} where
-  pub at-leaf : {fs : List Frame} {x len least : ℕ} {seen last : List ℕ} → Passes cs s fs (slot x) len least seen last → x ≡ getD (s .slots) (length seen) 0
+  pub at-leaf : {ks : List ℕ} {x least : ℕ} {seen last : List ℕ} → Passes cs s ks (slot x) least seen last → x ≡ getD (s .slots) (length seen) 0
   at-leaf (ends e h) = e
   at-leaf (leaves e n d o p) = e
 
-  at-end : {x len least : ℕ} {seen last : List ℕ} → Passes cs s [] (slot x) len least seen last → length seen ≡ s .count
+  at-end : {x least : ℕ} {seen last : List ℕ} → Passes cs s [] (slot x) least seen last → length seen ≡ s .count
   at-end (ends e h) = h
 
-  at-top : {f : Frame} {fs : List Frame} {x len least : ℕ} {seen last : List ℕ} → Passes cs s (f ∷ fs) (slot x) len least seen last
-      → (suc (at-cell cs (f .cell) .number) ≡ getD (s .lens) (length seen) 0)
-      × (at-cell cs (f .cell) .digit ≡ getD (s .digits) (length seen) 0)
-      × (occ (f .cell) seen ≡ 0)
-      × Passes cs s fs (at-cell cs (f .cell) .right) (f .len) (at-cell cs (f .cell) .number) (seen ++ (f .cell ∷ [])) last
+  at-top : {k : ℕ} {ks : List ℕ} {x least : ℕ} {seen last : List ℕ} → Passes cs s (k ∷ ks) (slot x) least seen last
+      → (suc (at-cell cs k .number) ≡ getD (s .lens) (length seen) 0)
+      × (at-cell cs k .digit ≡ getD (s .digits) (length seen) 0)
+      × (occ k seen ≡ 0)
+      × Passes cs s ks (at-cell cs k .right) (at-cell cs k .number) (seen ++ (k ∷ [])) last
   at-top (leaves e n d o p) = (n, d, o, p)
 
-  at-further : {k len least : ℕ} {fs : List Frame} {seen last : List ℕ} → Passes cs s fs (further k) len least seen last
-      → (k < s .count) × (at-cell cs k .number ≤ len) × (least ≤ at-cell cs k .number)
-      × Passes cs s (record { cell = k; len = len } ∷ fs) (at-cell cs k .left) (suc (at-cell cs k .number)) least seen last
-  at-further (enters h n l p) = (h, n, l, p)
+  at-further : {k least : ℕ} {ks : List ℕ} {seen last : List ℕ} → Passes cs s ks (further k) least seen last
+      → (k < s .count) × (least ≤ at-cell cs k .number) × Passes cs s (k ∷ ks) (at-cell cs k .left) least seen last
+  at-further (enters h l p) = (h, l, p)
 
   -- Each cell on the stack has its string still to come, and so has a cell that is entered.
-  strings-left : {fs : List Frame} {a : Side} {len least : ℕ} {seen last : List ℕ} → Passes cs s fs a len least seen last → length seen + length fs ≤ s .count
+  strings-left : {ks : List ℕ} {a : Side} {least : ℕ} {seen last : List ℕ} → Passes cs s ks a least seen last → length seen + length ks ≤ s .count
   strings-left (ends e h) = omega arith
-  strings-left (leaves {f = f} {seen = seen} e n d o p) = omega (arith, strings-left p, length-append seen (f .cell ∷ []))
-  strings-left (enters h n l p) = omega (arith, strings-left p)
+  strings-left (leaves {k = k} {seen = seen} e n d o p) = omega (arith, strings-left p, length-append seen (k ∷ []))
+  strings-left (enters h l p) = omega (arith, strings-left p)
 
-  room-left : {k len least : ℕ} {fs : List Frame} {seen last : List ℕ} → Passes cs s fs (further k) len least seen last → length seen + length fs < s .count
-  room-left (enters h n l p) = omega (arith, strings-left p)
+  room-left : {k least : ℕ} {ks : List ℕ} {seen last : List ℕ} → Passes cs s ks (further k) least seen last → length seen + length ks < s .count
+  room-left (enters h l p) = omega (arith, strings-left p)
 
 -- Before a turn: the pass from here on ends as the whole does.
-pub record State (cs : List Cell) (s : Strings) (a : Side) (places : List ℕ) (frames : List Frame) (top entered done len least : ℕ) (place : Side) : Type 0 where
+pub record State (cs : List Cell) (s : Strings) (a : Side) (places cells : List ℕ) (top entered done least : ℕ) (place : Side) : Type 0 where
   pub seen : List ℕ
   pub done-is : length seen ≡ done
   pub entered-is : done + top ≡ entered
   pub few : entered ≤ s .count
   pub room : s .count ≤ 256
-  pub short : len < 65536
-  pub rooms : length frames ≡ 256
+  pub rooms : length cells ≡ 256
   pub marks : Marks seen places
-  pub onward : (last : List ℕ) → Passes cs s [] a 0 0 [] last → Passes cs s (stack top frames) place len least seen last
-  pub back : (last : List ℕ) → Passes cs s (stack top frames) place len least seen last → Passes cs s [] a 0 0 [] last
+  pub onward : (last : List ℕ) → Passes cs s [] a 0 [] last → Passes cs s (stack top cells) place least seen last
+  pub back : (last : List ℕ) → Passes cs s (stack top cells) place least seen last → Passes cs s [] a 0 [] last
 
 module _ (cs : List Cell) (s : Strings) (a : Side) where
   -- There is no such pass.
   abbrev pub Never : Type 0
-  Never = (last : List ℕ) → Passes cs s [] a 0 0 [] last → ⊥
+  Never = (last : List ℕ) → Passes cs s [] a 0 [] last → ⊥
 
   pub refused : {r : Agreement} → r .agrees ≡ false → Never → Passed cs s a r
   refused {r} e n = record {
@@ -64,7 +61,7 @@ module _ (cs : List Cell) (s : Strings) (a : Side) where
     every = λ order p. absurd (n order p);
   }
 
-  pub started : s .count ≤ 256 → State cs s a (replicate {A = ℕ} 256 256) (replicate 256 no-frame) 0 0 0 0 0 a
+  pub started : s .count ≤ 256 → State cs s a (replicate {A = ℕ} 256 256) (replicate {A = ℕ} 256 0) 0 0 0 0 a
   unfolding stack
   started h = record {
     seen = [];
@@ -72,19 +69,18 @@ module _ (cs : List Cell) (s : Strings) (a : Side) where
     entered-is = omega arith;
     few = omega arith;
     room = h;
-    short = omega arith;
-    rooms = length-replicate 256 no-frame;
+    rooms = length-replicate {A = ℕ} 256 0;
     marks = marks-none;
     onward = λ last p. p;
     back = λ last p. p;
   }
 
-module _ {cs : List Cell} {s : Strings} {a : Side} {places : List ℕ} {frames : List Frame} {top entered done len least : ℕ} {place : Side}
-    (S : State cs s a places frames top entered done len least place) where
+module _ {cs : List Cell} {s : Strings} {a : Side} {places cells : List ℕ} {top entered done least : ℕ} {place : Side}
+    (S : State cs s a places cells top entered done least place) where
   -- At a leaf.
   module _ {x : ℕ} (e : place ≡ slot x) where
-    leaf-now : (last : List ℕ) → Passes cs s [] a 0 0 [] last → Passes cs s (stack top frames) (slot x) len least (S .seen) last
-    leaf-now last p = subst (λ (y : Side). Passes cs s (stack top frames) y len least (S .seen) last) e (S .onward last p)
+    leaf-now : (last : List ℕ) → Passes cs s [] a 0 [] last → Passes cs s (stack top cells) (slot x) least (S .seen) last
+    leaf-now last p = subst (λ (y : Side). Passes cs s (stack top cells) y least (S .seen) last) e (S .onward last p)
 
     pub not-leaf : (x ≡ getD (s .slots) done 0 → ⊥) → Never cs s a
     not-leaf h last p = h (rw (S .done-is) at (at-leaf (leaf-now last p)))
@@ -92,20 +88,20 @@ module _ {cs : List Cell} {s : Strings} {a : Side} {places : List ℕ} {frames :
     pub ended : top ≡ 0 → x ≡ getD (s .slots) done 0 → Passed cs s a (record { agrees = eqb done (s .count); places = places })
     ended z h = record {
       met = λ q. record { order = S .seen; passes = S .back (S .seen) (last-leaf (eqb-true done (s .count) q)); place-is = S .marks .place-is };
-      every = λ order p. eq-eqb done (s .count) (sym (S .done-is) ∙ at-end (rw (stack-none top frames z) at (leaf-now order p)));
+      every = λ order p. eq-eqb done (s .count) (sym (S .done-is) ∙ at-end (rw (stack-none top cells z) at (leaf-now order p)));
     }
       where
-        last-leaf : done ≡ s .count → Passes cs s (stack top frames) place len least (S .seen) (S .seen)
+        last-leaf : done ≡ s .count → Passes cs s (stack top cells) place least (S .seen) (S .seen)
         last-leaf q =
             let h′ : x ≡ getD (s .slots) (length (S .seen)) 0 = rw (S .done-is) h in
-            rw (e, stack-none top frames z) (ends h′ (S .done-is ∙ q))
+            rw (e, stack-none top cells z) (ends h′ (S .done-is ∙ q))
 
     -- The cell on top of the stack.
     module _ (p : top ≡ 0 → ⊥) where
-      top-now : (last : List ℕ) → Passes cs s [] a 0 0 [] last → Passes cs s (at-frame frames (top - 1) ∷ stack (top - 1) frames) (slot x) len least (S .seen) last
-      top-now last q = subst (λ (fs : List Frame). Passes cs s fs (slot x) len least (S .seen) last) (stack-pop top frames p) (leaf-now last q)
+      top-now : (last : List ℕ) → Passes cs s [] a 0 [] last → Passes cs s (getD cells (top - 1) 0 ∷ stack (top - 1) cells) (slot x) least (S .seen) last
+      top-now last q = subst (λ (ks : List ℕ). Passes cs s ks (slot x) least (S .seen) last) (stack-pop top cells p) (leaf-now last q)
 
-      module _ {k : ℕ} (i : k ≡ at-frame frames (top - 1) .cell) where
+      module _ {k : ℕ} (i : k ≡ getD cells (top - 1) 0) where
         pub not-length : (suc (at-cell cs k .number) ≡ getD (s .lens) done 0 → ⊥) → Never cs s a
         not-length h last q = h (rw (i, ← S .done-is) (at-top (top-now last q) .0))
 
@@ -117,52 +113,47 @@ module _ {cs : List Cell} {s : Strings} {a : Side} {places : List ℕ} {frames :
 
         -- It has met its string, and its right part is next.
         pub left : k < 256 → x ≡ getD (s .slots) done 0 → suc (at-cell cs k .number) ≡ getD (s .lens) done 0
-            → at-cell cs k .digit ≡ getD (s .digits) done 0 → getD places k 0 ≡ 256 → at-frame frames (top - 1) .len < 65536
-            → State cs s a (set places k done) frames (top - 1) entered (done + 1) (at-frame frames (top - 1) .len) (at-cell cs k .number) (at-cell cs k .right)
-        left l h n d m short =
+            → at-cell cs k .digit ≡ getD (s .digits) done 0 → getD places k 0 ≡ 256
+            → State cs s a (set places k done) cells (top - 1) entered (done + 1) (at-cell cs k .number) (at-cell cs k .right)
+        left l h n d m =
             let o : occ k (S .seen) ≡ 0 = marks-unseen (S .marks) k (omega (arith, S .done-is, S .entered-is, S .few, S .room)) m in
             let h′ : x ≡ getD (s .slots) (length (S .seen)) 0 = rw (S .done-is) h in
-            let n′ : suc (at-cell cs (at-frame frames (top - 1) .cell) .number) ≡ getD (s .lens) (length (S .seen)) 0 = rw (S .done-is, ← i) n in
-            let d′ : at-cell cs (at-frame frames (top - 1) .cell) .digit ≡ getD (s .digits) (length (S .seen)) 0 = rw (S .done-is, ← i) d in
-            let o′ : occ (at-frame frames (top - 1) .cell) (S .seen) ≡ 0 = rw (← i) o in
+            let n′ : suc (at-cell cs (getD cells (top - 1) 0) .number) ≡ getD (s .lens) (length (S .seen)) 0 = rw (S .done-is, ← i) n in
+            let d′ : at-cell cs (getD cells (top - 1) 0) .digit ≡ getD (s .digits) (length (S .seen)) 0 = rw (S .done-is, ← i) d in
+            let o′ : occ (getD cells (top - 1) 0) (S .seen) ≡ 0 = rw (← i) o in
             record {
               seen = S .seen ++ (k ∷ []);
               done-is = length-append (S .seen) (k ∷ []) ∙ rw (S .done-is);
               entered-is = omega (arith, S .entered-is, p);
               few = S .few;
               room = S .room;
-              short = short;
               rooms = S .rooms;
               marks = marks-next (S .marks) k done l o (S .done-is);
               onward = λ last q. rw i (at-top (top-now last q) .3);
-              back = λ last q. S .back last (rw (e, stack-pop top frames p) (leaves h′ n′ d′ o′ (rw i at q)));
+              back = λ last q. S .back last (rw (e, stack-pop top cells p) (leaves h′ n′ d′ o′ (rw i at q)));
             }
 
   -- At a cell.
   module _ {k : ℕ} (e : place ≡ further k) where
-    cell-now : (last : List ℕ) → Passes cs s [] a 0 0 [] last → Passes cs s (stack top frames) (further k) len least (S .seen) last
-    cell-now last p = subst (λ (y : Side). Passes cs s (stack top frames) y len least (S .seen) last) e (S .onward last p)
+    cell-now : (last : List ℕ) → Passes cs s [] a 0 [] last → Passes cs s (stack top cells) (further k) least (S .seen) last
+    cell-now last p = subst (λ (y : Side). Passes cs s (stack top cells) y least (S .seen) last) e (S .onward last p)
 
     pub no-room : s .count ≤ entered → Never cs s a
-    no-room h last p = omega (arith, room-left (cell-now last p), length-stack top frames, S .done-is, S .entered-is)
+    no-room h last p = omega (arith, room-left (cell-now last p), length-stack top cells, S .done-is, S .entered-is)
 
     pub not-below : s .count ≤ k → Never cs s a
     not-below h last p = omega (arith, at-further (cell-now last p) .0)
 
     module _ {j : ℕ} (i : j ≡ k) where
-      pub not-number : len < at-cell cs j .number → Never cs s a
-      not-number h last p = let l : len < at-cell cs k .number = rw i at h in omega (arith, at-further (cell-now last p) .1)
-
       pub not-least : at-cell cs j .number < least → Never cs s a
-      not-least h last p = let l : at-cell cs k .number < least = rw i at h in omega (arith, at-further (cell-now last p) .2)
+      not-least h last p = let l : at-cell cs k .number < least = rw i at h in omega (arith, at-further (cell-now last p) .1)
 
       -- Its left part is next.
-      pub entered-at : entered < s .count → j < s .count → at-cell cs j .number ≤ len → least ≤ at-cell cs j .number → at-cell cs j .number < 256
-          → State cs s a places (set frames top (record { cell = j; len = len })) (top + 1) (entered + 1) done (at-cell cs j .number + 1) least (at-cell cs j .left)
-      entered-at r h n l b =
-          let inside : top < length frames = omega (arith, S .entered-is, S .room, S .rooms) in
+      pub entered-at : entered < s .count → j < s .count → least ≤ at-cell cs j .number
+          → State cs s a places (set cells top j) (top + 1) (entered + 1) done least (at-cell cs j .left)
+      entered-at r h l =
+          let inside : top < length cells = omega (arith, S .entered-is, S .room, S .rooms) in
           let h′ : k < s .count = rw i at h in
-          let n′ : at-cell cs k .number ≤ len = rw i at n in
           let l′ : least ≤ at-cell cs k .number = rw i at l in
           record {
             seen = S .seen;
@@ -170,9 +161,8 @@ module _ {cs : List Cell} {s : Strings} {a : Side} {places : List ℕ} {frames :
             entered-is = omega (arith, S .entered-is);
             few = omega arith;
             room = S .room;
-            short = omega arith;
-            rooms = length-set frames top (record { cell = j; len = len }) ∙ S .rooms;
+            rooms = length-set cells top j ∙ S .rooms;
             marks = S .marks;
-            onward = λ last q. rw (stack-push top frames (record { cell = j; len = len }) inside, add-one, i) (at-further (cell-now last q) .3);
-            back = λ last q. S .back last (rw e (enters h′ n′ l′ (rw (stack-push top frames (record { cell = j; len = len }) inside, add-one, i) at q)));
+            onward = λ last q. rw (stack-push top cells j inside, i) (at-further (cell-now last q) .2);
+            back = λ last q. S .back last (rw e (enters h′ l′ (rw (stack-push top cells j inside, i) at q)));
           }

@@ -2,7 +2,8 @@
 //
 // In order a cell must have its string's length less one as number and its string's last digit as digit, and each leaf the
 // slot that stands there. The digits before the last are then the string's own, because in the right part of a cell no
-// number is smaller than the cell's.
+// number is smaller than the cell's. Nor does a number exceed the length of its path, because from one string to the next
+// at most one digit falls away.
 ghost use mathlib.Core.Path.{_≡_};
 ghost use mathlib.Core.Bool.{false};
 ghost use Prim.Native.Nat.{_≤_, _<_};
@@ -19,12 +20,6 @@ use model::Cell;
 use model::Side;
 use model::Trie;
 use trie::Strings;
-
-// A cell whose left part is under way, and the length of the path to it.
-pub struct Frame {
-    pub cell: u8,
-    pub len: u16,
-}
 
 // Whether the trie agrees; then the place of each cell's string among the strings.
 pub struct Agreement {
@@ -93,11 +88,10 @@ fn pass(trie: Trie, strings: Strings) -> Agreement
 {
     let count = strings.count;
     let mut places = [256u16; 256];
-    let mut frames = [Frame { cell: 0, len: 0 }; 256];
+    let mut stack = [0u8; 256];
     let mut top = 0usize;
     let mut entered = 0usize;
     let mut done = 0usize;
-    let mut len = 0usize;
     let mut least = 0usize;
     let mut place = Side::Cell(0);
     loop {
@@ -113,8 +107,7 @@ fn pass(trie: Trie, strings: Strings) -> Agreement
                     };
                 }
                 top -= 1;
-                let frame = frames[top];
-                let k = usize_of_u8(frame.cell);
+                let k = usize_of_u8(stack[top]);
                 let cell = trie.cells[k];
                 let n = usize_of_u8(cell.number);
                 if n + 1 != usize_of_u8(strings.lens[done]) {
@@ -128,7 +121,6 @@ fn pass(trie: Trie, strings: Strings) -> Agreement
                 }
                 places[k] = u16_of_usize(done);
                 done += 1;
-                len = usize_of_u16(frame.len);
                 least = n;
                 place = cell.right;
             }
@@ -142,20 +134,12 @@ fn pass(trie: Trie, strings: Strings) -> Agreement
                 }
                 let cell = trie.cells[k];
                 let n = usize_of_u8(cell.number);
-                if len < n {
-                    return disagreement();
-                }
                 if n < least {
                     return disagreement();
                 }
-                let frame = Frame {
-                    cell: u8_of_usize(k),
-                    len: u16_of_usize(len),
-                };
-                frames[top] = frame;
+                stack[top] = u8_of_usize(k);
                 top += 1;
                 entered += 1;
-                len = n + 1;
                 place = cell.left;
             }
         }

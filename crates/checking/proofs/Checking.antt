@@ -17,7 +17,7 @@ use Rattle.file.specs.Surveys.{Surveyed}
 use Rattle.agreement.proofs.Laws.{agreed-count}
 use Rattle.file.proofs.Surveying.{Read, sound-read}
 use Rattle.strings.proofs.Surveyed.{counted}
-use Rattle.agreeing.specs.Told.{AgreeingTold}
+use Rattle.agreeing.specs.Agreeing.{AgreeingTold}
 use Rattle.checking.specs.declared.Checked.{Checked}
 use Rattle.checking.specs.Ready.{Agreed}
 
@@ -42,7 +42,7 @@ module _ (xs : List ℕ) (t : Trie) (s : Size) (v : Survey) (a : Bool)
   R = sound-read xs s h e
 
   decided : a ≡ is-agreeing (R .slots) t
-  decided = d (R .slots) (R .listed) (R .sound) (counted R z .0) (counted R z .1)
+  decided = d (R .slots) (R .is) (R .sound) (counted R z .0) (counted R z .1)
 
   pub agreed-not : a ≡ false → looked-of xs t ≡ refusing stale-trie
   agreed-not f = looked-by xs t e (R .is) ∙ ap (λ (x : Bool). cond x (fine (s .layout) (R .slots)) (refusing stale-trie)) (sym decided ∙ f)

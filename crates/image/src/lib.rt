@@ -4,19 +4,22 @@
 // side. Numbers are little-endian. A side is signed: from 0 on it is that slot, below 0 the cell with that number's
 // negative.
 ghost use mathlib.Core.Path.{_≡_};
-ghost use Prim.Native.Nat.{_<_, _+_, _*_, _%_, _/_};
-ghost use lib.ListN.{length};
+ghost use mathlib.Core.Bool.{true};
+ghost use Prim.Native.Nat.{_≤_, _<_, _+_, _*_, _%_, _/_};
+ghost use lib.ListN.{drop, length};
 ghost use lib.Seq.{sets};
+ghost use Rattle.model.specs.Agreeing.{are-zero-cells};
+ghost use Rattle.model.specs.Tries.{at-cell, walk-of};
 ghost use Rattle.trie.specs.Walks.{Walks};
 ghost use Rattle.image.specs.Images.{cell-bytes, cell-from, image-length, image-of, number-of-side, pair-of, side-from, trie-from};
 use digits::u16_of_u8;
+use digits::usize_of_u8;
 use digits::usize_of_u16;
 use model::Cell;
 use model::Side;
 use model::Trie;
 use trie::Place;
 use trie::Walk;
-ghost use Rattle.model.specs.Tries.{walk-of};
 
 pub const BYTES: usize = 1540;
 
@@ -63,6 +66,61 @@ pub fn decoded(image: &[u8]) -> Trie
         i += 1;
     }
     trie
+}
+
+// The parts of an image, each read by itself.
+pub fn count_of(image: &[u8]) -> usize
+    requires { ⌜ length (now image) ≡ image-length ⌝ }
+    ensures { λ r. ⌜ r ≡ trie-from (now (image .entry)) .count ⌝ }
+{
+    usize_of_u16(pair(image[0], image[1]))
+}
+
+pub fn first_of(image: &[u8]) -> usize
+    requires { ⌜ length (now image) ≡ image-length ⌝ }
+    ensures { λ r. ⌜ (r ≡ trie-from (now (image .entry)) .first) × (r < 65536) ⌝ }
+{
+    usize_of_u16(pair(image[2], image[3]))
+}
+
+pub fn digit_at(image: &[u8], i: usize) -> u8
+    requires { ⌜ (i < 256) × (length (now image) ≡ image-length) ⌝ }
+    ensures { λ r. ⌜ r ≡ at-cell (trie-from (now (image .entry)) .cells) i .digit ⌝ }
+{
+    image[4 + 6 * i]
+}
+
+pub fn number_at(image: &[u8], i: usize) -> usize
+    requires { ⌜ (i < 256) × (length (now image) ≡ image-length) ⌝ }
+    ensures { λ r. ⌜ (r ≡ at-cell (trie-from (now (image .entry)) .cells) i .number) × (r < 256) ⌝ }
+{
+    usize_of_u8(image[4 + 6 * i + 1])
+}
+
+// A side as the number that it is written as.
+pub fn left_at(image: &[u8], i: usize) -> usize
+    requires { ⌜ (i < 256) × (length (now image) ≡ image-length) ⌝ }
+    ensures { λ r. ⌜ (side-from r ≡ at-cell (trie-from (now (image .entry)) .cells) i .left) × (r < 65536) ⌝ }
+{
+    let at = 4 + 6 * i;
+    usize_of_u16(pair(image[at + 2], image[at + 3]))
+}
+
+pub fn right_at(image: &[u8], i: usize) -> usize
+    requires { ⌜ (i < 256) × (length (now image) ≡ image-length) ⌝ }
+    ensures { λ r. ⌜ (side-from r ≡ at-cell (trie-from (now (image .entry)) .cells) i .right) × (r < 65536) ⌝ }
+{
+    let at = 4 + 6 * i;
+    usize_of_u16(pair(image[at + 4], image[at + 5]))
+}
+
+// R5.3, by words: whether all cells from one on are zero.
+pub fn is_clear_past(image: &[u8], count: usize) -> bool
+    requires { ⌜ (count ≤ 256) × (length (now image) ≡ image-length) ⌝ }
+    ensures { λ r. ⌜ (r ≡ true → are-zero-cells (drop count (trie-from (now (image .entry)) .cells)) ≡ true) ⌝ }
+{
+    let from = 4 + 6 * count;
+    digits::is_zero(&image[from..])
 }
 
 // The walk of a filled name over the trie of an image. It reads the cells that it meets, and no others.

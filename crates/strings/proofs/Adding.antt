@@ -5,7 +5,7 @@ use Rattle.model.specs.Searches.{longer}
 use Rattle.trie.specs.Strung.{last-digits, lengths}
 use Rattle.strings.specs.Arrays.{Added, Whole, beyond, lefts}
 
-length-longer : (ds p : Str) → length (longer p ds) ≡ length ds
+pub length-longer : (ds p : Str) → length (longer p ds) ≡ length ds
 length-longer [] p = refl
 length-longer (d ∷ ds) p =
     let q : Str = p ++ (d ∷ []) in
@@ -50,7 +50,7 @@ module _ (x : Str) where
   beyond-all : beyond (length x) x ≡ []
   beyond-all = rw (drop-length x)
 
-  last-taken : (len : ℕ) → 0 < len → len ≤ length x → last-digit (take len x) ≡ getD x (len - 1) 0
+  pub last-taken : (len : ℕ) → 0 < len → len ≤ length x → last-digit (take len x) ≡ getD x (len - 1) 0
   last-taken len h k = rw (length-take-le len x k) (getD-take len x (len - 1) 0 (omega arith))
 
   -- One list, one string longer.

@@ -195,7 +195,7 @@ module _ (fs : List Slot) where
 
 -- The same of any file that the bytes may be, in the order that is given.
 module _ (file order : List ℕ) (size : Size) (count : ℕ) where
-  abbrev Given : List Slot → Type 0
+  abbrev pub Given : List Slot → Type 0
   Given fs =
       (read-slots (size .layout) (size .slots) 0 file ≡ some fs) × Sound (size .layout .b) fs × (count ≡ length (order-of fs)) × (take count order ≡ order-of fs)
 
@@ -206,10 +206,10 @@ module _ (file order : List ℕ) (size : Size) (count : ℕ) where
   abbrev pub upper-in : ℕ → Str
   upper-in B = upper-bytes (bytes-at-slot (size .layout) B file)
 
-  order-at : (fs : List Slot) → Given fs → (i : ℕ) → i < count → getD order i 0 ≡ getD (order-of fs) i 0
+  pub order-at : (fs : List Slot) → Given fs → (i : ℕ) → i < count → getD order i 0 ≡ getD (order-of fs) i 0
   order-at fs g i h = at-taken count order i (g .3) h
 
-  upper-is : (fs : List Slot) → Given fs → (i B : ℕ) (x : Str) → i < count → B ≡ getD order i 0 → B < size .slots → x ≡ upper-in B
+  pub upper-is : (fs : List Slot) → Given fs → (i B : ℕ) (x : Str) → i < count → B ≡ getD order i 0 → B < size .slots → x ≡ upper-in B
       → x ≡ ranges fs .upper (getD (order-of fs) i 0)
   upper-is fs g i B x h e k q =
       let f : B ≡ getD (order-of fs) i 0 = e ∙ order-at fs g i h in

@@ -1,14 +1,13 @@
--- `is_agreeing` meets its contract.
+-- `is_agreeing` meets its contract: by the pass, or by the strings written down.
 use Rattle.model.proofs.Prelude.{needs}
-use Rattle.image.specs.Images.{trie-from}
-use Rattle.agreement.specs.Decides.{Decides}
+use Rattle.agreeing.proofs.Agreeing.{listed-told}
 use Rattle.agreeing.proofs.is_agreeing.Tie as tie
 
-returns : tie.Need-returns
-returns c fs e S f g =
-    let a = c .before .before .before .before .before .args in let t = c .before .decoded in
-    let d : Decides (trie-from (a .image .now)) (c .before .before .strings-of .result) (c .agreement-of .result) = rw (t .ensures) at (c .agreement-of .ensures) in
-    d (a .size .layout .b) fs S (c .before .before .strings-of .ensures .strung fs e S f g) .agrees-is
+returns-2 : tie.Need-returns-2
+returns-2 c =
+    let s = c .before .before .before .before .before .before .before in let a = s .args in
+    listed-told (a .file .now) (a .size) (a .order .now) (a .count) (s .pre .0) (c .before .before .strings-of .result) (c .agreement-of .result) (c .before .decoded .ensures) (c .before .before .strings-of .ensures) (c .agreement-of .ensures)
 
 pub is-agreeing-spec : {M : Type 1} → Rattle.agreeing.proofs.is_agreeing.Statement.statement M
-is-agreeing-spec = tie.close (tie.spec (λ c κs. search needs) (λ c κs. search needs) (λ c κs. search needs) returns)
+is-agreeing-spec =
+    tie.close (tie.spec (λ c κs. search needs) (λ c. c .before .matches .ensures (c .if1 .taken)) (λ c κs. search needs) (λ c κs. search needs) (λ c κs. search needs) returns-2)

@@ -1,15 +1,15 @@
 -- `pass` meets its contract: at each turn the pass from there on ends as the whole does (proofs/States.antt).
 use Rattle.model.proofs.Prelude.{_*_, _+_, _-_, _∙_, arith, needs, sym}
 use Rattle.model.specs.declared.Side.the-variants.{Cell as further}
-use Rattle.agreement.proofs.States.{State, ended, entered-at, left, no-room, not-below, not-digit, not-leaf, not-least, not-length, not-new, not-number, refused, started}
+use Rattle.agreement.proofs.States.{State, ended, entered-at, left, no-room, not-below, not-digit, not-leaf, not-least, not-length, not-new, refused, started}
 use Rattle.agreement.proofs.pass.Tie as tie
 
 abbrev Inv-loop : tie.InvT-loop
-Inv-loop trie strings count places₀ frames₀ top₀ entered₀ done₀ len₀ least₀ place₀ places frames top entered done len least place =
-    State (trie .cells) strings (further 0) places frames top entered done len least place
+Inv-loop trie strings count places₀ stack₀ top₀ entered₀ done₀ least₀ place₀ places stack top entered done least place =
+    State (trie .cells) strings (further 0) places stack top entered done least place
 
 abbrev μ-loop : tie.MeasureT-loop
-μ-loop trie strings count places₀ frames₀ top₀ entered₀ done₀ len₀ least₀ place₀ places frames top entered done len least place =
+μ-loop trie strings count places₀ stack₀ top₀ entered₀ done₀ least₀ place₀ places stack top entered done least place =
     2 * (strings .count - entered) + top
 
 returns : tie.Need-returns Inv-loop μ-loop
@@ -27,7 +27,7 @@ returns-2 c =
 
 returns-3 : tie.Need-returns-3 Inv-loop μ-loop
 returns-3 c =
-    let f = c .before in let m = f .before in let n = m .before .before in let k = n .before .before in let t = k .before .before in
+    let f = c .before in let m = f .before in let n = m .before .before in let k = n .before .before in let t = k .before in
     let p = t .before .before .before .before .before .before in let l = p .before .before in let S = l .loop .inv in
     refused (l .before .args .t1 .cells) (l .before .args .t2) (further 0) (c .disagreement2 .ensures)
     (not-length S (p .place .given .1) (t .if2 .left) (k .usize-of-u82 .ensures .0)
@@ -35,28 +35,28 @@ returns-3 c =
 
 returns-4 : tie.Need-returns-4 Inv-loop μ-loop
 returns-4 c =
-    let f = c .before in let k = f .before .before .before .before .before .before .before .before in let t = k .before .before in
+    let f = c .before in let k = f .before .before .before .before .before .before .before .before in let t = k .before in
     let p = t .before .before .before .before .before .before in let l = p .before .before in let S = l .loop .inv in
     refused (l .before .args .t1 .cells) (l .before .args .t2) (further 0) (c .disagreement3 .ensures)
     (not-digit S (p .place .given .1) (t .if2 .left) (k .usize-of-u82 .ensures .0) (f .if4 .taken))
 
 returns-5 : tie.Need-returns-5 Inv-loop μ-loop
 returns-5 c =
-    let f = c .before in let k = f .before .before .before .before .before .before .before .before .before in let t = k .before .before in
+    let f = c .before in let k = f .before .before .before .before .before .before .before .before .before in let t = k .before in
     let p = t .before .before .before .before .before .before in let l = p .before .before in let S = l .loop .inv in
     refused (l .before .args .t1 .cells) (l .before .args .t2) (further 0) (c .disagreement4 .ensures)
     (not-new S (p .place .given .1) (t .if2 .left) (k .usize-of-u82 .ensures .0) (k .usize-of-u82 .ensures .1) (f .if5 .taken))
 
 loop-again : tie.Need-loop-again Inv-loop μ-loop
 loop-again c =
-    let sh = c .before in let f5 = sh .before in let f4 = f5 .before in let f3 = f4 .before .before .before in let m = f3 .before in
-    let n = m .before .before in let k = n .before .before in let t = k .before .before in let f1 = t .before in let i = f1 .before in
+    let f5 = c .before in let f4 = f5 .before in let f3 = f4 .before .before .before in let m = f3 .before in
+    let n = m .before .before in let k = n .before .before in let t = k .before in let f1 = t .before in let i = f1 .before in
     let u = i .before .before in let p = u .before .before in let l = p .before .before in
-    rw (sh .u16-of-usize .ensures, c .usize-of-u162 .ensures .0, n .usize-of-u83 .ensures .0)
+    rw (c .u16-of-usize .ensures, n .usize-of-u83 .ensures .0)
     (left (l .loop .inv) (p .place .given .1) (t .if2 .left) (k .usize-of-u82 .ensures .0) (k .usize-of-u82 .ensures .1)
     (sym (u .usize-of-u16 .ensures .0) ∙ f1 .if1 .left ∙ i .usize-of-u8 .ensures .0)
     (omega (arith, f3 .if3 .left, n .usize-of-u83 .ensures .0, m .usize-of-u84 .ensures .0))
-    (f4 .if4 .left) (f5 .if5 .left) (omega (arith, c .usize-of-u162 .ensures .0, c .usize-of-u162 .ensures .1)))
+    (f4 .if4 .left) (f5 .if5 .left))
 
 returns-6 : tie.Need-returns-6 Inv-loop μ-loop
 returns-6 c =
@@ -68,39 +68,23 @@ returns-7 : tie.Need-returns-7 Inv-loop μ-loop
 returns-7 c =
     let f = c .before in let n = f .before in let p = n .before .before .before in let l = p .before .before in let S = l .loop .inv in
     refused (l .before .args .t1 .cells) (l .before .args .t2) (further 0) (c .disagreement6 .ensures)
-    (not-below S (p .place2 .given .1) (omega (arith, f .if7 .taken, n .usize-of-u163 .ensures .0)))
+    (not-below S (p .place2 .given .1) (omega (arith, f .if7 .taken, n .usize-of-u162 .ensures .0)))
 
 returns-8 : tie.Need-returns-8 Inv-loop μ-loop
 returns-8 c =
-    let f = c .before in let m = f .before in let n = m .before .before .before in let p = n .before .before .before in let l = p .before .before in
-    let S = l .loop .inv in
-    refused (l .before .args .t1 .cells) (l .before .args .t2) (further 0) (c .disagreement7 .ensures)
-    (not-number S (p .place2 .given .1) (n .usize-of-u163 .ensures .0) (omega (arith, f .if8 .taken, m .usize-of-u85 .ensures .0)))
-
-returns-9 : tie.Need-returns-9 Inv-loop μ-loop
-returns-9 c =
-    let f = c .before in let m = f .before .before in let n = m .before .before .before in let p = n .before .before .before in
+    let f = c .before in let m = f .before in let n = m .before .before .before in let p = n .before .before .before in
     let l = p .before .before in let S = l .loop .inv in
-    refused (l .before .args .t1 .cells) (l .before .args .t2) (further 0) (c .disagreement8 .ensures)
-    (not-least S (p .place2 .given .1) (n .usize-of-u163 .ensures .0) (omega (arith, f .if9 .taken, m .usize-of-u85 .ensures .0)))
+    refused (l .before .args .t1 .cells) (l .before .args .t2) (further 0) (c .disagreement7 .ensures)
+    (not-least S (p .place2 .given .1) (n .usize-of-u162 .ensures .0) (omega (arith, f .if8 .taken, m .usize-of-u85 .ensures .0)))
 
 loop-again-2 : tie.Need-loop-again-2 Inv-loop μ-loop
 loop-again-2 c =
-    let by = c .before in let f9 = by .before in let f8 = f9 .before in let m = f8 .before in let f7 = m .before .before in let n = f7 .before in
+    let f8 = c .before in let m = f8 .before in let f7 = m .before .before in let n = f7 .before in
     let f6 = n .before in let p = f6 .before .before in let l = p .before .before in
-    rw (by .u8-of-usize .ensures, c .u16-of-usize2 .ensures, m .usize-of-u85 .ensures .0)
-    (entered-at (l .loop .inv) (p .place2 .given .1) (n .usize-of-u163 .ensures .0) (f6 .if6 .left) (f7 .if7 .left)
-    (omega (arith, f8 .if8 .left, m .usize-of-u85 .ensures .0)) (omega (arith, f9 .if9 .left, m .usize-of-u85 .ensures .0))
-    (omega (arith, m .usize-of-u85 .ensures .0, m .usize-of-u85 .ensures .1)))
+    rw (c .u8-of-usize .ensures)
+    (entered-at (l .loop .inv) (p .place2 .given .1) (n .usize-of-u162 .ensures .0) (f6 .if6 .left) (f7 .if7 .left)
+    (omega (arith, f8 .if8 .left, m .usize-of-u85 .ensures .0)))
 
 pub pass-spec : {M : Type 1} → Rattle.agreement.proofs.pass.Statement.statement M
 pass-spec =
-    tie.close (tie.spec Inv-loop μ-loop (λ c. started (c .args .t1 .cells) (c .args .t2) (further 0) (search needs)) (λ c. search needs)
-    (λ c κs. search needs) (λ c. search needs) (λ c κs. search needs) (λ c κs. search needs) returns returns-2 (λ c. search needs) (λ c. search needs)
-    (λ c. search needs) (λ c κs. search needs) (λ c. search needs) (λ c. search needs) (λ c κs. search needs) (λ c. search needs) (λ c. search needs)
-    (λ c κs. search needs) (λ c κs. search needs) returns-3 (λ c. search needs) (λ c κs. search needs) returns-4 (λ c. search needs)
-    (λ c. search needs) (λ c κs. search needs) returns-5 (λ c κs. search needs) (λ c. search needs) (λ c. search needs) (λ c. search needs)
-    (λ c κs. search needs) (λ c. search needs) loop-again (λ c. search needs) (λ c κs. search needs) returns-6 (λ c κs. search needs)
-    (λ c κs. search needs) returns-7 (λ c. search needs) (λ c. search needs) (λ c κs. search needs) (λ c κs. search needs) returns-8
-    (λ c κs. search needs) returns-9 (λ c κs. search needs) (λ c κs. search needs) (λ c. search needs) (λ c. search needs) (λ c. search needs)
-    (λ c. search needs) (λ c. search needs) (λ c. search needs) loop-again-2)
+    tie.close (tie.spec Inv-loop μ-loop (λ c. started (c .args .t1 .cells) (c .args .t2) (further 0) (search needs)) (λ c. search needs) (λ c κs. search needs) (λ c. search needs) (λ c κs. search needs) (λ c κs. search needs) returns returns-2 (λ c. search needs) (λ c. search needs) (λ c κs. search needs) (λ c. search needs) (λ c. search needs) (λ c κs. search needs) (λ c. search needs) (λ c. search needs) (λ c κs. search needs) (λ c κs. search needs) returns-3 (λ c. search needs) (λ c κs. search needs) returns-4 (λ c. search needs) (λ c. search needs) (λ c κs. search needs) returns-5 (λ c κs. search needs) (λ c. search needs) (λ c. search needs) (λ c. search needs) (λ c. search needs) loop-again (λ c. search needs) (λ c κs. search needs) returns-6 (λ c κs. search needs) (λ c κs. search needs) returns-7 (λ c. search needs) (λ c. search needs) (λ c κs. search needs) (λ c κs. search needs) returns-8 (λ c κs. search needs) (λ c. search needs) (λ c. search needs) (λ c. search needs) (λ c. search needs) loop-again-2)
