@@ -5,6 +5,7 @@ use mathlib.Core.Option.{some}
 use Prim.Native.Nat.{_<_, _≤_, ℕ}
 use lib.ListN.{length, take}
 use Rattle.model.specs.Files as files
+use Rattle.model.specs.Searches.{order-of}
 use Rattle.model.specs.Checks.{Kind, is-bad, is-cut, is-sound}
 use Rattle.model.specs.Format.{check-read, laid-out, read-slots}
 use Rattle.model.specs.declared.Layout.{Layout}
@@ -31,5 +32,5 @@ pub record Surveyed (s : Survey) (xs : List ℕ) (size : Size) : Type 0 where
   pub inner-inside : s .inner < size .slots
   pub kind-is : verdict (s .kind) (s .inner) ≡ check-of-slots (size .layout) (size .slots) xs
   pub order-is : {fs : List files.Slot} → read-slots (size .layout) (size .slots) 0 xs ≡ some fs → files.Sound (size .layout .b) fs
-      → (s .count ≡ length (files.order-of fs)) × (take (s .count) (s .order) ≡ files.order-of fs)
+      → (s .count ≡ length (order-of fs)) × (take (s .count) (s .order) ≡ order-of fs)
   pub used-is : {fs : List files.Slot} → read-slots (size .layout) (size .slots) 0 xs ≡ some fs → files.Sound (size .layout .b) fs → s .used ≡ map-of fs

@@ -22,7 +22,7 @@ use Rattle.model.specs.declared.RecoverAnswer.the-variants.{Freed, Nothing, Ref
 use Rattle.model.specs.declared.RemoveAnswer.the-variants.{Absent as NotHeld, Refused as RemoveRefused, Removed}
 use Rattle.model.specs.Order.{Str, at}
 use Rattle.model.specs.Tests.{are-digits, is-above, is-at-most, is-legal-bound, is-legal-filled, is-legal-low, is-legal-name, same-low, same-str}
-use Rattle.model.specs.Names.{filled, first, not-greater, smaller, split-beginning, split-tried, within}
+use Rattle.model.specs.Names.{filled, not-greater, split-beginning, split-tried, within}
 use Rattle.model.specs.Entries.{content-from, find, insert, is-older, keep, run-of-content, value-of-content, without}
 use Rattle.model.specs.Files.{Slot, created, entries-of, free, slot-at, used}
 use Rattle.model.specs.Changes.{Map, Result, Store, call, left-of, merged-or, put, put-in, refuse, removal, remove, remove-in, right-of, split-of, split-string, stores, stores-if, trie-removed}
@@ -34,11 +34,11 @@ use Rattle.model.specs.Answers.{stale-trie}
 use Rattle.model.specs.Calls.{Looked, PutDone, arrived-answer, between, create-of, entries-in, fine, headed-answer, held, held-answer, list-entries, list-of, list-on-looked, look-up-of, looked-at-by, looked-of, new-trie, put-answer, put-by-stores, put-of, put-on-looked, put-takes, rebuild-by, rebuild-of, recover-by, recover-of, refusal-of, refusing, remove-by-stores, remove-of, remove-on-looked, slot-answer, stores-bytes, trie-after-put}
 use Rattle.model.proofs.Tests.{never-both}
 use Rattle.model.proofs.Calls.{Answered, is-denied, is-made, put-right, put-taken}
-use Rattle.model.specs.Searches.{has-lower, has-upper, is-free, is-in-range, order-from, order-of, string-count}
+use Rattle.model.specs.Searches.{first, has-lower, has-upper, is-free, is-in-range, order-from, order-of, string-count}
 use Rattle.promises.specs.Texts.{bytes, name}
 use Rattle.promises.specs.Growing.{of-cells}
 use Rattle.promises.specs.Situations.{a-cell, entries, i-file, names, rates-slots, rz-slots}
-use Rattle.promises.specs.Calls.{Calls, our-calls}
+use Rattle.promises.specs.Calls.{Calls, our-calls, version-1}
 use Rattle.promises.specs.Demand1.{Demand1, LegalName}
 use Rattle.promises.specs.Demand2.{Demand2, LeadsRight, Made, Truthful, true-entry, truly-absent}
 use Rattle.promises.specs.Demand3.{Demand3, Event, Kept, Recovers, State, after, after-freeing, after-put, after-rebuild, after-recover, after-remove, differing, file-of, nothing-to-do, now, put as put-event, put-by, remove as remove-event, remove-by, replaced, said, start, step, stopped-at-0}

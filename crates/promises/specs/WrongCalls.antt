@@ -20,14 +20,14 @@ use Rattle.model.specs.declared.Trie.{Trie}
 use Rattle.model.specs.declared.TrieAnswer.the-variants.{Refused as TrieRefused}
 use Rattle.model.specs.Order.{Low, Str}
 use Rattle.model.specs.Tests.{is-legal-name}
-use Rattle.model.specs.Names.{filled, first}
+use Rattle.model.specs.Names.{filled}
 use Rattle.model.specs.Entries.{Entry, content-from, find, without}
 use Rattle.model.specs.Files.{IsUsed, Slot, free, head, slot-at, upper-of, used}
 use Rattle.model.specs.Changes.{Result, Store, left-of, merged-or, refuse, right-of, stores, stores-if}
 use Rattle.model.specs.Places.{place-of}
 use Rattle.model.specs.Format.{check-file, kept-run, layout-of, read-file, store-bytes}
 use Rattle.model.specs.Calls.{Looked, PutDone, RecoverDone, RemoveDone, create-of, fine, held, list-of, look-up-of, looked-of, put-answer, put-of, put-takes, rebuild-of, recover-of, refusal-of, refusing, remove-by-stores, remove-of, stores-bytes, trie-after-put}
-use Rattle.model.specs.Searches.{has-upper, is-in-range}
+use Rattle.model.specs.Searches.{first, has-upper, is-in-range}
 use Rattle.promises.specs.Calls.{Calls}
 use Rattle.promises.specs.Demand3.{put, remove}
 
