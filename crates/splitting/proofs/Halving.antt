@@ -203,8 +203,8 @@ module _ {l : Low} {u : Str} {ws : List Entry} (R : Row l ws u) (y : Layout) (tw
 
     -- The two slots, of which A is read from the bytes xs.
     module _ (xs row : List ℕ) {m : Low} {v : Str} {es : List Entry} (A : ReadAs y xs m v es) (W : RowOf y row ws) (r : List ℕ) where
-      pub new-slot-is : UpperTold r y xs row (take (s .len) (s .string)) (s .stay) → Begins r y (new-half b (place-of y) ws v)
+      pub new-slot-is : UpperTold r y xs row (take (s .len) (s .string)) (s .stay) → Begins r y (used (at string-of-split) v (move string-of-split ws))
       new-slot-is f = f m v es ws A W size ∙ ap₂ (λ (x : Str) (es : List Entry). bytes-of-slot y (used (at x) v es)) split-is split-moves
 
-      pub old-slot-is : LowerTold r y xs row (take (s .len) (s .string)) (s .stay) → Begins r y (old-half b (place-of y) ws m)
+      pub old-slot-is : LowerTold r y xs row (take (s .len) (s .string)) (s .stay) → Begins r y (used m string-of-split (stay string-of-split ws))
       old-slot-is f = f m v es ws A W size ∙ ap₂ (λ (x : Str) (es : List Entry). bytes-of-slot y (used m x es)) split-is split-stays
