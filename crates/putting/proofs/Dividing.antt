@@ -5,7 +5,7 @@ use Rattle.model.specs.declared.Layout.{Layout}
 use Rattle.model.specs.declared.PutAnswer.the-variants.{Added, Refused, Stopped}
 use Rattle.model.specs.declared.Trie.{Trie}
 use Rattle.model.specs.Order.{Low, Str, _⊑_, _◁_, diff, none}
-use Rattle.model.specs.Names.{Legal, first}
+use Rattle.model.specs.Names.{Legal}
 use Rattle.model.specs.Entries.{Entry, Row, insert, name-at}
 use Rattle.model.specs.Files.{In, Slot, Sound, head, slot-at, used}
 use Rattle.model.specs.Tries.{Agrees, root, walk-trie}
@@ -23,7 +23,7 @@ use Rattle.model.proofs.Calls.{free-lowest}
 use Rattle.model.proofs.Places.{place-lt}
 use Rattle.model.proofs.Walks.{live-cells, path-cells, spot-cells, top-side}
 use Rattle.model.proofs.GrownTries.{agreed-walk}
-use Rattle.model.specs.Searches.{is-free, string-count, strings-of}
+use Rattle.model.specs.Searches.{first, is-free, string-count, strings-of}
 use Rattle.entries.proofs.Parts.{length-new}
 use Rattle.bucket.specs.Forms.{ReadAs}
 use Rattle.slots.specs.Halves.{LowerTold, UpperTold}
