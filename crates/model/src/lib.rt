@@ -77,24 +77,12 @@ pub enum PutAnswer {
     Refused(Cause),
 }
 
-// Put's answer and the trie after it.
-pub struct PutGiven {
-    pub answer: PutAnswer,
-    pub trie: Trie,
-}
-
 // Removed carries the number of stores: two where buckets were merged.
 pub enum RemoveAnswer {
     Removed(u64),
     Absent,
     Stopped(u64),
     Refused(Cause),
-}
-
-// Remove's answer and the trie after it.
-pub struct RemoveGiven {
-    pub answer: RemoveAnswer,
-    pub trie: Trie,
 }
 
 pub enum RecoverAnswer {

@@ -1,6 +1,8 @@
 -- The stores of a call do not depend on its limit.
-use Rattle.model.proofs.Prelude.{Bool, List, [], _∙_, _∷_, _≡_, _≤_, ap, arith, cond, false, le-ltb, length, ltb, ltb-false, refl, suc, sym, take, take-all, take-nil, true, zero, ℕ}
+use Rattle.model.proofs.Prelude.{Bool, List, Option, [], _∙_, _∷_, _≡_, _≤_, ap, arith, clash, cond, false, le-ltb, length, ltb, ltb-false, nothing, refl, some, suc, sym, take, take-all, take-nil, true, zero, ℕ}
 use Rattle.model.specs.declared.Layout.{Layout}
+use Rattle.model.specs.declared.PutAnswer.the-variants.{Added, Stopped as PutStopped}
+use Rattle.model.specs.declared.RemoveAnswer.the-variants.{Absent as NotHeld, Stopped as RemoveStopped}
 use Rattle.model.specs.declared.Trie.{Trie}
 use Rattle.model.specs.Entries.{content-from}
 use Rattle.model.specs.Order.{Str}
@@ -11,7 +13,7 @@ use Rattle.model.specs.Changes.{Result, Store, call, put, refuse, remove, store
 use Rattle.model.specs.Places.{place-of}
 use Rattle.model.specs.Checks.{Kind, is-bad, is-cut, is-sound}
 use Rattle.model.specs.Format.{check-file, kept-run, layout-of, store-bytes}
-use Rattle.model.specs.Calls.{Looked, PutDone, RemoveDone, fine, looked-of, put-by-stores, put-of, put-on-looked, put-takes, recover-by, recover-of, refusing, remove-by-stores, remove-of, remove-on-looked, stores-bytes}
+use Rattle.model.specs.Calls.{Looked, PutDone, RemoveDone, fine, held, looked-of, put-answer, put-by-stores, put-of, put-on-looked, put-takes, recover-by, recover-of, refusing, remove-answer, remove-by-stores, remove-of, remove-on-looked, stores-bytes}
 use Rattle.model.proofs.Format.{headed-layout, read-file-read}
 use Rattle.promises.specs.Calls.{our-calls}
 use Rattle.promises.specs.Limits.{Further, InOrder, Limits, no-store, one-store}
@@ -91,9 +93,70 @@ recover-in-order xs is-sound e = in-order xs (λ (limit : ℕ). recover-of xs li
 recover-in-order xs (is-cut N) e =
     in-order xs (λ (limit : ℕ). recover-of xs limit .file) ((N, free) ∷ []) (λ limit h. rw (le-ltb 2 limit h, e) (freed-left xs N limit))
 
+-- A put that is stopped leaves the trie that was given, since what is not stopped has another answer.
+module _ (t : Trie) where
+  record PutStays (d : PutDone) : Type 0 where
+    stays : (made : ℕ) → d .answer ≡ PutStopped made → d .trie ≡ t
+
+  put-either : (b : Bool) (d e : PutDone) → PutStays d → PutStays e → PutStays (cond b d e)
+  put-either true d e f g = f
+  put-either false d e f g = g
+
+  put-answered : (o : Option ℕ) (d : PutDone) → d .answer ≡ put-answer o → PutStays d
+  put-answered nothing d e = record { stays = λ made f. let z : Added ≡ PutStopped made = sym e ∙ f in clash cc }
+  put-answered (some w) d e = record { stays = λ made f. let z : put-answer (some w) ≡ PutStopped made = sym e ∙ f in clash cc }
+
+  put-refused : (d : PutDone) → d .trie ≡ t → PutStays d
+  put-refused d e = record { stays = λ made f. e }
+
+  put-made-stays : (xs : List ℕ) (y : Layout) (fs : List Slot) (n : Str) (v limit : ℕ) (r : Result) → PutStays (put-by-stores xs t y fs n v limit r)
+  unfolding put-by-stores
+  put-made-stays xs y fs n v limit (refuse r) = put-refused _ refl
+  put-made-stays xs y fs n v limit (stores ss) = put-either (ltb limit (length ss)) _ _ (put-refused _ refl) (put-answered (held fs n) _ refl)
+
+  put-stays : (xs name : List ℕ) (v run limit : ℕ) → PutStays (put-of xs t name v run limit)
+  unfolding put-of put-on-looked
+  put-stays xs name v run limit =
+      put-either (ltb 2 limit) _ _ (put-refused _ refl) (put-either (is-legal-name name) _ _ (looked (looked-of xs t)) (put-refused _ refl))
+    where
+      looked : (l : Looked) → PutStays (put-on-looked xs t (filled name) v run limit l)
+      looked (refusing c) = put-refused _ refl
+      looked (fine y fs) = let c = content-from v (kept-run y run) in put-made-stays xs y fs (filled name) c limit (put-takes y fs (filled name) c (kept-run y run))
+
+  -- The same of a removal.
+  record RemoveStays (d : RemoveDone) : Type 0 where
+    stays : (made : ℕ) → d .answer ≡ RemoveStopped made → d .trie ≡ t
+
+  remove-either : (b : Bool) (d e : RemoveDone) → RemoveStays d → RemoveStays e → RemoveStays (cond b d e)
+  remove-either true d e f g = f
+  remove-either false d e f g = g
+
+  remove-answered : (ss : List Store) (d : RemoveDone) → d .answer ≡ remove-answer ss → RemoveStays d
+  remove-answered [] d e = record { stays = λ made f. let z : NotHeld ≡ RemoveStopped made = sym e ∙ f in clash cc }
+  remove-answered (s ∷ ss) d e = record { stays = λ made f. let z : remove-answer (s ∷ ss) ≡ RemoveStopped made = sym e ∙ f in clash cc }
+
+  remove-refused : (d : RemoveDone) → d .trie ≡ t → RemoveStays d
+  remove-refused d e = record { stays = λ made f. e }
+
+  remove-made-stays : (xs : List ℕ) (y : Layout) (fs : List Slot) (limit : ℕ) (r : Result) → RemoveStays (remove-by-stores xs t y fs limit r)
+  unfolding remove-by-stores
+  remove-made-stays xs y fs limit (refuse r) = remove-refused _ refl
+  remove-made-stays xs y fs limit (stores ss) = remove-either (ltb limit (length ss)) _ _ (remove-refused _ refl) (remove-answered ss _ refl)
+
+  remove-stays : (xs name : List ℕ) (limit : ℕ) → RemoveStays (remove-of xs t name limit)
+  unfolding remove-of remove-on-looked
+  remove-stays xs name limit =
+      remove-either (ltb 2 limit) _ _ (remove-refused _ refl) (remove-either (is-legal-name name) _ _ (looked (looked-of xs t)) (remove-refused _ refl))
+    where
+      looked : (l : Looked) → RemoveStays (remove-on-looked xs t (filled name) limit l)
+      looked (refusing c) = remove-refused _ refl
+      looked (fine y fs) = remove-made-stays xs y fs limit (call (y .b) (place-of y) fs (remove (filled name)))
+
 pub limits : Limits our-calls
 limits = record {
   put = λ xs t name v run. put-in-order xs t name v run (is-legal-name name) (looked-of xs t) refl refl;
   remove = λ xs t name. remove-in-order xs t name (is-legal-name name) (looked-of xs t) refl refl;
   recover = λ xs. recover-in-order xs (check-file xs) refl;
+  put-stays = λ xs t name v run limit. put-stays t xs name v run limit .stays;
+  remove-stays = λ xs t name limit. remove-stays t xs name limit .stays;
 }

@@ -4,6 +4,8 @@ use mathlib.Core.List.{List}
 use Prim.Native.Nat.{_<_, _≤_, suc, ℕ}
 use lib.ListN.{take}
 use Rattle.model.specs.declared.Layout.{Layout}
+use Rattle.model.specs.declared.PutAnswer.the-variants.{Stopped as PutStopped}
+use Rattle.model.specs.declared.RemoveAnswer.the-variants.{Stopped as RemoveStopped}
 use Rattle.model.specs.declared.Trie.{Trie}
 use Rattle.model.specs.Files.{Slot}
 use Rattle.model.specs.Changes.{Store}
@@ -29,3 +31,8 @@ pub record Limits (C : Calls) : Type 0 where
   pub put : (xs : List ℕ) (t : Trie) (name : List ℕ) (v run : ℕ) → InOrder xs (λ (limit : ℕ). C .put xs t name v run limit .file)
   pub remove : (xs : List ℕ) (t : Trie) (name : List ℕ) → InOrder xs (λ (limit : ℕ). C .remove xs t name limit .file)
   pub recover : (xs : List ℕ) → InOrder xs (λ (limit : ℕ). C .recover xs limit .file)
+  -- One that is stopped leaves the trie that was given.
+  pub put-stays : (xs : List ℕ) (t : Trie) (name : List ℕ) (v run limit made : ℕ) → C .put xs t name v run limit .answer ≡ PutStopped made
+      → C .put xs t name v run limit .trie ≡ t
+  pub remove-stays : (xs : List ℕ) (t : Trie) (name : List ℕ) (limit made : ℕ) → C .remove xs t name limit .answer ≡ RemoveStopped made
+      → C .remove xs t name limit .trie ≡ t
