@@ -6,7 +6,11 @@ use Prim.Native.Nat.{_*_, _+_, _-_, _<_, _≤_, ℕ}
 use lib.Dec.{ltb}
 use lib.ListN.{drop, getD, length, take}
 use Rattle.model.specs.declared.Layout.{Layout}
-use Rattle.model.specs.Format.{entry-length, low-of}
+use Rattle.model.specs.Entries.{Entry}
+use Rattle.model.specs.Files.{used}
+use Rattle.model.specs.Format.{bytes-of-slot, entry-length, low-of}
+use Rattle.model.specs.Names.{Bound}
+use Rattle.model.specs.Order.{Low, Str, diff}
 use Rattle.digits.specs.Keys.{continued, is-all-zero, low-value, value}
 
 -- Bytes as many as a slot of this layout has.
@@ -36,6 +40,18 @@ upper-bytes xs = bound-bytes-at 3 32 xs
 -- The lower bound is there, and it is the upper bound of the slot before.
 abbrev pub Following : List ℕ → List ℕ → Type 0
 Following xs before = (0 < getD xs 2 0) × (lower-bytes xs ≡ upper-bytes before)
+
+-- The bytes of a used slot with this upper bound.
+pub record Uppered (xs : List ℕ) (u : Str) : Type 0 where
+  pub layout : Layout
+  pub low : Low
+  pub entries : List Entry
+  pub bound : Bound u
+  pub is : xs ≡ bytes-of-slot layout (used low u entries)
+
+-- How many digits the upper bounds of two used slots share.
+abbrev pub SharedTold : ℕ → List ℕ → List ℕ → Type 0
+SharedTold r xs ys = (u v : Str) → Uppered xs u → Uppered ys v → r ≡ diff u v
 
 -- R3.3: the number of entries.
 unfoldable pub count-at : ℕ → List ℕ → ℕ
