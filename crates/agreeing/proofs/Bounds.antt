@@ -12,7 +12,10 @@ use Rattle.trie.specs.Strung.{last-digits, lengths}
 use Rattle.trie.proofs.Strung.{last-digits-at, lengths-at}
 use Rattle.strings.specs.Arrays.{beyond, lefts}
 use Rattle.strings.proofs.Adding.{last-taken, length-beyond, length-longer}
-use Rattle.strings.proofs.Listing.{Given, going-start, leaves-from, order-at, rest, upper-in, upper-is}
+use Rattle.strings.proofs.Listing.{Given, going-start, leaves-from, order-at, rest, uppered-at}
+use Rattle.model.specs.Format.{bytes-at-slot}
+use Rattle.bucket.specs.Slots.{SharedTold, Uppered, upper-bytes}
+use Rattle.bucket.proofs.Shared.{uppered-bytes}
 use Rattle.file.specs.declared.Size.{Size}
 use Rattle.file.specs.Sizes.{Below}
 use Rattle.image.specs.Images.{side-from, trie-from}
@@ -197,13 +200,15 @@ module _ (file order : List ℕ) (size : Size) (count : ℕ) (cs : List Cell) (c
   pub reaches-start : (marks arr : List ℕ) (p : Spot) → p .top ≡ 0 → side-from (p .side) ≡ a → p .least ≡ 0 → Reaches (standing marks arr p) 0 1
   reaches-start marks arr p t e l fs g = rw (stack-none (p .top) arr t, e, l) (reached-start fs cs cells a (g .1) marks)
 
-  pub reaches-step : {g h : Standing} (n j B C k : ℕ) (x y : Str) → Below order (size .slots) → 1 ≤ j → j < count → B ≡ getD order (j - 1) 0 → C ≡ getD order j 0
-      → x ≡ upper-in file order size count B → y ≡ upper-in file order size count C → k ≡ diff x y → k ≤ length x
+  pub reaches-step : {g h : Standing} (n j B C k : ℕ) (x xs ys : List ℕ) → Below order (size .slots) → 1 ≤ j → j < count → B ≡ getD order (j - 1) 0 → C ≡ getD order j 0
+      → xs ≡ bytes-at-slot (size .layout) B file → ys ≡ bytes-at-slot (size .layout) C file → x ≡ upper-bytes xs → SharedTold k xs ys → k ≤ length x
       → Reaches g n j → Onward cs cells (BoundAt x k B C) (length x - k) g h → Reaches h (n + (length x - k)) (j + 1)
-  reaches-step n j B C k x y below first more b-is c-is x-is y-is k-is fits R O fs g =
-      reached-step fs cs cells a (R fs g) B C k x y (omega (arith, g .2)) (b-is ∙ order-at file order size count fs g (j - 1) (omega arith)) (c-is ∙ order-at file order size count fs g j more)
-      (upper-is file order size count fs g (j - 1) B x (omega arith) b-is (rw b-is (below (j - 1))) x-is)
-      (upper-is file order size count fs g j C y more c-is (rw c-is (below j)) y-is) k-is fits O
+  reaches-step n j B C k x xs ys below first more b-is c-is xs-is ys-is x-is told fits R O fs g =
+      let U : Uppered xs (ranges fs .upper (getD (order-of fs) (j - 1) 0)) = rw xs-is (uppered-at file order size count fs g (j - 1) B (omega arith) b-is (rw b-is (below (j - 1)))) in
+      let W : Uppered ys (ranges fs .upper (getD (order-of fs) j 0)) = rw ys-is (uppered-at file order size count fs g j C more c-is (rw c-is (below j))) in
+      let u : x ≡ ranges fs .upper (getD (order-of fs) (j - 1) 0) = x-is ∙ uppered-bytes U in
+      reached-step fs cs cells a (R fs g) B C k x (ranges fs .upper (getD (order-of fs) j 0)) (omega (arith, g .2))
+      (b-is ∙ order-at file order size count fs g (j - 1) (omega arith)) (c-is ∙ order-at file order size count fs g j more) u refl (rw u (told _ _ U W)) fits O
 
   pub reaches-end : (image : List ℕ) (side : ℕ) → cs ≡ trie-from image .cells → a ≡ side-from side
       → (marks arr : List ℕ) (p : Spot) (n j x : ℕ) → 1 ≤ j → count ≤ j → p .side ≡ x → x ≡ getD order (j - 1) 0 → x < 256 → p .top ≡ 0 → n ≡ cells

@@ -163,9 +163,13 @@ fn is_passing(
     let mut j = 1usize;
     while j < count {
         let next = usize_of_u8(order[j]);
-        let x = bucket::upper_bound(file::slot_at(file, size, slot));
-        let y = bucket::upper_bound(file::slot_at(file, size, next));
-        let shared = digits::shared(x, y);
+        let one = file::slot_at(file, size, slot);
+        let two = file::slot_at(file, size, next);
+        let x = bucket::upper_bound(one);
+        let shared = bucket::shared_uppers(one, two);
+        if x.len() < shared {
+            return false;
+        }
         let Way::At(after) = bound_met(
             image,
             cells,

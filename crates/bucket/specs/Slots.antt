@@ -6,8 +6,11 @@ use Prim.Native.Nat.{_*_, _+_, _-_, _≤_, ℕ}
 use lib.Dec.{leb, ltb}
 use lib.ListN.{drop, getD, length, take}
 use Rattle.model.specs.declared.Layout.{Layout}
-use Rattle.model.specs.Format.{entry-length, low-of}
-use Rattle.model.specs.Order.{Low, Str}
+use Rattle.model.specs.Entries.{Entry}
+use Rattle.model.specs.Files.{used}
+use Rattle.model.specs.Format.{bytes-of-slot, entry-length, low-of}
+use Rattle.model.specs.Names.{Bound}
+use Rattle.model.specs.Order.{Low, Str, diff}
 use Rattle.model.specs.Tests.{is-legal-bound}
 use Rattle.digits.specs.Keys.{continued, is-all-zero, low-value, value}
 
@@ -49,6 +52,18 @@ upper-bytes xs = bound-bytes-at 3 32 xs
 -- The lower bound is the upper bound of the slot before, in its length and in all 24 bytes.
 abbrev pub Following : List ℕ → List ℕ → Type 0
 Following xs before = (getD xs 2 0 ≡ getD before 3 0) × (take 24 (drop 8 xs) ≡ take 24 (drop 32 before))
+
+-- The bytes of a used slot with this upper bound.
+pub record Uppered (xs : List ℕ) (u : Str) : Type 0 where
+  pub layout : Layout
+  pub low : Low
+  pub entries : List Entry
+  pub bound : Bound u
+  pub is : xs ≡ bytes-of-slot layout (used low u entries)
+
+-- How many digits the upper bounds of two used slots share.
+abbrev pub SharedTold : ℕ → List ℕ → List ℕ → Type 0
+SharedTold r xs ys = (u v : Str) → Uppered xs u → Uppered ys v → r ≡ diff u v
 
 -- R3.3: the number of entries.
 unfoldable pub count-at : ℕ → List ℕ → ℕ

@@ -8,6 +8,7 @@ ghost use Prim.Native.Nat.{_≤_, _<_, _+_, _-_, _*_};
 ghost use lib.Dec.{eqb, leb};
 ghost use lib.ListN.{drop, getD, length, take};
 ghost use Rattle.model.specs.Format.{entry-length, slot-size};
+ghost use Rattle.model.specs.Order.{diff};
 ghost use Rattle.model.proofs.Format.{EntrySize};
 ghost use Rattle.model.specs.declared.Layout.{Layout};
 ghost use Rattle.model.specs.Tests.{is-legal-bound};
@@ -15,10 +16,11 @@ ghost use Rattle.digits.specs.Keys.{is-all-zero, key-value};
 ghost use Rattle.bucket.specs.Copies.{CopyTold, is-upper-part};
 ghost use Rattle.gathering.specs.Names.{Fine, Rising, names};
 ghost use Rattle.bucket.specs.Forms.{Formed, Framed, Stocked, is-all-clear, ranged, vacant};
-ghost use Rattle.bucket.specs.Slots.{Following, HighTold, LowTold, OfSize, count-at, is-a-bound, lower-bytes, upper-bytes};
+ghost use Rattle.bucket.specs.Slots.{Following, HighTold, LowTold, OfSize, SharedTold, count-at, is-a-bound, lower-bytes, upper-bytes};
 use digits::Key;
 use digits::u64_of_usize;
 use digits::usize_of_u8;
+use digits::usize_of_u32;
 use gathering::Seen;
 use model::Layout;
 
@@ -107,6 +109,29 @@ pub fn upper_bound(slot: &[u8]) -> &[u8]
     }
     let end = 32 + len;
     &slot[32..end]
+}
+
+// How many of their first eight digits the upper bounds of two slots share, by one word.
+fn shared_word(one: &[u8], two: &[u8]) -> usize
+    requires { ⌜ (64 ≤ length (now one)) × (64 ≤ length (now two)) ⌝ }
+    ensures { λ r. ⌜ r ≡ diff (take 8 (drop 32 (now (one .entry)))) (take 8 (drop 32 (now (two .entry)))) ⌝ }
+{
+    usize_of_u32(u64::trailing_zeros(
+        digits::little_endian(one, 32) ^ digits::little_endian(two, 32),
+    ))
+        / 8
+}
+
+// How many digits the upper bounds of two slots share.
+pub fn shared_uppers(one: &[u8], two: &[u8]) -> usize
+    requires { ⌜ (64 ≤ length (now one)) × (64 ≤ length (now two)) ⌝ }
+    ensures { λ r. ⌜ SharedTold r (now (one .entry)) (now (two .entry)) ⌝ }
+{
+    let shared = shared_word(one, two);
+    if shared < 8 {
+        return shared;
+    }
+    digits::shared(upper_bound(one), upper_bound(two))
 }
 
 // How many entries a slot has; never more than fit into it.

@@ -15,8 +15,8 @@ use Rattle.model.proofs.Files.{chain-right}
 use Rattle.model.proofs.Format.{bytes-of-slot-read-slot, read-slots-each}
 use Rattle.model.proofs.Agreement.{coming, expect-cursor, expect-slots, follow, labels, to-slots, to-slots-append}
 use Rattle.model.proofs.Surveys.{chain-rises}
-use Rattle.bucket.specs.Slots.{upper-bytes}
-use Rattle.bucket.proofs.Layouts.{upper-bytes-slot}
+use Rattle.bucket.specs.Slots.{Uppered, upper-bytes}
+use Rattle.bucket.proofs.Shared.{uppered-bytes}
 use Rattle.file.specs.declared.Size.{Size}
 use Rattle.file.specs.Sizes.{Below}
 use Rattle.trie.specs.declared.Strings.{Strings}
@@ -74,10 +74,10 @@ between-labels fs l [] = refl
 between-labels fs l (x ∷ xs) = ap (λ (ns : List ℕ). label (ranges fs) (order-of fs) l ∷ ns) (between-labels fs (at x) xs)
 
 module _ (y : Layout) {fs : List Slot} (S : Sound (y .b) fs) where
-  -- The upper of a bucket in the order, as it is read from the file's bytes.
-  pub upper-read : (slots : ℕ) (file : List ℕ) → read-slots y slots 0 file ≡ some fs → (i : ℕ) → i < length (order-of fs)
-      → getD (order-of fs) i 0 < slots → upper-bytes (bytes-at-slot y (getD (order-of fs) i 0) file) ≡ ranges fs .upper (getD (order-of fs) i 0)
-  upper-read slots file e i h k = rw bytes (go (slot-at fs B) (S .well B) (chain-used (ranges fs) (chain-right (y .b) S) B (mem-at 0 (order-of fs) i h)))
+  -- A bucket in the order, by the file's bytes.
+  pub uppered : (slots : ℕ) (file : List ℕ) → read-slots y slots 0 file ≡ some fs → (i : ℕ) → i < length (order-of fs)
+      → getD (order-of fs) i 0 < slots → Uppered (bytes-at-slot y (getD (order-of fs) i 0) file) (ranges fs .upper (getD (order-of fs) i 0))
+  uppered slots file e i h k = go (slot-at fs B) (S .well B) (chain-used (ranges fs) (chain-right (y .b) S) B (mem-at 0 (order-of fs) i h)) bytes
     where
       B : ℕ
       B = getD (order-of fs) i 0
@@ -85,9 +85,9 @@ module _ (y : Layout) {fs : List Slot} (S : Sound (y .b) fs) where
       bytes : bytes-at-slot y B file ≡ bytes-of-slot y (slot-at fs B)
       bytes = bytes-of-slot-read-slot y (bytes-at-slot y B file) (rw zero-add at (read-slots-each y slots 0 B file k e))
 
-      go : (x : Slot) → Well (y .b) x → IsUsed (head x) → upper-bytes (bytes-of-slot y x) ≡ upper-of (head x)
-      go free w u = absurd u
-      go (used l u es) (well-used g f a r m) v = upper-bytes-slot y l u es (f .fits)
+      go : (x : Slot) → Well (y .b) x → IsUsed (head x) → bytes-at-slot y B file ≡ bytes-of-slot y x → Uppered (bytes-at-slot y B file) (upper-of (head x))
+      go free w u q = absurd u
+      go (used l u es) (well-used g f a r m) v q = record { layout = y; low = l; entries = es; bound = f; is = q }
 
 -- So far the arrays have the strings that come before the upper of the bucket before place j.
 pub record Going (fs : List Slot) (lens digits slots : List ℕ) (n j : ℕ) : Type 0 where
@@ -209,11 +209,15 @@ module _ (file order : List ℕ) (size : Size) (count : ℕ) where
   pub order-at : (fs : List Slot) → Given fs → (i : ℕ) → i < count → getD order i 0 ≡ getD (order-of fs) i 0
   order-at fs g i h = at-taken count order i (g .3) h
 
+  pub uppered-at : (fs : List Slot) → Given fs → (i B : ℕ) → i < count → B ≡ getD order i 0 → B < size .slots
+      → Uppered (bytes-at-slot (size .layout) B file) (ranges fs .upper (getD (order-of fs) i 0))
+  uppered-at fs g i B h e k =
+      let f : B ≡ getD (order-of fs) i 0 = e ∙ order-at fs g i h in
+      rw f (uppered (size .layout) (g .1) (size .slots) file (g .0) i (omega (arith, g .2)) (rw f at k))
+
   pub upper-is : (fs : List Slot) → Given fs → (i B : ℕ) (x : Str) → i < count → B ≡ getD order i 0 → B < size .slots → x ≡ upper-in B
       → x ≡ ranges fs .upper (getD (order-of fs) i 0)
-  upper-is fs g i B x h e k q =
-      let f : B ≡ getD (order-of fs) i 0 = e ∙ order-at fs g i h in
-      q ∙ rw f (upper-read (size .layout) (g .1) (size .slots) file (g .0) i (omega (arith, g .2)) (rw f at k))
+  upper-is fs g i B x h e k q = q ∙ uppered-bytes (uppered-at fs g i B h e k)
 
   pub goes-start : (lens digits slots : List ℕ) → Goes lens digits slots 0 1
   goes-start lens digits slots fs g = going-start (g .1) lens digits slots
