@@ -1,3 +1,4 @@
 pub mod Coding
 pub mod Images
+pub mod Storing
 pub mod Agreeing
