@@ -46,8 +46,8 @@ pub extern "C" fn pal_create(
     if trie.len() != image::BYTES {
         return MALFORMED;
     }
+    image::write_cleared(trie, 0, 0);
     let given = whole::create(file, version, b, slots);
-    image::encode(trie, given.trie);
     let answer = given.answer;
     match answer {
         TrieAnswer::Given => 150,
@@ -93,9 +93,7 @@ pub extern "C" fn pal_rebuild(file: &[u8], trie: &mut [u8]) -> u64
     if trie.len() != image::BYTES {
         return MALFORMED;
     }
-    let given = whole::rebuild(file);
-    image::encode(trie, given.trie);
-    let answer = given.answer;
+    let answer = whole::rebuild(file, trie);
     match answer {
         TrieAnswer::Given => 151,
         TrieAnswer::Refused(cause) => cause_number(cause),

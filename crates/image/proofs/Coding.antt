@@ -4,6 +4,7 @@ use Rattle.model.specs.declared.Cell.{Cell}
 use Rattle.model.specs.declared.Side.the-variants.{Cell as further, Slot as slot}
 use Rattle.model.specs.declared.Trie.{Trie}
 use Rattle.model.specs.Tries.{at-cell, trie-of, zero-cell}
+use Rattle.image.specs.Clearing.{read-to}
 use Rattle.image.specs.Images.{cell-bytes, cell-from, cells-bytes, cells-from, head-bytes, image-length, image-of, number-of-side, pair-of, side-from, trie-from}
 
 -- A side's number, and the side of a number.
@@ -74,9 +75,6 @@ unfolding image-of
 written-all t i xs l h e = sym (take-all (4 + 6 * i) xs (omega arith)) ∙ e ∙ ap (written t) h
 
 -- Read: the first i cells, and no cell past them.
-abbrev pub read-to : ℕ → List ℕ → Trie
-read-to i xs = record { cells = cells-from i xs ++ replicate (256 - i) zero-cell; count = trie-from xs .count; first = trie-from xs .first }
-
 pub length-cells-from : (n : ℕ) (xs : List ℕ) → length (cells-from n xs) ≡ n
 unfolding cells-from
 length-cells-from zero xs = refl
@@ -110,5 +108,5 @@ read-next t i xs {c} e h w = rw (e, w) (ap (λ (r : List Cell). record { cells =
         ∙ sym (append-snoc (cells-from i xs) d rest)
         ∙ ap (λ (k : ℕ). cells-from k xs ++ rest) (sym (add-one i))
 
-pub read-all : (t : Trie) (i : ℕ) (xs : List ℕ) → t ≡ read-to i xs → i ≡ 256 → t ≡ trie-from xs
-read-all t i xs e h = e ∙ rw (h, append-nil (cells-from 256 xs))
+pub read-all : (t : Trie) (xs : List ℕ) → t ≡ read-to 256 xs → t ≡ trie-from xs
+read-all t xs e = e ∙ rw (append-nil (cells-from 256 xs))

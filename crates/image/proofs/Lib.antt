@@ -1,4 +1,5 @@
 pub mod Coding
 pub mod Images
 pub mod Clear
+pub mod Storing
 pub mod Agreeing

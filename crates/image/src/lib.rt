@@ -11,6 +11,7 @@ ghost use lib.Seq.{sets};
 ghost use Rattle.model.specs.Agreeing.{are-zero-cells};
 ghost use Rattle.model.specs.Tries.{at-cell, walk-of};
 ghost use Rattle.trie.specs.Walks.{Walks};
+ghost use Rattle.image.specs.Clearing.{cleared, read-to};
 ghost use Rattle.image.specs.Images.{cell-bytes, cell-from, image-length, image-of, number-of-side, pair-of, side-from, trie-from};
 use digits::u16_of_u8;
 use digits::usize_of_u8;
@@ -52,20 +53,28 @@ fn cell_at(image: &[u8], i: usize) -> Cell
     }
 }
 
-// The trie of an image.
-pub fn decoded(image: &[u8]) -> Trie
-    requires { ⌜ length (now image) ≡ image-length ⌝ }
-    ensures { λ r. ⌜ r ≡ trie-from (now (image .entry)) ⌝ }
+// The trie of an image's count, first leaf and first n cells, its other cells zero.
+pub fn decoded_to(image: &[u8], n: usize) -> Trie
+    requires { ⌜ (n ≤ 256) × (length (now image) ≡ image-length) ⌝ }
+    ensures { λ r. ⌜ r ≡ read-to n (now (image .entry)) ⌝ }
 {
     let mut trie = trie::without_cells(pair(image[2], image[3]));
     trie.count = pair(image[0], image[1]);
     let mut i = 0usize;
-    while i < 256 {
+    while i < n {
         let cell = cell_at(image, i);
         trie.cells[i] = cell;
         i += 1;
     }
     trie
+}
+
+// The trie of an image.
+pub fn decoded(image: &[u8]) -> Trie
+    requires { ⌜ length (now image) ≡ image-length ⌝ }
+    ensures { λ r. ⌜ r ≡ trie-from (now (image .entry)) ⌝ }
+{
+    decoded_to(image, 256)
 }
 
 // The parts of an image, each read by itself.
@@ -167,7 +176,8 @@ fn number_of(side: Side) -> u16
     }
 }
 
-fn write_cell(image: &mut [u8], i: usize, cell: Cell)
+// Writes one cell over an image.
+pub fn write_cell(image: &mut [u8], i: usize, cell: Cell)
     requires { ⌜ (i < 256) × (length (now image) ≡ image-length) ⌝ }
     ensures { λ _. ⌜ now (image .exit) ≡ sets (now (image .entry)) (4 + 6 * i) (cell-bytes cell) ⌝ }
 {
@@ -182,6 +192,28 @@ fn write_cell(image: &mut [u8], i: usize, cell: Cell)
     image[at + 3] = high(l);
     image[at + 4] = low(r);
     image[at + 5] = high(r);
+}
+
+// Writes the image of a trie whose cells are all zero, whatever its count.
+pub fn write_cleared(image: &mut [u8], count: u16, first: u16)
+    requires { ⌜ length (now image) ≡ image-length ⌝ }
+    ensures { λ _. ⌜ now (image .exit) ≡ image-of (cleared count first) ⌝ }
+{
+    image[0] = low(count);
+    image[1] = high(count);
+    image[2] = low(first);
+    image[3] = high(first);
+    let cell = Cell {
+        digit: 0,
+        number: 0,
+        left: Side::Slot(0),
+        right: Side::Slot(0),
+    };
+    let mut i = 0usize;
+    while i < 256 {
+        write_cell(image, i, cell);
+        i += 1;
+    }
 }
 
 // Writes the image of a trie.

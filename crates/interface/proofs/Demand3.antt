@@ -22,6 +22,7 @@ use Rattle.promises.specs.Calls.{our-calls}
 use Rattle.promises.specs.Demand3.{Event, Holds, Kept, Recovers, State, StoppedAt, after, after-freeing, after-put, after-rebuild, after-recover, after-remove, down, file-of, kill, nothing-to-do, now, put, put-by, put-with, rebuild, recover, remove, remove-by, remove-with, running, step, stopped-at-0}
 use Rattle.promises.proofs.Demand3.{demand-3}
 use Rattle.image.specs.Images.{image-length, image-of, trie-from}
+use Rattle.image.proofs.Storing.{image-size}
 use Rattle.putting.specs.Outcomes.{image-after}
 use Rattle.removing.specs.Outcomes.{image-removed}
 use Rattle.capi.specs.Doors.{malformed, out-after, pal-create-of, pal-put-of, pal-recover-of, pal-remove-of}
@@ -31,7 +32,7 @@ use Rattle.interface.specs.Demand1.{IsRefusal, change-refusal, recover-r
 use Rattle.interface.specs.Demand3.{Demand3C, EventC, HoldsC, KeptC, RebuildsC, RecoversC, StateC, StoppedC, held-says}
 use Rattle.interface.specs.Demand3 as C
 use Rattle.interface.proofs.Saying.{create-is, look-up-is, number-small, put-is, rebuild-is, recover-is, remove-is}
-use Rattle.interface.proofs.Images.{image-size, read-back, remove-says, replaced-same}
+use Rattle.interface.proofs.Images.{read-back, remove-says, replaced-same}
 use Rattle.interface.proofs.Demand1.{demand-1-c, refused-below}
 use Rattle.interface.proofs.Demand2.{created-said}
 

@@ -1,6 +1,6 @@
 -- The images that calls write: the trie that leads right is read back, a put that replaces a value leaves the trie, and so does a
 -- removal without a merge.
-use Rattle.model.proofs.Prelude.{Bool, List, Option, [], _∙_, _∷_, _≡_, _≤_, ap, arith, clash, cond, false, length, length-append, ltb, nothing, refl, some, subst, suc, sym, take, true, ℕ}
+use Rattle.model.proofs.Prelude.{Bool, List, Option, [], _∙_, _∷_, _≡_, _≤_, ap, arith, clash, cond, false, length, ltb, nothing, refl, some, subst, suc, sym, take, true, ℕ}
 use Rattle.model.specs.declared.Cause.{Cause}
 use Rattle.model.specs.declared.Cause.the-variants.{BadFile, IllegalName, WrongSize}
 use Rattle.model.specs.declared.Layout.{Layout}
@@ -26,13 +26,8 @@ use Rattle.entries.proofs.Parts.{length-held}
 use Rattle.promises.specs.Demand2.{LeadsRight}
 use Rattle.promises.proofs.Leading.{Passed, looked-passed}
 use Rattle.image.specs.Images.{image-of, trie-from}
-use Rattle.image.proofs.Images.{length-cells-bytes, trie-back}
+use Rattle.image.proofs.Images.{trie-back}
 use Rattle.image.proofs.Agreeing.{agreeing-imaged}
-use Rattle.interface.specs.Calls.{IsImage}
-
-pub image-size : (t : Trie) → IsImage (image-of t)
-unfolding image-of
-image-size t = rw (length-append, length-cells-bytes 256 (t .cells))
 
 pub read-back : {xs : List ℕ} {t : Trie} → LeadsRight xs t → trie-from (image-of t) ≡ t
 read-back {xs} {t} L = trie-back t (agreeing-imaged (file-bytes-read-file xs (L .file .is) .1 .slots-most) (L .agrees))

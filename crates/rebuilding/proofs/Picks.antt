@@ -1,17 +1,9 @@
 -- The model's root of a run is the middle one of its strings' lengths, from wherever places are counted.
-use Rattle.model.proofs.Prelude.{Bool, List, [], _+_, _-_, _/_, _∙_, _∷_, _≡_, _≤_, add-suc, add-zero, arith, cond, eq-eqb, eqb, false, getD, length, ltb, ltb-false, ltb-true, map, min, ne-eqb, refl, suc, sym, true, zero, ℕ, ℕ-discrete}
+use Rattle.model.proofs.Prelude.{Bool, List, [], _+_, _-_, _/_, _∙_, _∷_, _≡_, _≤_, add-suc, add-zero, arith, cond, eq-eqb, eqb, false, getD, length, ltb, map, min, ne-eqb, refl, suc, sym, true, zero, ℕ, ℕ-discrete}
 use Rattle.model.specs.Order.{Str}
 use Rattle.model.specs.Rebuilding.{fewest, pick, places}
 use Rattle.rebuilding.specs.Roots.{least, many, middle, place}
-use Rattle.rebuilding.proofs.Laws.{middle-is}
-
--- One of two numbers by a test, as the lesser.
-lesser-is : (x n : ℕ) → cond (ltb x n) x n ≡ min x n
-lesser-is x n = go (ltb x n) refl
-  where
-    go : (t : Bool) → ltb x n ≡ t → cond t x n ≡ min x n
-    go true e = omega (arith, ltb-true x n e)
-    go false e = omega (arith, ltb-false x n e)
+use Rattle.rebuilding.proofs.Laws.{lesser-is, middle-is}
 
 least-fewest : (n : ℕ) (x : Str) (xs : List Str) → least n (map length (x ∷ xs)) ≡ min n (fewest x xs)
 unfolding least

@@ -1,12 +1,15 @@
 -- The loop of rebuild: what holds before each cell is written, at the start, from one cell to the next, and at the end.
-use Rattle.model.proofs.Prelude.{List, [], _++_, _+_, _-_, _<_, _∙_, _∷_, _≡_, _≤_, add-one, append-assoc, append-nil, arith, cond, getD, getD-set-same, length, length-replicate, length-set, lt-ltb, ltb, refl, replicate, set, sets, sets-eq, sub-zero, subst, suc, sym, zero, zero-add, ℕ}
+use Rattle.model.proofs.Prelude.{List, [], _*_, _++_, _+_, _-_, _<_, _∙_, _∷_, _≡_, _≤_, add-one, ap, append-assoc, append-nil, arith, cond, getD, getD-set-same, length, length-replicate, length-set, lt-ltb, ltb, refl, replicate, set, sets, sets-eq, sub-zero, subst, suc, sym, zero, zero-add, ℕ}
 use Rattle.model.specs.declared.Cell.{Cell}
-use Rattle.model.specs.declared.Side.the-variants.{Cell as further, Slot as slot}
+use Rattle.model.specs.declared.Side.the-variants.{Cell as further}
 use Rattle.model.specs.declared.Trie.{Trie}
-use Rattle.model.specs.Tries.{trie-of, zero-cell}
+use Rattle.model.specs.Tries.{zero-cell}
 use Rattle.model.specs.Rebuilding.{lay, side-of}
 use Rattle.model.proofs.Lists.{drop-replicate}
 use Rattle.model.proofs.Cells.{length-lay}
+use Rattle.image.specs.Clearing.{cleared}
+use Rattle.image.specs.Images.{cell-bytes, image-length, image-of}
+use Rattle.image.proofs.Storing.{cell-stored, image-size}
 use Rattle.rebuilding.specs.declared.Run.{Run}
 use Rattle.rebuilding.specs.Roots.{middle, run}
 use Rattle.rebuilding.specs.Runs.{cell-at, rebuilt-of, run-tree, side-at}
@@ -67,7 +70,7 @@ module _ {lens digits slots : List ℕ} {n : ℕ} where
       }
 
 module _ (lens digits slots : List ℕ) (n : ℕ) where
-  pub started : (runs : List Run) (r : Run) → length runs ≡ 512 → r ≡ record { from = 0; to = n } → 0 < n → n ≤ 256
+  started : (runs : List Run) (r : Run) → length runs ≡ 512 → r ≡ record { from = 0; to = n } → 0 < n → n ≤ 256
       → State lens digits slots n blank (set runs 0 r) 1 0
   unfolding Fine sizes todo
   started runs r h e p q =
@@ -151,7 +154,7 @@ module _ (lens digits slots : List ℕ) (n : ℕ) where
       next-at cells runs (top - 1) i m (subst (λ (x : ℕ). State lens digits slots n cells runs x i) k s) h e
 
   -- The same, of numbers and values that are known by equations.
-  pub stepped : {cells : List Cell} {runs : List Run} {top i : ℕ} {from to root right left kr kl : ℕ} {cell : Cell}
+  stepped : {cells : List Cell} {runs : List Run} {top i : ℕ} {from to root right left kr kl : ℕ} {cell : Cell}
       → State lens digits slots n cells runs top i → i < n
       → from ≡ at-run runs (top - 1) .from
       → to ≡ at-run runs (top - 1) .to
@@ -167,11 +170,7 @@ module _ (lens digits slots : List ℕ) (n : ℕ) where
   stepped {cells} {runs} {top} {i} {root = root} s h ef et em ec er el ekr ekl =
       rw (ekr, ekl, ec, er, el, ef, et) (next cells runs top i root s h (rw (ef, et) at em))
 
-  pub none-rebuilt : (s : ℕ) → n ≡ 0 → s ≡ getD slots 0 0 → trie-of [] (slot s) ≡ rebuilt-of lens digits slots n
-  unfolding rebuilt-of run-tree
-  none-rebuilt s e f = rw (e, f)
-
-  pub ended : (cells : List Cell) (runs : List Run) (top i : ℕ) → State lens digits slots n cells runs top i → n ≤ i → 0 < n
+  ended : (cells : List Cell) (runs : List Run) (top i : ℕ) → State lens digits slots n cells runs top i → n ≤ i → 0 < n
       → _≡_ {A = Trie} (record { cells = cells; count = n; first = 0 }) (rebuilt-of lens digits slots n)
   unfolding rebuilt-of
   ended cells runs top i s h p =
@@ -183,3 +182,49 @@ module _ (lens digits slots : List ℕ) (n : ℕ) where
       rw z at (s .makes) ∙ sets-eq (lay 0 t) blank 0 g ∙ rw (zero-add, drop-replicate) in
       let f : side-of 0 t ≡ further 0 = sym (rw (lt-ltb 0 n p, sub-zero n) at (side-tree lens digits slots 0 0 n)) in
       rw (c, f, l)
+
+-- The same with the cells in an image.
+pub record Written (lens digits slots : List ℕ) (n : ℕ) (image : List ℕ) (runs : List Run) (top i : ℕ) : Type 0 where
+  pub cells : List Cell
+  pub whole : length cells ≡ 256
+  pub image-is : image ≡ image-of (record { cells = cells; count = n; first = 0 })
+  pub state : State lens digits slots n cells runs top i
+
+module _ (lens digits slots : List ℕ) (n : ℕ) where
+  pub none-written : (image : List ℕ) (s : ℕ) → n ≡ 0 → s ≡ getD slots 0 0 → image ≡ image-of (cleared 0 s) → image ≡ image-of (rebuilt-of lens digits slots n)
+  unfolding rebuilt-of run-tree cleared
+  none-written image s e f g = rw (e, ← f) g
+
+  pub written-first : (image : List ℕ) (runs : List Run) (r : Run) → image ≡ image-of (cleared n 0) → length runs ≡ 512 → r ≡ record { from = 0; to = n } → 0 < n → n ≤ 256
+      → Written lens digits slots n image (set runs 0 r) 1 0
+  unfolding cleared
+  written-first image runs r f h e p q = record { cells = blank; whole = length-replicate 256 zero-cell; image-is = f; state = started lens digits slots n runs r h e p q }
+
+  pub written-size : {image : List ℕ} {runs : List Run} {top i : ℕ} → Written lens digits slots n image runs top i → length image ≡ image-length
+  written-size w = ap length (w .image-is) ∙ image-size _
+
+  -- One more cell, of numbers and values that are known by equations.
+  pub written-next : {image : List ℕ} {runs : List Run} {top i : ℕ} {from to root right left kr kl : ℕ} {cell : Cell} (ys : List ℕ)
+      → Written lens digits slots n image runs top i → i < n
+      → from ≡ at-run runs (top - 1) .from
+      → to ≡ at-run runs (top - 1) .to
+      → root ≡ middle from (run from to lens)
+      → cell ≡ cell-at (getD lens root 0) (getD digits root 0) slots from root to i
+      → ys ≡ sets image (4 + 6 * i) (cell-bytes cell)
+      → right ≡ root + 1
+      → left ≡ root
+      → kr ≡ cond (ltb (root + 1) to) 1 0
+      → kl ≡ cond (ltb from root) 1 0
+      → Written lens digits slots n ys
+      (set (set runs (top - 1) (record { from = right; to = at-run runs (top - 1) .to })) (top - 1 + kr) (record { from = at-run runs (top - 1) .from; to = left }))
+      (top - 1 + kr + kl) (i + 1)
+  written-next {i = i} {cell = cell} ys w h ef et em ec ey er el ekr ekl = record {
+    cells = set (w .cells) i cell;
+    whole = length-set (w .cells) i cell ∙ w .whole;
+    image-is = ey ∙ ap (λ (xs : List ℕ). sets xs (4 + 6 * i) (cell-bytes cell)) (w .image-is) ∙ cell-stored _ i cell (w .whole) (omega (arith, w .state .few));
+    state = stepped lens digits slots n (w .state) h ef et em ec er el ekr ekl;
+  }
+
+  pub written-all : (image : List ℕ) (runs : List Run) (top i : ℕ) → Written lens digits slots n image runs top i → n ≤ i → 0 < n
+      → image ≡ image-of (rebuilt-of lens digits slots n)
+  written-all image runs top i w h p = w .image-is ∙ ap image-of (ended lens digits slots n (w .cells) runs top i (w .state) h p)

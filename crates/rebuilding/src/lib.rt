@@ -5,11 +5,17 @@
 ghost use mathlib.Core.Path.{_≡_};
 ghost use Prim.Native.Nat.{_≤_, _<_, _+_, _-_};
 ghost use mathlib.Core.Bool.{cond};
-ghost use lib.Dec.{ltb, eqb};
-ghost use Rattle.rebuilding.specs.Roots.{run, least, many, place, middle};
+ghost use lib.Dec.{ltb};
+ghost use lib.ListN.{length};
+ghost use Rattle.image.specs.Clearing.{cleared};
+ghost use Rattle.image.specs.Images.{image-length, image-of};
+ghost use Rattle.rebuilding.specs.Roots.{run, middle};
 ghost use Rattle.rebuilding.specs.Runs.{cell-at, rebuilt-of, side-at};
+ghost use Rattle.rebuilding.specs.Starts.{Found, Start, Starts};
+use digits::u8_of_usize;
 use digits::u16_of_u8;
 use digits::u16_of_usize;
+use digits::usize_of_u8;
 use digits::usize_of_u16;
 use model::Cell;
 use model::Side;
@@ -22,84 +28,82 @@ pub struct Run {
     pub to: u16,
 }
 
-fn lesser(x: u8, y: u8) -> u8
-    ensures { λ r. ⌜ r ≡ cond (ltb x y) x y ⌝ }
+// The start of a string: the place from which on all strings before it are longer than it is. The search goes back from
+// start to start, so all starts together take about as many steps as there are strings.
+fn start_of(lens: &[u8; 256], starts: &[u8; 256], i: usize) -> usize
+    requires { ⌜ (i < 256) × Starts (now lens) (now starts) i ⌝ }
+    ensures { λ r. ⌜ Start (now (lens .entry)) i r ⌝ }
 {
-    if x < y {
-        return x;
-    }
-    y
-}
-
-// The fewest digits that a string of the run has.
-fn fewest(lens: &[u8; 256], from: usize, to: usize) -> u8
-    requires { ⌜ (from < to) × (to ≤ 256) ⌝ }
-    ensures { λ r. ⌜ r ≡ least 255 (run from to (now (lens .entry))) ⌝ }
-{
-    let mut least = 255;
-    let mut i = from;
-    while i < to {
-        least = lesser(lens[i], least);
-        i += 1;
-    }
-    least
-}
-
-// One more where the two are equal.
-fn counted(n: usize, x: u8, y: u8) -> usize
-    requires { ⌜ n < 256 ⌝ }
-    ensures { λ r. ⌜ (r ≤ n + 1) × (r ≡ cond (eqb x y) (n + 1) n) ⌝ }
-{
-    if x == y {
-        return n + 1;
-    }
-    n
-}
-
-// How many strings of the run have so many digits.
-fn how_many(lens: &[u8; 256], from: usize, to: usize, digits: u8) -> usize
-    requires { ⌜ (from < to) × (to ≤ 256) ⌝ }
-    ensures { λ r. ⌜ (r ≤ 256) × (r ≡ many 0 digits (run from to (now (lens .entry)))) ⌝ }
-{
-    let mut n = 0usize;
-    let mut i = from;
-    while i < to {
-        n = counted(n, lens[i], digits);
-        i += 1;
-    }
-    n
-}
-
-// The place of the string of the run with so many digits that has `before` such strings before it.
-fn place_of(lens: &[u8; 256], from: usize, to: usize, digits: u8, before: usize) -> usize
-    requires { ⌜ (from < to) × (to ≤ 256) ⌝ }
-    ensures { λ r. ⌜ (from ≤ r) × (r < to) × (r ≡ place from from digits before (run from to (now (lens .entry)))) ⌝ }
-{
-    let mut left = before;
-    let mut i = from;
-    while i < to {
-        if lens[i] == digits {
-            if left == 0 {
-                return i;
-            }
-            left -= 1;
+    let len = lens[i];
+    let mut start = i;
+    while 0 < start {
+        let before = start - 1;
+        if lens[before] <= len {
+            return start;
         }
-        i += 1;
+        start = usize_of_u8(starts[before]);
     }
-    from
+    start
 }
 
-// R6.2: the root of a run.
-fn root_of(lens: &[u8; 256], from: usize, to: usize) -> usize
-    requires { ⌜ (from < to) × (to ≤ 256) ⌝ }
+fn starts_of(lens: &[u8; 256], count: usize) -> [u8; 256]
+    requires { ⌜ count ≤ 256 ⌝ }
+    ensures { λ r. ⌜ Starts (now (lens .entry)) r count ⌝ }
+{
+    let mut starts = [0u8; 256];
+    let mut i = 0usize;
+    while i < count {
+        starts[i] = u8_of_usize(start_of(lens, &starts, i));
+        i += 1;
+    }
+    starts
+}
+
+// The strings of a run with the fewest digits: the place of the last one, and their number.
+pub struct Shortest {
+    pub last: usize,
+    pub count: usize,
+}
+
+// It begins with the run's last string and goes back, over longer ones, to the nearest that is not longer, and so on.
+fn shortest_of(lens: &[u8; 256], starts: &[u8; 256], from: usize, to: usize) -> Shortest
+    requires { ⌜ (from < to) × (to ≤ 256) × Starts (now lens) (now starts) to ⌝ }
+    ensures { λ r. ⌜ Found (now (lens .entry)) from to (r .last) (r .count) ⌝ }
+{
+    let mut first = to - 1;
+    let mut len = usize_of_u8(lens[first]);
+    let mut last = first;
+    let mut count = 1usize;
+    loop {
+        let start = usize_of_u8(starts[first]);
+        if start <= from {
+            return Shortest { last, count };
+        }
+        first = start - 1;
+        let next = usize_of_u8(lens[first]);
+        if next < len {
+            last = first;
+            count = 1;
+        } else {
+            count += 1;
+        }
+        len = next;
+    }
+}
+
+// R6.2: the root of a run, which is the middle one of its shortest strings or the lower of two middle ones.
+fn root_of(lens: &[u8; 256], starts: &[u8; 256], from: usize, to: usize) -> usize
+    requires { ⌜ (from < to) × (to ≤ 256) × Starts (now lens) (now starts) to ⌝ }
     ensures { λ r. ⌜ (from ≤ r) × (r < to) × (r ≡ middle from (run from to (now (lens .entry)))) ⌝ }
 {
-    let digits = fewest(lens, from, to);
-    let n = how_many(lens, from, to, digits);
-    if n == 0 {
-        return place_of(lens, from, to, digits, 0);
+    let shortest = shortest_of(lens, starts, from, to);
+    let mut root = shortest.last;
+    let mut left = shortest.count / 2;
+    while 0 < left {
+        root = usize_of_u8(starts[root]) - 1;
+        left -= 1;
     }
-    place_of(lens, from, to, digits, (n - 1) / 2)
+    root
 }
 
 // The side that leads to a run: its first cell, or, where it is empty, the slot of the leaf that stands there.
@@ -155,19 +159,18 @@ fn kept(from: usize, to: usize) -> usize
     0
 }
 
-// The trie of the strings.
-pub fn rebuilt(strings: Strings) -> Trie
-    requires { ⌜ strings .count ≤ 256 ⌝ }
-    ensures { λ r. ⌜ r ≡ rebuilt-of (strings .lens) (strings .digits) (strings .slots) (strings .count) ⌝ }
+// Writes the cells of the strings over an image whose cells are all zero.
+fn write_cells(
+    image: &mut [u8],
+    lens: &[u8; 256],
+    digits: &[u8; 256],
+    slots: &[u8; 257],
+    count: usize,
+)
+    requires { ⌜ (0 < count) × (count ≤ 256) × (now image ≡ image-of (cleared count 0)) ⌝ }
+    ensures { λ _. ⌜ now (image .exit) ≡ image-of (rebuilt-of (now (lens .entry)) (now (digits .entry)) (now (slots .entry)) count) ⌝ }
 {
-    let lens = strings.lens;
-    let digits = strings.digits;
-    let slots = strings.slots;
-    let count = strings.count;
-    if count == 0 {
-        return trie::without_cells(u16_of_u8(slots[0]));
-    }
-    let mut trie = trie::without_cells(0);
+    let starts = starts_of(lens, count);
     let mut runs = [Run { from: 0, to: 0 }; 512];
     let whole = Run {
         from: 0,
@@ -181,9 +184,9 @@ pub fn rebuilt(strings: Strings) -> Trie
         let run = runs[top];
         let from = usize_of_u16(run.from);
         let to = usize_of_u16(run.to);
-        let root = root_of(&lens, from, to);
-        let cell = cell_of(lens[root], digits[root], &slots, from, root, to, i);
-        trie.cells[i] = cell;
+        let root = root_of(lens, &starts, from, to);
+        let cell = cell_of(lens[root], digits[root], slots, from, root, to, i);
+        image::write_cell(image, i, cell);
         i += 1;
         let after = root + 1;
         let right = Run {
@@ -199,6 +202,31 @@ pub fn rebuilt(strings: Strings) -> Trie
         runs[top] = left;
         top = top + kept(from, root);
     }
-    trie.count = u16_of_usize(count);
-    trie
+}
+
+// Writes the image of the trie of the strings.
+pub fn rebuild(image: &mut [u8], strings: Strings)
+    requires { ⌜ (length (now image) ≡ image-length) × (strings .count ≤ 256) ⌝ }
+    ensures { λ _. ⌜ now (image .exit) ≡ image-of (rebuilt-of (strings .lens) (strings .digits) (strings .slots) (strings .count)) ⌝ }
+{
+    let lens = strings.lens;
+    let digits = strings.digits;
+    let slots = strings.slots;
+    let count = strings.count;
+    if count == 0 {
+        image::write_cleared(image, 0, u16_of_u8(slots[0]));
+        return;
+    }
+    image::write_cleared(image, u16_of_usize(count), 0);
+    write_cells(image, &lens, &digits, &slots, count);
+}
+
+// The trie of the strings, read back from its image.
+pub fn rebuilt(strings: Strings) -> Trie
+    requires { ⌜ strings .count ≤ 256 ⌝ }
+    ensures { λ r. ⌜ r ≡ rebuilt-of (strings .lens) (strings .digits) (strings .slots) (strings .count) ⌝ }
+{
+    let mut image = [0u8; image::BYTES];
+    rebuild(&mut image, strings);
+    image::decoded_to(&image, strings.count)
 }

@@ -1,10 +1,9 @@
 -- Rebuild, by its order of refusals, and the trie that it gives.
-use Rattle.model.proofs.Prelude.{Bool, List, _∙_, _≡_, _≤_, false, leb, leb-true, length, sym, true, ℕ}
+use Rattle.model.proofs.Prelude.{Bool, List, _∙_, _≡_, _≤_, ap, false, leb, leb-true, length, refl, sym, true, ℕ}
 use Rattle.model.specs.declared.Cause.the-variants.{BadFile, CutFile, ManyStrings}
+use Rattle.model.specs.declared.TrieAnswer.{TrieAnswer}
 use Rattle.model.specs.declared.TrieAnswer.the-variants.{Given, Refused as TrieRefused}
-use Rattle.model.specs.declared.TrieGiven.{TrieGiven}
 use Rattle.model.specs.Searches.{string-count, strings-of}
-use Rattle.model.specs.Rebuilding.{rebuilt-trie}
 use Rattle.model.specs.Checks.{is-bad, is-cut, is-sound}
 use Rattle.model.specs.Format.{check-file}
 use Rattle.model.specs.Calls.{new-trie, rebuild-by, rebuild-of}
@@ -14,19 +13,25 @@ use Rattle.file.specs.Sizes.{Saying}
 use Rattle.file.specs.Surveys.{Surveyed}
 use Rattle.trie.specs.declared.Strings.{Strings}
 use Rattle.strings.specs.Arrays.{Listed}
+use Rattle.image.specs.Clearing.{cleared}
+use Rattle.image.specs.Images.{image-of}
 use Rattle.rebuilding.specs.Runs.{rebuilt-of}
 use Rattle.rebuilding.proofs.Right.{rebuilt-right}
-use Rattle.whole.specs.Outcomes.{rebuilt}
+use Rattle.whole.specs.Outcomes.{Rebuilds}
 use Rattle.file.proofs.Surveying.{Read, sound-read}
 use Rattle.strings.proofs.Surveyed.{strung}
 
-pub rebuild-bad : (xs : List ℕ) (r : TrieGiven) → (r .answer ≡ TrieRefused BadFile) × (r .trie ≡ new-trie) → check-file xs ≡ is-bad → rebuilt r ≡ rebuild-of xs
-unfolding rebuild-of rebuild-by
-rebuild-bad xs r h e = rw (e, h .0, h .1)
+pub cleared-new : image-of (cleared 0 0) ≡ image-of new-trie
+unfolding cleared
+cleared-new = refl
 
-pub rebuild-cut : (xs : List ℕ) (r : TrieGiven) {N : ℕ} → (r .answer ≡ TrieRefused CutFile) × (r .trie ≡ new-trie) → check-file xs ≡ is-cut N → rebuilt r ≡ rebuild-of xs
+pub rebuild-bad : (xs : List ℕ) {r : TrieAnswer} {image : List ℕ} → (r ≡ TrieRefused BadFile) × (image ≡ image-of new-trie) → check-file xs ≡ is-bad → Rebuilds r image xs
 unfolding rebuild-of rebuild-by
-rebuild-cut xs r h e = rw (e, h .0, h .1)
+rebuild-bad xs h e = rw e h
+
+pub rebuild-cut : (xs : List ℕ) {r : TrieAnswer} {image : List ℕ} {N : ℕ} → (r ≡ TrieRefused CutFile) × (image ≡ image-of new-trie) → check-file xs ≡ is-cut N → Rebuilds r image xs
+unfolding rebuild-of rebuild-by
+rebuild-cut xs h e = rw e h
 
 -- A sound file, with its strings.
 module _ (xs : List ℕ) (s : Size) (v : Survey) (g : Strings) (h : Saying s xs) (e : check-file xs ≡ is-sound) (z : Surveyed v xs s)
@@ -38,13 +43,13 @@ module _ (xs : List ℕ) (s : Size) (v : Survey) (g : Strings) (h : Saying s xs)
   unfolding string-count
   few-is f = sym (strung R z l .few-is) ∙ f
 
-  pub rebuild-many : (r : TrieGiven) → (r .answer ≡ TrieRefused ManyStrings) × (r .trie ≡ new-trie) → g .few ≡ false → rebuilt r ≡ rebuild-of xs
+  pub rebuild-many : {r : TrieAnswer} {image : List ℕ} → (r ≡ TrieRefused ManyStrings) × (image ≡ image-of new-trie) → g .few ≡ false → Rebuilds r image xs
   unfolding rebuild-of rebuild-by
-  rebuild-many r k f = rw (e, R .is, few-is f, k .0, k .1)
+  rebuild-many k f = rw (e, R .is, few-is f) k
 
-  pub rebuild-given : (r : TrieGiven) → r .answer ≡ Given → r .trie ≡ rebuilt-of (g .lens) (g .digits) (g .slots) (g .count) → g .few ≡ true → rebuilt r ≡ rebuild-of xs
-  unfolding rebuild-of rebuild-by string-count
-  rebuild-given r a t f =
+  pub rebuild-given : {r : TrieAnswer} {image : List ℕ} → r ≡ Given → image ≡ image-of (rebuilt-of (g .lens) (g .digits) (g .slots) (g .count)) → g .few ≡ true
+      → Rebuilds r image xs
+  unfolding rebuild-of rebuild-by
+  rebuild-given a t f =
       let few : length (strings-of (R .slots)) ≤ 256 = leb-true (length (strings-of (R .slots))) 256 (sym (strung R z l .few-is) ∙ f) in
-      let u : r .trie ≡ rebuilt-trie (R .slots) = t ∙ rebuilt-right (R .sound) g (strung R z l .holds few) few in
-      rw (e, R .is, sym (strung R z l .few-is) ∙ f, a, u)
+      rw (e, R .is, few-is f) (a, t ∙ ap image-of (rebuilt-right (R .sound) g (strung R z l .holds few) few))

@@ -1,12 +1,15 @@
 -- A call's outcome put together from what the code gives: the answer, the trie, and the bytes lent as they are left.
+use mathlib.Core.Path.{_≡_}
 use mathlib.Core.List.{List}
 use Prim.Native.Nat.{ℕ}
 use Rattle.model.specs.declared.RecoverAnswer.{RecoverAnswer}
+use Rattle.model.specs.declared.TrieAnswer.{TrieAnswer}
 use Rattle.model.specs.declared.TrieGiven.{TrieGiven}
-use Rattle.model.specs.Calls.{CreateDone, RebuildDone, RecoverDone}
+use Rattle.model.specs.Calls.{CreateDone, RecoverDone, rebuild-of}
 use Rattle.model.specs.Checks.{Kind, is-bad, is-cut, is-sound}
 use Rattle.file.specs.declared.survey.Kind.{Kind as Found}
 use Rattle.file.specs.declared.survey.Kind.the-variants.{Bad, Cut, Sound}
+use Rattle.image.specs.Images.{image-of}
 
 abbrev pub created : TrieGiven → List ℕ → CreateDone
 created r xs = record { answer = r .answer; file = xs; trie = r .trie }
@@ -20,5 +23,6 @@ found is-bad = Bad
 abbrev pub recovered : RecoverAnswer → List ℕ → RecoverDone
 recovered r xs = record { answer = r; file = xs }
 
-abbrev pub rebuilt : TrieGiven → RebuildDone
-rebuilt r = record { answer = r .answer; trie = r .trie }
+-- The answer, and the image of the trie.
+abbrev pub Rebuilds : TrieAnswer → List ℕ → List ℕ → Type 0
+Rebuilds r image xs = (r ≡ rebuild-of xs .answer) × (image ≡ image-of (rebuild-of xs .trie))

@@ -1,10 +1,12 @@
-// The calls on a whole file: create, check, recover, rebuild. None has a `requires`: each checks for itself, in the
+// The calls on a whole file: create, check, recover, rebuild. None asks anything of a file: each checks for itself, in the
 // order of refusals R10.9.
 ghost use mathlib.Core.Path.{_≡_};
 ghost use Prim.Native.Nat.{_<_};
-ghost use Rattle.model.specs.Calls.{create-of, new-trie, rebuild-of, recover-of};
+ghost use lib.ListN.{length};
+ghost use Rattle.model.specs.Calls.{create-of, new-trie, recover-of};
 ghost use Rattle.model.specs.Format.{check-file};
-ghost use Rattle.whole.specs.Outcomes.{created, found, rebuilt, recovered};
+ghost use Rattle.image.specs.Images.{image-length, image-of};
+ghost use Rattle.whole.specs.Outcomes.{Rebuilds, created, found, recovered};
 ghost use Rattle.whole.specs.Small.{Small};
 use file::Header;
 use file::Kind;
@@ -88,28 +90,36 @@ pub fn recover(file: &mut [u8], limit: u64) -> RecoverAnswer
     }
 }
 
-// The trie of the bucket headers alone.
-pub fn rebuild(file: &[u8]) -> TrieGiven
-    ensures { λ r. ⌜ rebuilt r ≡ rebuild-of (now (file .entry)) ⌝ }
+// Refused, a rebuild gives the trie without cells.
+fn not_rebuilt(image: &mut [u8], cause: Cause) -> TrieAnswer
+    requires { ⌜ length (now image) ≡ image-length ⌝ }
+    ensures { λ r. ⌜ (r ≡ TrieAnswer.Refused cause) × (now (image .exit) ≡ image-of new-trie) ⌝ }
+{
+    image::write_cleared(image, 0, 0);
+    TrieAnswer::Refused(cause)
+}
+
+// Writes the image of the trie of the bucket headers alone.
+pub fn rebuild(file: &[u8], image: &mut [u8]) -> TrieAnswer
+    requires { ⌜ length (now image) ≡ image-length ⌝ }
+    ensures { λ r. ⌜ Rebuilds r (now (image .exit)) (now (file .entry)) ⌝ }
 {
     let Header::Right(size) = file::header_of(file) else {
-        return refused(Cause::BadFile);
+        return not_rebuilt(image, Cause::BadFile);
     };
     let survey = surveying::survey_of(file, size);
     let kind = survey.kind;
     match kind {
-        Kind::Bad => refused(Cause::BadFile),
-        Kind::Cut => refused(Cause::CutFile),
+        Kind::Bad => not_rebuilt(image, Cause::BadFile),
+        Kind::Cut => not_rebuilt(image, Cause::CutFile),
         Kind::Sound => {
             let order = survey.order;
             let strings = strings::strings_of(file, size, &order, survey.count);
             if !strings.few {
-                return refused(Cause::ManyStrings);
+                return not_rebuilt(image, Cause::ManyStrings);
             }
-            TrieGiven {
-                answer: TrieAnswer::Given,
-                trie: rebuilding::rebuilt(strings),
-            }
+            rebuilding::rebuild(image, strings);
+            TrieAnswer::Given
         }
     }
 }

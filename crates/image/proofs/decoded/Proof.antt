@@ -1,30 +1,7 @@
--- `decoded` reads the image: after i cells it has the trie of the first i.
-use Rattle.model.proofs.Prelude.{_-_, _≡_, _≤_, arith, needs}
-use Rattle.image.proofs.Coding.{read-all, read-first, read-next, read-to}
+-- `decoded` reads all cells.
+use Rattle.model.proofs.Prelude.{needs}
+use Rattle.image.proofs.Coding.{read-all}
 use Rattle.image.proofs.decoded.Tie as tie
 
-abbrev Inv-loop : tie.InvT-loop
-Inv-loop image trie₀ i₀ trie i = (i ≤ 256) × (trie ≡ read-to i image)
-
-abbrev μ-loop : tie.MeasureT-loop
-μ-loop image trie₀ i₀ trie i = 256 - i
-
-loop-holds : tie.Need-loop-holds Inv-loop μ-loop
-loop-holds c =
-    (omega arith, read-first _ (c .before .before .before .before .before .before .before .before .args .image .now) (c .before .before .before .without-cells .ensures) (c .before .before .before .before .pair .ensures) (c .pair2 .ensures))
-
-loop-again : tie.Need-loop-again Inv-loop μ-loop
-loop-again c =
-    let v = c .before .before .loop .inv in
-    (omega arith, read-next (c .before .before .loop .trie) (c .before .before .loop .i) (c .before .before .before .before .before .before .before .before .before .before .before .args .image .now) (v .1) (omega arith) (c .cell-at .ensures))
-
-returns : tie.Need-returns Inv-loop μ-loop
-returns c =
-    let v = c .before .loop .inv in
-    read-all (c .before .loop .trie) (c .before .loop .i) (c .before .before .before .before .before .before .before .before .before .before .args .image .now) (v .1) (omega arith)
-
 pub decoded-spec : {M : Type 1} → Rattle.image.proofs.decoded.Statement.statement M
-decoded-spec =
-    tie.close (tie.spec Inv-loop μ-loop (λ c. search needs) (λ c. search needs) (λ c κs. search needs) (λ c κs. search needs) (λ c. search needs)
-    (λ c. search needs) (λ c κs. search needs) loop-holds (λ c κs. search needs) (λ c. search needs) (λ c. search needs) (λ c. search needs)
-    (λ c. search needs) loop-again returns)
+decoded-spec = tie.close (tie.spec (λ c κs. search needs) (λ c. read-all _ _ (c .decoded-to .ensures)))
