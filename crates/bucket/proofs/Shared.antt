@@ -1,5 +1,5 @@
 -- The digits that two upper bounds share: by the lowest byte in which two words differ, where the bounds differ in their first word.
-use Rattle.model.proofs.Prelude.{List, [], _%_, _*_, _++_, _+_, _/_, _<_, _^_, _∙_, _∷_, _≡_, _≢_, _≤_, ap, ap₂, arith, drop, drop-at, length, length-replicate, length-take-le, mul-assoc, pow-suc, pow-succ', pow-zero, refl, replicate, suc, sym, take, take-append-le, take-take, zero, zero-add, ℕ, ℕ-discrete}
+use Rattle.model.proofs.Prelude.{List, [], _%_, _*_, _++_, _+_, _/_, _<_, _^_, _∙_, _∷_, _≡_, _≢_, _≤_, ap, ap₂, arith, cond, drop, drop-at, eq-eqb, eqb, length, length-replicate, length-take-le, mul-assoc, ne-eqb, pow-suc, pow-succ', pow-zero, refl, replicate, suc, sym, take, take-append-le, take-take, zero, zero-add, ℕ, ℕ-discrete}
 use lib.Bits.{and-le-l, and-le-r, bitXor, xor-add-and, xor-block, xor-lt, xor-self}
 use lib.Count.{trailingZeros, under}
 use Rattle.model.specs.Entries.{Entry}
@@ -69,18 +69,18 @@ words-diff (a ∷ x) (b ∷ y) (suc n) g h e f = rw (count, number) (go (ℕ-dis
     number : bitXor (a + 256 * value-of x) (b + 256 * value-of y) ≡ bitXor a b + 2 ^ 8 * D
     number = rw (first a (value-of x), first b (value-of y)) (xor-block 8 (value-of x) (value-of y) a b (g .0) (h .0) ∙ omega arith)
 
-    go : (d : Dec (a ≡ b)) → trailingZeros (8 * n) D / 8 ≡ diff x y → trailingZeros (8 + 8 * n) (bitXor a b + 2 ^ 8 * D) / 8 ≡ diff-at d (diff x y)
+    go : (d : Dec (a ≡ b)) → trailingZeros (8 * n) D / 8 ≡ diff x y → trailingZeros (8 + 8 * n) (bitXor a b + 2 ^ 8 * D) / 8 ≡ cond (eqb a b) (suc (diff x y)) 0
     go (yes q) r =
         let z : bitXor a b + 2 ^ 8 * D ≡ 2 ^ 8 * D = rw (q, xor-self b) (omega arith) in
-        rw (z, behind-zeros 8 (8 * n) D) (omega (arith, r))
-    go (no q) r = omega (arith, among-lowest 8 (8 * n) (bitXor a b) D (xor-some a b q) (xor-lt 8 a b (g .0) (h .0)))
+        rw (eq-eqb a b q, z, behind-zeros 8 (8 * n) D) (omega (arith, r))
+    go (no q) r = rw (ne-eqb a b q) (omega (arith, among-lowest 8 (8 * n) (bitXor a b) D (xor-some a b q) (xor-lt 8 a b (g .0) (h .0))))
 
 diff-same : (x : Str) → diff x x ≡ length x
 diff-same [] = refl
 diff-same (a ∷ x) = go (ℕ-discrete a a) (diff-same x)
   where
-    go : (d : Dec (a ≡ a)) → diff x x ≡ length x → diff-at d (diff x x) ≡ suc (length x)
-    go (yes e) f = ap suc f
+    go : (d : Dec (a ≡ a)) → diff x x ≡ length x → cond (eqb a a) (suc (diff x x)) 0 ≡ suc (length x)
+    go (yes e) f = rw (eq-eqb a a e) (ap suc f)
     go (no n) f = absurd (n refl)
 
 -- Zeros behind two strings of digits change nothing, where the strings differ before.
@@ -93,22 +93,22 @@ shared-padded (suc n) (suc m) [] [] g h l d =
     absurd (omega (arith, d, diff-same (take (suc n) z), length-take-le (suc n) z (omega (arith, length-replicate {A = ℕ} (suc m) 0)), l))
 shared-padded (suc n) (suc m) [] (e ∷ v) g h l d = go (ℕ-discrete 0 e)
   where
-    go : (q : Dec (0 ≡ e)) → diff-at q (diff (take n (replicate m 0)) (take n (v ++ replicate (suc m) 0))) ≡ 0
+    go : (q : Dec (0 ≡ e)) → cond (eqb 0 e) (suc (diff (take n (replicate m 0)) (take n (v ++ replicate (suc m) 0)))) 0 ≡ 0
     go (yes q) = absurd (omega (arith, h .0))
-    go (no q) = refl
+    go (no q) = rw (ne-eqb 0 e q)
 shared-padded (suc n) (suc m) (c ∷ u) [] g h l d = go (ℕ-discrete c 0)
   where
-    go : (q : Dec (c ≡ 0)) → diff-at q (diff (take n (u ++ replicate (suc m) 0)) (take n (replicate m 0))) ≡ 0
+    go : (q : Dec (c ≡ 0)) → cond (eqb c 0) (suc (diff (take n (u ++ replicate (suc m) 0)) (take n (replicate m 0)))) 0 ≡ 0
     go (yes q) = absurd (omega (arith, g .0))
-    go (no q) = refl
+    go (no q) = rw (ne-eqb c 0 q)
 shared-padded (suc n) (suc m) (c ∷ u) (e ∷ v) g h l d = go (ℕ-discrete c e) (shared-padded n (suc m) u v (g .2) (h .2) (omega arith)) d
   where
     s : ℕ
     s = diff (take n (u ++ replicate (suc m) 0)) (take n (v ++ replicate (suc m) 0))
 
-    go : (q : Dec (c ≡ e)) → (s < n → s ≡ diff u v) → diff-at q s < suc n → diff-at q s ≡ diff-at q (diff u v)
-    go (yes q) f k = ap suc (f (omega arith))
-    go (no q) f k = refl
+    go : (q : Dec (c ≡ e)) → (s < n → s ≡ diff u v) → cond (eqb c e) (suc s) 0 < suc n → cond (eqb c e) (suc s) 0 ≡ cond (eqb c e) (suc (diff u v)) 0
+    go (yes q) f k = let i : suc s < suc n = rw (eq-eqb c e q) at k in rw (eq-eqb c e q) (ap suc (f (omega arith)))
+    go (no q) f k = rw (ne-eqb c e q)
 
 -- The first word of an upper bound.
 first-word : (y : Layout) (l : Low) (u : Str) (es : List Entry) → take 8 (drop 32 (bytes-of-slot y (used l u es))) ≡ take 8 (u ++ replicate 24 0)
