@@ -20,6 +20,10 @@ use digits::u64_of_usize;
 use digits::usize_of_u8;
 use model::Layout;
 
+mod serving;
+
+pub use serving::serves;
+
 // The bytes of the largest slot: 64, and 16 entries of 40.
 pub const SLOT: usize = 704;
 

@@ -1,5 +1,5 @@
 -- Each call's answer, as a number, with the bytes and words lent: a law for a malformed image, and one for all others.
-use Rattle.model.proofs.Prelude.{List, _<_, _∙_, _≡_, _≤_, ap, eq-eqb, le-ltb, length, lt-ltb, ne-eqb, refl, subst, sym, ℕ}
+use Rattle.model.proofs.Prelude.{List, _<_, _∙_, _≡_, _≤_, ap, eq-eqb, le-ltb, length, lt-ltb, ne-eqb, refl, sym, ℕ}
 use Rattle.model.specs.declared.ListAnswer.{ListAnswer}
 use Rattle.model.specs.declared.LookUpAnswer.{LookUpAnswer}
 use Rattle.model.specs.declared.PutAnswer.{PutAnswer}
@@ -22,10 +22,10 @@ use Rattle.file.specs.declared.survey.Kind.the-variants.{Bad, Cut, Sound}
 use Rattle.whole.specs.Outcomes.{created, found, rebuilt, recovered}
 use Rattle.reading.specs.Outcomes.{listed}
 use Rattle.reading.specs.Walked.{looked-up-from}
-use Rattle.reading.proofs.LookingUp.{walked-looked}
+use Rattle.reading.proofs.LookingUp.{place-looked}
 use Rattle.changing.specs.Outcomes.{put, removed}
-use Rattle.trie.specs.declared.Walk.{Walk}
-use Rattle.trie.specs.Walks.{Walks}
+use Rattle.trie.specs.declared.Place.{Place}
+use Rattle.trie.specs.Walks.{place-reached}
 use Rattle.image.specs.Images.{image-length, image-of, trie-from}
 use Rattle.capi.specs.Doors.{image-after, image-removed, malformed, out-after, pal-check-of, pal-create-of, pal-list-of, pal-look-up-of, pal-put-of, pal-rebuild-of, pal-recover-of, pal-remove-of}
 
@@ -97,9 +97,10 @@ pub image-written : (stores : ℕ) (t : Trie) (image : List ℕ) → 1 < stores 
 image-written stores t image h = rw (lt-ltb 1 stores h)
 
 -- Look up walks over the image itself.
-pub look-up-walked : (image file name : List ℕ) {n : List ℕ} {x : LookUpAnswer} (w : Walk) → n ≡ filled name → Walks w (walk-of (trie-from image) n)
-    → x ≡ looked-up-from file (w .place) name → x ≡ look-up-of file (trie-from image) name
-look-up-walked image file name w e W said = said ∙ walked-looked file (trie-from image) name w (subst (λ (k : List ℕ). Walks w (walk-of (trie-from image) k)) e W)
+pub look-up-walked : (image file name : List ℕ) {n : List ℕ} {x : LookUpAnswer} (p : Place) → n ≡ filled name → p ≡ place-reached (walk-of (trie-from image) n)
+    → x ≡ looked-up-from file p name → x ≡ look-up-of file (trie-from image) name
+look-up-walked image file name p e w said =
+    said ∙ place-looked file (trie-from image) name p (w ∙ ap (λ (k : List ℕ). place-reached (walk-of (trie-from image) k)) e)
 
 pub recover-said : (file : List ℕ) (limit : ℕ) (out : List ℕ) {x a : RecoverAnswer} {ys ws : List ℕ} {n : ℕ}
     → x ≡ a → recovered x ys ≡ recover-of file limit → n ≡ said-by-recover a .0

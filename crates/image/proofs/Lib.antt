@@ -1,3 +1,5 @@
 pub mod Coding
+pub mod Sharing
+pub mod Courses
 pub mod Images
 pub mod Agreeing

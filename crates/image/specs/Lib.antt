@@ -1,1 +1,2 @@
 pub mod Images
+pub mod Courses
