@@ -1,3 +1,4 @@
 pub mod Slots
 pub mod Forms
 pub mod Copies
+pub mod Serving

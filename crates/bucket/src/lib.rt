@@ -24,6 +24,10 @@ use digits::usize_of_u32;
 use gathering::Seen;
 use model::Layout;
 
+mod serving;
+
+pub use serving::serves;
+
 // The bytes of the largest slot: 64, and 16 entries of 40.
 pub const SLOT: usize = 704;
 

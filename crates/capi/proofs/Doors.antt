@@ -1,5 +1,5 @@
 -- Each call's answer, as a number, with the bytes and words lent: a law for a malformed image, and one for all others.
-use Rattle.model.proofs.Prelude.{Bool, List, _&&_, _∙_, _≡_, ap, cond, eq-eqb, eqb, false, length, ne-eqb, refl, subst, sym, true, ℕ}
+use Rattle.model.proofs.Prelude.{Bool, List, _&&_, _∙_, _≡_, ap, cond, eq-eqb, eqb, false, length, ne-eqb, refl, sym, true, ℕ}
 use Rattle.model.specs.declared.ListAnswer.{ListAnswer}
 use Rattle.model.specs.declared.LookUpAnswer.{LookUpAnswer}
 use Rattle.model.specs.declared.PutAnswer.{PutAnswer}
@@ -23,9 +23,9 @@ use Rattle.whole.specs.Outcomes.{Rebuilds, created, found, recovered}
 use Rattle.whole.proofs.Rebuilding.{cleared-new}
 use Rattle.reading.specs.Outcomes.{listed}
 use Rattle.reading.specs.Walked.{looked-up-from}
-use Rattle.reading.proofs.LookingUp.{walked-looked}
-use Rattle.trie.specs.declared.Walk.{Walk}
-use Rattle.trie.specs.Walks.{Walks}
+use Rattle.reading.proofs.LookingUp.{place-looked}
+use Rattle.trie.specs.declared.Place.{Place}
+use Rattle.trie.specs.Walks.{place-reached}
 use Rattle.image.specs.Clearing.{cleared}
 use Rattle.image.specs.Images.{image-length, image-of, trie-from}
 use Rattle.putting.specs.Outcomes.{put-left}
@@ -105,9 +105,10 @@ module _ (image : List ℕ) (well : length image ≡ image-length) where
   list-said file first second output out t e s w = rw (eq-eqb (length image) image-length well, ← e, s, w, t)
 
 -- Look up walks over the image itself.
-pub look-up-walked : (image file name : List ℕ) {n : List ℕ} {x : LookUpAnswer} (w : Walk) → n ≡ filled name → Walks w (walk-of (trie-from image) n)
-    → x ≡ looked-up-from file (w .place) name → x ≡ look-up-of file (trie-from image) name
-look-up-walked image file name w e W said = said ∙ walked-looked file (trie-from image) name w (subst (λ (k : List ℕ). Walks w (walk-of (trie-from image) k)) e W)
+pub look-up-walked : (image file name : List ℕ) {n : List ℕ} {x : LookUpAnswer} (p : Place) → n ≡ filled name → p ≡ place-reached (walk-of (trie-from image) n)
+    → x ≡ looked-up-from file p name → x ≡ look-up-of file (trie-from image) name
+look-up-walked image file name p e w said =
+    said ∙ place-looked file (trie-from image) name p (w ∙ ap (λ (k : List ℕ). place-reached (walk-of (trie-from image) k)) e)
 
 pub recover-said : (file : List ℕ) (limit : ℕ) (out : List ℕ) {x a : RecoverAnswer} {ys ws : List ℕ} {n : ℕ}
     → x ≡ a → recovered x ys ≡ recover-of file limit → n ≡ said-by-recover a .0

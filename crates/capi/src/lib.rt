@@ -109,7 +109,7 @@ pub extern "C" fn pal_lookup(file: &[u8], trie: &[u8], name: &[u8], out: &mut [u
         return MALFORMED;
     }
     let filled = digits::filled(name);
-    let answer = reading::look_up_from(file, image::walk_in(trie, &filled), name, &filled);
+    let answer = reading::look_up_from(file, image::place_in(trie, &filled), name, &filled);
     match answer {
         LookUpAnswer::Found(value, run) => {
             out[0] = value;

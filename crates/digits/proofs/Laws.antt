@@ -125,6 +125,14 @@ pub filled-all : (n : List ℕ) (i : ℕ) → i ≡ length n → i ≤ 24 → fi
 unfolding filled-to
 filled-all n i e h = rw (e, take-all (length n) n (omega arith), drop-replicate) (sym (filled-short n (omega arith)))
 
+-- All digits, or the first 24.
+pub filled-most : (n : List ℕ) (i : ℕ) → i ≤ 24 → i ≤ length n → (i < 24 → i ≡ length n) → filled-to n i ≡ filled n
+filled-most n i h k f = go (decLt i 24)
+  where
+    go : Dec (i < 24) → filled-to n i ≡ filled n
+    go (yes l) = filled-all n i (f l) h
+    go (no l) = filled-full n i (omega arith) (omega arith)
+
 -- Two numbers as one, in a base m.
 pub pair-lt : (m a b a′ b′ : ℕ) → a < a′ → b < m → a * m + b < a′ * m + b′
 pair-lt m a b a′ b′ h k = let p : suc a * m ≤ a′ * m = mul-le-mul-right m h in omega (arith, suc-mul a m)

@@ -316,16 +316,24 @@ pub fn naming_of(name: &[u8], filled: &[u8; 24]) -> Naming
     Naming::Legal(key_at(filled, 0))
 }
 
-// R1.4: the name, filled with blanks to 24 digits.
+// How many digits of a name of n bytes are filled from it: at most 24.
+fn taken(n: usize) -> usize
+    ensures { λ r. ⌜ (r ≤ 24) × (r ≤ n) × (r < 24 → r ≡ n) ⌝ }
+{
+    if 24 < n {
+        return 24;
+    }
+    n
+}
+
+// R1.4: the name, filled with blanks to 24 digits. The loop has one way out, so that the compiler copies the bytes at once.
 pub fn filled(name: &[u8]) -> [u8; 24]
     ensures { λ r. ⌜ r ≡ names.filled (now (name .entry)) ⌝ }
 {
     let mut digits = [0x20u8; 24];
-    let mut i = 0;
-    while i < name.len() {
-        if 24 <= i {
-            return digits;
-        }
+    let count = taken(name.len());
+    let mut i = 0usize;
+    while i < count {
         digits[i] = name[i];
         i += 1;
     }

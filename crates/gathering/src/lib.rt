@@ -13,6 +13,11 @@ ghost use Rattle.digits.specs.Keys.{is-all-zero, key-value};
 ghost use Rattle.gathering.specs.Names.{AreLow, BoundIn, Fine, Lowest, Rising, Small, WordsAt, names};
 use digits::Key;
 
+mod single;
+
+pub use single::are_names;
+pub use single::naming_of;
+
 const BLANKS: u64 = 0x2020_2020_2020_2020;
 
 const HIGH: u64 = 0x8080_8080_8080_8080;

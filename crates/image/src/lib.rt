@@ -9,8 +9,7 @@ ghost use Prim.Native.Nat.{_≤_, _<_, _+_, _*_, _%_, _/_};
 ghost use lib.ListN.{drop, length};
 ghost use lib.Seq.{sets};
 ghost use Rattle.model.specs.Agreeing.{are-zero-cells};
-ghost use Rattle.model.specs.Tries.{at-cell, walk-of};
-ghost use Rattle.trie.specs.Walks.{Walks};
+ghost use Rattle.model.specs.Tries.{at-cell};
 ghost use Rattle.image.specs.Clearing.{cleared, read-to};
 ghost use Rattle.image.specs.Images.{cell-bytes, cell-from, image-length, image-of, number-of-side, pair-of, side-from, trie-from};
 use digits::u16_of_u8;
@@ -19,8 +18,10 @@ use digits::usize_of_u16;
 use model::Cell;
 use model::Side;
 use model::Trie;
-use trie::Place;
-use trie::Walk;
+
+mod place;
+
+pub use place::place_in;
 
 pub const BYTES: usize = 1540;
 
@@ -130,24 +131,6 @@ pub fn is_clear_past(image: &[u8], count: usize) -> bool
 {
     let from = 4 + 6 * count;
     digits::is_zero(&image[from..])
-}
-
-// The walk of a filled name over the trie of an image. It reads the cells that it meets, and no others.
-pub fn walk_in(image: &[u8], name: &[u8; 24]) -> Walk
-    requires { ⌜ length (now image) ≡ image-length ⌝ }
-    ensures { λ r. ⌜ Walks r (walk-of (trie-from (now (image .entry))) (now (name .entry))) ⌝ }
-{
-    let count = pair(image[0], image[1]);
-    let first = pair(image[2], image[3]);
-    let mut walk = Walk::begin(count, first);
-    loop {
-        let place = walk.place;
-        let Place::Cell(i) = place else {
-            return walk;
-        };
-        let cell = cell_at(image, usize_of_u16(i));
-        walk = walk.step(name, i, cell);
-    }
 }
 
 fn low(x: u16) -> u8

@@ -1,5 +1,5 @@
 -- Look up, put together from its stages: each refusal, and what one slot answers to a name.
-use Rattle.model.proofs.Prelude.{Bool, List, Option, _&&_, _<_, _^_, _∙_, _≡_, _≤_, _⊎_, ap, arith, clash, cond, false, inl, inr, le-ltb, length, lt-ltb, nothing, refl, some, subst, sym, true, ℕ}
+use Rattle.model.proofs.Prelude.{Bool, List, Option, _&&_, _<_, _^_, _∙_, _≡_, _≤_, _⊎_, ap, arith, clash, cond, false, inl, inr, le-leb, le-ltb, length, lt-ltb, nothing, refl, some, subst, sym, true, ℕ}
 use Rattle.model.specs.declared.Cause.the-variants.{BadFile, IllegalName, StaleTrie}
 use Rattle.model.specs.declared.Layout.{Layout}
 use Rattle.model.specs.declared.LookUpAnswer.{LookUpAnswer}
@@ -14,7 +14,9 @@ use Rattle.model.specs.Tries.{Spot, walk-of}
 use Rattle.model.specs.Format.{bytes-at-slot, header-of, read-slot, slot-size}
 use Rattle.model.specs.Answers.{stale-trie}
 use Rattle.model.specs.Calls.{arrived-answer, headed-answer, held-answer, landed, look-up-of, slot-answer}
-use Rattle.digits.specs.Keys.{is-all-zero, key-value, value}
+use Rattle.model.proofs.Deciding.{over}
+use Rattle.digits.specs.Keys.{continued, is-all-zero, key-value, low-value, value}
+use Rattle.digits.proofs.Bounds.{name-high, name-low}
 use Rattle.bucket.specs.declared.Bucket.{Bucket}
 use Rattle.bucket.specs.declared.Form.{Form}
 use Rattle.bucket.specs.declared.Form.the-variants.{Ill, Well}
@@ -26,15 +28,15 @@ use Rattle.bucket.specs.Forms.{Formed, WellRead, ranged}
 use Rattle.bucket.specs.Slots.{lower-bytes, upper-bytes}
 use Rattle.entries.specs.Rows.{Valued, held-number}
 use Rattle.entries.proofs.Contents.{run-is, value-is}
-use Rattle.bucket.proofs.Slots.{free-zero, ill-read, range-told, read-used, zero-free}
+use Rattle.bucket.proofs.Slots.{free-zero, ill-read, range-told, read-used, well-reads, zero-free}
 use Rattle.slots.specs.Spots.{HeldTold}
 use Rattle.digits.specs.declared.Key.{Key}
 use Rattle.model.proofs.Checks.{is-well-formed-well}
-use Rattle.model.proofs.Names.{legal-length}
+use Rattle.model.proofs.Names.{legal-is-legal-filled, legal-length}
 use Rattle.trie.specs.declared.Place.{Place}
 use Rattle.trie.specs.declared.Place.the-variants.{Cell as before-cell, Slot as at-slot, Stale as stale}
 use Rattle.trie.specs.declared.Walk.{Walk}
-use Rattle.trie.specs.Walks.{Walks}
+use Rattle.trie.specs.Walks.{Walks, place-reached}
 use Rattle.reading.specs.Walked.{headed-from, looked-up-from, slot-of}
 
 -- What the range test says, by the answer that it gave.
@@ -85,10 +87,19 @@ module _ (y : Layout) (xs : List ℕ) (n : Str) where
         let p = lacks-told inside (broken (W .lower) (W .upper) n) d (q ∙ range-told W n (legal-length g)) in
         rw (read-used y xs (W .is), W .well, p .0, p .1)
 
-    module _ (q : InRange ≡ ranged (lower-bytes xs) (upper-bytes xs) n) (name : Key) (e : key-value name ≡ value n) (h : Held) (H : HeldTold h y xs name) where
-      in-range : inside ≡ true
-      in-range = in-told inside (broken (W .lower) (W .upper) n) (q ∙ range-told W n (legal-length g))
+    pub by-digits : InRange ≡ ranged (lower-bytes xs) (upper-bytes xs) n → inside ≡ true
+    by-digits q = in-told inside (broken (W .lower) (W .upper) n) (q ∙ range-told W n (legal-length g))
 
+    -- The same by keys.
+    pub by-keys : key-value (k .low) < value n → value n ≤ key-value (k .high) → inside ≡ true
+    by-keys over under =
+        let R = well-reads W in
+        let f = legal-is-legal-filled g in
+        let above : is-above (W .lower) n ≡ true = sym (name-low (W .lower) n (R .low) f) ∙ lt-ltb (low-value (W .lower)) (value n) (rw (← W .low-is) over) in
+        let below : is-at-most n (W .upper) ≡ true = sym (name-high n (W .upper) f (R .high)) ∙ le-leb (value n) (value (continued (W .upper))) (rw (← W .high-is) under) in
+        rw (above, below)
+
+    module _ (in-range : inside ≡ true) (name : Key) (e : key-value name ≡ value n) (h : Held) (H : HeldTold h y xs name) where
       found-is : held-number h ≡ find n (W .entries)
       found-is = H (W .lower) (W .upper) (W .entries) (W .is, is-well-formed-well (y .b) (used (W .lower) (W .upper) (W .entries)) (W .well)) n g e
 
@@ -131,17 +142,22 @@ module _ (xs : List ℕ) (p : Place) (name : List ℕ) where
     unfolding looked-up-from headed-from slot-of arrived-answer
     arrived-looked {s} {k} r q l i f a = a ∙ rw (f, l, e, h, q, lt-ltb s slots (omega arith))
 
--- Where the walk is that of a trie, the answer is look up's own.
+-- The place at which a walk ended.
+pub ended-at : (w : Walk) (o : Option (Str × Spot × ℕ)) → Walks w o → w .place ≡ place-reached o
+ended-at w nothing W = W
+ended-at w (some (p, k, s)) W = W .place
+
+-- Where the place is that at which the walk of a trie ends, the answer is look up's own.
 module _ (xs : List ℕ) (t : Trie) (name : List ℕ) where
   landed-looked : {y : Layout} {slots : ℕ} → is-legal-name name ≡ true → header-of xs ≡ some (y, slots)
       → look-up-of xs t name ≡ arrived-answer xs y (filled name) (landed slots (walk-of t (filled name)))
   unfolding look-up-of headed-answer
   landed-looked {y} {slots} e h = rw (e, h)
 
-  slot-landed : (w : Walk) (slots : ℕ) (o : Option (Str × Spot × ℕ)) → Walks w o → slot-of (w .place) slots ≡ landed slots o
+  slot-landed : (slots : ℕ) (o : Option (Str × Spot × ℕ)) → slot-of (place-reached o) slots ≡ landed slots o
   unfolding slot-of
-  slot-landed w slots nothing W = rw W
-  slot-landed w slots (some (p, k, s)) W = rw (W .place)
+  slot-landed slots nothing = refl
+  slot-landed slots (some (p, k, s)) = refl
 
   headless : is-legal-name name ≡ true → header-of xs ≡ nothing → look-up-of xs t name ≡ Refused BadFile
   unfolding look-up-of headed-answer
@@ -151,14 +167,14 @@ module _ (xs : List ℕ) (t : Trie) (name : List ℕ) where
   unfolding look-up-of
   illegal e = rw e
 
-  pub walked-looked : (w : Walk) → Walks w (walk-of t (filled name)) → looked-up-from xs (w .place) name ≡ look-up-of xs t name
+  pub place-looked : (p : Place) → p ≡ place-reached (walk-of t (filled name)) → looked-up-from xs p name ≡ look-up-of xs t name
   unfolding looked-up-from headed-from
-  walked-looked w W = named (is-legal-name name) refl
+  place-looked p W = named (is-legal-name name) refl
     where
-      headed : (h : Option (Layout × ℕ)) → header-of xs ≡ h → is-legal-name name ≡ true → looked-up-from xs (w .place) name ≡ look-up-of xs t name
+      headed : (h : Option (Layout × ℕ)) → header-of xs ≡ h → is-legal-name name ≡ true → looked-up-from xs p name ≡ look-up-of xs t name
       headed nothing h e = rw (e, h) (sym (headless e h))
-      headed (some (y, slots)) h e = rw (e, h, slot-landed w slots (walk-of t (filled name)) W) (sym (landed-looked e h))
+      headed (some (y, slots)) h e = rw (e, h, W, slot-landed slots (walk-of t (filled name))) (sym (landed-looked e h))
 
-      named : (g : Bool) → is-legal-name name ≡ g → looked-up-from xs (w .place) name ≡ look-up-of xs t name
+      named : (g : Bool) → is-legal-name name ≡ g → looked-up-from xs p name ≡ look-up-of xs t name
       named true e = headed (header-of xs) refl e
       named false e = rw e (sym (illegal e))

@@ -37,7 +37,6 @@ use model::LookUpAnswer;
 use model::NO_DIGIT;
 use model::Trie;
 use trie::Place;
-use trie::Walk;
 
 // What one slot answers to a name, which comes with its key.
 fn answer_of(slot: &[u8], layout: Layout, name: &[u8; 24], key: Key) -> LookUpAnswer
@@ -62,19 +61,33 @@ fn answer_of(slot: &[u8], layout: Layout, name: &[u8; 24], key: Key) -> LookUpAn
     }
 }
 
-// Look up where the filled name and its walk are known: it reads one bucket, and goes through section 11 of the rules from the
-// top.
-pub fn look_up_from(file: &[u8], walk: Walk, name: &[u8], digits: &[u8; 24]) -> LookUpAnswer
-    requires { ⌜ now digits ≡ filled (now name) ⌝ }
-    ensures { λ r. ⌜ r ≡ looked-up-from (now (file .entry)) (walk .place) (now (name .entry)) ⌝ }
+// The same. Nearly always the bucket is seen at once to be well formed and to have the name in its range; where it is not, the exact
+// look decides.
+fn look_in(slot: &[u8], layout: Layout, name: &[u8; 24], key: Key) -> LookUpAnswer
+    requires { ⌜ (OfSize (now slot) layout) × (key-value key ≡ value (now name)) ⌝ }
+    ensures { λ r. ⌜ (Legal (now (name .entry)) → r ≡ slot-answer (layout .b) (now (name .entry)) (read-slot layout (now (slot .entry)))) ⌝ }
 {
-    let Naming::Legal(key) = digits::naming_of(name, digits) else {
+    if !bucket::serves(slot, layout, key) {
+        return answer_of(slot, layout, name, key);
+    }
+    let Held::Holds(content) = slots::held_in(slot, layout, key) else {
+        return LookUpAnswer::Absent;
+    };
+    LookUpAnswer::Found(content.value, content.run)
+}
+
+// Look up where the filled name and the place at which its walk ends are known: it reads one bucket, and goes through section 11 of the
+// rules from the top.
+pub fn look_up_from(file: &[u8], place: Place, name: &[u8], digits: &[u8; 24]) -> LookUpAnswer
+    requires { ⌜ now digits ≡ filled (now name) ⌝ }
+    ensures { λ r. ⌜ r ≡ looked-up-from (now (file .entry)) place (now (name .entry)) ⌝ }
+{
+    let Naming::Legal(key) = gathering::naming_of(name, digits) else {
         return LookUpAnswer::Refused(Cause::IllegalName);
     };
     let Header::Right(size) = file::header_of(file) else {
         return LookUpAnswer::Refused(Cause::BadFile);
     };
-    let place = walk.place;
     let Place::Slot(s) = place else {
         return LookUpAnswer::Refused(Cause::StaleTrie(NO_DIGIT));
     };
@@ -82,7 +95,7 @@ pub fn look_up_from(file: &[u8], walk: Walk, name: &[u8], digits: &[u8; 24]) -> 
     if size.slots <= k {
         return LookUpAnswer::Refused(Cause::StaleTrie(NO_DIGIT));
     }
-    answer_of(file::slot_at(file, size, k), size.layout, digits, key)
+    look_in(file::slot_at(file, size, k), size.layout, digits, key)
 }
 
 // Looks up a name. Whatever the name is, it can be walked with.
@@ -90,7 +103,9 @@ pub fn look_up(file: &[u8], trie: Trie, name: &[u8]) -> LookUpAnswer
     ensures { λ r. ⌜ r ≡ look-up-of (now (file .entry)) trie (now (name .entry)) ⌝ }
 {
     let filled = digits::filled(name);
-    look_up_from(file, trie::walk_of(trie, &filled), name, &filled)
+    let walk = trie::walk_of(trie, &filled);
+    let place = walk.place;
+    look_up_from(file, place, name, &filled)
 }
 
 // What is listed of the bucket at place j, where the first name's bucket is at the place `from` and the second's at `to`. Only these two are

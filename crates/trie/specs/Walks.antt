@@ -63,3 +63,8 @@ pub record Ended (r : Walk) (p : Str) (k : Spot) (s : ℕ) : Type 0 where
 abbrev pub Walks : Walk → Option (Str × Spot × ℕ) → Type 0
 Walks r nothing = r .place ≡ stale
 Walks r (some (p, k, s)) = Ended r p k s
+
+-- The place at which a walk stands that has ended.
+abbrev pub place-reached : Option (Str × Spot × ℕ) → Place
+place-reached nothing = stale
+place-reached (some (p, k, s)) = at-slot s

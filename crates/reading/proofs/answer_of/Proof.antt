@@ -2,7 +2,7 @@
 use Rattle.model.proofs.Prelude.{_∙_, needs, sym}
 use Rattle.model.specs.Format.{slot-size}
 use Rattle.bucket.proofs.Slots.{vacant-free, vacant-taken}
-use Rattle.reading.proofs.LookingUp.{answer-absent, answer-found, answer-free, answer-ill, answer-lacks, ill-formed, well-formed}
+use Rattle.reading.proofs.LookingUp.{answer-absent, answer-found, answer-free, answer-ill, answer-lacks, by-digits, ill-formed, well-formed}
 use Rattle.reading.proofs.answer_of.Tie as tie
 
 returns : tie.Need-returns
@@ -23,8 +23,8 @@ returns-3 c g =
     let at-held = c .before .before in let at-range = at-held .before .before .before in let at-form = at-range .before .before .before .before in
     let s = at-form .before .before .before .before .before in
     let y = s .args .layout in let xs = s .args .slot .now in let n = s .args .name .now in
-    answer-absent y xs n (well-formed y xs (at-range .before .before .enum-told3 .given .1) (at-form .form-of .ensures)) g
-    (sym (at-held .before .enum-told5 .given .1) ∙ at-range .range-of .ensures) (s .args .key)
+    let W = well-formed y xs (at-range .before .before .enum-told3 .given .1) (at-form .form-of .ensures) in
+    answer-absent y xs n W g (by-digits y xs n W g (sym (at-held .before .enum-told5 .given .1) ∙ at-range .range-of .ensures)) (s .args .key)
     (s .pre .1) (at-held .held-in .result) (at-held .held-in .ensures .0) (c .enum-told6 .given .1)
 
 returns-4 : tie.Need-returns-4
@@ -39,8 +39,8 @@ returns-5 c g =
     let at-held = c .before .before .before in let at-range = at-held .before .before .before in let at-form = at-range .before .before .before .before in
     let s = at-form .before .before .before .before .before in
     let y = s .args .layout in let xs = s .args .slot .now in let n = s .args .name .now in
-    answer-found y xs n (well-formed y xs (at-range .before .before .enum-told3 .given .1) (at-form .form-of .ensures)) g
-    (sym (at-held .before .enum-told5 .given .1) ∙ at-range .range-of .ensures) (s .args .key)
+    let W = well-formed y xs (at-range .before .before .enum-told3 .given .1) (at-form .form-of .ensures) in
+    answer-found y xs n W g (by-digits y xs n W g (sym (at-held .before .enum-told5 .given .1) ∙ at-range .range-of .ensures)) (s .args .key)
     (s .pre .1) (at-held .held-in .result) (at-held .held-in .ensures .0)
     (at-held .held-in .ensures .1) (c .before .content .given .1)
 
