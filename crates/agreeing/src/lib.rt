@@ -23,6 +23,7 @@ pub struct Spot {
     pub least: usize,
 }
 
+// A pass that strays tells nothing of the trie.
 pub enum Way {
     At(Spot),
     Astray,
@@ -208,6 +209,7 @@ fn root_of(cells: usize, first: usize) -> usize
     65536
 }
 
+// True tells that the trie agrees; false tells nothing.
 fn matches(file: &[u8], size: Size, order: &[u8; 64], count: usize, image: &[u8]) -> bool
     requires { ⌜ (Sized (length (now file)) size) × (Below (now order) (size .slots)) × (count ≤ 64) × (length (now image) ≡ image-length) ⌝ }
     ensures { λ r. ⌜ (r ≡ true → AgreeingTold true (now (file .entry)) size (now (order .entry)) count (trie-from (now (image .entry)))) ⌝ }
