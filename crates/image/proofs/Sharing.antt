@@ -22,18 +22,10 @@ diff-nil [] = refl
 diff-nil (a ∷ n) = refl
 
 diff-same : (a b : ℕ) (n p : Str) → a ≡ b → diff (a ∷ n) (b ∷ p) ≡ suc (diff n p)
-diff-same a b n p e = go (ℕ-discrete a b)
-  where
-    go : (d : Dec (a ≡ b)) → diff-at d (diff n p) ≡ suc (diff n p)
-    go (yes f) = refl
-    go (no f) = absurd (f e)
+diff-same a b n p e = rw (eq-eqb a b e)
 
 diff-other : (a b : ℕ) (n p : Str) → (a ≡ b → ⊥) → diff (a ∷ n) (b ∷ p) ≡ 0
-diff-other a b n p e = go (ℕ-discrete a b)
-  where
-    go : (d : Dec (a ≡ b)) → diff-at d (diff n p) ≡ 0
-    go (yes f) = absurd (e f)
-    go (no f) = refl
+diff-other a b n p e = rw (ne-eqb a b e)
 
 none : {X : Type 0} (b : ℕ) (p : Str) → is-at-most [] (b ∷ p) ≡ true → X
 unfolding is-at-most
