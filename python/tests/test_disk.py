@@ -181,8 +181,8 @@ class Opening(InFolder):
             (self.folder / "other").write_bytes(sound_file(["b"], b=2, slots=2))
             with palhavento.open(self.path) as writer, palhavento.open(self.path, readonly=True) as reader:
                 away(self.path)
-                # A writer that only reads looks for its file every so often.
-                time.sleep(disk.LOOK_AGAIN)
+                # Who only reads looks for its file every so often, by a coarse clock.
+                time.sleep(2 * disk.LOOK_AGAIN)
                 for call in (lambda: writer.__setitem__("a", 2), lambda: writer.get("a"), lambda: reader.get("a")):
                     with self.assertRaisesRegex(FileNotFoundError, "removed, renamed or replaced"):
                         call()

@@ -124,7 +124,7 @@ class Raised(InFolder):
             with self.open(readonly=readonly) as store:
                 self.path.write_bytes(b"TKF")
                 # A writer takes its file for its own, and looks every so often whether it is.
-                time.sleep(disk.LOOK_AGAIN)
+                time.sleep(2 * disk.LOOK_AGAIN)
                 self.refused(errors.BadFile, store.__getitem__, "a")
                 self.refused(errors.BadFile, store.__len__)
                 self.refused(errors.BadFile, store.rebuild)

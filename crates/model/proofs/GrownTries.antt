@@ -25,6 +25,7 @@ use Rattle.model.proofs.GrownCells.{cells-turned, grows, new-cells, roo
 use Rattle.model.proofs.Merging.{Removal, alone, leftward, merge-few, merge-sound, removal-is, rightward}
 use Rattle.model.proofs.Changes.{Change, absent, after-second, fits, is-split, length-all, one-sound, removes, row-all, same-heads, second-sound, splits, trie-after, well-a}
 use Rattle.model.proofs.Walks.{live-cells, path-cells, path-reads, spot-cells, spot-reads, string-fits, top-side, walk-cells, walk-reads}
+use Rattle.model.proofs.Growth.{at-leaf-grown}
 
 -- The walk over a trie that agrees, by its parts, and growth by them.
 module _ {b : ℕ} {fs : List Slot} (S : Sound b fs) {t : Trie} (A : Agrees fs t) (n : Str) where
@@ -48,7 +49,7 @@ module _ {b : ℕ} {fs : List Slot} (S : Sound b fs) {t : Trie} (A : Agrees fs t
   agreed-walk = rw parts
 
   pub grown-trie-is : (s : Str) (B N : ℕ) → grown-trie t n s B N ≡ trie-of (cells-turned live top n s B N) (root-turned live top n s B N)
-  grown-trie-is s B N = rw parts
+  grown-trie-is s B N = rw (parts, at-leaf-grown s (path-cells live n (suc (length live)) [] top) (walk-cells live n (suc (length live)) [] top))
 
 -- A root that is a cell is cell 0, and stays so.
 pub root-further : (count first : ℕ) → (count ≡ 0 → ⊥) → further 0 ≡ root-side count first

@@ -1,9 +1,9 @@
 -- A chain of cells at a leaf is a trie of the leaf's interval; grafting it keeps a trie a trie.
-use Rattle.model.proofs.Prelude.{List, List·Memᴰ, List·Memᴰ·cases-cons, List·Memᴰ·head, List·Memᴰ·not-nil, List·Memᴰ·tail, Memᴰ·append-left, Memᴰ·append-right, [], _++_, _<_, _∙_, _∷_, _≡_, _≢_, _≤_, _⊎_, add-one, ap, append-assoc, append-nil, arith, drop, drop-cons, getD, inl, inr, length, length-append, length-take-le, refl, suc, sym, take, take-append-drop, take-length, take-suc, ℕ}
+use Rattle.model.proofs.Prelude.{List, List·Memᴰ, List·Memᴰ·cases-cons, List·Memᴰ·head, List·Memᴰ·not-nil, List·Memᴰ·tail, Memᴰ·append-left, Memᴰ·append-right, [], _++_, _<_, _∙_, _∷_, _≡_, _≢_, _≤_, _⊎_, add-one, ap, append-assoc, append-nil, arith, drop, drop-cons, drop-length, eq-eqb, getD, inl, inr, length, length-append, length-take-le, ne-eqb, refl, suc, sym, take, take-append-drop, take-length, take-suc, ℕ, ℕ-discrete}
 use Rattle.model.specs.Order.{Low, Str, _≺_, _⊑_, _⊴_, _◁_, above, at, diff}
 use Rattle.model.specs.Searches.{fresh, longer}
 use Rattle.model.specs.Tries.{Tree, cell, leaf, node}
-use Rattle.model.specs.Growth.{chain-of, grown, turn}
+use Rattle.model.specs.Growth.{at-leaf, chain-of, grown, turn}
 use Rattle.model.proofs.Deciding.{le?, str?}
 use Rattle.model.proofs.Order.{diff-le-right, diff-lt-left, le-append, le-refl, le-take, low-at, low-le, low-refl, lt-le, lt-or-ge, sandwich, snoc-lt, split-lt, take-diff}
 use Rattle.model.proofs.Tries.{Spans, cut, cut-at, relabel, tip}
@@ -27,6 +27,14 @@ string? x (y ∷ ys) = go (str? x y) (string? x ys)
 abbrev pub grow : {X : Type 0} → Dec X → Str → Str → ℕ → ℕ → Tree → Tree
 grow (yes m) c s A N t = relabel (turn s A N) [] t
 grow (no n) c s A N t = relabel (turn s A N) [] (graft c s [] t)
+
+-- R8.2: the chain of a string that shares all its digits with the path is the leaf itself.
+pub at-leaf-grown : (s p : Str) (B : ℕ) → at-leaf s p B ≡ grown s p B
+at-leaf-grown s p B = go (ℕ-discrete (diff s p) (length s))
+  where
+    go : Dec (diff s p ≡ length s) → at-leaf s p B ≡ grown s p B
+    go (yes e) = rw (eq-eqb (diff s p) (length s) e, e, drop-length s)
+    go (no e) = rw (ne-eqb (diff s p) (length s) e)
 
 -- What holds at a leaf holds at a leaf of a part of its interval.
 pub record Shrinks (P : Low → Str → ℕ → Type 0) : Type 0 where

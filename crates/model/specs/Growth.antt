@@ -20,10 +20,13 @@ abbrev pub chain-of : ℕ → Str → ℕ → Tree
 chain-of i [] A = leaf A
 chain-of i (d ∷ ds) A = node d i (chain-of (suc i) ds A) (leaf A)
 
--- R8.3: what stands at the leaf, whose path is p and slot A: a cell for each digit of s past those shared with p. R8.2: where all are
--- shared, s is the string of a cell already, and no cell is added.
+-- R8.3: what stands at the leaf, whose path is p and slot A, for the digits of s past those shared with p.
 abbrev pub grown : Str → Str → ℕ → Tree
 grown s p A = chain-of (diff s p) (drop (diff s p) s) A
+
+-- R8.2: where s shares all its digits with the leaf's path, it is the string of a cell already, and no cell is added.
+abbrev pub at-leaf : Str → Str → ℕ → Tree
+at-leaf s p A = cond (eqb (diff s p) (length s)) (leaf A) (grown s p A)
 
 -- R8.5: A's leaves whose paths are above s, the right sides of the new cells among them, lead to the new slot.
 abbrev pub turn : Str → ℕ → ℕ → Str → ℕ → ℕ
@@ -77,8 +80,8 @@ abbrev pub grown-by : Trie → Str → ℕ → ℕ → Option (Str × Spot × �
 grown-by t s A N nothing = t
 grown-by t s A N (some (p, k, B)) =
     let cs = take (t .count) (t .cells) in
-    let ds = grow-cells cs k (grown s p B) in
-    let a = placed (root-side (t .count) (t .first)) (side-of (length cs) (grown s p B)) in
+    let ds = grow-cells cs k (at-leaf s p B) in
+    let a = placed (root-side (t .count) (t .first)) (side-of (length cs) (at-leaf s p B)) in
     trie-of (turn-cells (turn s A N) (suc (length ds)) [] a ds) (turn-side (turn s A N) [] a)
 
 -- The trie after A was split at s, the split key being c, and N took the names above s.
