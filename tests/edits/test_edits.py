@@ -46,8 +46,9 @@ class Edits(unittest.TestCase):
         self.write("alone", "0")
         self.write("crates/c/proofs/C.antt", "use Rattle.d.proofs.Prelude.{refl}\n")
         self.write("crates/c/src/lib.rt", "fn f() {\n    first;\n    twice; twice;\n}\n")
-        self.write("target/stamp/c", "stamp")
-        self.write("target/rlib/c.rlib/toolchain/checked/c.oantt", "--@ kernel some/kind\n")
+        for crate in "cd":
+            self.write(f"target/stamp/{crate}", "stamp")
+            self.write(f"target/rlib/{crate}.rlib/toolchain/checked/{crate}.oantt", "--@ kernel some/kind\n")
         self.write("bin/rt", PROVER)
         (self.top / "bin" / "rt").chmod(0o755)
         self.write("control", PROVED)
@@ -175,6 +176,51 @@ class Edits(unittest.TestCase):
         status, said = self.run_script("c")
         self.assertEqual(status, 0, said)
         self.assertLess(said.index("c/two"), said.index("c/one"))
+
+    def edit_three_functions(self):
+        """An edit of each of three functions, the second of which calls the third."""
+        self.write("crates/c/src/lib.rt", "".join(f"fn {name}() {{\n    {name}_first;\n    {calls};\n}}\n\n" for name, calls in ("fz", "gh", "hz")))
+        for name in "fgh":
+            self.write(f"edits/c/{name}.edit", f"file: src/lib.rt\nold: {name}_first;\nnew: {name}_edited;\n")
+        (self.top / "edits/c/one.edit").unlink()
+
+    def test_edits_of_functions_that_do_not_call_each_other_are_tried_together(self):
+        self.edit_three_functions()
+        self.write("answer", "1\nproofs/h/Proof.antt:1:1: error: h\nproofs/f/Proof.antt:7:1: error: f\n"
+                   "fn c::f: not proved\nfn c::h: not proved\nfn c::g: not proved; it calls `c::h`, which is not proved\nlogic=not-proved\n")
+        status, said = self.run_script()
+        self.assertEqual(status, 0, said)
+        self.assertRegex(said, r"c/f: refused, first at proofs/f/Proof.antt:7:1 \(\d+ s, with 1 more\)")
+        # What only calls a function that is not proved is tried alone, and so is the function that it calls.
+        for name in "gh":
+            self.assertRegex(said, rf"c/{name}: refused, first at proofs/h/Proof.antt:1:1 \(\d+ s\)")
+        self.assertTrue(said.endswith("3 passed, 0 failed\n"), said)
+
+    def test_an_edit_tried_with_others_whose_function_is_proved_is_tried_alone(self):
+        self.edit_three_functions()
+        self.write("answer", "1\nproofs/h/Proof.antt:1:1: error: h\nfn c::f: proved\nfn c::h: not proved\nfn c::g: proved\nlogic=not-proved\n")
+        status, said = self.run_script()
+        self.assertEqual(status, 0, said)
+        self.assertRegex(said, r"c/f: refused, first at proofs/h/Proof.antt:1:1 \(\d+ s\)")
+
+    def test_beside_a_proof_each_crate_waits_for_its_own(self):
+        (self.top / "target/stamp/c").unlink()
+        self.write("proving", "")
+        path = f"{self.top / 'bin'}:{os.environ['PATH']}"
+        run = subprocess.Popen(
+            ["python3", self.top / "scripts" / "edits", "--while", self.top / "proving"],
+            stdout=subprocess.PIPE, text=True, env={**os.environ, "PATH": path, "PLACE": str(self.top)},
+        )
+        with self.assertRaises(subprocess.TimeoutExpired):
+            run.wait(1)
+        self.write("target/stamp/c", "stamp")
+        self.assertTrue(run.communicate(timeout=60)[0].endswith("1 passed, 0 failed\n"))
+
+    def test_a_crate_that_was_not_proved_when_the_proof_ended_fails(self):
+        (self.top / "target/stamp/c").unlink()
+        status, said = self.run_script("--while", self.top / "ended")
+        self.assertEqual(status, 1)
+        self.assertIn("FAILED: c: it has not been proved", said)
 
     def test_every_edit_starts_from_the_crate_as_it_stands(self):
         self.write("edits/c/two.edit", "file: src/lib.rt\nold:     first;\nnew:     edited;\n")
