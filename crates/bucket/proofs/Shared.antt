@@ -75,9 +75,9 @@ words-diff (a ∷ x) (b ∷ y) (suc n) g h e f = rw (count, number) (go (ℕ-dis
         rw (eq-eqb a b q, z, behind-zeros 8 (8 * n) D) (omega (arith, r))
     go (no q) r = rw (ne-eqb a b q) (omega (arith, among-lowest 8 (8 * n) (bitXor a b) D (xor-some a b q) (xor-lt 8 a b (g .0) (h .0))))
 
-diff-same : (x : Str) → diff x x ≡ length x
-diff-same [] = refl
-diff-same (a ∷ x) = go (ℕ-discrete a a) (diff-same x)
+diff-itself : (x : Str) → diff x x ≡ length x
+diff-itself [] = refl
+diff-itself (a ∷ x) = go (ℕ-discrete a a) (diff-itself x)
   where
     go : (d : Dec (a ≡ a)) → diff x x ≡ length x → cond (eqb a a) (suc (diff x x)) 0 ≡ suc (length x)
     go (yes e) f = rw (eq-eqb a a e) (ap suc f)
@@ -90,7 +90,7 @@ shared-padded zero m u v g h l d = absurd (omega arith)
 shared-padded (suc n) zero u v g h l d = absurd (omega arith)
 shared-padded (suc n) (suc m) [] [] g h l d =
     let z : List ℕ = replicate (suc m) 0 in
-    absurd (omega (arith, d, diff-same (take (suc n) z), length-take-le (suc n) z (omega (arith, length-replicate {A = ℕ} (suc m) 0)), l))
+    absurd (omega (arith, d, diff-itself (take (suc n) z), length-take-le (suc n) z (omega (arith, length-replicate {A = ℕ} (suc m) 0)), l))
 shared-padded (suc n) (suc m) [] (e ∷ v) g h l d = go (ℕ-discrete 0 e)
   where
     go : (q : Dec (0 ≡ e)) → cond (eqb 0 e) (suc (diff (take n (replicate m 0)) (take n (v ++ replicate (suc m) 0)))) 0 ≡ 0

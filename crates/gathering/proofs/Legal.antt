@@ -1,11 +1,11 @@
 -- One filled name by its words, and a name that is legal by the name filled.
 use Rattle.model.proofs.Prelude.{List, [], _&&_, _++_, _+_, _-_, _/_, _<_, _^_, _∙_, _∷_, _≡_, _≤_, ap, arith, eqb, getD, length, not, refl, replicate, sym, take-all, true, zero-add, ℕ}
 use lib.Bits.{bitOr}
-use Rattle.model.specs.Names.{Digits, filled}
+use Rattle.model.specs.Names.{filled}
 use Rattle.model.specs.Order.{Str, first-digit, last-digit}
 use Rattle.model.specs.Tests.{are-digits, is-blank-digit, is-legal-filled, is-legal-name}
 use Rattle.model.proofs.Tests.{both-true}
-use Rattle.model.proofs.Names.{are-digits-digits, blank-no, digits-are-digits, filled-short}
+use Rattle.model.proofs.Names.{are-digits-digits, blank-no, digits-are-digits, digits-front, filled-short}
 use Rattle.digits.proofs.Laws as digits
 use Rattle.gathering.specs.Names.{Clean}
 use Rattle.gathering.proofs.Bits.{begins, blanks, clean}
@@ -26,11 +26,6 @@ words-name s a₁ a₂ a₃ u₁ u₂ u₃ e z f₁ f₂ f₃ g₁ g₂ g₃ =
     let h : bitOr (bitOr (bitOr (bitOr a₁ a₂) a₃) (bitOr (bitOr u₁ u₂) u₃)) (1 - 2 ^ 63 / 2 ^ 63) ≡ 0 = rw z refl in
     clean-name s (2 ^ 63) e (clean s s (2 ^ 63) a₁ a₂ a₃ u₁ u₂ u₃ (omega arith) h f₁ f₂ f₃ g₁ g₂ g₃)
 
--- The digits of a beginning.
-beginning : (x y : Str) → Digits 0x20 (x ++ y) → Digits 0x20 x
-beginning [] y d = tt
-beginning (a ∷ x) y d = (d .0, d .1, beginning x y (d .2))
-
 first-filled : (n y : Str) → 0 < length n → first-digit (n ++ y) ≡ first-digit n
 first-filled [] y h = absurd (omega arith)
 first-filled (d ∷ n) y h = refl
@@ -44,4 +39,4 @@ filled-legal n some fits last e =
     let q = both-true (eqb (length (filled n)) 24) (are-digits 0x20 (filled n)) (p .0) in
     let d : are-digits 0x20 (n ++ y) ≡ true = rw (← i) (q .1) in
     digits.legal-name n (omega arith) fits (λ b. blank-no (first-digit (filled n)) (p .1) (rw (i, first-filled n y some) b)) last
-    ∙ digits-are-digits 0x20 n (beginning n y (are-digits-digits 0x20 (n ++ y) d))
+    ∙ digits-are-digits 0x20 n (digits-front n y (are-digits-digits 0x20 (n ++ y) d))

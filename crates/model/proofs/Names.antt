@@ -36,7 +36,7 @@ digits-fill [] zero h = tt
 digits-fill [] (suc k) h = (omega arith, omega arith, digits-fill [] k tt)
 digits-fill (d ∷ x) k h = (h .0, h .1, digits-fill x k (h .2))
 
-digits-front : (x y : Str) → Digits 0x20 (x ++ y) → Digits 0x20 x
+pub digits-front : (x y : Str) → Digits 0x20 (x ++ y) → Digits 0x20 x
 digits-front [] y h = tt
 digits-front (d ∷ x) y h = (h .0, h .1, digits-front x y (h .2))
 

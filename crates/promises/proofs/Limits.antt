@@ -47,15 +47,15 @@ unfoldable pub asked : Result → List Store
 asked (refuse r) = []
 asked (stores ss) = ss
 
-put-left : (xs : List ℕ) (t : Trie) (y : Layout) (fs : List Slot) (n : Str) (v limit : ℕ) (r : Result) → put-by-stores xs t y fs n v limit r .file ≡ stores-bytes y (take limit (asked r)) xs
+put-stored : (xs : List ℕ) (t : Trie) (y : Layout) (fs : List Slot) (n : Str) (v limit : ℕ) (r : Result) → put-by-stores xs t y fs n v limit r .file ≡ stores-bytes y (take limit (asked r)) xs
 unfolding put-by-stores stores-bytes asked
-put-left xs t y fs n v limit (refuse r) = rw (take-nil limit)
-put-left xs t y fs n v limit (stores ss) = left-of (λ (d : PutDone). d .file) _ _ y ss xs limit refl refl
+put-stored xs t y fs n v limit (refuse r) = rw (take-nil limit)
+put-stored xs t y fs n v limit (stores ss) = left-of (λ (d : PutDone). d .file) _ _ y ss xs limit refl refl
 
-pub remove-left : (xs : List ℕ) (t : Trie) (y : Layout) (fs : List Slot) (limit : ℕ) (r : Result) → remove-by-stores xs t y fs limit r .file ≡ stores-bytes y (take limit (asked r)) xs
+pub remove-stored : (xs : List ℕ) (t : Trie) (y : Layout) (fs : List Slot) (limit : ℕ) (r : Result) → remove-by-stores xs t y fs limit r .file ≡ stores-bytes y (take limit (asked r)) xs
 unfolding remove-by-stores stores-bytes asked
-remove-left xs t y fs limit (refuse r) = rw (take-nil limit)
-remove-left xs t y fs limit (stores ss) = left-of (λ (d : RemoveDone). d .file) _ _ y ss xs limit refl refl
+remove-stored xs t y fs limit (refuse r) = rw (take-nil limit)
+remove-stored xs t y fs limit (stores ss) = left-of (λ (d : RemoveDone). d .file) _ _ y ss xs limit refl refl
 
 module _ (xs : List ℕ) (t : Trie) (name : List ℕ) where
   -- The layout of a file that passed the checks.
@@ -70,7 +70,7 @@ module _ (xs : List ℕ) (t : Trie) (name : List ℕ) where
       let c = content-from v (kept-run y run) in
       let r = put-takes y fs (filled name) c (kept-run y run) in
       in-order xs (λ (limit : ℕ). put-of xs t name v run limit .file) (asked r)
-      (λ limit h. rw (le-ltb 2 limit h, e, f, layout-is y fs f) (put-left xs t y fs (filled name) c limit r))
+      (λ limit h. rw (le-ltb 2 limit h, e, f, layout-is y fs f) (put-stored xs t y fs (filled name) c limit r))
 
   remove-in-order : (g : Bool) (l : Looked) → is-legal-name name ≡ g → looked-of xs t ≡ l → InOrder xs (λ (limit : ℕ). remove-of xs t name limit .file)
   unfolding remove-of remove-on-looked stores-bytes
@@ -79,7 +79,7 @@ module _ (xs : List ℕ) (t : Trie) (name : List ℕ) where
   remove-in-order true (fine y fs) e f =
       let r = call (y .b) (place-of y) fs (remove (filled name)) in
       in-order xs (λ (limit : ℕ). remove-of xs t name limit .file) (asked r)
-      (λ limit h. rw (le-ltb 2 limit h, e, f, layout-is y fs f) (remove-left xs t y fs limit r))
+      (λ limit h. rw (le-ltb 2 limit h, e, f, layout-is y fs f) (remove-stored xs t y fs limit r))
 
 freed-left : (xs : List ℕ) (N limit : ℕ) → recover-by xs limit (is-cut N) .file ≡ stores-bytes (layout-of xs) (take limit ((N, free) ∷ [])) xs
 unfolding recover-by stores-bytes

@@ -37,7 +37,7 @@ use Rattle.promises.specs.Demand2.{LeadsRight}
 use Rattle.promises.specs.Merging.{Alone, NameGone, Merging, NotLeft, NotRight, Rule, Takes, left-many, no-left, no-right, right-many}
 use Rattle.promises.proofs.Demand1.{name-legal}
 use Rattle.promises.proofs.Leading.{Passed, leads, looked-passed}
-use Rattle.promises.proofs.Limits.{asked, remove-left}
+use Rattle.promises.proofs.Limits.{asked, remove-stored}
 use Rattle.promises.proofs.Meanings.{passed-looked}
 
 -- Which stores, and what is left of them.
@@ -53,7 +53,7 @@ module _ (xs : List ℕ) (t : Trie) (name : List ℕ) (y : Layout) (fs : List Sl
     takes : Takes our-calls xs t name y (s ∷ ss)
     unfolding remove-by-stores asked
     takes = record {
-      file = λ limit h. rw (made-by limit h) (remove-left xs t y fs limit (stores (s ∷ ss)));
+      file = λ limit h. rw (made-by limit h) (remove-stored xs t y fs limit (stores (s ∷ ss)));
       made = λ limit h k. rw (made-by limit h, le-ltb limit (length (s ∷ ss)) k);
       stopped = λ limit h k. rw (made-by limit h, lt-ltb limit (length (s ∷ ss)) k);
     }
