@@ -1,5 +1,4 @@
-//! Measures how deep each call goes into the stack: every call runs on a painted stack of 128 KB and must leave more than
-//! half of it untouched.
+//! Measures how deep each call goes into the stack: every call runs on a painted stack of 128 KB and may touch 24 KB of it.
 
 use std::ffi::c_void;
 use std::io::Write;
@@ -17,8 +16,8 @@ use palhavento_tests::model::trie::{rebuilt, Cell, Side, Trie, CELLS};
 use palhavento_tests::run::SMALL_STACK;
 use palhavento_tests::watch;
 
-/// Each call needs less than 64 KB of stack (include/palhavento.h).
-const ALLOWED: usize = 64 * 1024;
+/// include/palhavento.h promises less than 64 KB; we hold ourselves to 24.
+const ALLOWED: usize = 24 * 1024;
 
 /// Room for what the C library calls `pthread_attr_t`.
 #[repr(C, align(16))]
@@ -192,7 +191,7 @@ fn tries(chance: &mut Chance, file: &[u8]) -> Vec<Vec<u8>> {
     images
 }
 
-/// Every call on full-size inputs, on a stack of 128 KB, with the model's answer and in less than 64 KB.
+/// Every call on full-size inputs, on a stack of 128 KB, with the model's answer and in less than 24 KB.
 #[test]
 fn each_call_uses_less_than_64_kb() {
     watch::start();
