@@ -50,10 +50,10 @@ head-written (e ∷ f ∷ g ∷ h ∷ xs) a b c d l m n = rw (cells-same 256 (e 
 
 -- Another cell.
 module _ (xs : List ℕ) (size : length xs ≡ image-length) (bytes : (i : ℕ) → getD xs i 0 < 256) where
-  left-held : (i : ℕ) → i < 256 → Held (at-cell (trie-from xs .cells) i .left)
+  pub left-held : (i : ℕ) → i < 256 → Held (at-cell (trie-from xs .cells) i .left)
   left-held i h = rw (cell-of xs i h) (side-held _ (omega (arith, bytes (4 + 6 * i + 2), bytes (4 + 6 * i + 3))))
 
-  right-held : (i : ℕ) → i < 256 → Held (at-cell (trie-from xs .cells) i .right)
+  pub right-held : (i : ℕ) → i < 256 → Held (at-cell (trie-from xs .cells) i .right)
   right-held i h = rw (cell-of xs i h) (side-held _ (omega (arith, bytes (4 + 6 * i + 4), bytes (4 + 6 * i + 5))))
 
   pub cell-put : (i : ℕ) (c : Cell) → i < 256 → Held (c .left) → Held (c .right)
