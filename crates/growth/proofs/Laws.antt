@@ -34,7 +34,7 @@ pub redirect-none : (t : Trie) (places : List ℕ) (last a n : ℕ) → Redirect
 redirect-none t places last a n =
     record { full = refl; turned = λ i h k. absurd (omega arith); rest = λ i h. refl; count-is = refl; first-is = refl }
 
-pub redirect-next : {t r : Trie} {places : List ℕ} {i last a n : ℕ} {x : Cell} → Redirected t places i last a n r
+redirect-next : {t r : Trie} {places : List ℕ} {i last a n : ℕ} {x : Cell} → Redirected t places i last a n r
     → x ≡ cell-turned (at-cell (r .cells) i) (getD places i 0) last a n
     → Redirected t places (i + 1) last a n (record { cells = set (r .cells) i x; count = r .count; first = r .first })
 redirect-next {t} {r} {places} {i} {last} {a} {n} {x} R e =
@@ -55,7 +55,7 @@ pub write-none : (t : Trie) (count : ℕ) (s : Str) (shared a n : ℕ) → Writt
 write-none t count s shared a n =
     record { full = refl; new = λ j h k. absurd (omega arith); before = λ i h. refl; behind = λ i h. refl }
 
-pub write-next : {t r : Trie} {count : ℕ} {s : Str} {shared a n i at : ℕ} {x : Cell} → Written t count s shared a n i r
+write-next : {t r : Trie} {count : ℕ} {s : Str} {shared a n i at : ℕ} {x : Cell} → Written t count s shared a n i r
     → count ≤ i → i - count ≡ at - shared → shared ≤ at → x ≡ new-cell s at i (count + (length s - shared)) a n
     → Written t count s shared a n (i + 1) (record { cells = set (r .cells) i x; count = r .count; first = r .first })
 write-next {t} {r} {count} {s} {shared} {a} {n} {i} {at} {x} W b same b′ e =

@@ -3,7 +3,7 @@ use Rattle.model.proofs.Prelude.{List, [], _*_, _+_, _<_, _∙_, _∷_, _≡_, 
 use Rattle.model.specs.declared.Cell.{Cell}
 use Rattle.model.specs.declared.Trie.{Trie}
 use Rattle.model.specs.Tries.{at-cell, zero-cell}
-use Rattle.image.specs.Images.{cell-bytes, cell-from, cells-from, image-length, image-of, pair-of, side-from, trie-from}
+use Rattle.image.specs.Images.{cell-bytes, cells-from, image-length, pair-of, side-from, trie-from}
 use Rattle.image.proofs.Coding.{length-cells-from}
 use Rattle.image.proofs.Images.{Held, Imaged, cell-of, image-back, trie-back}
 use Rattle.image.proofs.Storing.{cell-stored}
