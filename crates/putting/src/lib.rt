@@ -184,10 +184,9 @@ fn standing_of(file: &[u8], image: &[u8], checked: Checked) -> Standing
     let order = survey.order;
     let strings = strings::strings_of(file, checked.size, &order, survey.count);
     let agreement = agreement::agreement_of(image, strings);
-    Standing {
-        lens: strings.lens,
-        places: agreement.places,
-    }
+    let lens = strings.lens;
+    let places = agreement.places;
+    Standing { places, lens }
 }
 
 // Writes the trie after a split over the one before.
