@@ -247,6 +247,6 @@ pub fn is_agreeing(file: &[u8], size: Size, order: &[u8; 64], count: usize, imag
         return true;
     }
     let strings = strings::strings_of(file, size, order, count);
-    let agreement = agreement::agreement_of(image::decoded(image), strings);
+    let agreement = agreement::agreement_of(image, strings);
     agreement.agrees
 }

@@ -1,4 +1,4 @@
-// Agreement of a trie with a sound file: one in-order pass of the trie against the file's strings.
+// Agreement of the trie of an image with a sound file: one in-order pass of the trie against the file's strings.
 //
 // In order a cell must have its string's length less one as number and its string's last digit as digit, and each leaf the
 // slot that stands there. The digits before the last are then the string's own, because in the right part of a cell no
@@ -8,7 +8,8 @@ ghost use mathlib.Core.Path.{_≡_};
 ghost use mathlib.Core.Bool.{false};
 ghost use Prim.Native.Nat.{_≤_, _<_};
 ghost use mathlib.Core.List.{[], _∷_};
-ghost use lib.ListN.{drop};
+ghost use lib.ListN.{drop, length};
+ghost use Rattle.image.specs.Images.{image-length, trie-from};
 ghost use Rattle.model.specs.Agreeing.{are-zero-cells, same-side};
 ghost use Rattle.agreement.specs.Decides.{Decides};
 ghost use Rattle.agreement.specs.Passes.{Passed};
@@ -18,7 +19,6 @@ use digits::usize_of_u8;
 use digits::usize_of_u16;
 use model::Cell;
 use model::Side;
-use model::Trie;
 use trie::Strings;
 
 // Whether the trie agrees; then the place of each cell's string among the strings.
@@ -66,13 +66,13 @@ fn is_no_cell(cell: Cell) -> bool
     is_slot_0(right)
 }
 
-fn is_clear_past(trie: Trie, count: usize) -> bool
-    requires { ⌜ count ≤ 256 ⌝ }
-    ensures { λ r. ⌜ r ≡ are-zero-cells (drop count (trie .cells)) ⌝ }
+fn is_clear_past(image: &[u8], count: usize) -> bool
+    requires { ⌜ (length (now image) ≡ image-length) × (count ≤ 256) ⌝ }
+    ensures { λ r. ⌜ r ≡ are-zero-cells (drop count (trie-from (now (image .entry)) .cells)) ⌝ }
 {
     let mut i = count;
     while i < 256 {
-        let cell = trie.cells[i];
+        let cell = image::cell_at(image, i);
         if !is_no_cell(cell) {
             return false;
         }
@@ -82,9 +82,9 @@ fn is_clear_past(trie: Trie, count: usize) -> bool
 }
 
 // The pass itself, over a trie whose count is the number of strings and not 0.
-fn pass(trie: Trie, strings: Strings) -> Agreement
-    requires { ⌜ strings .count ≤ 256 ⌝ }
-    ensures { λ r. ⌜ Passed (trie .cells) strings (Side.Cell 0) r ⌝ }
+fn pass(image: &[u8], strings: Strings) -> Agreement
+    requires { ⌜ (length (now image) ≡ image-length) × (strings .count ≤ 256) ⌝ }
+    ensures { λ r. ⌜ Passed (trie-from (now (image .entry)) .cells) strings (Side.Cell 0) r ⌝ }
 {
     let count = strings.count;
     let mut places = [256u16; 256];
@@ -108,7 +108,7 @@ fn pass(trie: Trie, strings: Strings) -> Agreement
                 }
                 top -= 1;
                 let k = usize_of_u8(stack[top]);
-                let cell = trie.cells[k];
+                let cell = image::cell_at(image, k);
                 let n = usize_of_u8(cell.number);
                 if n + 1 != usize_of_u8(strings.lens[done]) {
                     return disagreement();
@@ -132,7 +132,7 @@ fn pass(trie: Trie, strings: Strings) -> Agreement
                 if count <= k {
                     return disagreement();
                 }
-                let cell = trie.cells[k];
+                let cell = image::cell_at(image, k);
                 let n = usize_of_u8(cell.number);
                 if n < least {
                     return disagreement();
@@ -147,21 +147,21 @@ fn pass(trie: Trie, strings: Strings) -> Agreement
 }
 
 // Whether the trie agrees with the file that has these strings.
-pub fn agreement_of(trie: Trie, strings: Strings) -> Agreement
-    requires { ⌜ strings .count ≤ 256 ⌝ }
-    ensures { λ r. ⌜ Decides trie strings r ⌝ }
+pub fn agreement_of(image: &[u8], strings: Strings) -> Agreement
+    requires { ⌜ (length (now image) ≡ image-length) × (strings .count ≤ 256) ⌝ }
+    ensures { λ r. ⌜ Decides (trie-from (now (image .entry))) strings r ⌝ }
 {
     if !strings.few {
         return disagreement();
     }
     let count = strings.count;
-    if usize_of_u16(trie.count) != count {
+    if image::count_of(image) != count {
         return disagreement();
     }
-    if !is_clear_past(trie, count) {
+    if !is_clear_past(image, count) {
         return disagreement();
     }
-    let first = usize_of_u16(trie.first);
+    let first = image::first_of(image);
     if count == 0 {
         return Agreement {
             agrees: first == usize_of_u8(strings.slots[0]),
@@ -171,5 +171,5 @@ pub fn agreement_of(trie: Trie, strings: Strings) -> Agreement
     if first != 0 {
         return disagreement();
     }
-    pass(trie, strings)
+    pass(image, strings)
 }

@@ -9,12 +9,12 @@ ghost use lib.ListN.{length, take};
 ghost use Rattle.model.specs.Order.{diff};
 ghost use Rattle.growth.specs.Grows.{Grows};
 ghost use Rattle.growth.specs.Parts.{Appended, FirstPlace, Redirected, cell-turned, leaf-place, next-side, side-joined, side-turned, walk-joined};
+ghost use Rattle.image.specs.Images.{image-length, trie-from};
 use digits::u16_of_usize;
 use digits::usize_of_u8;
 use digits::usize_of_u16;
 use model::Cell;
 use model::Side;
-use model::Trie;
 use trie::Walk;
 
 // How many digits s shares with the path of the leaf at which the split key's walk ended: as many beginnings of s are
@@ -97,19 +97,17 @@ fn turned_cell(cell: Cell, place: usize, last: usize, a: u16, n: u16) -> Cell
 }
 
 // R8.5: A's leaves with a path above s, which are those past the place `last`, lead to N.
-fn redirected(trie: Trie, places: &[u16; 256], count: usize, last: usize, a: u16, n: u16) -> Trie
-    requires { ⌜ count ≤ 256 ⌝ }
-    ensures { λ r. ⌜ Redirected trie (now (places .entry)) count last a n r ⌝ }
+fn redirect(image: &mut [u8], places: &[u16; 256], count: usize, last: usize, a: u16, n: u16)
+    requires { ⌜ (length (now image) ≡ image-length) × (count ≤ 256) × (n < 32768) ⌝ }
+    ensures { λ _. ⌜ Redirected (trie-from (now (image .entry))) (now (places .entry)) count last a n (trie-from (now (image .exit))) ⌝ }
 {
-    let mut turned = trie;
     let mut i = 0;
     while i < count {
-        let cell = turned.cells[i];
+        let cell = image::cell_at(image, i);
         let other = turned_cell(cell, usize_of_u16(places[i]), last, a, n);
-        turned.cells[i] = other;
+        image::write_cell(image, i, other);
         i += 1;
     }
-    turned
 }
 
 // The cell with one side leading to a further cell.
@@ -147,12 +145,13 @@ fn next_of(i: usize, end: usize, a: u16) -> Side
 
 // R8.4: one cell for each digit of s past the shared ones, each left of the one before; the last one's left side leads
 // to A, and all right sides to N.
-fn appended(trie: Trie, count: usize, s: &[u8], shared: usize, a: u16, n: u16) -> Trie
-    requires { ⌜ (count + length (now s) ≤ 256 + shared) × (shared ≤ length (now s)) × (length (now s) ≤ 24) ⌝ }
-    ensures { λ r. ⌜ Appended trie count (now (s .entry)) shared a n r ⌝ }
+fn append(image: &mut [u8], count: usize, s: &[u8], shared: usize, a: u16, n: u16)
+    requires { ⌜ (length (now image) ≡ image-length) × (count + length (now s) ≤ 256 + shared) × (shared ≤ length (now s)) × (length (now s) ≤ 24)
+        × (a < 32768) × (n < 32768) ⌝ }
+    ensures { λ _. ⌜ Appended (trie-from (now (image .entry))) count (now (s .entry)) shared a n (trie-from (now (image .exit))) ⌝ }
 {
-    let mut grown = trie;
     let end = count + (s.len() - shared);
+    image::write_head(image, u16_of_usize(end), 0);
     let mut i = count;
     let mut at = shared;
     while at < s.len() {
@@ -163,35 +162,30 @@ fn appended(trie: Trie, count: usize, s: &[u8], shared: usize, a: u16, n: u16) -
             left,
             right: Side::Slot(n),
         };
-        grown.cells[i] = cell;
+        image::write_cell(image, i, cell);
         i += 1;
         at += 1;
     }
-    grown.count = u16_of_usize(end);
-    grown.first = 0;
-    grown
 }
 
 // The side by which the walk reached its leaf leads to the first new cell.
-fn grafted(trie: Trie, count: usize, walk: Walk) -> Trie
-    requires { ⌜ count ≤ 256 ⌝ }
-    ensures { λ r. ⌜ r ≡ walk-joined trie count walk ⌝ }
+fn graft(image: &mut [u8], count: usize, walk: Walk)
+    requires { ⌜ (length (now image) ≡ image-length) × (count ≤ 256) ⌝ }
+    ensures { λ _. ⌜ trie-from (now (image .exit)) ≡ walk-joined (trie-from (now (image .entry))) count walk ⌝ }
 {
-    let mut grown = trie;
     let k = usize_of_u16(walk.cell);
     if count <= k {
-        return grown;
+        return;
     }
-    let cell = grown.cells[k];
+    let cell = image::cell_at(image, k);
     let other = joined(cell, walk.left, u16_of_usize(count));
-    grown.cells[k] = other;
-    grown
+    image::write_cell(image, k, other);
 }
 
-// The trie after A was split at s and N took the names above s. The walk is that of the split key, and `shared` is how
-// many digits s shares with its path.
-pub fn grown(
-    trie: Trie,
+// Writes the trie after A was split at s and N took the names above s over the one before. The walk is that of the split key, and
+// `shared` is how many digits s shares with its path.
+pub fn grow(
+    image: &mut [u8],
     places: &[u16; 256],
     lens: &[u8; 256],
     walk: Walk,
@@ -199,17 +193,19 @@ pub fn grown(
     shared: usize,
     a: u16,
     n: u16,
-) -> Trie
-    requires { ⌜ (trie .count + length (now s) ≤ 256 + shared) × (shared ≤ length (now s)) × (length (now s) ≤ 24) ⌝ }
-    ensures { λ r. ⌜ Grows trie (now (places .entry)) (now (lens .entry)) walk (now (s .entry)) shared a n r ⌝ }
+)
+    requires { ⌜ (length (now image) ≡ image-length) × (trie-from (now image) .count + length (now s) ≤ 256 + shared) × (shared ≤ length (now s)) × (length (now s) ≤ 24)
+        × (a < 32768) × (n < 32768) ⌝ }
+    ensures { λ _. ⌜ Grows (trie-from (now (image .entry))) (now (places .entry)) (now (lens .entry)) walk (now (s .entry)) shared a n (trie-from (now (image .exit))) ⌝ }
 {
-    let count = usize_of_u16(trie.count);
+    let count = image::count_of(image);
     let place = leaf_place(walk, places);
     if shared == s.len() {
         let last = place_of(lens, place, shared);
-        return redirected(trie, places, count, last, a, n);
+        redirect(image, places, count, last, a, n);
+        return;
     }
-    let turned = redirected(trie, places, count, place, a, n);
-    let joined = grafted(turned, count, walk);
-    appended(joined, count, s, shared, a, n)
+    redirect(image, places, count, place, a, n);
+    graft(image, count, walk);
+    append(image, count, s, shared, a, n);
 }

@@ -1,11 +1,10 @@
 -- The image written and read cell by cell, as the code does it.
-use Rattle.model.proofs.Prelude.{List, [], _%_, _*_, _++_, _+_, _-_, _/_, _<_, _∙_, _∷_, _≡_, _≤_, add-one, ap, append-assoc, append-nil, append-snoc, arith, drop, getD, le-ltb, length, length-append, length-sets, length-take-le, lt-ltb, refl, replicate, set, set-at, sets, sets-eq, suc, sym, take, take-all, take-at, towards-suc, zero, ℕ}
+use Rattle.model.proofs.Prelude.{List, [], _%_, _*_, _++_, _+_, _-_, _/_, _<_, _∙_, _∷_, _≡_, _≤_, add-one, ap, append-assoc, arith, drop, le-ltb, length, length-append, length-sets, length-take-le, lt-ltb, refl, set, sets, sets-eq, suc, sym, take, take-all, take-at, towards-suc, zero, ℕ}
 use Rattle.model.specs.declared.Cell.{Cell}
 use Rattle.model.specs.declared.Side.the-variants.{Cell as further, Slot as slot}
 use Rattle.model.specs.declared.Trie.{Trie}
-use Rattle.model.specs.Tries.{at-cell, trie-of, zero-cell}
-use Rattle.image.specs.Clearing.{read-to}
-use Rattle.image.specs.Images.{cell-bytes, cell-from, cells-bytes, cells-from, head-bytes, image-length, image-of, number-of-side, pair-of, side-from, trie-from}
+use Rattle.model.specs.Tries.{at-cell}
+use Rattle.image.specs.Images.{cell-bytes, cells-bytes, cells-from, head-bytes, image-length, image-of, number-of-side, side-from}
 
 -- A side's number, and the side of a number.
 pub number-cell : (i : ℕ) → (i ≡ 0 → ⊥) → 65535 - (i - 1) ≡ number-of-side (further i)
@@ -74,39 +73,7 @@ pub written-all : (t : Trie) (i : ℕ) (xs : List ℕ) → length xs ≡ image-l
 unfolding image-of
 written-all t i xs l h e = sym (take-all (4 + 6 * i) xs (omega arith)) ∙ e ∙ ap (written t) h
 
--- Read: the first i cells, and no cell past them.
 pub length-cells-from : (n : ℕ) (xs : List ℕ) → length (cells-from n xs) ≡ n
 unfolding cells-from
 length-cells-from zero xs = refl
 length-cells-from (suc n) xs = rw (length-append, length-cells-from n xs) (omega arith)
-
-pub read-first : (u : Trie) (xs : List ℕ) {f n : ℕ} → u ≡ trie-of [] (slot f) → f ≡ pair-of (getD xs 2 0) (getD xs 3 0) → n ≡ pair-of (getD xs 0 0) (getD xs 1 0)
-    → record { cells = u .cells; count = n; first = u .first } ≡ read-to 0 xs
-unfolding cells-from
-read-first u xs e f n = rw (e, f, n)
-
-pub read-next : (t : Trie) (i : ℕ) (xs : List ℕ) {c : Cell} → t ≡ read-to i xs → i < 256 → c ≡ cell-from xs (4 + 6 * i)
-    → record { cells = set (t .cells) i c; count = t .count; first = t .first } ≡ read-to (i + 1) xs
-unfolding cells-from
-read-next t i xs {c} e h w = rw (e, w) (ap (λ (r : List Cell). record { cells = r; count = pair-of (getD xs 0 0) (getD xs 1 0); first = pair-of (getD xs 2 0) (getD xs 3 0) }) cells)
-  where
-    d : Cell
-    d = cell-from xs (4 + 6 * i)
-
-    rest : List Cell
-    rest = replicate (256 - (i + 1)) zero-cell
-
-    more : replicate (256 - i) zero-cell ≡ zero-cell ∷ rest
-    more =
-        let e : 256 - i ≡ suc (256 - (i + 1)) = omega arith in
-        ap (λ (k : ℕ). replicate k zero-cell) e
-
-    cells : set (cells-from i xs ++ replicate (256 - i) zero-cell) i d ≡ cells-from (i + 1) xs ++ replicate (256 - (i + 1)) zero-cell
-    cells =
-        ap (λ (r : List Cell). set (cells-from i xs ++ r) i d) more
-        ∙ set-at (cells-from i xs) zero-cell rest d i (length-cells-from i xs)
-        ∙ sym (append-snoc (cells-from i xs) d rest)
-        ∙ ap (λ (k : ℕ). cells-from k xs ++ rest) (sym (add-one i))
-
-pub read-all : (t : Trie) (xs : List ℕ) → t ≡ read-to 256 xs → t ≡ trie-from xs
-read-all t xs e = e ∙ rw (append-nil (cells-from 256 xs))

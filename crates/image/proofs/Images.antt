@@ -1,11 +1,10 @@
 -- Reading back the image that was written, and the converse: 1,540 bytes and the tries with an image are one to one.
-use Rattle.model.proofs.Prelude.{List, List·getD-append, [], _%_, _*_, _++_, _+_, _-_, _/_, _<_, _∙_, _∷_, _≡_, _≤_, add-zero, ap, append-assoc, arith, cond, decLt, drop, getD, getD-append-add, getD-append-seam, getD-drop, le-ltb, length, length-append, length-drop, lt-ltb, ltb, refl, replicate, suc, sym, take, take-add, take-all, take-suc, zero, ℕ}
+use Rattle.model.proofs.Prelude.{List, List·getD-append, [], _%_, _*_, _++_, _+_, _-_, _/_, _<_, _∙_, _∷_, _≡_, _≤_, add-zero, ap, append-assoc, arith, cond, decLt, drop, getD, getD-append-add, getD-append-seam, getD-drop, le-ltb, length, length-append, length-drop, lt-ltb, ltb, refl, suc, sym, take, take-add, take-all, take-suc, zero, ℕ}
 use Rattle.model.specs.declared.Cell.{Cell}
 use Rattle.model.specs.declared.Side.{Side}
 use Rattle.model.specs.declared.Side.the-variants.{Cell as further, Slot as slot}
 use Rattle.model.specs.declared.Trie.{Trie}
 use Rattle.model.specs.Tries.{at-cell, zero-cell}
-use Rattle.image.specs.Clearing.{read-to}
 use Rattle.image.specs.Images.{cell-bytes, cell-from, cells-bytes, cells-from, head-bytes, image-length, image-of, number-of-side, pair-of, side-from, trie-from}
 use Rattle.image.proofs.Coding.{length-cells-from, written}
 
@@ -101,10 +100,6 @@ module _ (t : Trie) (I : Imaged t) where
 
   pub trie-back : trie-from (image-of t) ≡ t
   trie-back = rw (cells-back 256 (omega arith), take-all 256 (t .cells) (omega (arith, I .whole)), count-back, first-back)
-
-  -- Past its last cell that is not zero nothing need be read.
-  pub trie-back-to : (n : ℕ) → n ≤ 256 → take n (t .cells) ++ replicate (256 - n) zero-cell ≡ t .cells → read-to n (image-of t) ≡ t
-  trie-back-to n h e = rw (cells-back n h, e, count-back, first-back)
 
 -- Each cell of the trie of some bytes.
 cell-is : (n m : ℕ) (xs : List ℕ) → n < m → at-cell (cells-from m xs) n ≡ cell-from xs (4 + 6 * n)

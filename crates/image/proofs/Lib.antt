@@ -1,7 +1,8 @@
+pub mod Agreeing
+pub mod Clear
 pub mod Coding
-pub mod Sharing
 pub mod Courses
 pub mod Images
-pub mod Clear
+pub mod Imaging
+pub mod Sharing
 pub mod Storing
-pub mod Agreeing

@@ -9,15 +9,17 @@ ghost use Prim.Native.Nat.{_≤_, _<_, _+_, _*_, _%_, _/_};
 ghost use lib.ListN.{drop, length};
 ghost use lib.Seq.{sets};
 ghost use Rattle.model.specs.Agreeing.{are-zero-cells};
-ghost use Rattle.model.specs.Tries.{at-cell};
-ghost use Rattle.image.specs.Clearing.{cleared, read-to};
+ghost use Rattle.model.specs.Tries.{at-cell, walk-of};
+ghost use Rattle.trie.specs.Walks.{Walks};
+ghost use Rattle.image.specs.Clearing.{cleared};
 ghost use Rattle.image.specs.Images.{cell-bytes, cell-from, image-length, image-of, number-of-side, pair-of, side-from, trie-from};
 use digits::u16_of_u8;
 use digits::usize_of_u8;
 use digits::usize_of_u16;
 use model::Cell;
 use model::Side;
-use model::Trie;
+use trie::Place;
+use trie::Walk;
 
 mod place;
 
@@ -41,7 +43,7 @@ fn side_of(x: u16) -> Side
     Side::Cell(65535 - x + 1)
 }
 
-fn cell_at(image: &[u8], i: usize) -> Cell
+pub fn cell_at(image: &[u8], i: usize) -> Cell
     requires { ⌜ (i < 256) × (length (now image) ≡ image-length) ⌝ }
     ensures { λ r. ⌜ r ≡ cell-from (now (image .entry)) (4 + 6 * i) ⌝ }
 {
@@ -54,28 +56,20 @@ fn cell_at(image: &[u8], i: usize) -> Cell
     }
 }
 
-// The trie of an image's count, first leaf and first n cells, its other cells zero.
-pub fn decoded_to(image: &[u8], n: usize) -> Trie
-    requires { ⌜ (n ≤ 256) × (length (now image) ≡ image-length) ⌝ }
-    ensures { λ r. ⌜ r ≡ read-to n (now (image .entry)) ⌝ }
-{
-    let mut trie = trie::without_cells(pair(image[2], image[3]));
-    trie.count = pair(image[0], image[1]);
-    let mut i = 0usize;
-    while i < n {
-        let cell = cell_at(image, i);
-        trie.cells[i] = cell;
-        i += 1;
-    }
-    trie
-}
-
-// The trie of an image.
-pub fn decoded(image: &[u8]) -> Trie
+// The walk of a filled name over the trie of an image, damaged ones too. It reads the cells that it meets, and no others.
+pub fn walk_of(image: &[u8], name: &[u8; 24]) -> Walk
     requires { ⌜ length (now image) ≡ image-length ⌝ }
-    ensures { λ r. ⌜ r ≡ trie-from (now (image .entry)) ⌝ }
+    ensures { λ r. ⌜ (r .len ≤ 24) × Walks r (walk-of (trie-from (now (image .entry))) (now (name .entry))) ⌝ }
 {
-    decoded_to(image, 256)
+    let mut walk = Walk::begin(pair(image[0], image[1]), pair(image[2], image[3]));
+    loop {
+        let place = walk.place;
+        let Place::Cell(i) = place else {
+            return walk;
+        };
+        let cell = cell_at(image, usize_of_u16(i));
+        walk = walk.step(name, i, cell);
+    }
 }
 
 // The parts of an image, each read by itself.
@@ -159,6 +153,17 @@ fn number_of(side: Side) -> u16
     }
 }
 
+// Writes another count and first leaf over an image.
+pub fn write_head(image: &mut [u8], count: u16, first: u16)
+    requires { ⌜ length (now image) ≡ image-length ⌝ }
+    ensures { λ _. ⌜ trie-from (now (image .exit)) ≡ record { cells = trie-from (now (image .entry)) .cells; count = count; first = first } ⌝ }
+{
+    image[0] = low(count);
+    image[1] = high(count);
+    image[2] = low(first);
+    image[3] = high(first);
+}
+
 // Writes one cell over an image.
 pub fn write_cell(image: &mut [u8], i: usize, cell: Cell)
     requires { ⌜ (i < 256) × (length (now image) ≡ image-length) ⌝ }
@@ -194,23 +199,6 @@ pub fn write_cleared(image: &mut [u8], count: u16, first: u16)
     };
     let mut i = 0usize;
     while i < 256 {
-        write_cell(image, i, cell);
-        i += 1;
-    }
-}
-
-// Writes the image of a trie.
-pub fn encode(image: &mut [u8], trie: Trie)
-    requires { ⌜ length (now image) ≡ image-length ⌝ }
-    ensures { λ _. ⌜ now (image .exit) ≡ image-of trie ⌝ }
-{
-    image[0] = low(trie.count);
-    image[1] = high(trie.count);
-    image[2] = low(trie.first);
-    image[3] = high(trie.first);
-    let mut i = 0usize;
-    while i < 256 {
-        let cell = trie.cells[i];
         write_cell(image, i, cell);
         i += 1;
     }

@@ -1,5 +1,5 @@
 -- Put into a full bucket: what refuses the split, and its two stores.
-use Rattle.model.proofs.Prelude.{Bool, List, Option, [], _+_, _-_, _<_, _∙_, _≡_, _≤_, ap, ap₂, arith, clash, cond, decLt, false, le-leb, le-ltb, leb, length, lt-leb, lt-ltb, ltb, nothing, some, subst, suc, sym, take, true, ℕ}
+use Rattle.model.proofs.Prelude.{Bool, List, Option, [], _+_, _-_, _<_, _∙_, _≡_, _≤_, ap, ap₂, arith, clash, cond, decLt, false, getD, le-leb, le-ltb, leb, length, lt-leb, lt-ltb, ltb, nothing, some, subst, suc, sym, take, true, ℕ}
 use Rattle.model.specs.declared.Cause.the-variants.{ManyStrings, NoFreeSlot}
 use Rattle.model.specs.declared.Layout.{Layout}
 use Rattle.model.specs.declared.PutAnswer.the-variants.{Added, Refused, Stopped}
@@ -27,7 +27,8 @@ use Rattle.model.specs.Searches.{first, is-free, string-count, strings-of}
 use Rattle.entries.proofs.Parts.{length-new}
 use Rattle.bucket.specs.Forms.{ReadAs}
 use Rattle.slots.specs.Halves.{LowerTold, UpperTold}
-use Rattle.image.specs.Images.{image-of, trie-from}
+use Rattle.image.specs.Images.{image-length, trie-from}
+use Rattle.image.proofs.Images.{image-back}
 use Rattle.file.specs.declared.Plan.{Plan}
 use Rattle.file.specs.declared.Room.{Room}
 use Rattle.file.specs.declared.Room.the-variants.{At, Full as NoRoom}
@@ -55,7 +56,8 @@ use Rattle.splitting.specs.Divides.{Divides, Found}
 use Rattle.splitting.specs.Parts.{Parted}
 use Rattle.splitting.proofs.Counting.{split-count}
 use Rattle.splitting.proofs.Halving.{new-slot-is, old-slot-is, split-begins, split-is, split-some}
-use Rattle.putting.specs.Full.{DivideTold, Full, GrownTold, SplitTold}
+use Rattle.putting.specs.declared.Standing.{Standing}
+use Rattle.putting.specs.Full.{DivideTold, Full, SplitTold, StandingTold}
 use Rattle.putting.proofs.Putting.{stores-made, stores-stopped}
 
 -- A free slot that was found is one of the file's.
@@ -213,19 +215,17 @@ pub divide-told : (xs : List ℕ) (size : Size) → Sized (length xs) size → (
 divide-told xs size Z A row {p} {N} {s} {slot} {new} {old} here new-is old-is q fs e S n v l u es F t D =
     both-planned (size .layout) (Z .legal .b-least) (Z .legal .b-most) xs e S t F D N p slot new old here new-is old-is q
 
-module _ {c : Checked} {xs : List ℕ} {t : Trie} (G : Agreed c xs t) where
-  -- What growth needs to know: where the cells stand, and how long the strings are.
-  pub grown-told : {g : Strings} {a : Agreement} {s : Split} (A N : ℕ) {r : Trie} → Listed g xs (c .size) (c .survey .order) (c .survey .count) → Decides t g a
-      → Grows t (a .places) (g .lens) (s .walk) (take (s .len) (s .string)) (s .shared) A N r → GrownTold r c xs t s A N
-  grown-told {g} {a} {s} A N {r} L D k fs e n v l u es row F d =
-      let K = known G e in
-      let y = c .size .layout in
-      let strung : Strung g (strings-of fs) (slots-between fs none (strings-of fs)) =
-      L .strung fs (listed-slots xs (c .size) (G .ready .said) e) (K .sound) (ready-count (G .ready) e) (ready-order (G .ready) e) in
-      let z = D (y .b) fs (K .sound) strung in
-      let few : length (strings-of fs) ≤ 256 = omega (arith, agreed-count (y .b) (K .sound) t (K .agrees), K .agrees .few) in
-      grown-is y (two G) (few-entries G) xs e (K .sound) t F (K .agrees) d (z .placed (z .agrees-is ∙ agrees-is-agreeing (y .b) (K .sound) (K .agrees)))
-      (strung .holds few .lens-are) N r k
+-- Where the cells stand, and how long the strings are.
+pub standing-told : {c : Checked} {xs : List ℕ} {t : Trie} (G : Agreed c xs t) {g : Strings} {a : Agreement} → Listed g xs (c .size) (c .survey .order) (c .survey .count) → Decides t g a
+    → StandingTold (record { places = a .places; lens = g .lens }) c xs t
+standing-told {c} {xs} {t} G {g} L D fs e =
+    let K = known G e in
+    let b = c .size .layout .b in
+    let strung : Strung g (strings-of fs) (slots-between fs none (strings-of fs)) =
+    L .strung fs (listed-slots xs (c .size) (G .ready .said) e) (K .sound) (ready-count (G .ready) e) (ready-order (G .ready) e) in
+    let z = D b fs (K .sound) strung in
+    let few : length (strings-of fs) ≤ 256 = omega (arith, agreed-count b (K .sound) t (K .agrees), K .agrees .few) in
+    (z .placed (z .agrees-is ∙ agrees-is-agreeing b (K .sound) (K .agrees)), strung .holds few .lens-are)
 
 module _ (image : List ℕ) {c : Checked} {xs : List ℕ} (G : Agreed c xs (trie-from image)) (A : ℕ) (row : List ℕ) (limit : ℕ) where
   abbrev y : Layout
@@ -274,13 +274,18 @@ module _ (image : List ℕ) {c : Checked} {xs : List ℕ} (G : Agreed c xs (trie
             let P = D fs e (known G e .sound) n v l u es F t (divides e F) in
             rw (asked-both e F h, stores-stopped xs ys t y fs n v limit p d C (halves (y .b) (place-of y) N A l u (insert n v es)) P k)
 
-        pub split-made : {w : Trie} → GrownTold w c xs t s A N → d ≡ false → SplitTold (Added, ys, image-of w) xs image (c .size) A row limit
-        split-made {w} g k fs e n v l u es F =
+        -- The bytes that the grown trie is read from are its image.
+        pub split-made : {k : Standing} {w : List ℕ} → StandingTold k c xs t → Grows t (k .places) (k .lens) (s .walk) (take (s .len) (s .string)) (s .shared) A N (trie-from w)
+            → length w ≡ image-length → ((i : ℕ) → getD w i 0 < 256) → d ≡ false → SplitTold (Added, ys, w) xs image (c .size) A row limit
+        split-made {k} {w} told g size bytes made fs e n v l u es F =
             let P = D fs e (known G e .sound) n v l u es F t (divides e F) in
+            let place = told fs e in
+            let is = grown-is y (two G) (few-entries G) xs e (known G e .sound) t F (known G e .agrees) (divides e F) (place .0) (place .1) N (trie-from w) g in
             rw (
               asked-both e F h,
-              stores-made xs ys t y fs n v limit p d C (halves (y .b) (place-of y) N A l u (insert n v es)) P k,
+              stores-made xs ys t y fs n v limit p d C (halves (y .b) (place-of y) N A l u (insert n v es)) P made,
               both-said y (two G) (few-entries G) xs e (known G e .sound) t F,
               both-grown y (two G) (few-entries G) xs e (known G e .sound) t F N,
-              g fs e n v l u es row F (divides e F),
+              ← is,
+              image-back w size bytes,
             )

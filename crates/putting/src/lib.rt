@@ -3,7 +3,7 @@
 ghost use mathlib.Core.Bool.{false, true};
 ghost use mathlib.Core.Path.{_≡_};
 ghost use Prim.Native.Nat.{_≤_, _<_, _+_};
-ghost use lib.ListN.{length};
+ghost use lib.ListN.{length, take};
 ghost use Rattle.model.specs.Calls.{put-of};
 ghost use Rattle.model.specs.Names.{Legal};
 ghost use Rattle.model.specs.Format.{kept-run};
@@ -14,8 +14,9 @@ ghost use Rattle.file.specs.Plans.{Fits};
 ghost use Rattle.file.specs.Sizes.{Sized};
 ghost use Rattle.checking.specs.Homes.{HomeTold};
 ghost use Rattle.checking.specs.Ready.{Agreed, Ready};
+ghost use Rattle.growth.specs.Grows.{Grows};
 ghost use Rattle.splitting.specs.Parts.{Parted};
-ghost use Rattle.putting.specs.Full.{DivideTold, GrownTold, SplitTold};
+ghost use Rattle.putting.specs.Full.{DivideTold, SplitTold, StandingTold};
 ghost use Rattle.putting.specs.Outcomes.{put-left};
 ghost use Rattle.putting.specs.Plans.{AddTold, InTold, OneTold, PutTold, RenewTold, ReplaceTold};
 use checking::Checked;
@@ -32,7 +33,6 @@ use file::Size;
 use model::Cause;
 use model::Layout;
 use model::PutAnswer;
-use model::Trie;
 use slots::Spot;
 use splitting::Split;
 
@@ -40,6 +40,12 @@ use splitting::Split;
 pub struct PutPlan {
     pub plan: Plan,
     pub answer: PutAnswer,
+}
+
+// Where the cells stand among the strings, and how many digits each string has.
+pub struct Standing {
+    pub places: [u16; 256],
+    pub lens: [u8; 256],
 }
 
 fn planned(plan: Plan, answer: PutAnswer) -> PutPlan
@@ -169,21 +175,32 @@ fn divide(file: &[u8], size: Size, a: usize, n: usize, row: &[u8; ROOM], split: 
     file::two_stores(n, &new, a, &old)
 }
 
-// The trie after a split. Only a split needs to know where the cells stand among the strings.
-fn grown(file: &[u8], checked: Checked, trie: Trie, split: Split, a: usize, n: usize) -> Trie
-    requires { ⌜ (Agreed checked (now file) trie) × (a < 64) × (n < 64) × (trie .count + split .len ≤ 256 + split .shared) × (split .shared ≤ split .len) × (split .len ≤ 24) ⌝ }
-    ensures { λ r. ⌜ GrownTold r checked (now (file .entry)) trie split a n ⌝ }
+// Only a split needs to know where the cells stand among the strings.
+fn standing_of(file: &[u8], image: &[u8], checked: Checked) -> Standing
+    requires { ⌜ (length (now image) ≡ image-length) × (Agreed checked (now file) (trie-from (now image))) ⌝ }
+    ensures { λ r. ⌜ StandingTold r checked (now (file .entry)) (trie-from (now (image .entry))) ⌝ }
 {
     let survey = checked.survey;
     let order = survey.order;
     let strings = strings::strings_of(file, checked.size, &order, survey.count);
-    let agreement = agreement::agreement_of(trie, strings);
+    let agreement = agreement::agreement_of(image, strings);
     let lens = strings.lens;
     let places = agreement.places;
+    Standing { places, lens }
+}
+
+// Writes the trie after a split over the one before.
+fn grow(image: &mut [u8], standing: Standing, split: Split, a: usize, n: usize)
+    requires { ⌜ (length (now image) ≡ image-length) × (a < 64) × (n < 64) × (trie-from (now image) .count + split .len ≤ 256 + split .shared)
+        × (split .shared ≤ split .len) × (split .len ≤ 24) ⌝ }
+    ensures { λ _. ⌜ Grows (trie-from (now (image .entry))) (standing .places) (standing .lens) (split .walk) (take (split .len) (split .string)) (split .shared) a n (trie-from (now (image .exit))) ⌝ }
+{
+    let lens = standing.lens;
+    let places = standing.places;
     let string = split.string;
     let len = split.len;
-    splitting::grown_at(
-        trie,
+    splitting::grow_at(
+        image,
         &places,
         &lens,
         split,
@@ -191,7 +208,7 @@ fn grown(file: &[u8], checked: Checked, trie: Trie, split: Split, a: usize, n: u
         len,
         u16_of_usize(a),
         u16_of_usize(n),
-    )
+    );
 }
 
 // A new name whose bucket is full: refused where no slot is free or the strings would be too many. The trie grows with the last of
@@ -212,17 +229,16 @@ fn split(
     let Room::At(n) = file::lowest_free(survey.used, size.slots) else {
         return PutAnswer::Refused(Cause::NoFreeSlot);
     };
-    let trie = image::decoded(image);
-    let split = splitting::split_of(row, size.layout, trie);
-    if 256 + split.shared < digits::usize_of_u16(trie.count) + split.len {
+    let split = splitting::split_of(row, size.layout, image);
+    if 256 + split.shared < image::count_of(image) + split.len {
         return PutAnswer::Refused(Cause::ManyStrings);
     }
-    let after = grown(file, checked, trie, split, a, n);
+    let standing = standing_of(file, image, checked);
     let plan = divide(file, size, a, n, row, split);
     if file::commit(file, size, plan, limit) {
         return PutAnswer::Stopped(limit); // R8.1: the trie stays.
     }
-    image::encode(image, after);
+    grow(image, standing, split, a, n);
     PutAnswer::Added
 }
 

@@ -8,7 +8,7 @@ ghost use Rattle.model.specs.Order.{Str};
 ghost use Rattle.model.specs.Names.{Legal, filled};
 ghost use Rattle.model.specs.Format.{entry-length, read-slot};
 ghost use Rattle.model.specs.Searches.{order-of};
-ghost use Rattle.model.specs.Calls.{between, entries-in, list-entries, list-of, look-up-of, slot-answer};
+ghost use Rattle.model.specs.Calls.{between, entries-in, list-entries, list-of, slot-answer};
 ghost use Rattle.digits.specs.Keys.{key-value, value};
 ghost use Rattle.image.specs.Images.{image-length, trie-from};
 ghost use Rattle.file.specs.Sizes.{Sized, Below};
@@ -35,7 +35,6 @@ use model::Layout;
 use model::ListAnswer;
 use model::LookUpAnswer;
 use model::NO_DIGIT;
-use model::Trie;
 use trie::Place;
 
 // What one slot answers to a name, which comes with its key.
@@ -96,16 +95,6 @@ pub fn look_up_from(file: &[u8], place: Place, name: &[u8], digits: &[u8; 24]) -
         return LookUpAnswer::Refused(Cause::StaleTrie(NO_DIGIT));
     }
     look_in(file::slot_at(file, size, k), size.layout, digits, key)
-}
-
-// Looks up a name. Whatever the name is, it can be walked with.
-pub fn look_up(file: &[u8], trie: Trie, name: &[u8]) -> LookUpAnswer
-    ensures { λ r. ⌜ r ≡ look-up-of (now (file .entry)) trie (now (name .entry)) ⌝ }
-{
-    let filled = digits::filled(name);
-    let walk = trie::walk_of(trie, &filled);
-    let place = walk.place;
-    look_up_from(file, place, name, &filled)
 }
 
 // What is listed of the bucket at place j, where the first name's bucket is at the place `from` and the second's at `to`. Only these two are

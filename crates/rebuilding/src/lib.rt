@@ -19,7 +19,6 @@ use digits::usize_of_u8;
 use digits::usize_of_u16;
 use model::Cell;
 use model::Side;
-use model::Trie;
 use trie::Strings;
 
 // The strings from the first place on and below the second.
@@ -219,14 +218,4 @@ pub fn rebuild(image: &mut [u8], strings: Strings)
     }
     image::write_cleared(image, u16_of_usize(count), 0);
     write_cells(image, &lens, &digits, &slots, count);
-}
-
-// The trie of the strings, read back from its image.
-pub fn rebuilt(strings: Strings) -> Trie
-    requires { ⌜ strings .count ≤ 256 ⌝ }
-    ensures { λ r. ⌜ r ≡ rebuilt-of (strings .lens) (strings .digits) (strings .slots) (strings .count) ⌝ }
-{
-    let mut image = [0u8; image::BYTES];
-    rebuild(&mut image, strings);
-    image::decoded_to(&image, strings.count)
 }

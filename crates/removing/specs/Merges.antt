@@ -5,7 +5,6 @@ use mathlib.Core.List.{List, _++_}
 use Prim.Native.Nat.{_+_, _-_, _/_, _<_, _≤_, suc, ℕ}
 use lib.ListN.{drop, getD, length, take}
 use Rattle.model.specs.declared.Layout.{Layout}
-use Rattle.model.specs.declared.Trie.{Trie}
 use Rattle.model.specs.Order.{Low, Str, _⊑_, _◁_, at}
 use Rattle.model.specs.Names.{Legal}
 use Rattle.model.specs.Entries.{Entry, find, without}
@@ -20,6 +19,7 @@ use Rattle.slots.specs.declared.Spot.{Spot}
 use Rattle.slots.specs.Spots.{SpotIn}
 use Rattle.file.specs.Holders.{placed}
 use Rattle.file.specs.Plans.{Planned}
+use Rattle.image.specs.Images.{image-of}
 use Rattle.checking.specs.declared.Checked.{Checked}
 use Rattle.removing.specs.declared.RemovePlan.{RemovePlan}
 
@@ -70,10 +70,10 @@ RemoveTold r c xs n =
     (fs : List Slot) → read-file xs ≡ some (c .size .layout, fs)
     → RemovePlanned r (c .size .layout) fs (call (c .size .layout .b) (place-of (c .size .layout)) fs (remove n))
 
--- The trie of a file whose order is the one that was found, without a place.
-abbrev pub TrieTold : Trie → Checked → List ℕ → ℕ → Type 0
-TrieTold r c xs right =
+-- The image of the trie of a file whose order is the one that was found, without a place.
+abbrev pub RebuildTold : List ℕ → Checked → List ℕ → ℕ → Type 0
+RebuildTold image c xs right =
     (fs : List Slot) → read-file xs ≡ some (c .size .layout, fs) → Sound (c .size .layout .b) fs
     → length fs ≡ c .size .slots → c .survey .count ≡ suc (length (order-of fs))
     → order-of fs ≡ take right (take (c .survey .count) (c .survey .order)) ++ drop (suc right) (take (c .survey .count) (c .survey .order))
-    → string-count fs ≤ 256 → r ≡ rebuilt-trie fs
+    → string-count fs ≤ 256 → image ≡ image-of (rebuilt-trie fs)

@@ -12,7 +12,7 @@ ghost use Rattle.file.specs.Plans.{Fits};
 ghost use Rattle.file.specs.Sizes.{Below, Sized};
 ghost use Rattle.checking.specs.Ready.{Ready};
 ghost use Rattle.removing.specs.Outcomes.{remove-left};
-ghost use Rattle.removing.specs.Merges.{CountTold, LeftTold, MergeTold, RemovalTold, RemoveTold, RightTold, TrieTold};
+ghost use Rattle.removing.specs.Merges.{CountTold, LeftTold, MergeTold, RemovalTold, RemoveTold, RightTold, RebuildTold};
 use bucket::SLOT;
 use checking::Checked;
 use checking::Verdict;
@@ -22,7 +22,6 @@ use digits::Naming;
 use file::Plan;
 use model::Cause;
 use model::RemoveAnswer;
-use model::Trie;
 use slots::Spot;
 
 // More entries than a bucket holds, for a neighbour that is not there.
@@ -137,16 +136,17 @@ fn remove_plan(file: &[u8], checked: Checked, name: &[u8; 24], key: Key) -> Remo
     removal(file, checked, place, spot)
 }
 
-// The trie of a file without the slot that stands at a place in order, which a merge has freed.
-fn trie_without(file: &[u8], checked: Checked, right: usize) -> Trie
+// Writes the trie of a file without the slot that stands at a place in order, which a merge has freed.
+fn rebuild_without(file: &[u8], image: &mut [u8], checked: Checked, right: usize)
     requires { ⌜ (Sized (length (now file)) (checked .size)) × (Below (checked .survey .order) (checked .size .slots))
-        × (checked .survey .count ≤ 64) × (right < checked .survey .count) ⌝ }
-    ensures { λ r. ⌜ TrieTold r checked (now (file .entry)) right ⌝ }
+        × (checked .survey .count ≤ 64) × (right < checked .survey .count) × (length (now image) ≡ image-length) ⌝ }
+    ensures { λ _. ⌜ RebuildTold (now (image .exit)) checked (now (file .entry)) right ⌝ }
 {
     let survey = checked.survey;
     let mut order = survey.order;
     file::leave_out(&mut order, survey.count, right);
-    rebuilding::rebuilt(strings::strings_of(file, checked.size, &order, survey.count - 1))
+    let strings = strings::strings_of(file, checked.size, &order, survey.count - 1);
+    rebuilding::rebuild(image, strings);
 }
 
 // Removes a name: one store, or the two of a merge; a name that is absent needs none. After a merge the trie is the rebuilt one.
@@ -179,7 +179,7 @@ pub fn remove(file: &mut [u8], image: &mut [u8], name: &[u8], limit: u64) -> Rem
             if stores < 2 {
                 return RemoveAnswer::Removed(1);
             }
-            image::encode(image, trie_without(file, checked, change.right));
+            rebuild_without(file, image, checked, change.right);
             RemoveAnswer::Removed(2)
         }
     }

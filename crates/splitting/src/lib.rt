@@ -2,18 +2,18 @@
 // added.
 ghost use mathlib.Core.Path.{_≡_};
 ghost use Prim.Native.Nat.{_<_, _≤_, _+_};
-ghost use lib.ListN.{take};
+ghost use lib.ListN.{length, take};
 ghost use Rattle.model.specs.Order.{diff};
 ghost use Rattle.model.specs.Format.{padded};
 ghost use Rattle.slots.specs.Halves.{LowerTold, UpperTold};
 ghost use Rattle.growth.specs.Grows.{Grows};
+ghost use Rattle.image.specs.Images.{image-length, trie-from};
 ghost use Rattle.splitting.specs.Divides.{Found, LengthTold, PlaceTold};
 ghost use Rattle.splitting.specs.Parts.{Parted};
 ghost use Rattle.bucket.specs.Slots.{OfSize};
 use bucket::SLOT;
 use entries::ROOM;
 use model::Layout;
-use model::Trie;
 use trie::Walk;
 
 // The split string and how many digits it has, how many entries stay, the walk of the split key, and how many digits of
@@ -74,16 +74,16 @@ fn place_of(row: &[u8; ROOM], layout: Layout) -> usize
 }
 
 // R7.3 and R7.4: the split of b + 1 entries, sorted.
-pub fn split_of(row: &[u8; ROOM], layout: Layout, trie: Trie) -> Split
-    requires { ⌜ (2 ≤ layout .b) × (layout .b ≤ 16) ⌝ }
-    ensures { λ r. ⌜ (Parted r (layout .b)) × (Found r layout trie (now (row .entry))) ⌝ }
+pub fn split_of(row: &[u8; ROOM], layout: Layout, image: &[u8]) -> Split
+    requires { ⌜ (2 ≤ layout .b) × (layout .b ≤ 16) × (length (now image) ≡ image-length) ⌝ }
+    ensures { λ r. ⌜ (Parted r (layout .b)) × (Found r layout (trie-from (now (image .entry))) (now (row .entry))) ⌝ }
 {
     let place = place_of(row, layout);
     let key = slots::name_of(row, layout, place);
     let len = length_at(row, layout, place);
     let string = beginning(&key, len);
     let stay = slots::stay_in(row, layout, digits::bound_key_at(&string, 0, len));
-    let walk = trie::walk_of(trie, &key);
+    let walk = image::walk_of(image, &key);
     let shared = growth::shared_with(walk, &string[0..len]);
     Split {
         string,
@@ -114,9 +114,9 @@ pub fn old_slot(slot: &[u8], layout: Layout, row: &[u8; ROOM], split: Split) -> 
     slots::lower_half(slot, layout, row, &string[0..len], split.stay)
 }
 
-// The trie after a split.
-pub fn grown_at(
-    trie: Trie,
+// Writes the trie after a split over the one before.
+pub fn grow_at(
+    image: &mut [u8],
     places: &[u16; 256],
     lens: &[u8; 256],
     split: Split,
@@ -124,11 +124,21 @@ pub fn grown_at(
     len: usize,
     a: u16,
     n: u16,
-) -> Trie
-    requires { ⌜ (trie .count + len ≤ 256 + split .shared) × (split .shared ≤ len) × (len ≤ 24) ⌝ }
-    ensures { λ r. ⌜ Grows trie (now (places .entry)) (now (lens .entry)) (split .walk) (take len (now (string .entry))) (split .shared) a n r ⌝ }
+)
+    requires { ⌜ (length (now image) ≡ image-length) × (trie-from (now image) .count + len ≤ 256 + split .shared) × (split .shared ≤ len) × (len ≤ 24)
+        × (a < 32768) × (n < 32768) ⌝ }
+    ensures { λ _. ⌜ Grows (trie-from (now (image .entry))) (now (places .entry)) (now (lens .entry)) (split .walk) (take len (now (string .entry))) (split .shared) a n (trie-from (now (image .exit))) ⌝ }
 {
     let walk = split.walk;
     let whole = &string[..];
-    growth::grown(trie, places, lens, walk, &whole[0..len], split.shared, a, n)
+    growth::grow(
+        image,
+        places,
+        lens,
+        walk,
+        &whole[0..len],
+        split.shared,
+        a,
+        n,
+    );
 }

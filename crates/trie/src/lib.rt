@@ -8,9 +8,8 @@ ghost use Rattle.model.specs.Tests as tests;
 ghost use mathlib.Core.List.{[]};
 ghost use Rattle.model.specs.Order.{Str};
 ghost use Rattle.model.specs.Tries.{root-side, trie-of, walk-of};
-ghost use Rattle.trie.specs.Walks.{Steps, Strayed, Underway, Walks, place-ahead};
+ghost use Rattle.trie.specs.Walks.{Steps, Strayed, Underway, place-ahead};
 use digits::usize_of_u8;
-use digits::usize_of_u16;
 use model::Cell;
 use model::Side;
 use model::Trie;
@@ -172,20 +171,5 @@ impl Walk {
             count: self.count,
             more: self.more,
         }
-    }
-}
-
-// The walk of a filled name over any trie at all, damaged ones too. It meets no more cells than the count.
-pub fn walk_of(trie: Trie, name: &[u8; 24]) -> Walk
-    ensures { λ r. ⌜ (r .len ≤ 24) × Walks r (walk-of trie (now (name .entry))) ⌝ }
-{
-    let mut walk = Walk::begin(trie.count, trie.first);
-    loop {
-        let place = walk.place;
-        let Place::Cell(i) = place else {
-            return walk;
-        };
-        let cell = trie.cells[usize_of_u16(i)];
-        walk = walk.step(name, i, cell);
     }
 }

@@ -1,5 +1,4 @@
 -- `plan_in` meets its contract: a held name is renewed, a new one added.
-use Rattle.model.proofs.Prelude.{needs}
 use Rattle.entries.specs.Rows.{content-number}
 use Rattle.slots.proofs.Spots.{spot-held, spot-lost}
 use Rattle.putting.proofs.Putting.{put-new}
