@@ -1,13 +1,12 @@
 -- A trie whose cells meet all strings agrees.
-use Rattle.model.proofs.Prelude.{List, [], _*_, _<_, _∙_, _∷_, _≡_, _≤_, add-zero, ap, arith, decLt, drop, le-leb, le-ltb, length, lt-ltb, mul-le-mul-right, refl, some, suc, suc-mul, sym, take, take-all, true, zero, ℕ}
+use Rattle.model.proofs.Prelude.{List, [], _*_, _<_, _∙_, _∷_, _≡_, _≤_, ap, arith, decLt, drop, le-leb, le-ltb, length, lt-ltb, mul-le-mul-right, refl, some, suc, suc-mul, sym, take, take-all, true, zero, ℕ}
 use Rattle.model.specs.declared.Cell.{Cell}
-use Rattle.model.specs.declared.Layout.{Layout}
 use Rattle.model.specs.declared.Side.the-variants.{Cell as further}
 use Rattle.model.specs.declared.Trie.{Trie}
 use Rattle.model.specs.Order.{Low, Str, at, none}
 use Rattle.model.specs.Files.{Slot, Sound}
 use Rattle.model.specs.Tries.{root-side}
-use Rattle.model.specs.Agreeing.{are-zero-cells, is-agreeing, slots-between}
+use Rattle.model.specs.Agreeing.{are-zero-cells, slots-between}
 use Rattle.model.specs.Format.{file-size, read-file, slot-size}
 use Rattle.model.proofs.Agreeing.{agrees-is-agreeing}
 use Rattle.model.proofs.Format.{read-file-read}
@@ -25,7 +24,7 @@ use Rattle.agreement.specs.Decides.{Decides}
 use Rattle.agreement.specs.Passes.{Passes, enters}
 use Rattle.agreement.proofs.Laws.{passing-agrees}
 use Rattle.agreeing.specs.Ways.{root-of}
-use Rattle.agreeing.specs.Agreeing.{AgreeingTold, Passing, PassingTold, strings-in}
+use Rattle.agreeing.specs.Agreeing.{AgreeingTold, PassingTold, strings-in}
 
 length-lengths : (ss : List Str) → length (lengths ss) ≡ length ss
 length-lengths [] = refl
@@ -98,5 +97,5 @@ module _ (xs : List ℕ) (size : Size) (order : List ℕ) (count : ℕ) (sized :
       }))
 
   -- By the strings written down.
-  pub listed-told : (s : Strings) (r : Agreement) {t u : Trie} → t ≡ u → Listed s xs size order count → Decides t s r → AgreeingTold (r .agrees) xs size order count u
-  listed-told s r q L D fs e S c o = rw (← q) (D (size .layout .b) fs S (L .strung fs (given fs e S c o .0) S c o) .agrees-is)
+  pub listed-told : (s : Strings) (r : Agreement) {t : Trie} → Listed s xs size order count → Decides t s r → AgreeingTold (r .agrees) xs size order count t
+  listed-told s r L D fs e S c o = D (size .layout .b) fs S (L .strung fs (given fs e S c o .0) S c o) .agrees-is

@@ -1,5 +1,5 @@
 -- The strings of a file bound after bound, as the pass asks for them.
-use Rattle.model.proofs.Prelude.{List, List·getD-append, [], _++_, _+_, _-_, _<_, _∙_, _∷_, _≡_, _≤_, add-one, ap, append-assoc, append-nil, arith, cond, decLt, drop, drop-cons, drop-of-length-le, eq-eqb, eqb, getD, getD-append-add, getD-append-seam, getD-at, getD-take, length, length-append, length-drop, length-take-le, ne-eqb, refl, replicate, suc, sym, take, take-add, zero, ℕ}
+use Rattle.model.proofs.Prelude.{List, List·getD-append, [], _++_, _+_, _-_, _<_, _∙_, _∷_, _≡_, _≤_, add-one, ap, append-assoc, append-nil, arith, cond, decLt, drop, drop-cons, drop-of-length-le, eq-eqb, eqb, getD, getD-append-add, getD-append-seam, getD-at, length, length-append, length-drop, length-take-le, ne-eqb, refl, suc, sym, take, take-add, zero, ℕ}
 use Rattle.model.specs.declared.Cell.{Cell}
 use Rattle.model.specs.declared.Side.{Side}
 use Rattle.model.specs.declared.Side.the-variants.{Slot as slot}
@@ -23,7 +23,7 @@ use Rattle.image.proofs.Coding.{side-slot}
 use Rattle.agreement.specs.Passes.{Passes, ends}
 use Rattle.agreement.proofs.Marks.{stack-none}
 use Rattle.agreeing.specs.declared.Spot.{Spot}
-use Rattle.agreeing.specs.Ways.{BoundAt, Kept, Onward, Standing, StringAt, standing}
+use Rattle.agreeing.specs.Ways.{BoundAt, Kept, Onward, Standing, standing}
 use Rattle.agreeing.specs.Agreeing.{Passing, strings-in}
 
 -- The beginnings of a string, the longest first, by their places.

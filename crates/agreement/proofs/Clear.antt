@@ -33,11 +33,12 @@ module _ (cs : List Cell) (i : ℕ) where
   unfolding are-zero-cells
   clear-next h = rw (add-one i, drop-cons cs i zero-cell h, and-true)
 
-  pub clear-not : (x : Bool) → i < length cs → x ≡ are-zero-cells (at-cell cs i ∷ []) → not x ≡ true → are-zero-cells (drop i cs) ≡ false
-  clear-not x h e n = clear-next h ∙ rw (← e, not-true x n)
+  module _ (x : Bool) (h : i < length cs) {c : Cell} (w : c ≡ at-cell cs i) (e : x ≡ are-zero-cells (c ∷ [])) where
+    pub clear-not : not x ≡ true → are-zero-cells (drop i cs) ≡ false
+    clear-not n = clear-next h ∙ rw (← w, ← e, not-true x n)
 
-  pub clear-on : (x : Bool) → i < length cs → x ≡ are-zero-cells (at-cell cs i ∷ []) → not x ≡ false → are-zero-cells (drop i cs) ≡ are-zero-cells (drop (i + 1) cs)
-  clear-on x h e n = clear-next h ∙ rw (← e, not-false x n)
+    pub clear-on : not x ≡ false → are-zero-cells (drop i cs) ≡ are-zero-cells (drop (i + 1) cs)
+    clear-on n = clear-next h ∙ rw (← w, ← e, not-false x n)
 
   pub clear-end : length cs ≤ i → are-zero-cells (drop i cs) ≡ true
   unfolding are-zero-cells

@@ -1,5 +1,5 @@
 -- The loop of the pass: what holds before each turn, at the start, from one turn to the next, and at each end.
-use Rattle.model.proofs.Prelude.{List, [], _++_, _+_, _-_, _<_, _∙_, _∷_, _≡_, _≤_, add-one, arith, clash, eq-eqb, eqb, eqb-true, false, getD, length, length-append, length-replicate, length-set, refl, replicate, set, subst, suc, sym, ℕ}
+use Rattle.model.proofs.Prelude.{List, [], _++_, _+_, _-_, _<_, _∙_, _∷_, _≡_, _≤_, arith, clash, eq-eqb, eqb, eqb-true, false, getD, length, length-append, length-replicate, length-set, refl, replicate, set, subst, suc, sym, ℕ}
 use Rattle.model.specs.declared.Cell.{Cell}
 use Rattle.model.specs.declared.Side.{Side}
 use Rattle.model.specs.declared.Side.the-variants.{Cell as further, Slot as slot}
@@ -102,36 +102,37 @@ module _ {cs : List Cell} {s : Strings} {a : Side} {places cells : List ℕ} {to
       top-now last q = subst (λ (ks : List ℕ). Passes cs s ks (slot x) least (S .seen) last) (stack-pop top cells p) (leaf-now last q)
 
       module _ {k : ℕ} (i : k ≡ getD cells (top - 1) 0) where
-        pub not-length : (suc (at-cell cs k .number) ≡ getD (s .lens) done 0 → ⊥) → Never cs s a
-        not-length h last q = h (rw (i, ← S .done-is) (at-top (top-now last q) .0))
-
-        pub not-digit : (at-cell cs k .digit ≡ getD (s .digits) done 0 → ⊥) → Never cs s a
-        not-digit h last q = h (rw (i, ← S .done-is) (at-top (top-now last q) .1))
-
         pub not-new : k < 256 → (getD places k 0 ≡ 256 → ⊥) → Never cs s a
         not-new l h last q = h (S .marks .unseen k l (rw i (at-top (top-now last q) .2)))
 
-        -- It has met its string, and its right part is next.
-        pub left : k < 256 → x ≡ getD (s .slots) done 0 → suc (at-cell cs k .number) ≡ getD (s .lens) done 0
-            → at-cell cs k .digit ≡ getD (s .digits) done 0 → getD places k 0 ≡ 256
-            → State cs s a (set places k done) cells (top - 1) entered (done + 1) (at-cell cs k .number) (at-cell cs k .right)
-        left l h n d m =
-            let o : occ k (S .seen) ≡ 0 = marks-unseen (S .marks) k (omega (arith, S .done-is, S .entered-is, S .few, S .room)) m in
-            let h′ : x ≡ getD (s .slots) (length (S .seen)) 0 = rw (S .done-is) h in
-            let n′ : suc (at-cell cs (getD cells (top - 1) 0) .number) ≡ getD (s .lens) (length (S .seen)) 0 = rw (S .done-is, ← i) n in
-            let d′ : at-cell cs (getD cells (top - 1) 0) .digit ≡ getD (s .digits) (length (S .seen)) 0 = rw (S .done-is, ← i) d in
-            let o′ : occ (getD cells (top - 1) 0) (S .seen) ≡ 0 = rw (← i) o in
-            record {
-              seen = S .seen ++ (k ∷ []);
-              done-is = length-append (S .seen) (k ∷ []) ∙ rw (S .done-is);
-              entered-is = omega (arith, S .entered-is, p);
-              few = S .few;
-              room = S .room;
-              rooms = S .rooms;
-              marks = marks-next (S .marks) k done l o (S .done-is);
-              onward = λ last q. rw i (at-top (top-now last q) .3);
-              back = λ last q. S .back last (rw (e, stack-pop top cells p) (leaves h′ n′ d′ o′ (rw i at q)));
-            }
+        module _ {c : Cell} (w : c ≡ at-cell cs k) where
+          pub not-length : (suc (c .number) ≡ getD (s .lens) done 0 → ⊥) → Never cs s a
+          not-length h last q = h (rw (w, i, ← S .done-is) (at-top (top-now last q) .0))
+
+          pub not-digit : (c .digit ≡ getD (s .digits) done 0 → ⊥) → Never cs s a
+          not-digit h last q = h (rw (w, i, ← S .done-is) (at-top (top-now last q) .1))
+
+          -- It has met its string, and its right part is next.
+          pub left : k < 256 → x ≡ getD (s .slots) done 0 → suc (c .number) ≡ getD (s .lens) done 0
+              → c .digit ≡ getD (s .digits) done 0 → getD places k 0 ≡ 256
+              → State cs s a (set places k done) cells (top - 1) entered (done + 1) (c .number) (c .right)
+          left l h n d m =
+              let o : occ k (S .seen) ≡ 0 = marks-unseen (S .marks) k (omega (arith, S .done-is, S .entered-is, S .few, S .room)) m in
+              let h′ : x ≡ getD (s .slots) (length (S .seen)) 0 = rw (S .done-is) h in
+              let n′ : suc (at-cell cs (getD cells (top - 1) 0) .number) ≡ getD (s .lens) (length (S .seen)) 0 = rw (S .done-is, ← i, ← w) n in
+              let d′ : at-cell cs (getD cells (top - 1) 0) .digit ≡ getD (s .digits) (length (S .seen)) 0 = rw (S .done-is, ← i, ← w) d in
+              let o′ : occ (getD cells (top - 1) 0) (S .seen) ≡ 0 = rw (← i) o in
+              record {
+                seen = S .seen ++ (k ∷ []);
+                done-is = length-append (S .seen) (k ∷ []) ∙ rw (S .done-is);
+                entered-is = omega (arith, S .entered-is, p);
+                few = S .few;
+                room = S .room;
+                rooms = S .rooms;
+                marks = marks-next (S .marks) k done l o (S .done-is);
+                onward = λ last q. rw (w, i) (at-top (top-now last q) .3);
+                back = λ last q. S .back last (rw (e, stack-pop top cells p) (leaves h′ n′ d′ o′ (rw (w, i) at q)));
+              }
 
   -- At a cell.
   module _ {k : ℕ} (e : place ≡ further k) where
@@ -144,17 +145,17 @@ module _ {cs : List Cell} {s : Strings} {a : Side} {places cells : List ℕ} {to
     pub not-below : s .count ≤ k → Never cs s a
     not-below h last p = omega (arith, at-further (cell-now last p) .0)
 
-    module _ {j : ℕ} (i : j ≡ k) where
-      pub not-least : at-cell cs j .number < least → Never cs s a
-      not-least h last p = let l : at-cell cs k .number < least = rw i at h in omega (arith, at-further (cell-now last p) .1)
+    module _ {j : ℕ} (i : j ≡ k) {c : Cell} (w : c ≡ at-cell cs j) where
+      pub not-least : c .number < least → Never cs s a
+      not-least h last p = let l : at-cell cs k .number < least = rw (w, i) at h in omega (arith, at-further (cell-now last p) .1)
 
       -- Its left part is next.
-      pub entered-at : entered < s .count → j < s .count → least ≤ at-cell cs j .number
-          → State cs s a places (set cells top j) (top + 1) (entered + 1) done least (at-cell cs j .left)
+      pub entered-at : entered < s .count → j < s .count → least ≤ c .number
+          → State cs s a places (set cells top j) (top + 1) (entered + 1) done least (c .left)
       entered-at r h l =
           let inside : top < length cells = omega (arith, S .entered-is, S .room, S .rooms) in
           let h′ : k < s .count = rw i at h in
-          let l′ : least ≤ at-cell cs k .number = rw i at l in
+          let l′ : least ≤ at-cell cs k .number = rw (w, i) at l in
           record {
             seen = S .seen;
             done-is = S .done-is;
@@ -163,6 +164,6 @@ module _ {cs : List Cell} {s : Strings} {a : Side} {places cells : List ℕ} {to
             room = S .room;
             rooms = length-set cells top j ∙ S .rooms;
             marks = S .marks;
-            onward = λ last q. rw (stack-push top cells j inside, i) (at-further (cell-now last q) .2);
-            back = λ last q. S .back last (rw e (enters h′ l′ (rw (stack-push top cells j inside, i) at q)));
+            onward = λ last q. rw (stack-push top cells j inside, w, i) (at-further (cell-now last q) .2);
+            back = λ last q. S .back last (rw e (enters h′ l′ (rw (stack-push top cells j inside, w, i) at q)));
           }

@@ -1,5 +1,5 @@
 -- `bound_met` meets its contract: at each turn the beginnings longer than `len` digits are met.
-use Rattle.model.proofs.Prelude.{_-_, _<_, _≡_, _≤_, arith, cond, eq-eqb, eqb, length, needs, refl, sym}
+use Rattle.model.proofs.Prelude.{_-_, _<_, _≡_, _≤_, arith, cond, eq-eqb, eqb, length, needs, refl}
 use Rattle.image.specs.Images.{trie-from}
 use Rattle.agreeing.specs.Ways.{BoundAt, Onward, Roomy, goes, standing, strays}
 use Rattle.agreeing.proofs.Ways.{bound-on, goes-to, left-next, onward-none}

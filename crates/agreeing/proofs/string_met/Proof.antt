@@ -1,5 +1,5 @@
 -- `string_met` meets its contract: up to a leaf, and then the cell on top of the stack.
-use Rattle.model.proofs.Prelude.{_∙_, arith, needs, sym}
+use Rattle.model.proofs.Prelude.{_∙_, needs, sym}
 use Rattle.agreeing.specs.Ways.{goes, strays}
 use Rattle.agreeing.proofs.Ways.{goes-to, met-on, met-room, top-room}
 use Rattle.agreeing.proofs.string_met.Tie as tie
