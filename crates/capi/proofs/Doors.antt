@@ -1,33 +1,26 @@
 -- Each call's answer, as a number, with the bytes and words lent: a law for a malformed image, and one for all others.
-use Rattle.model.proofs.Prelude.{Bool, List, _&&_, _∙_, _≡_, ap, cond, eq-eqb, eqb, false, length, ne-eqb, refl, sym, true, ℕ}
+use Rattle.model.proofs.Prelude.{List, _∙_, _≡_, ap, eq-eqb, length, ne-eqb, refl, sym, ℕ}
 use Rattle.model.specs.declared.ListAnswer.{ListAnswer}
 use Rattle.model.specs.declared.LookUpAnswer.{LookUpAnswer}
 use Rattle.model.specs.declared.PutAnswer.{PutAnswer}
 use Rattle.model.specs.declared.RecoverAnswer.{RecoverAnswer}
 use Rattle.model.specs.declared.RemoveAnswer.{RemoveAnswer}
-use Rattle.model.specs.declared.Trie.{Trie}
 use Rattle.model.specs.declared.TrieAnswer.{TrieAnswer}
-use Rattle.model.specs.declared.TrieAnswer.the-variants.{Given, Refused as TrieRefused}
-use Rattle.model.specs.declared.Cause.the-variants.{WrongSize}
-use Rattle.model.specs.declared.TrieGiven.{TrieGiven}
 use Rattle.model.specs.Sayings.{said-by-check, said-by-create, said-by-list, said-by-look-up, said-by-put, said-by-rebuild, said-by-recover, said-by-remove}
-use Rattle.model.specs.Calls.{CreateDone, create-of, list-of, look-up-of, new-trie, put-of, recover-of, remove-of}
+use Rattle.model.specs.Calls.{create-of, list-of, look-up-of, put-of, recover-of, remove-of}
 use Rattle.model.specs.Checks.{Kind, is-bad, is-cut, is-sound}
 use Rattle.model.specs.Names.{filled}
-use Rattle.model.specs.Files.{created as new-file}
-use Rattle.model.specs.Format.{are-legal-sizes, check-file, file-bytes, file-size}
+use Rattle.model.specs.Format.{check-file}
 use Rattle.model.specs.Tries.{walk-of}
 use Rattle.file.specs.declared.survey.Kind.{Kind as Found}
 use Rattle.file.specs.declared.survey.Kind.the-variants.{Bad, Cut, Sound}
-use Rattle.whole.specs.Outcomes.{Rebuilds, created, found, recovered}
-use Rattle.whole.proofs.Rebuilding.{cleared-new}
+use Rattle.whole.specs.Outcomes.{Creates, Rebuilds, found, recovered}
 use Rattle.reading.specs.Outcomes.{listed}
 use Rattle.reading.specs.Walked.{looked-up-from}
 use Rattle.reading.proofs.LookingUp.{place-looked}
 use Rattle.trie.specs.declared.Place.{Place}
 use Rattle.trie.specs.Walks.{place-reached}
-use Rattle.image.specs.Clearing.{cleared}
-use Rattle.image.specs.Images.{image-length, image-of, trie-from}
+use Rattle.image.specs.Images.{image-length, trie-from}
 use Rattle.putting.specs.Outcomes.{put-left}
 use Rattle.removing.specs.Outcomes.{remove-left}
 use Rattle.capi.specs.Doors.{malformed, out-after, pal-check-of, pal-create-of, pal-list-of, pal-look-up-of, pal-put-of, pal-rebuild-of, pal-recover-of, pal-remove-of}
@@ -57,22 +50,12 @@ module _ (image : List ℕ) (ill : length image ≡ image-length → ⊥) where
   unfolding pal-list-of
   list-malformed file first second output out = rw (ne-eqb (length image) image-length ill)
 
--- Create gives the new trie, refused or not.
-create-trie : (file : List ℕ) (version b slots : ℕ) → create-of file version b slots .trie ≡ new-trie
-unfolding create-of
-create-trie file version b slots = go (are-legal-sizes (record { version = version; b = b }) slots && eqb (length file) (file-size (record { version = version; b = b }) slots))
-  where
-    go : (t : Bool) → _≡_ {A = Trie} (cond {A = CreateDone} t (record { answer = Given; file = file-bytes (record { version = version; b = b }) (new-file slots); trie = new-trie }) (record { answer = TrieRefused WrongSize; file = file; trie = new-trie }) .trie) new-trie
-    go true = refl
-    go false = refl
-
 -- The call's outcome, said.
 module _ (image : List ℕ) (well : length image ≡ image-length) where
-  pub create-said : (file : List ℕ) (version b slots : ℕ) (g : TrieGiven) {a : TrieAnswer} {ys zs : List ℕ} {n : ℕ} → g .answer ≡ a
-      → created g ys ≡ create-of file version b slots → zs ≡ image-of (cleared 0 0) → n ≡ said-by-create a .0 → pal-create-of file version b slots image ≡ (n, ys, zs)
+  pub create-said : (file : List ℕ) (version b slots : ℕ) {x a : TrieAnswer} {ys zs : List ℕ} {n : ℕ} → x ≡ a
+      → Creates x ys zs (create-of file version b slots) → n ≡ said-by-create a .0 → pal-create-of file version b slots image ≡ (n, ys, zs)
   unfolding pal-create-of
-  create-said file version b slots g t e z s =
-      rw (eq-eqb (length image) image-length well, create-trie file version b slots, ← cleared-new, ← z, ← e, s, t)
+  create-said file version b slots t e s = rw (eq-eqb (length image) image-length well, ← e .0, ← e .1, ← e .2, s, t)
 
   pub rebuild-said : (file : List ℕ) {x a : TrieAnswer} {zs : List ℕ} {n : ℕ} → x ≡ a → Rebuilds x zs file → n ≡ said-by-rebuild a .0
       → pal-rebuild-of file image ≡ (n, zs)

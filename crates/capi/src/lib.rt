@@ -46,9 +46,7 @@ pub extern "C" fn pal_create(
     if trie.len() != image::BYTES {
         return MALFORMED;
     }
-    image::write_cleared(trie, 0, 0);
-    let given = whole::create(file, version, b, slots);
-    let answer = given.answer;
+    let answer = whole::create(file, trie, version, b, slots);
     match answer {
         TrieAnswer::Given => 150,
         TrieAnswer::Refused(cause) => cause_number(cause),

@@ -102,8 +102,3 @@ pub enum TrieAnswer {
     Given,
     Refused(Cause),
 }
-
-pub struct TrieGiven {
-    pub answer: TrieAnswer,
-    pub trie: Trie,
-}

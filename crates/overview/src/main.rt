@@ -248,9 +248,8 @@ fn read_all(file: &mut [u8], image: &mut [u8], state: State) -> State
 fn main() {
     // b = 4 and 8 slots: 16 + 8 × (64 + 32 × 4) bytes.
     let mut file = [0u8; 1552];
-    whole::create(&mut file, 1, 4, 8);
     let mut image = [0u8; image::BYTES];
-    image::write_cleared(&mut image, 0, 0);
+    whole::create(&mut file, &mut image, 1, 4, 8);
     let first = State {
         line: Line::new(),
         number: 1,

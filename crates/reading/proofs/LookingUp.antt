@@ -35,8 +35,7 @@ use Rattle.model.proofs.Checks.{is-well-formed-well}
 use Rattle.model.proofs.Names.{legal-is-legal-filled, legal-length}
 use Rattle.trie.specs.declared.Place.{Place}
 use Rattle.trie.specs.declared.Place.the-variants.{Cell as before-cell, Slot as at-slot, Stale as stale}
-use Rattle.trie.specs.declared.Walk.{Walk}
-use Rattle.trie.specs.Walks.{Walks, place-reached}
+use Rattle.trie.specs.Walks.{place-reached}
 use Rattle.reading.specs.Walked.{headed-from, looked-up-from, slot-of}
 
 -- What the range test says, by the answer that it gave.
@@ -141,11 +140,6 @@ module _ (xs : List ℕ) (p : Place) (name : List ℕ) where
         → ys ≡ bytes-at-slot y k xs → r ≡ slot-answer (y .b) (filled name) (read-slot y ys) → r ≡ looked-up-from xs p name
     unfolding looked-up-from headed-from slot-of arrived-answer
     arrived-looked {s} {k} r q l i f a = a ∙ rw (f, l, e, h, q, lt-ltb s slots (omega arith))
-
--- The place at which a walk ended.
-pub ended-at : (w : Walk) (o : Option (Str × Spot × ℕ)) → Walks w o → w .place ≡ place-reached o
-ended-at w nothing W = W
-ended-at w (some (p, k, s)) W = W .place
 
 -- Where the place is that at which the walk of a trie ends, the answer is look up's own.
 module _ (xs : List ℕ) (t : Trie) (name : List ℕ) where

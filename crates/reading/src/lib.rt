@@ -4,7 +4,6 @@ ghost use mathlib.Core.Path.{_≡_};
 ghost use Prim.Native.Nat.{_≤_, _<_, _+_, _-_};
 ghost use lib.ListN.{length};
 ghost use lib.Seq.{paste};
-ghost use Rattle.model.specs.Order.{Str};
 ghost use Rattle.model.specs.Names.{Legal, filled};
 ghost use Rattle.model.specs.Format.{entry-length, read-slot};
 ghost use Rattle.model.specs.Searches.{order-of};

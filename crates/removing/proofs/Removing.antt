@@ -1,5 +1,5 @@
 -- Remove, put together from the home of the name, and the trie of what a merge leaves.
-use Rattle.model.proofs.Prelude.{Bool, List, Option, [], _++_, _-_, _<_, _∙_, _∷_, _≡_, _≤_, ap, arith, drop, false, le-ltb, length, length-append, length-drop, length-set, length-take-le, lt-ltb, ltb, ltb-false, nothing, set, some, suc, sym, take, take-all, take-nil, take-take, true, ℕ}
+use Rattle.model.proofs.Prelude.{Bool, List, Option, [], _++_, _-_, _<_, _∙_, _∷_, _≡_, _≤_, ap, arith, drop, false, le-ltb, length, length-append, length-drop, length-set, length-take-le, lt-ltb, ltb, ltb-false, nothing, refl, set, some, suc, sym, take, take-all, take-nil, take-take, true, ℕ}
 use Rattle.model.specs.declared.Cause.{Cause}
 use Rattle.model.specs.declared.Cause.the-variants.{IllegalName, WrongSize}
 use Rattle.model.specs.declared.Layout.{Layout}
@@ -30,7 +30,7 @@ use Rattle.file.specs.Plans.{Committed}
 use Rattle.checking.specs.declared.Checked.{Checked}
 use Rattle.checking.specs.Ready.{Agreed, Ready}
 use Rattle.removing.specs.declared.RemovePlan.{RemovePlan}
-use Rattle.removing.specs.Merges.{RemovePlanned, RemoveTold, TrieTold}
+use Rattle.removing.specs.Merges.{RebuildTold, RemovePlanned, RemoveTold}
 use Rattle.removing.specs.Outcomes.{remove-left}
 use Rattle.checking.specs.Homes.{Home}
 use Rattle.checking.proofs.Ready.{ready-ordered}
@@ -60,17 +60,17 @@ freed-place p y fs (stores []) q h = absurd (omega (arith, h, q .0))
 freed-place p y fs (stores (v ∷ [])) q h = absurd (omega (arith, h, q .0 .0))
 freed-place p y fs (stores (v ∷ w ∷ ss)) q h = q .1 (omega arith) .inside
 
--- The trie of the strings of an order without a place.
-pub trie-told : (c : Checked) (xs : List ℕ) (g : Strings) (rest : List ℕ) (right : ℕ) (r : Trie) → right < c .survey .count
+-- The image of the trie of the strings of an order without a place.
+pub rebuild-told : (c : Checked) (xs : List ℕ) (g : Strings) (rest : List ℕ) (right : ℕ) {image : List ℕ} → right < c .survey .count
     → Listed g xs (c .size) rest (c .survey .count - 1) → take (c .survey .count - 1) rest ≡ take right (c .survey .order) ++ drop (suc right) (take (c .survey .count) (c .survey .order))
-    → r ≡ rebuilt-of (g .lens) (g .digits) (g .slots) (g .count) → TrieTold r c xs right
+    → image ≡ image-of (rebuilt-of (g .lens) (g .digits) (g .slots) (g .count)) → RebuildTold image c xs right
 unfolding string-count
-trie-told c xs g rest right r h l o q fs e S n m i few =
+rebuild-told c xs g rest right h l o q fs e S n m i few =
     let before : take right (take (c .survey .count) (c .survey .order)) ≡ take right (c .survey .order) = take-take right (c .survey .count) (c .survey .order) (omega arith) in
     let listed : read-slots (c .size .layout) (c .size .slots) 0 xs ≡ some fs = rw (← n) (read-file-read xs e .listed) in
     let count : c .survey .count - 1 ≡ length (order-of fs) = omega arith in
     let order : take (c .survey .count - 1) rest ≡ order-of fs = o ∙ sym (i ∙ ap (λ (ys : List ℕ). ys ++ drop (suc right) (take (c .survey .count) (c .survey .order))) before) in
-    q ∙ rebuilt-right S g (l .strung fs listed S count order .holds few) few
+    q ∙ ap image-of (rebuilt-right S g (l .strung fs listed S count order .holds few) few)
 
 -- What a remove leaves, by its parts, and what it is to leave.
 abbrev leaving : RemoveAnswer → List ℕ → Trie → RemoveDone
@@ -117,13 +117,13 @@ module _ (xs ys : List ℕ) (t : Trie) (c : Checked) (R : Ready c xs) (limit : �
 
   -- A merge: the trie is the rebuilt one.
   by-merge : (a : Result) → RemovePlanned p y fs a → d ≡ false → 2 ≤ p .plan .stores → (n : Str) → Answered (y .b) (place-of y) fs (remove n) a → AreBytes xs
-      → (r : Trie) → TrieTold r c ys (p .right) → leaving (Removed 2) ys r ≡ remove-by-stores xs t y fs limit a
+      → (image : List ℕ) {image′ : List ℕ} → RebuildTold image′ c ys (p .right) → (Removed 2, ys, image′) ≡ remove-left image (remove-by-stores xs t y fs limit a)
   unfolding remove-by-stores trie-removed
-  by-merge (refuse r) q e h n A bytes r′ T = absurd q
-  by-merge (stores []) q e h n A bytes r T = absurd (omega (arith, h, q .0))
-  by-merge (stores (v ∷ [])) q e h n A bytes r T = absurd (omega (arith, h, q .0 .0))
-  by-merge (stores (v ∷ w ∷ x ∷ ss)) q e h n A bytes r T = absurd (q .0)
-  by-merge (stores (v ∷ w ∷ [])) q e h n (is-made z) bytes r T =
+  by-merge (refuse r) q e h n A bytes image T = absurd q
+  by-merge (stores []) q e h n A bytes image T = absurd (omega (arith, h, q .0))
+  by-merge (stores (v ∷ [])) q e h n A bytes image T = absurd (omega (arith, h, q .0 .0))
+  by-merge (stores (v ∷ w ∷ x ∷ ss)) q e h n A bytes image T = absurd (q .0)
+  by-merge (stores (v ∷ w ∷ [])) q e h n (is-made z) bytes image {image′} T =
       let J = q .1 (omega arith) in
       let m = C (v ∷ w ∷ []) (q .0) in
       let f : ltb limit 2 ≡ false = sym (m .1) ∙ e in
@@ -135,7 +135,7 @@ module _ (xs ys : List ℕ) (t : Trie) (c : Checked) (R : Ready c xs) (limit : �
       (let k : _≡_ {A = Option (Layout × ℕ)} (some (y, c .size .slots)) (some (y, length fs)) = sym (R .said .header) ∙ headed-header-of (read-file-read xs (R .is) .headed) in
       let j : _≡_ {A = Layout × ℕ} (y, c .size .slots) (y, length fs) = cc in
       sym (ap (λ (x : Layout × ℕ). x .1) j)) in
-      let trie : r ≡ rebuilt-trie (stored (v ∷ w ∷ []) fs) =
+      let trie : image′ ≡ image-of (rebuilt-trie (stored (v ∷ w ∷ []) fs)) =
       T (stored (v ∷ w ∷ []) fs) read (J .sound) (length-set (set fs (v .0) (v .1)) (w .0) (w .1) ∙ length-set fs (v .0) (v .1) ∙ slots) fewer (rw (R .order-is) (J .order)) (omega (arith, J .few, few-strings)) in
       rw (f, left, trie)
 
@@ -161,25 +161,24 @@ module _ {xs image name : List ℕ} {limit : ℕ} {c : Checked} {p : RemovePlan}
   freed-inside h = omega (arith, R .count-is, freed-place p (c .size .layout) (R .slots) asked planned h)
 
   -- What it leaves is what its stores leave.
-  left-by : (r : RemoveDone) → r ≡ remove-by-stores xs (trie-from image) (c .size .layout) (R .slots) limit asked
-      → remove-left image r ≡ left-of xs image name limit
+  left-by : {r : RemoveDone} → r ≡ remove-by-stores xs (trie-from image) (c .size .layout) (R .slots) limit asked → remove-left image r ≡ left-of xs image name limit
   unfolding remove-of remove-on-looked
-  left-by r m = rw (le-ltb 2 limit (P .allowed), P .legal, P .agreed .looked) (ap (λ (x : RemoveDone). remove-left image x) m)
+  left-by m = rw (le-ltb 2 limit (P .allowed), P .legal, P .agreed .looked) (ap (λ (x : RemoveDone). remove-left image x) m)
 
   module _ {ys : List ℕ} (d : Bool) (C : Committed d xs ys (c .size .layout) (p .plan) limit) where
     pub left-stopped : d ≡ true → (Stopped limit, ys, image) ≡ left-of xs image name limit
-    left-stopped e = left-by (leaving (Stopped limit) ys (trie-from image)) (by-stopped xs ys (trie-from image) c R limit p d C asked planned e)
+    left-stopped e = left-by (by-stopped xs ys (trie-from image) c R limit p d C asked planned e)
 
     pub left-absent : d ≡ false → p .plan .stores < 1 → (Absent, ys, image) ≡ left-of xs image name limit
-    left-absent e h = left-by (leaving Absent ys (trie-from image)) (by-none xs ys (trie-from image) c R limit p d C asked planned e h)
+    left-absent e h = left-by (by-none xs ys (trie-from image) c R limit p d C asked planned e h)
 
     pub left-removed : d ≡ false → 1 ≤ p .plan .stores → p .plan .stores < 2 → (Removed 1, ys, image) ≡ left-of xs image name limit
-    left-removed e h k = left-by (leaving (Removed 1) ys (trie-from image)) (by-one xs ys (trie-from image) c R limit p d C asked planned e h k)
+    left-removed e h k = left-by (by-one xs ys (trie-from image) c R limit p d C asked planned e h k)
 
-    pub left-merged : d ≡ false → 2 ≤ p .plan .stores → (r : Trie) → TrieTold r c ys (p .right) → {image′ : List ℕ} → image′ ≡ image-of r
-        → (Removed 2, ys, image′) ≡ left-of xs image name limit
-    left-merged e h r T i =
-        rw i (left-by (leaving (Removed 2) ys r) (by-merge xs ys (trie-from image) c R limit p d C asked planned e h (filled name) (remove-right (c .size .layout .b) (place-of (c .size .layout)) (R .slots) (R .sound) (filled name)) (P .bytes) r T))
+    pub left-merged : d ≡ false → 2 ≤ p .plan .stores → {image′ : List ℕ} → RebuildTold image′ c ys (p .right) → (Removed 2, ys, image′) ≡ left-of xs image name limit
+    left-merged e h T =
+        by-merge xs ys (trie-from image) c R limit p d C asked planned e h (filled name) (remove-right (c .size .layout .b) (place-of (c .size .layout)) (R .slots) (R .sound) (filled name)) (P .bytes) image T
+        ∙ left-by refl
 
 -- What is refused before that, with no byte changed.
 module _ (xs image name : List ℕ) (limit : ℕ) where

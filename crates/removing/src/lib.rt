@@ -12,7 +12,7 @@ ghost use Rattle.file.specs.Plans.{Fits};
 ghost use Rattle.file.specs.Sizes.{Below, Sized};
 ghost use Rattle.checking.specs.Ready.{Ready};
 ghost use Rattle.removing.specs.Outcomes.{remove-left};
-ghost use Rattle.removing.specs.Merges.{CountTold, LeftTold, MergeTold, RemovalTold, RemoveTold, RightTold, RebuildTold};
+ghost use Rattle.removing.specs.Merges.{CountTold, LeftTold, MergeTold, RebuildTold, RemovalTold, RemoveTold, RightTold};
 use bucket::SLOT;
 use checking::Checked;
 use checking::Verdict;

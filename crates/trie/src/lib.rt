@@ -5,9 +5,8 @@ ghost use Prim.Native.Nat.{_≤_, _<_, _+_};
 ghost use lib.Dec.{leb};
 ghost use lib.ListN.{take};
 ghost use Rattle.model.specs.Tests as tests;
-ghost use mathlib.Core.List.{[]};
 ghost use Rattle.model.specs.Order.{Str};
-ghost use Rattle.model.specs.Tries.{root-side, trie-of, walk-of};
+ghost use Rattle.model.specs.Tries.{root-side, walk-of};
 ghost use Rattle.trie.specs.Walks.{Steps, Strayed, Underway, place-ahead};
 use digits::usize_of_u8;
 use model::Cell;
@@ -42,22 +41,6 @@ pub struct Walk {
     pub left: bool,
     pub count: u16,
     pub more: u16,
-}
-
-// The trie without cells, which leads every name to one slot.
-pub fn without_cells(first: u16) -> Trie
-    ensures { λ r. ⌜ r ≡ trie-of [] (Side.Slot first) ⌝ }
-{
-    Trie {
-        cells: [Cell {
-            digit: 0,
-            number: 0,
-            left: Side::Slot(0),
-            right: Side::Slot(0),
-        }; 256],
-        count: 0,
-        first,
-    }
 }
 
 // Whether the name is within the string of the first digits, so not above it.

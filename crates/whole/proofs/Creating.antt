@@ -3,7 +3,6 @@ use Rattle.model.proofs.Prelude.{Bool, List, _&&_, _<_, _∙_, _≡_, ap₂, ar
 use Rattle.model.specs.declared.Cause.the-variants.{WrongSize}
 use Rattle.model.specs.declared.Layout.{Layout}
 use Rattle.model.specs.declared.TrieAnswer.the-variants.{Given, Refused as TrieRefused}
-use Rattle.model.specs.declared.TrieGiven.{TrieGiven}
 use Rattle.model.specs.Files.{created as new-file}
 use Rattle.model.specs.Format.{Sizes, are-legal-sizes, file-bytes, file-size}
 use Rattle.model.specs.Calls.{create-of, new-trie}
@@ -12,7 +11,8 @@ use Rattle.file.specs.declared.Header.{Header}
 use Rattle.file.specs.declared.Header.the-variants.{Right, Wrong}
 use Rattle.file.specs.declared.Size.{Size}
 use Rattle.file.specs.Sizes.{Fitting, Sized}
-use Rattle.whole.specs.Outcomes.{created}
+use Rattle.image.specs.Images.{image-of}
+use Rattle.whole.specs.Outcomes.{Creates}
 use Rattle.whole.specs.Small.{Small}
 
 -- Sizes that fit a length, and sizes that do not.
@@ -31,10 +31,10 @@ module _ (xs : List ℕ) (v b slots : ℕ) {w c n : ℕ} (p : Small w v) (q : Sm
   taken = record { version = w; b = c }
 
   -- What is refused.
-  pub sizes-refused : (r : TrieGiven) → (r .answer ≡ TrieRefused WrongSize) × (r .trie ≡ new-trie)
-      → (are-legal-sizes taken n && eqb (length xs) (file-size taken n)) ≡ false → created r xs ≡ create-of xs v b slots
+  pub sizes-refused : {image : List ℕ} → image ≡ image-of new-trie → (are-legal-sizes taken n && eqb (length xs) (file-size taken n)) ≡ false
+      → Creates (TrieRefused WrongSize) xs image (create-of xs v b slots)
   unfolding create-of
-  sizes-refused r h e = rw (go (are-legal-sizes asked slots) refl, h .0, h .1)
+  sizes-refused t e = rw (go (are-legal-sizes asked slots) refl) (refl, refl, t)
     where
       go : (t : Bool) → are-legal-sizes asked slots ≡ t → (t && eqb (length xs) (file-size asked slots)) ≡ false
       go false f = refl
@@ -49,10 +49,10 @@ module _ (xs : List ℕ) (v b slots : ℕ) {w c n : ℕ} (p : Small w v) (q : Sm
   small-same {i} {x} s h = elim (decLe x 255) [ yes k ↦ s .same k | no k ↦ absurd (omega (arith, s .cut (omega arith))) ]
 
   -- What is created.
-  pub create-given : (ys : List ℕ) (s : Size) (r : TrieGiven) → Sized (length xs) s → s .layout ≡ taken → s .slots ≡ n
-      → ys ≡ file-bytes (s .layout) (new-file (s .slots)) → r .answer ≡ Given → r .trie ≡ new-trie → created r ys ≡ create-of xs v b slots
+  pub create-given : {ys image : List ℕ} (s : Size) → image ≡ image-of new-trie → Sized (length xs) s → s .layout ≡ taken → s .slots ≡ n
+      → ys ≡ file-bytes (s .layout) (new-file (s .slots)) → Creates Given ys image (create-of xs v b slots)
   unfolding create-of file-size
-  create-given ys s r z f g d a t =
+  create-given s t z f g d =
       let l : Sizes taken n = rw (f, g) at (z .legal) in
       let i : w ≡ v = small-same p (offered-small w (l .offered)) in
       let j : c ≡ b = small-same q (omega (arith, l .b-most)) in
@@ -61,4 +61,4 @@ module _ (xs : List ℕ) (v b slots : ℕ) {w c n : ℕ} (p : Small w v) (q : Sm
       let m : s .slots ≡ slots = g ∙ k in
       let o : are-legal-sizes asked slots ≡ true = sizes-are-legal-sizes (rw (y, m) at (z .legal)) in
       let e : eqb (length xs) (file-size asked slots) ≡ true = eq-eqb (length xs) (file-size asked slots) (rw (y, m) at (z .whole)) in
-      rw (o, e, d, y, m, a, t)
+      rw (o, e) (refl, rw (y, m) at d, t)

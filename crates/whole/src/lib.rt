@@ -6,7 +6,7 @@ ghost use lib.ListN.{length};
 ghost use Rattle.model.specs.Calls.{create-of, new-trie, recover-of};
 ghost use Rattle.model.specs.Format.{check-file};
 ghost use Rattle.image.specs.Images.{image-length, image-of};
-ghost use Rattle.whole.specs.Outcomes.{Rebuilds, created, found, recovered};
+ghost use Rattle.whole.specs.Outcomes.{Creates, Rebuilds, found, recovered};
 ghost use Rattle.whole.specs.Small.{Small};
 use file::Header;
 use file::Kind;
@@ -14,16 +14,6 @@ use model::Cause;
 use model::Layout;
 use model::RecoverAnswer;
 use model::TrieAnswer;
-use model::TrieGiven;
-
-fn refused(cause: Cause) -> TrieGiven
-    ensures { λ r. ⌜ (r .answer ≡ TrieAnswer.Refused cause) × (r .trie ≡ new-trie) ⌝ }
-{
-    TrieGiven {
-        answer: TrieAnswer::Refused(cause),
-        trie: trie::without_cells(0),
-    }
-}
 
 // A number that is no size of a file stays none.
 fn small(x: u64) -> usize
@@ -35,22 +25,21 @@ fn small(x: u64) -> usize
     x as usize
 }
 
-// Writes the whole buffer: a file with one empty bucket without limits, in slot 0.
-pub fn create(file: &mut [u8], version: u64, b: u64, slots: u64) -> TrieGiven
-    ensures { λ r. ⌜ created r (now (file .exit)) ≡ create-of (now (file .entry)) version b slots ⌝ }
+// Writes the whole buffer: a file with one empty bucket without limits, in slot 0. Refused or not, it gives the trie without cells.
+pub fn create(file: &mut [u8], image: &mut [u8], version: u64, b: u64, slots: u64) -> TrieAnswer
+    requires { ⌜ length (now image) ≡ image-length ⌝ }
+    ensures { λ r. ⌜ Creates r (now (file .exit)) (now (image .exit)) (create-of (now (file .entry)) version b slots) ⌝ }
 {
+    image::write_cleared(image, 0, 0);
     let layout = Layout {
         version: small(version),
         b: small(b),
     };
     let Header::Right(size) = file::sizes(file.len(), layout, small(slots)) else {
-        return refused(Cause::WrongSize);
+        return TrieAnswer::Refused(Cause::WrongSize);
     };
     file::create(file, size);
-    TrieGiven {
-        answer: TrieAnswer::Given,
-        trie: trie::without_cells(0),
-    }
+    TrieAnswer::Given
 }
 
 // Whether a file is sound, cut or bad.

@@ -10,17 +10,15 @@ returns c =
 
 returns-2 : tie.Need-returns-2
 returns-2 c =
-    let at-create = c .before .before .before .before in let at-write = at-create .before .before .before .before in
-    let a = at-write .before .before .before .before .before .args in
-    create-said (a .trie .now) (at-write .before .before .if1 .left) (a .file .now) (a .version) (a .b) (a .slots) _ (c .enum-told .given .1) (at-create .create .ensures) (at-write .write-cleared .ensures) refl
+    let at-create = c .before .before .before .before .before .before in let a = at-create .before .before .before .before .before .before .args in
+    create-said (a .trie .now) (at-create .before .before .before .if1 .left) (a .file .now) (a .version) (a .b) (a .slots) (c .enum-told .given .1) (at-create .create .ensures) refl
 
 returns-3 : tie.Need-returns-3
 returns-3 c =
-    let at-create = c .before .before .before .before .before .before in let at-write = at-create .before .before .before .before in
-    let a = at-write .before .before .before .before .before .args in
-    create-said (a .trie .now) (at-write .before .before .if1 .left) (a .file .now) (a .version) (a .b) (a .slots) _ (c .before .before .answer .given .1) (at-create .create .ensures) (at-write .write-cleared .ensures) (c .cause-number .ensures)
+    let at-create = c .before .before .before .before .before .before .before .before in let a = at-create .before .before .before .before .before .before .args in
+    create-said (a .trie .now) (at-create .before .before .before .if1 .left) (a .file .now) (a .version) (a .b) (a .slots) (c .before .before .answer .given .1) (at-create .create .ensures) (c .cause-number .ensures)
 
 pub pal-create-spec : {M : Type 1} → Rattle.capi.proofs.pal_create.Statement.statement M
 pal-create-spec =
-    tie.close (tie.spec returns (λ c κs. search needs) (λ c κs. search needs) (λ c. search needs) (λ c. search needs) (λ c κs. search needs)
-    (λ c. search needs) (λ c. search needs) returns-2 (λ c. search needs) (λ c. search needs) returns-3)
+    tie.close (tie.spec returns (λ c κs. search needs) (λ c. search needs) (λ c. search needs) (λ c κs. search needs) (λ c. search needs)
+    (λ c. search needs) returns-2 (λ c. search needs) (λ c. search needs) returns-3)

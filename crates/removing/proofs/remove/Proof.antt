@@ -63,14 +63,15 @@ returns-5 c =
     let at-commit = c .before .before .before .before .before in
     left-removed (prepared (at-commit .before .before .before)) (at-commit .commit .result) (at-commit .commit .ensures) (c .before .before .if2 .left) (omega (arith, c .before .if3 .left)) (c .if4 .taken)
 
-trie-without-requires : tie.Need-trie-without-requires
-trie-without-requires c κs =
+rebuild-without-requires : tie.Need-rebuild-without-requires
+rebuild-without-requires c κs =
     let at-commit = c .before .before .before .before .before .before .before in let at-plan = at-commit .before .before .before in let Z = prepared at-plan .agreed .ready in
     let whole : length (at-commit .commit .last .0) ≡ length (begun at-plan .args .file .now) = search needs in (
       record { legal = Z .said .sized .legal; whole = whole ∙ Z .said .sized .whole },
       Z .slots-inside,
       Z .count-most,
       freed-inside (prepared at-plan) (omega (arith, c .before .before .if4 .left)),
+      begun at-plan .pre,
     )
 
 returns-6 : tie.Need-returns-6
@@ -82,14 +83,13 @@ returns-6 c =
 
 returns-7 : tie.Need-returns-7
 returns-7 c =
-    let at-trie = c .before .before .before in let at-commit = at-trie .before .before .before .before .before .before .before .before in
-    left-merged (prepared (at-commit .before .before .before)) (at-commit .commit .result) (at-commit .commit .ensures) (at-trie .before .before .before .before .before .if2 .left) (omega (arith, at-trie .before .before .before .if4 .left))
-    (at-trie .trie-without .result) (at-trie .trie-without .ensures) (c .before .before .encode .ensures)
+    let at-rebuild = c .before .before in let at-commit = at-rebuild .before .before .before .before .before .before .before .before in
+    left-merged (prepared (at-commit .before .before .before)) (at-commit .commit .result) (at-commit .commit .ensures) (at-rebuild .before .before .before .before .before .if2 .left) (omega (arith, at-rebuild .before .before .before .if4 .left))
+    (at-rebuild .rebuild-without .ensures)
 
 pub remove-spec : {M : Type 1} → Rattle.removing.proofs.remove.Statement.statement M
 remove-spec =
     tie.close (tie.spec returns (λ c κs. search needs) (λ c κs. search needs) (λ c. search needs) (λ c. search needs) returns-2
     (λ c κs. search needs) (λ c. search needs) (λ c. search needs) remove-plan-requires commit-requires (λ c. search needs) (λ c. search needs) returns-3
-    (λ c. search needs) (λ c. search needs) returns-4 (λ c. search needs) (λ c. search needs) returns-5 trie-without-requires
-    (λ c κs. begun (c .before .before .before .before .before .before .before .before .before .before .before) .pre)
+    (λ c. search needs) (λ c. search needs) returns-4 (λ c. search needs) (λ c. search needs) returns-5 rebuild-without-requires
     (λ c. search needs) (λ c. search needs) returns-6 (λ c. search needs) (λ c. search needs) returns-7)
