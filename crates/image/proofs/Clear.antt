@@ -1,6 +1,6 @@
 -- Bytes that are zero are cells that are zero.
-use Rattle.model.proofs.Prelude.{List, List·getD-eq-default, [], _*_, _+_, _-_, _∙_, _∷_, _≡_, _≤_, arith, decLt, drop, eqb, eqb-true, getD, getD-drop, length, refl, suc, take, true, zero, ℕ}
-use Rattle.model.specs.Tries.{at-cell, zero-cell}
+use Rattle.model.proofs.Prelude.{List, List·getD-eq-default, [], _*_, _+_, _-_, _∙_, _∷_, _≡_, _≤_, arith, decLt, drop, eqb, eqb-true, getD, getD-drop, refl, suc, true, zero, ℕ}
+use Rattle.model.specs.Tries.{zero-cell}
 use Rattle.model.specs.Agreeing.{are-zero-cells}
 use Rattle.model.proofs.Tests.{both-true}
 use Rattle.model.proofs.Agreeing.{past-zeros}
