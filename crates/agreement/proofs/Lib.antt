@@ -1,4 +1,3 @@
-pub mod Clear
 pub mod Marks
 pub mod States
 pub mod Parts

@@ -6,18 +6,15 @@
 // at most one digit falls away.
 ghost use mathlib.Core.Path.{_≡_};
 ghost use mathlib.Core.Bool.{false};
-ghost use Prim.Native.Nat.{_≤_, _<_};
-ghost use mathlib.Core.List.{[], _∷_};
-ghost use lib.ListN.{drop, length};
+ghost use Prim.Native.Nat.{_≤_};
+ghost use lib.ListN.{length};
 ghost use Rattle.image.specs.Images.{image-length, trie-from};
-ghost use Rattle.model.specs.Agreeing.{are-zero-cells, same-side};
 ghost use Rattle.agreement.specs.Decides.{Decides};
 ghost use Rattle.agreement.specs.Passes.{Passed};
 use digits::u8_of_usize;
 use digits::u16_of_usize;
 use digits::usize_of_u8;
 use digits::usize_of_u16;
-use model::Cell;
 use model::Side;
 use trie::Strings;
 
@@ -37,48 +34,6 @@ fn disagreement() -> Agreement
         agrees: false,
         places: [256u16; 256],
     }
-}
-
-fn is_slot_0(side: Side) -> bool
-    ensures { λ r. ⌜ r ≡ same-side side (Side.Slot 0) ⌝ }
-{
-    match side {
-        Side::Slot(s) => s == 0,
-        Side::Cell(_) => false,
-    }
-}
-
-// R5.3: all cells past the count are zero.
-fn is_no_cell(cell: Cell) -> bool
-    ensures { λ r. ⌜ r ≡ are-zero-cells (cell ∷ []) ⌝ }
-{
-    if cell.digit != 0 {
-        return false;
-    }
-    if cell.number != 0 {
-        return false;
-    }
-    let left = cell.left;
-    if !is_slot_0(left) {
-        return false;
-    }
-    let right = cell.right;
-    is_slot_0(right)
-}
-
-fn is_clear_past(image: &[u8], count: usize) -> bool
-    requires { ⌜ (length (now image) ≡ image-length) × (count ≤ 256) ⌝ }
-    ensures { λ r. ⌜ r ≡ are-zero-cells (drop count (trie-from (now (image .entry)) .cells)) ⌝ }
-{
-    let mut i = count;
-    while i < 256 {
-        let cell = image::cell_at(image, i);
-        if !is_no_cell(cell) {
-            return false;
-        }
-        i += 1;
-    }
-    true
 }
 
 // The pass itself, over a trie whose count is the number of strings and not 0.
@@ -158,7 +113,7 @@ pub fn agreement_of(image: &[u8], strings: Strings) -> Agreement
     if image::count_of(image) != count {
         return disagreement();
     }
-    if !is_clear_past(image, count) {
+    if !image::is_clear_past(image, count) {
         return disagreement();
     }
     let first = image::first_of(image);

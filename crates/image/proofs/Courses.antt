@@ -1,15 +1,14 @@
 -- The walk over an image, step by step: what is known of the path is enough.
-use Rattle.model.proofs.Prelude.{List, Option, [], _++_, _+_, _-_, _<_, _∙_, _∷_, _≡_, _≤_, arith, decLe, getD, le-leb, length, length-append, length-take-le, lt-leb, nothing, refl, some, subst, suc, sym, take, true, zero, ℕ}
+use Rattle.model.proofs.Prelude.{List, Option, [], _+_, _-_, _<_, _∙_, _∷_, _≡_, _≤_, arith, decLe, getD, le-leb, length, length-append, length-take-le, lt-leb, nothing, refl, some, subst, suc, sym, true, ℕ}
 use Rattle.model.specs.declared.Cell.{Cell}
 use Rattle.model.specs.declared.Side.{Side}
 use Rattle.model.specs.declared.Side.the-variants.{Cell as further, Slot as slot}
 use Rattle.model.specs.declared.Trie.{Trie}
 use Rattle.model.specs.Order.{Str, diff}
 use Rattle.model.specs.Tests.{is-at-most}
-use Rattle.model.specs.Tries.{Spot, at-cell, cell, left, right, root, root-side, walk-of, walk-run}
+use Rattle.model.specs.Tries.{Spot, at-cell, cell, left, right, root, walk-of, walk-run}
 use Rattle.model.proofs.Order.{diff-le-right}
 use Rattle.model.proofs.GrownTries.{root-further}
-use Rattle.trie.specs.declared.Place.{Place}
 use Rattle.trie.specs.declared.Place.the-variants.{Slot as at-slot, Stale as stale}
 use Rattle.trie.specs.Walks.{place-reached}
 use Rattle.trie.proofs.Laws.{run-count, run-last, run-left, run-none, run-number, run-right, run-slot}

@@ -1,5 +1,5 @@
 -- How many digits a name shares with a cell's string, where it is known how many it shares with the path.
-use Rattle.model.proofs.Prelude.{List, [], _++_, _+_, _<_, _∙_, _∷_, _≡_, _≤_, ap, arith, clash, decLt, drop, drop-cons, eq-eqb, false, getD, le-ltb, length, lt-ltb, ne-eqb, refl, suc, sym, true, zero, zero-add, ℕ, ℕ-discrete}
+use Rattle.model.proofs.Prelude.{[], _+_, _<_, _∙_, _∷_, _≡_, _≤_, ap, arith, clash, decLt, drop, drop-cons, eq-eqb, false, getD, le-ltb, length, lt-ltb, ne-eqb, refl, suc, sym, true, zero, zero-add, ℕ, ℕ-discrete}
 use Rattle.model.specs.Order.{Str, diff}
 use Rattle.model.specs.Tests.{is-at-most}
 use Rattle.model.specs.Tries.{cell}

@@ -4,7 +4,6 @@
 // side. Numbers are little-endian. A side is signed: from 0 on it is that slot, below 0 the cell with that number's
 // negative.
 ghost use mathlib.Core.Path.{_≡_};
-ghost use mathlib.Core.Bool.{true};
 ghost use Prim.Native.Nat.{_≤_, _<_, _+_, _*_, _%_, _/_};
 ghost use lib.ListN.{drop, length};
 ghost use lib.Seq.{sets};
@@ -121,7 +120,7 @@ pub fn right_at(image: &[u8], i: usize) -> usize
 // R5.3, by words: whether all cells from one on are zero.
 pub fn is_clear_past(image: &[u8], count: usize) -> bool
     requires { ⌜ (count ≤ 256) × (length (now image) ≡ image-length) ⌝ }
-    ensures { λ r. ⌜ (r ≡ true → are-zero-cells (drop count (trie-from (now (image .entry)) .cells)) ≡ true) ⌝ }
+    ensures { λ r. ⌜ r ≡ are-zero-cells (drop count (trie-from (now (image .entry)) .cells)) ⌝ }
 {
     let from = 4 + 6 * count;
     digits::is_zero(&image[from..])

@@ -1,5 +1,5 @@
 -- `digit_at` is the cell's digit.
-use Rattle.model.proofs.Prelude.{ap, arith, needs, sym}
+use Rattle.model.proofs.Prelude.{ap, needs, sym}
 use Rattle.model.specs.declared.Cell.{Cell}
 use Rattle.image.proofs.Images.{cell-of}
 use Rattle.image.proofs.digit_at.Tie as tie
