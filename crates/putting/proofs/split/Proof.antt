@@ -55,10 +55,11 @@ grow-requires c κs =
     let n = split .before .before .before in let room = n .before .before in
     let s = room .before .before .before .before .before in
     let l = s .pre .1 .ready .said .sized .legal in
+    let inside = room-inside (n .n .given .1) (room .lowest-free .ensures .inside) in
     let p = split .split-of .ensures .0 in (
       s .pre .0,
-      omega (arith, s .pre .2, l .slots-most),
-      omega (arith, room-inside (n .n .given .1) (room .lowest-free .ensures .inside), l .slots-most),
+      omega (arith, s .pre .2, inside, l .slots-most),
+      omega (arith, s .pre .2, inside, l .slots-most),
       omega (arith, fits .if1 .left, count .count-of .ensures),
       p .shared-most,
       p .len-most,
