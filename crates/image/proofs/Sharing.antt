@@ -21,8 +21,8 @@ diff-nil : (n : Str) → diff n [] ≡ 0
 diff-nil [] = refl
 diff-nil (a ∷ n) = refl
 
-diff-same : (a b : ℕ) (n p : Str) → a ≡ b → diff (a ∷ n) (b ∷ p) ≡ suc (diff n p)
-diff-same a b n p e = rw (eq-eqb a b e)
+diff-first : (a b : ℕ) (n p : Str) → a ≡ b → diff (a ∷ n) (b ∷ p) ≡ suc (diff n p)
+diff-first a b n p e = rw (eq-eqb a b e)
 
 diff-other : (a b : ℕ) (n p : Str) → (a ≡ b → ⊥) → diff (a ∷ n) (b ∷ p) ≡ 0
 diff-other a b n p e = rw (ne-eqb a b e)
@@ -46,8 +46,8 @@ before-digit (suc k) d (a ∷ n) (b ∷ p) w h l = go (ℕ-discrete a b) (decLt 
     go : Dec (a ≡ b) → Dec (a < b) → (is-at-most n p ≡ true → diff n p < k → k ≤ length p → (is-at-most n (cell d k p) ≡ true) × (diff n (cell d k p) ≡ diff n p))
         → (is-at-most (a ∷ n) (b ∷ cell d k p) ≡ true) × (diff (a ∷ n) (b ∷ cell d k p) ≡ diff (a ∷ n) (b ∷ p))
     go (yes e) q rest =
-        let r = rest (sym (same-first a b n p e) ∙ w) (omega (arith, h, diff-same a b n p e)) (omega arith) in
-        (same-first a b n (cell d k p) e ∙ r .0, diff-same a b n (cell d k p) e ∙ ap suc (r .1) ∙ sym (diff-same a b n p e))
+        let r = rest (sym (same-first a b n p e) ∙ w) (omega (arith, h, diff-first a b n p e)) (omega arith) in
+        (same-first a b n (cell d k p) e ∙ r .0, diff-first a b n (cell d k p) e ∙ ap suc (r .1) ∙ sym (diff-first a b n p e))
     go (no e) (yes q) rest = (less-first a b n (cell d k p) q, diff-other a b n (cell d k p) e ∙ sym (diff-other a b n p e))
     go (no e) (no q) rest =
         let m : b < a = omega (arith, e) in
@@ -65,8 +65,8 @@ at-digit (suc k) d (a ∷ n) (b ∷ p) h = go (ℕ-discrete a b) (at-digit k d n
     go : Dec (a ≡ b) → (k ≤ diff n p → (is-at-most n (cell d k p) ≡ is-at-most (drop k n) (d ∷ [])) × (diff n (cell d k p) ≡ k + diff (drop k n) (d ∷ [])))
         → (is-at-most (a ∷ n) (b ∷ cell d k p) ≡ is-at-most (drop k n) (d ∷ [])) × (diff (a ∷ n) (b ∷ cell d k p) ≡ suc k + diff (drop k n) (d ∷ []))
     go (yes e) rest =
-        let r = rest (omega (arith, h, diff-same a b n p e)) in
-        (same-first a b n (cell d k p) e ∙ r .0, omega (arith, diff-same a b n (cell d k p) e, r .1))
+        let r = rest (omega (arith, h, diff-first a b n p e)) in
+        (same-first a b n (cell d k p) e ∙ r .0, omega (arith, diff-first a b n (cell d k p) e, r .1))
     go (no e) rest = absurd (omega (arith, h, diff-other a b n p e))
 
 module _ (k d : ℕ) (n p : Str) (h : k ≤ diff n p) (l : k < length n) where
@@ -89,5 +89,5 @@ module _ (k d : ℕ) (n p : Str) (h : k ≤ diff n p) (l : k < length n) where
 
   pub on-digit : own ≡ d → (is-at-most n (cell d k p) ≡ true) × (diff n (cell d k p) ≡ k + 1)
   on-digit m =
-      let e : k + diff (own ∷ rest) (d ∷ []) ≡ k + 1 = omega (arith, diff-same own d rest [] m, diff-nil rest) in
+      let e : k + diff (own ∷ rest) (d ∷ []) ≡ k + 1 = omega (arith, diff-first own d rest [] m, diff-nil rest) in
       (at-digit k d n p h .0 ∙ rw there (same-first own d rest [] m ∙ all rest), at-digit k d n p h .1 ∙ rw there e)
