@@ -19,7 +19,7 @@ use Rattle.model.proofs.Format.{are-legal-sizes-sizes}
 use Rattle.model.specs.declared.LookUpAnswer.the-variants.{Absent as NotFound, Found, Refused as LookUpRefused}
 use Rattle.model.specs.declared.PutAnswer.the-variants.{Added, Refused as PutRefused, Stopped as PutStopped}
 use Rattle.model.specs.declared.RecoverAnswer.the-variants.{Freed, Nothing, Refused as RecoverRefused}
-use Rattle.model.specs.declared.RemoveAnswer.the-variants.{Absent as NotHeld, Refused as RemoveRefused, Removed}
+use Rattle.model.specs.declared.RemoveAnswer.the-variants.{Absent as NotHeld, Refused as RemoveRefused, Removed, Stopped as RemoveStopped}
 use Rattle.model.specs.Order.{Str, at}
 use Rattle.model.specs.Tests.{are-digits, is-above, is-at-most, is-legal-bound, is-legal-filled, is-legal-low, is-legal-name, same-low, same-str}
 use Rattle.model.specs.Names.{filled, not-greater, split-beginning, split-tried, within}
@@ -42,8 +42,9 @@ use Rattle.promises.specs.Calls.{Calls, our-calls, version-1}
 use Rattle.promises.specs.Demand1.{Demand1, LegalName}
 use Rattle.promises.specs.Demand2.{Demand2, LeadsRight, Made, Truthful, true-entry, truly-absent}
 use Rattle.promises.specs.Demand3.{Demand3, Event, Kept, Recovers, State, after, after-freeing, after-put, after-rebuild, after-recover, after-remove, differing, file-of, nothing-to-do, now, put as put-event, put-by, remove as remove-event, remove-by, replaced, said, start, step, stopped-at-0}
+use Rattle.promises.specs.Limits.{Limits}
 use Rattle.promises.specs.Merging.{Merging, Takes}
-use Rattle.promises.specs.WrongCalls.{IsRefused, OneResult, RefusesAll, absent-instead, both, both-at-once, by-create, by-list, by-look-up, by-put, by-rebuild, by-recover, by-remove, cuts-first, exchanged, free-outer, idles, inner-kept, keeps-inner, left-first, left-then-right, make, make-looked, make-put, make-remove, miscounts, never-merges, removes-nothing, stores-nothing, take-from, take-looked, unmerged}
+use Rattle.promises.specs.WrongCalls.{IsRefused, OneResult, RefusesAll, absent-instead, both, both-at-once, by-create, by-list, by-look-up, by-put, by-rebuild, by-recover, by-remove, cuts-first, early, exchanged, free-outer, grown-early, idles, inner-kept, keeps-inner, left-first, left-then-right, make, make-looked, make-put, make-remove, miscounts, never-merges, rebuilt-early, removes-nothing, stores-nothing, take-from, take-looked, unmerged}
 use Rattle.promises.specs.Strength.{StoppedAfter, Strength, bare-cells, five, full-file, left-merged, one-turned, right-merged, split-file, stopped-file, three-cells, three-file, three-slots}
 use Rattle.promises.proofs.Situations.{situations}
 use Rattle.promises.proofs.Demand1.{demand-1, legal-name, same-slots}
@@ -146,6 +147,10 @@ record Computed : Type 0 where
   right-first : read-file (remove-of three-file three-cells (bytes "c") 2 .file) ≡ some (version-1 2, right-merged)
   left-instead : read-file (left-first .remove three-file three-cells (bytes "c") 2 .file) ≡ some (version-1 2, left-merged)
   one-only : never-merges .remove three-file three-cells (bytes "c") 2 .answer ≡ Removed 1
+  grown-stopped : grown-early .put full-file new-trie (bytes "c") 3 0 1 .answer ≡ PutStopped 1
+  grown-count : grown-early .put full-file new-trie (bytes "c") 3 0 1 .trie .count ≡ 1
+  rebuilt-stopped : rebuilt-early .remove three-file three-cells (bytes "c") 1 .answer ≡ RemoveStopped 1
+  rebuilt-count : rebuilt-early .remove three-file three-cells (bytes "c") 1 .trie .count ≡ 1
   inner-bad : check-file (store-bytes (version-1 2) 0 free stopped-file) ≡ is-bad
   last-name : split-of 4 (place-of (version-1 4)) five ≡ bytes "r"
   neighbour : split-string (4 / 2) (4 / 2 + 1) five ≡ bytes "ra "
@@ -172,7 +177,7 @@ unfolding
     looked-of stores-bytes place-of trie-after-put refusal-of put-by-stores put-on-looked put-of remove-by-stores remove-on-looked remove-of entries-in between
     list-entries list-on-looked list-of
     now after-put after-remove after-recover after-rebuild put-by remove-by step after differing
-    make make-looked make-put absent-instead both exchanged free-outer inner-kept take-from take-looked make-remove unmerged left-then-right
+    make make-looked make-put absent-instead both exchanged free-outer inner-kept take-from take-looked make-remove unmerged left-then-right early
 computed = record {
   create-given = refl;
   recover-nothing = refl;
@@ -218,6 +223,10 @@ computed = record {
   right-first = refl;
   left-instead = refl;
   one-only = refl;
+  grown-stopped = refl;
+  grown-count = refl;
+  rebuilt-stopped = refl;
+  rebuilt-count = refl;
   inner-bad = refl;
   last-name = refl;
   neighbour = refl;
@@ -441,6 +450,17 @@ not-left-first D =
     let q : left-merged ≡ right-merged = one-reading ours (rw e at (computed .left-instead)) (computed .right-first) in
     clash cc
 
+-- The whole call's trie has one cell, after the split and after the merge; the one that was given has none, and two.
+not-grown-early : ¬ Limits grown-early
+not-grown-early D =
+    let q : _≡_ {A = ℕ} 0 1 = rw (D .put-stays full-file new-trie (bytes "c") 3 0 1 1 (computed .grown-stopped)) at (computed .grown-count) in
+    clash q
+
+not-rebuilt-early : ¬ Limits rebuilt-early
+not-rebuilt-early D =
+    let q : _≡_ {A = ℕ} 2 1 = rw (D .remove-stays three-file three-cells (bytes "c") 1 1 (computed .rebuilt-stopped)) at (computed .rebuilt-count) in
+    absurd (omega (arith, q))
+
 -- A put that says stopped made the first of its stores, as many as it says.
 module _ (xs : List ℕ) (t : Trie) (name : List ℕ) (v run limit made : ℕ) where
   abbrev n : Str
@@ -502,6 +522,8 @@ strength = record {
   right-first = computed .right-first;
   left-instead = computed .left-instead;
   one-only = computed .one-only;
+  not-grown-early = not-grown-early;
+  not-rebuilt-early = not-rebuilt-early;
   stopped-after = first-stores;
   stopped-0 = computed .stopped-0;
   stopped-1 = computed .stopped-1;

@@ -29,8 +29,9 @@ use Rattle.promises.specs.Calls.{Calls, version-1}
 use Rattle.promises.specs.Demand1.{Demand1}
 use Rattle.promises.specs.Demand2.{Demand2, LeadsRight}
 use Rattle.promises.specs.Demand3.{Demand3}
+use Rattle.promises.specs.Limits.{Limits}
 use Rattle.promises.specs.Merging.{Merging}
-use Rattle.promises.specs.WrongCalls.{IsRefused, OneResult, RefusesAll, both-at-once, cuts-first, idles, keeps-inner, left-first, make-put, make-remove, miscounts, never-merges, removes-nothing, stores-nothing}
+use Rattle.promises.specs.WrongCalls.{IsRefused, OneResult, RefusesAll, both-at-once, cuts-first, grown-early, idles, keeps-inner, left-first, make-put, make-remove, miscounts, never-merges, rebuilt-early, removes-nothing, stores-nothing}
 
 -- Files with b = 2 and two slots: new; with one full bucket; after the first store of a put of c, and after both.
 abbrev pub full-slot : Slot
@@ -110,7 +111,7 @@ pub record Strength : Type 0 where
   pub no-number : (C : Calls) → C .look-up i-file new-trie (bytes "i") ≡ LookUpRefused stale-trie → ¬ Demand1 C
   -- R15.2, against demand 2.
   pub one-result : (C : Calls) → OneResult C → ¬ Demand2 C
-  -- The wrong puts are ours but for the stores that they make: with our stores, such a put is ours.
+  -- The wrong puts of section 15 are ours but for the stores that they make: with our stores, such a put is ours.
   pub ours-but-for : (xs : List ℕ) (t : Trie) (name : List ℕ) (v run limit : ℕ)
       → make-put take (λ made. made) (λ ss. ss) xs t name v run limit ≡ put-of xs t name v run limit
   -- R15.3, against demand 3.
@@ -125,7 +126,7 @@ pub record Strength : Type 0 where
   pub not-cut-first : ¬ Demand3 cuts-first
   -- R15.9, against demand 3.
   pub not-inner : ¬ Demand3 keeps-inner
-  -- The wrong removals are ours but for the stores that they take: with our stores, such a removal is ours.
+  -- The wrong removals of R7.14 are ours but for the stores that they take: with our stores, such a removal is ours.
   pub removal-but-for : (xs : List ℕ) (t : Trie) (name : List ℕ) (limit : ℕ) → make-remove removal xs t name limit ≡ remove-of xs t name limit
   -- R7.14, against the rule which stores a removal takes: one that never merges, and one that tries the left neighbour first. The bucket of
   -- c could merge with either neighbour: ours merges it with the right one, the second with the left one, and the first with none.
@@ -134,6 +135,10 @@ pub record Strength : Type 0 where
   pub right-first : read-file (remove-of three-file three-cells (bytes "c") 2 .file) ≡ some (version-1 2, right-merged)
   pub left-instead : read-file (left-first .remove three-file three-cells (bytes "c") 2 .file) ≡ some (version-1 2, left-merged)
   pub one-only : never-merges .remove three-file three-cells (bytes "c") 2 .answer ≡ Removed 1
+  -- R7.12, against what is said of limits, by the trie that a stopped call leaves (answers and files are ours): the put of c below, and the
+  -- removal of c that merges, each stopped after its first store with the trie of the whole call.
+  pub not-grown-early : ¬ Limits grown-early
+  pub not-rebuilt-early : ¬ Limits rebuilt-early
   -- A put that says stopped made the first of its stores, as many as it says.
   pub stopped-after : (xs : List ℕ) (t : Trie) (name : List ℕ) (v run limit made : ℕ)
       → put-of xs t name v run limit .answer ≡ PutStopped made → StoppedAfter xs name v run made (put-of xs t name v run limit .file)

@@ -1,4 +1,4 @@
--- Wrong versions of the calls (section 15 of the rules, and two of R7.14): each is ours but for one thing.
+-- Wrong versions of the calls (section 15 of the rules, two of R7.14 and two of R7.12): each is ours but for one thing.
 use mathlib.Core.Path.{_≡_}
 use mathlib.Core.Bool.{cond}
 use mathlib.Core.Option.{Option, none as nothing, some}
@@ -179,3 +179,21 @@ left-then-right b fs n A l u es =
 
 abbrev pub left-first : Calls
 left-first = instead recover-of put-of (make-remove left-then-right)
+
+-- R7.12: a put that gives the grown trie already where it is stopped after the first store of a split. With limit 1 it gives the trie
+-- of limit 2, which is ours wherever limit 1 does not stop the call.
+unfoldable pub early : ℕ → ℕ
+early zero = zero
+early (suc zero) = 2
+early (suc (suc limit)) = suc (suc limit)
+
+abbrev pub grown-early : Calls
+grown-early =
+    with-put (λ xs t name v run limit. let d = put-of xs t name v run limit in
+    record { answer = d .answer; file = d .file; trie = put-of xs t name v run (early limit) .trie })
+
+-- The same of a removal, with the first store of a merge and the rebuilt trie.
+abbrev pub rebuilt-early : Calls
+rebuilt-early =
+    instead recover-of put-of (λ xs t name limit. let d = remove-of xs t name limit in
+    record { answer = d .answer; file = d .file; trie = remove-of xs t name (early limit) .trie })
