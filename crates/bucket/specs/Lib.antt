@@ -1,4 +1,3 @@
 pub mod Slots
 pub mod Forms
 pub mod Copies
-pub mod Serving

@@ -1,7 +1,7 @@
 // One slot's bytes as they are read: its parts, free, well formed, its entries in order, its range.
 //
-// R3.2 to R3.17 of docs/RULES.md have the bytes: numbers and lengths first, then the two bounds, then b entries. Above this crate and
-// `slots` there are bounds and entries, and no offset inside a slot.
+// R3.2 to R3.17 of docs/RULES.md have the bytes: numbers and lengths first, then the two bounds, then b entries. Above this crate,
+// `slots` and `serving` there are bounds and entries, and no offset inside a slot.
 ghost use mathlib.Core.Path.{_≡_};
 ghost use mathlib.Core.Bool.{_&&_, true};
 ghost use Prim.Native.Nat.{_≤_, _<_, _+_, _-_, _*_};
@@ -23,10 +23,6 @@ use digits::usize_of_u8;
 use digits::usize_of_u32;
 use gathering::Seen;
 use model::Layout;
-
-mod serving;
-
-pub use serving::serves;
 
 // The bytes of the largest slot: 64, and 16 entries of 40.
 pub const SLOT: usize = 704;
@@ -177,7 +173,7 @@ pub fn entries_of(slot: &[u8], layout: Layout) -> &[u8]
 }
 
 // Whether the bytes that a used slot leaves zero are zero; its entries reach to `end`. Bytes 4 to 7 are the upper half of the first word.
-fn is_clear(slot: &[u8], end: usize) -> bool
+pub fn is_clear(slot: &[u8], end: usize) -> bool
     requires { ⌜ (64 ≤ end) × (end ≤ length (now slot)) ⌝ }
     ensures { λ r. ⌜ r ≡ is-all-clear (now (slot .entry)) end ⌝ }
 {

@@ -65,7 +65,7 @@ fn look_in(slot: &[u8], layout: Layout, name: &[u8; 24], key: Key) -> LookUpAnsw
     requires { ⌜ (OfSize (now slot) layout) × (key-value key ≡ value (now name)) ⌝ }
     ensures { λ r. ⌜ (Legal (now (name .entry)) → r ≡ slot-answer (layout .b) (now (name .entry)) (read-slot layout (now (slot .entry)))) ⌝ }
 {
-    if !bucket::serves(slot, layout, key) {
+    if !serving::serves(slot, layout, key) {
         return answer_of(slot, layout, name, key);
     }
     let Held::Holds(content) = slots::held_in(slot, layout, key) else {

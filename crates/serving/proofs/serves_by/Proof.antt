@@ -3,10 +3,10 @@ use Rattle.model.proofs.Prelude.{List, _*_, _+_, _-_, _∙_, _≡_, ap, arith, 
 use Rattle.model.proofs.Lists.{rest}
 use Rattle.digits.specs.Keys.{key-value}
 use Rattle.gathering.specs.Names.{Rising, names}
 use Rattle.bucket.specs.Forms.{is-all-clear}
-use Rattle.bucket.specs.Serving.{HighSeen}
-use Rattle.bucket.proofs.Served.{served}
-use Rattle.bucket.proofs.serving.serves_by.Tie as tie
+use Rattle.serving.specs.Serving.{HighSeen}
+use Rattle.serving.proofs.Served.{served}
+use Rattle.serving.proofs.serves_by.Tie as tie
 
 returns-7 : tie.Need-returns-7
 returns-7 c t =
@@ -25,7 +25,7 @@ returns-7 c t =
     (subst (λ (m : ℕ). HighSeen xs (key-value (high .result)) (key-value (a .name)) m) l (at-under .is-under .ensures (not-false (at-under .is-under .result) (c .before .if6 .left))))
     (low .ensures) (high .ensures)
 
-pub serves-by-spec : {M : Type 1} → Rattle.bucket.proofs.serving.serves_by.Statement.statement M
+pub serves-by-spec : {M : Type 1} → Rattle.serving.proofs.serves_by.Statement.statement M
 serves-by-spec =
     tie.close (tie.spec (λ c. search needs) (λ c κs. search needs) (λ c t. clash cc) (λ c t. clash cc) (λ c κs. search needs) (λ c. search needs) (λ c κs. search needs)
     (λ c t. clash cc) (λ c. search needs) (λ c. search needs) (λ c. search needs) (λ c κs. search needs) (λ c t. clash cc) (λ c. search needs)

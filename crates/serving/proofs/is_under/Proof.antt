@@ -2,7 +2,7 @@
 use Rattle.model.proofs.Prelude.{_&&_, _∙_, _≡_, ap, clash, drop, leb, ltb, ltb-false, needs, not-false, not-true, subst, sym, take, true, ℕ}
 use Rattle.model.specs.Tests.{is-legal-bound}
 use Rattle.digits.specs.Keys.{is-all-zero, key-value}
-use Rattle.bucket.proofs.serving.is_under.Tie as tie
+use Rattle.serving.proofs.is_under.Tie as tie
 
 returns-3 : tie.Need-returns-3
 returns-3 c t =
@@ -14,7 +14,7 @@ returns-3 c t =
       last-under = ltb-false _ _ (sym (ap (λ (m : ℕ). ltb (key-value (a .high)) m) (c .before .key-at .ensures)) ∙ sym (c .is-below2 .ensures) ∙ not-true (c .is-below2 .result) t);
     }
 
-pub is-under-spec : {M : Type 1} → Rattle.bucket.proofs.serving.is_under.Statement.statement M
+pub is-under-spec : {M : Type 1} → Rattle.serving.proofs.is_under.Statement.statement M
 is-under-spec =
     tie.close (tie.spec (λ c. search needs) (λ c. search needs) (λ c. search needs) (λ c. search needs) (λ c κs. search needs) (λ c κs. search needs) (λ c t. clash cc)
     (λ c κs. search needs) (λ c t. clash cc) (λ c κs. search needs) (λ c κs. search needs) returns-3)

@@ -1,9 +1,8 @@
 -- `is_over` meets its contract.
 use Rattle.model.proofs.Prelude.{_&&_, _∙_, _≡_, ap, clash, drop, leb, ltb, ltb-true, needs, not-false, subst, sym, take, true, ℕ}
 use Rattle.model.specs.Tests.{is-legal-bound}
-use Rattle.model.proofs.Deciding.{over}
 use Rattle.digits.specs.Keys.{is-all-zero, key-value}
-use Rattle.bucket.proofs.serving.is_over.Tie as tie
+use Rattle.serving.proofs.is_over.Tie as tie
 
 returns-3 : tie.Need-returns-3
 returns-3 c t =
@@ -15,7 +14,7 @@ returns-3 c t =
       first = ltb-true _ _ (sym (ap (λ (m : ℕ). ltb (key-value (a .low)) m) (c .before .key-at .ensures)) ∙ sym (c .is-below2 .ensures) ∙ t);
     }
 
-pub is-over-spec : {M : Type 1} → Rattle.bucket.proofs.serving.is_over.Statement.statement M
+pub is-over-spec : {M : Type 1} → Rattle.serving.proofs.is_over.Statement.statement M
 is-over-spec =
     tie.close (tie.spec (λ c. search needs) (λ c. search needs) (λ c. search needs) (λ c. search needs) (λ c κs. search needs) (λ c κs. search needs) (λ c t. clash cc)
     (λ c κs. search needs) (λ c t. clash cc) (λ c κs. search needs) (λ c κs. search needs) returns-3)

@@ -1,6 +1,6 @@
 -- `serves` meets its contract.
 use Rattle.model.proofs.Prelude.{_*_, _+_, _∙_, ap, arith, needs, refl, sym, ℕ}
-use Rattle.bucket.proofs.serving.serves.Tie as tie
+use Rattle.serving.proofs.serves.Tie as tie
 
 serves-by-requires : tie.Need-serves-by-requires
 serves-by-requires c κs =
@@ -10,5 +10,5 @@ serves-by-requires c κs =
 returns : tie.Need-returns
 returns c t = let y = c .before .before .before .args .layout in c .serves-by .ensures t y (sym (c .before .entry-size .ensures .0)) refl
 
-pub serves-spec : {M : Type 1} → Rattle.bucket.proofs.serving.serves.Statement.statement M
+pub serves-spec : {M : Type 1} → Rattle.serving.proofs.serves.Statement.statement M
 serves-spec = tie.close (tie.spec (λ c κs. search needs) serves-by-requires returns)

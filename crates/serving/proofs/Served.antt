@@ -2,17 +2,15 @@
 use Rattle.model.proofs.Prelude.{List, _*_, _+_, _-_, _<_, _∙_, _≡_, _≤_, arith, drop, drop-drop, getD, le-ltb, length, lt-ltb, ltb, not, suc, sym, take, true, ℕ}
 use Rattle.model.specs.Format.{entry-length}
 use Rattle.model.specs.declared.Layout.{Layout}
-use Rattle.model.proofs.Deciding.{over}
 use Rattle.digits.specs.Keys.{continued, key-value, low-value, value}
 use Rattle.gathering.specs.Names.{Rising, names}
-use Rattle.entries.specs.Rows.{are-entries}
 use Rattle.entries.proofs.Searches.{between-high, entries-ends}
 use Rattle.bucket.specs.declared.Bucket.{Bucket}
 use Rattle.bucket.specs.Forms.{is-all-clear}
-use Rattle.bucket.specs.Serving.{HighSeen, LowSeen, Serves}
+use Rattle.serving.specs.Serving.{HighSeen, LowSeen, Serves}
 use Rattle.bucket.specs.Slots.{HighTold, LowTold, high-in, is-a-bound, low-in}
 use Rattle.bucket.proofs.Layouts.{Tested, well-formed}
 use Rattle.bucket.proofs.Reading.{by-bound}
 
 module _ (e b : ℕ) (xs : List ℕ) (size : length xs ≡ 64 + e * b) (bytes : (i : ℕ) → getD xs i 0 < 256) (k : Bucket) (v : ℕ) where
   pub served : getD xs 0 0 ≡ 1 → 0 < getD xs 1 0 → getD xs 1 0 ≤ b → is-all-clear xs (64 + e * getD xs 1 0) ≡ true → Rising 0 (names e (getD xs 1 0) (drop 64 xs))
