@@ -65,7 +65,7 @@ fn middle_histories() {
 fn full_histories() {
     let profile =
         Profile { b: (16, 16), slots: (64, 64), names: (1000, 1600), changes: (1200, 2000), beside: 15, puts: 92 };
-    run_part("full_histories", 4_000_000, 40, |seed, run| tell_history(seed, run, &profile));
+    run_part("full_histories", 4_000_000, 28, |seed, run| tell_history(seed, run, &profile));
 }
 
 #[test]
@@ -83,13 +83,13 @@ fn middle_built() {
 #[test]
 fn full_built() {
     let profile = Profile { b: (16, 16), slots: (64, 64), names: (20, 300), changes: (10, 30), beside: 100, puts: 75 };
-    run_part("full_built", 7_000_000, 800, |seed, run| tell_built(seed, run, &profile));
+    run_part("full_built", 7_000_000, 560, |seed, run| tell_built(seed, run, &profile));
 }
 
 #[test]
 fn brim() {
     let profile = Profile { b: (2, 16), slots: (20, 64), names: (0, 0), changes: (10, 30), beside: 100, puts: 75 };
-    run_part("brim", 8_000_000, 1000, |seed, run| tell_brim(seed, run, &profile));
+    run_part("brim", 8_000_000, 600, |seed, run| tell_brim(seed, run, &profile));
 }
 
 #[test]
