@@ -58,7 +58,7 @@ extern "C" {
  * one of the same major number. */
 #define PALHAVENTO_VERSION_MAJOR 1
 #define PALHAVENTO_VERSION_MINOR 5
-#define PALHAVENTO_VERSION_PATCH 0
+#define PALHAVENTO_VERSION_PATCH 1
 #define PALHAVENTO_VERSION PAL_DOTTED_(PALHAVENTO_VERSION_MAJOR, PALHAVENTO_VERSION_MINOR, PALHAVENTO_VERSION_PATCH)
 #define PAL_DOTTED_(major, minor, patch) PAL_TEXT_(major) "." PAL_TEXT_(minor) "." PAL_TEXT_(patch)
 #define PAL_TEXT_(number) #number

@@ -37,7 +37,7 @@ from palhavento.layout import Bucket, Cell, Stats, Trie
 from palhavento.library import Content
 from palhavento.store import Store
 
-__version__ = "1.5.0"
+__version__ = "1.5.1"
 
 __all__ = [
     "BadFile",
