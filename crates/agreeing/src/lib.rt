@@ -3,6 +3,8 @@
 // The strings of the file are not written down, and the image is not decoded: the pass goes through the bounds in range
 // order and through the cells at once. It is proved in one direction, that a trie which it passes agrees. Where it does not
 // pass, the exact test of crate `agreement` decides.
+#![tactic(auto)]
+
 ghost use Rattle.std.specs.Prelude.{true, ◌≡◌, ◌≤◌, ◌<◌, ◌-◌, get_or, length};
 ghost use Rattle.file.specs.Sizes.{Below, Sized};
 ghost use Rattle.image.specs.Images.{image_length, trie_from};
@@ -14,7 +16,7 @@ use file::Size;
 
 // Where the pass stands: at a side, with so many cells on the stack, where no number may be smaller than `least`. A side is
 // the number that it is written as; the root, to which none leads, would be 65,536.
-#[derive(Drop)]
+#[derive(Clone, Copy)]
 pub struct Spot {
     pub side: usize,
     pub top: usize,
@@ -22,7 +24,7 @@ pub struct Spot {
 }
 
 // A pass that strays tells nothing of the trie.
-#[derive(Drop)]
+#[derive(Clone, Copy)]
 pub enum Way {
     At(Spot),
     Astray,
@@ -66,6 +68,7 @@ fn entered(
 
 // The next string is the first `number` digits of x and one more, and left of it stands the leaf of this slot: the cell on
 // top of the stack must be its cell.
+#[tactic(auto, using(crate::specs::Ways::strays))]
 fn string_met(
     image: &[u8],
     cells: usize,

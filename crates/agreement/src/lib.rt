@@ -4,6 +4,8 @@
 // slot that stands there. The digits before the last are then the string's own, because in the right part of a cell no
 // number is smaller than the cell's. Nor does a number exceed the length of its path, because from one string to the next
 // at most one digit falls away.
+#![tactic(auto)]
+
 ghost use Rattle.std.specs.Prelude.{◌≡◌, false, ◌≤◌, length};
 ghost use Rattle.image.specs.Images.{image_length, trie_from};
 ghost use Rattle.agreement.specs.Decides.{Decides};
@@ -14,7 +16,7 @@ use model::Side;
 use trie::Strings;
 
 // Whether the trie agrees; then the place of each cell's string among the strings.
-#[derive(Drop)]
+#[derive(Clone, Copy)]
 pub struct Agreement {
     pub agrees: bool,
     pub places: [u16; 256],

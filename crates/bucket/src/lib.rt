@@ -2,6 +2,8 @@
 //
 // R3.2 to R3.17 of docs/RULES.md have the bytes: numbers and lengths first, then the two bounds, then b entries. Above this crate,
 // `slots` and `serving` there are bounds and entries, and no offset inside a slot.
+#![tactic(auto)]
+
 ghost use Rattle.std.specs.Prelude.{◌≡◌, ◌&&◌, true, ◌≤◌, ◌<◌, ◌+◌, ◌-◌, ◌*◌, eqb, leb, drop, get_or, length, take};
 ghost use Rattle.model.specs.Format.{entry_length, slot_size};
 ghost use Rattle.model.specs.Order.{diff};
@@ -22,19 +24,19 @@ use model::Layout;
 pub const SLOT: usize = 704;
 
 // The range (low, high] of a well-formed slot.
-#[derive(Drop)]
+#[derive(Clone, Copy)]
 pub struct Bucket {
     pub low: Key,
     pub high: Key,
 }
 
-#[derive(Drop)]
+#[derive(Clone, Copy)]
 pub enum Vacancy {
     Taken,
     Free,
 }
 
-#[derive(Drop)]
+#[derive(Clone, Copy)]
 pub enum Form {
     Well(Bucket),
     Ill,
@@ -42,7 +44,7 @@ pub enum Form {
 
 // Whether a bucket's range holds a name; if it lacks the name, the first digit number where the name differs from the bound that it
 // breaks.
-#[derive(Drop)]
+#[derive(Clone, Copy)]
 pub enum Range {
     Holds,
     Lacks(u64),

@@ -2,6 +2,8 @@
 //
 // 1 to 99 is a refusal with its number (docs/RULES.md, section 10); 100 and up says what was done; 255 is an image that
 // is not 1,540 bytes long.
+#![tactic(auto)]
+
 ghost use Rattle.std.specs.Prelude.{◌≡◌};
 ghost use Rattle.std.proofs.lemmas.List.Edits.{sets};
 ghost use Rattle.model.specs.Answers.{number};
@@ -30,14 +32,7 @@ fn refused(cause: Cause, out: &mut [u64; 4]) -> u64
     number
 }
 
-#[unsafe(no_mangle)]
-pub extern "C" fn pal_create(
-    file: &mut [u8],
-    version: u64,
-    b: u64,
-    slots: u64,
-    trie: &mut [u8],
-) -> u64
+pub fn pal_create(file: &mut [u8], version: u64, b: u64, slots: u64, trie: &mut [u8]) -> u64
     ensures { pal_create_of file.old version b slots trie.old ≡ (result, file.new, trie.new) }
 {
     if trie.len() != image::BYTES {
@@ -50,8 +45,7 @@ pub extern "C" fn pal_create(
     }
 }
 
-#[unsafe(no_mangle)]
-pub extern "C" fn pal_check(file: &[u8]) -> u64
+pub fn pal_check(file: &[u8]) -> u64
     ensures { result ≡ pal_check_of file.now }
 {
     let kind = whole::check(file);
@@ -62,8 +56,7 @@ pub extern "C" fn pal_check(file: &[u8]) -> u64
     }
 }
 
-#[unsafe(no_mangle)]
-pub extern "C" fn pal_recover(file: &mut [u8], limit: u64, out: &mut [u64; 4]) -> u64
+pub fn pal_recover(file: &mut [u8], limit: u64, out: &mut [u64; 4]) -> u64
     ensures { pal_recover_of file.old limit out.old ≡ (result, file.new, out.new) }
 {
     let answer = whole::recover(file, limit);
@@ -81,8 +74,7 @@ pub extern "C" fn pal_recover(file: &mut [u8], limit: u64, out: &mut [u64; 4]) -
     }
 }
 
-#[unsafe(no_mangle)]
-pub extern "C" fn pal_rebuild(file: &[u8], trie: &mut [u8]) -> u64
+pub fn pal_rebuild(file: &[u8], trie: &mut [u8]) -> u64
     ensures { pal_rebuild_of file.now trie.old ≡ (result, trie.new) }
 {
     if trie.len() != image::BYTES {
@@ -95,8 +87,7 @@ pub extern "C" fn pal_rebuild(file: &[u8], trie: &mut [u8]) -> u64
     }
 }
 
-#[unsafe(no_mangle)]
-pub extern "C" fn pal_lookup(file: &[u8], trie: &[u8], name: &[u8], out: &mut [u64; 4]) -> u64
+pub fn pal_lookup(file: &[u8], trie: &[u8], name: &[u8], out: &mut [u64; 4]) -> u64
     ensures { pal_look_up_of file.now trie.now name.now out.old ≡ (result, out.new) }
 {
     if trie.len() != image::BYTES {
@@ -116,8 +107,7 @@ pub extern "C" fn pal_lookup(file: &[u8], trie: &[u8], name: &[u8], out: &mut [u
 }
 
 // Files of version 3 keep `run`; those of versions 1 and 2 do not.
-#[unsafe(no_mangle)]
-pub extern "C" fn pal_put(
+pub fn pal_put(
     file: &mut [u8],
     trie: &mut [u8],
     name: &[u8],
@@ -148,8 +138,7 @@ pub extern "C" fn pal_put(
     }
 }
 
-#[unsafe(no_mangle)]
-pub extern "C" fn pal_remove(
+pub fn pal_remove(
     file: &mut [u8],
     trie: &mut [u8],
     name: &[u8],
@@ -174,8 +163,7 @@ pub extern "C" fn pal_remove(
     }
 }
 
-#[unsafe(no_mangle)]
-pub extern "C" fn pal_list(
+pub fn pal_list(
     file: &[u8],
     trie: &[u8],
     first: &[u8],

@@ -1,4 +1,6 @@
 // R9.10: what put, remove and list look at alike, the whole file and full agreement.
+#![tactic(auto)]
+
 ghost use Rattle.std.specs.Prelude.{◌≡◌, ◌≤◌, ◌<◌, get_or, length};
 ghost use Rattle.model.specs.Checks.{is_sound};
 ghost use Rattle.model.specs.Format.{check_file};
@@ -11,14 +13,14 @@ use digits::usize_of_u8;
 use file::{Header, Kind, Size, Survey};
 use model::{Cause, Layout, NO_DIGIT};
 
-#[derive(Drop)]
+#[derive(Clone, Copy)]
 pub enum Verdict {
     Fine,
     Refused(Cause),
 }
 
 // The verdict and, where it is fine, what the checks found: the file's sizes and its slots in range order.
-#[derive(Drop)]
+#[derive(Clone, Copy)]
 pub struct Checked {
     pub verdict: Verdict,
     pub size: Size,

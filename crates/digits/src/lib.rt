@@ -2,6 +2,8 @@
 //
 // A string of at most 24 digits is compared as three words, the first digit highest. A filled name has 24 digits; a bound
 // is continued by 0xFF, a digit above all others. So "name within bound" and "bound below bound" are one comparison.
+#![tactic(auto)]
+
 ghost use Rattle.std.specs.Prelude.{◌≡◌, ℕ, ◌+◌, ◌-◌, ◌*◌, ◌^◌, ◌<◌, ◌≤◌, true, ◌&&◌, ◌⊎◌, [], ◌++◌, length, take, drop, ◌==◌, nat_le, nat_lt};
 ghost use Rattle.model.specs.Format.{AreBytes, value_of};
 ghost use Rattle.model.specs.Names as names;
@@ -18,7 +20,7 @@ pub use numbers::{
 };
 
 // A string of digits as it is compared.
-#[derive(Drop)]
+#[derive(Clone, Copy)]
 pub struct Key {
     pub a: u64,
     pub b: u64,
@@ -26,14 +28,14 @@ pub struct Key {
 }
 
 // How a name stands to a bound.
-#[derive(Drop)]
+#[derive(Clone, Copy)]
 pub struct Comparison {
     pub within: bool,
     pub first: usize,
 }
 
 // What stands before a name is looked for: whether it is one, and the key that it is looked for with.
-#[derive(Drop)]
+#[derive(Clone, Copy)]
 pub enum Naming {
     Legal(Key),
     Illegal,

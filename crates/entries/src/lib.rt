@@ -2,6 +2,8 @@
 //
 // Only `entry_at` has a product; its contract gives the callers what they need of it, so their own sums are linear. Only
 // `content_at`, `entry_of` and `is_same_entry` tell the two sizes apart.
+#![tactic(auto)]
+
 ghost use Rattle.std.specs.Prelude.{◌&&◌, cond, [], ◌++◌, ◌≡◌, ◌≤◌, ◌<◌, ◌+◌, ◌-◌, ◌*◌, ◌^◌, leb, ltb, drop, length, take};
 ghost use Rattle.std.proofs.Math.Seq.{paste};
 ghost use Rattle.model.specs.Tests.{same_str};
@@ -16,14 +18,14 @@ use digits::Key;
 pub const ROOM: usize = 680;
 
 // What stands under a name: its value, and the run that wrote it.
-#[derive(Drop)]
+#[derive(Clone, Copy)]
 pub struct Content {
     pub value: u64,
     pub run: u64,
 }
 
 // What is held under a name.
-#[derive(Drop)]
+#[derive(Clone, Copy)]
 pub enum Held {
     Holds(Content),
     Absent,

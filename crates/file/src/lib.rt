@@ -1,6 +1,8 @@
 // The file: its header and sizes, its slots, the one function that commits a change, and create.
 //
 // R2.1 to R2.7 of docs/RULES.md have the header and the length: 16 bytes, then the slots.
+#![tactic(auto)]
+
 ghost use Rattle.std.specs.Prelude.{◌≡◌, ◌+◌, ◌*◌, ◌<◌, ◌≤◌, [], ◌∷◌, length, take, replicate, slice_index};
 ghost use Rattle.std.proofs.Math.Seq.{paste};
 ghost use Rattle.model.specs.declared.Layout.{Layout};
@@ -23,20 +25,20 @@ pub use order::{holder, leave_out};
 pub use survey::{Kind, Survey, found, survey_of, with_next};
 
 // What a header says: the layout of the slots, and their number.
-#[derive(Drop)]
+#[derive(Clone, Copy)]
 pub struct Size {
     pub layout: Layout,
     pub slots: usize,
 }
 
-#[derive(Drop)]
+#[derive(Clone, Copy)]
 pub enum Header {
     Right(Size),
     Wrong,
 }
 
 // Where a new bucket goes.
-#[derive(Drop)]
+#[derive(Clone, Copy)]
 pub enum Room {
     At(usize),
     Full,
@@ -128,7 +130,7 @@ pub fn slot_at(file: &[u8], size: Size, k: usize) -> &[u8]
 
 // What a change is to store: no slot, one or two, the first one first. A plan is found before a byte is written, and without
 // the limit. `one` begins with what slot `first` is to be, `two` with what slot `second` is to be.
-#[derive(Drop)]
+#[derive(Clone, Copy)]
 pub struct Plan {
     pub stores: u64,
     pub first: usize,

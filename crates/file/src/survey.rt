@@ -9,7 +9,7 @@ use crate::{Size, order, slot_at};
 use bucket::{Form, Vacancy};
 use digits::{u8_of_usize, usize_of_u8};
 
-#[derive(Drop)]
+#[derive(Clone, Copy)]
 pub enum Kind {
     Sound,
     Cut,
@@ -17,7 +17,7 @@ pub enum Kind {
 }
 
 // What a look at the whole file finds: the used slots as a map and in range order; of a cut file, the slot to free.
-#[derive(Drop)]
+#[derive(Clone, Copy)]
 pub struct Survey {
     pub kind: Kind,
     pub used: u64,

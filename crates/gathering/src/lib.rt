@@ -1,5 +1,7 @@
 // The names of rows of entries, tested together: the largest and the smallest byte at each place are gathered, and in one bit
 // whether the names of each row ascend. The test of what was gathered is exact, and costs the same for one name and for a thousand.
+#![tactic(auto)]
+
 ghost use Rattle.std.specs.Prelude.{◌≡◌, ℕ, ◌+◌, ◌-◌, ◌*◌, ◌^◌, ◌<◌, ◌≤◌, true, ◌&&◌, length, take, drop, nat_le, slice_index};
 ghost use Rattle.model.specs.Names.{Digits};
 ghost use Rattle.model.specs.Format.{value_of};
@@ -19,7 +21,7 @@ const BLANKS: u64 = 0x2020_2020_2020_2020;
 const HIGH: u64 = 0x8080_8080_8080_8080;
 
 // What is gathered: the largest and the smallest byte at each place, and whether all names ascend, in the highest bit.
-#[derive(Drop)]
+#[derive(Clone, Copy)]
 pub struct Seen {
     pub most: [u8; 32],
     pub least: [u8; 32],

@@ -3,6 +3,8 @@
 // The place of a cell's string among the strings is known from the agreement. The leaf on a cell's left stands just left
 // of that string and has it as its path; the leaf on its right stands one further. So a leaf's path is above s where the
 // leaf stands past s, and no path is compared.
+#![tactic(auto)]
+
 ghost use Rattle.std.specs.Prelude.{◌≡◌, ◌≤◌, ◌<◌, ◌+◌, length, take};
 ghost use Rattle.model.specs.Order.{diff};
 ghost use Rattle.growth.specs.Grows.{Grows};

@@ -3,6 +3,8 @@
 // The count and the first leaf, two bytes each, then 256 cells of six bytes: digit, digit number, left side, right
 // side. Numbers are little-endian. A side is signed: from 0 on it is that slot, below 0 the cell with that number's
 // negative.
+#![tactic(auto)]
+
 ghost use Rattle.std.specs.Prelude.{◌≡◌, ◌≤◌, ◌<◌, ◌+◌, ◌*◌, ◌%◌, ◌/◌, drop, length};
 ghost use Rattle.std.proofs.lemmas.List.Edits.{sets};
 ghost use Rattle.model.specs.Agreeing.{are_zero_cells};

@@ -13,7 +13,7 @@ use trie::Place;
 
 // How a walk leaves a cell: the length of the path, how many digits the name shares with it, and the side that the walk takes, as a
 // number.
-#[derive(Drop)]
+#[derive(Clone, Copy)]
 pub struct Turn {
     pub len: usize,
     pub same: usize,
@@ -21,7 +21,7 @@ pub struct Turn {
 }
 
 // A cell that no agreeing trie has, or how the walk goes on.
-#[derive(Drop)]
+#[derive(Clone, Copy)]
 pub enum Step {
     Stray,
     On(Turn),

@@ -1,15 +1,17 @@
 // The types of the rules (docs/RULES.md): the trie, and what the calls answer.
+#![tactic(auto)]
+
 ghost use Rattle.std.specs.Prelude.{◌≡◌};
 ghost use Rattle.model.specs.Answers.{number};
 
 // R5.1: where a side leads.
-#[derive(Drop)]
+#[derive(Clone, Copy)]
 pub enum Side {
     Slot(u16),
     Cell(u16),
 }
 
-#[derive(Drop)]
+#[derive(Clone, Copy)]
 pub struct Cell {
     pub digit: u8,
     pub number: u8,
@@ -18,7 +20,7 @@ pub struct Cell {
 }
 
 // R5.1 and R5.2: the cells with their count, and the first leaf.
-#[derive(Drop)]
+#[derive(Clone, Copy)]
 pub struct Trie {
     pub cells: [Cell; 256],
     pub count: u16,
@@ -26,7 +28,7 @@ pub struct Trie {
 }
 
 // What a file's header says of its slots: the version, and b, the entries that a bucket holds.
-#[derive(Drop)]
+#[derive(Clone, Copy)]
 pub struct Layout {
     pub version: usize,
     pub b: usize,
@@ -34,7 +36,7 @@ pub struct Layout {
 
 // Why a call refuses, in the order of the numbers. A stale trie carries a digit number, how far a name agrees with the bound that it
 // breaks, or NO_DIGIT (R10.13).
-#[derive(Drop)]
+#[derive(Clone, Copy)]
 pub enum Cause {
     IllegalName,
     BadFile,
@@ -68,7 +70,7 @@ pub fn cause_number(cause: Cause) -> u64
 }
 
 // Found carries the value and the run.
-#[derive(Drop)]
+#[derive(Clone, Copy)]
 pub enum LookUpAnswer {
     Found(u64, u64),
     Absent,
@@ -76,7 +78,7 @@ pub enum LookUpAnswer {
 }
 
 // Replaced carries the old value and the old run.
-#[derive(Drop)]
+#[derive(Clone, Copy)]
 pub enum PutAnswer {
     Added,
     Replaced(u64, u64),
@@ -85,7 +87,7 @@ pub enum PutAnswer {
 }
 
 // Removed carries the number of stores: two where buckets were merged.
-#[derive(Drop)]
+#[derive(Clone, Copy)]
 pub enum RemoveAnswer {
     Removed(u64),
     Absent,
@@ -93,7 +95,7 @@ pub enum RemoveAnswer {
     Refused(Cause),
 }
 
-#[derive(Drop)]
+#[derive(Clone, Copy)]
 pub enum RecoverAnswer {
     Freed(usize),
     Nothing,
@@ -101,14 +103,14 @@ pub enum RecoverAnswer {
     Refused(Cause),
 }
 
-#[derive(Drop)]
+#[derive(Clone, Copy)]
 pub enum ListAnswer {
     Listed(u64),
     Refused(Cause),
 }
 
 // What create and rebuild answer. Beside a refusal they give the empty trie (R10.12).
-#[derive(Drop)]
+#[derive(Clone, Copy)]
 pub enum TrieAnswer {
     Given,
     Refused(Cause),

@@ -1,5 +1,7 @@
 // Put: a name with its value and the run that writes it. It checks for itself, in the order of refusals R10.9, and then plans its
 // stores, without the limit and without writing, before it commits them.
+#![tactic(auto)]
+
 ghost use Rattle.std.specs.Prelude.{false, true, ◌≡◌, ◌≤◌, ◌<◌, ◌+◌, length, take};
 ghost use Rattle.model.specs.Calls.{put_of};
 ghost use Rattle.model.specs.Names.{Legal};
@@ -26,14 +28,14 @@ use slots::Spot;
 use splitting::Split;
 
 // What a put that needs no split is to store, and its answer once that is stored. One that is refused has nothing to store.
-#[derive(Drop)]
+#[derive(Clone, Copy)]
 pub struct PutPlan {
     pub plan: Plan,
     pub answer: PutAnswer,
 }
 
 // Where the cells stand among the strings, and how many digits each string has.
-#[derive(Drop)]
+#[derive(Clone, Copy)]
 pub struct Standing {
     pub places: [u16; 256],
     pub lens: [u8; 256],

@@ -1,5 +1,7 @@
 // The calls that change nothing: look up and list. Neither has a `requires`: each checks for itself, in the order of
 // refusals R10.9 and, for look up, section 11.
+#![tactic(auto)]
+
 ghost use Rattle.std.specs.Prelude.{◌≡◌, ◌≤◌, ◌<◌, ◌+◌, ◌-◌, length};
 ghost use Rattle.std.proofs.Math.Seq.{paste};
 ghost use Rattle.model.specs.Names.{Legal, filled};

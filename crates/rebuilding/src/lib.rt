@@ -2,6 +2,8 @@
 //
 // A run of strings makes as many cells as it has strings, so each cell's number and its sides' are known when it is
 // written, and no cell is written twice.
+#![tactic(auto)]
+
 ghost use Rattle.std.specs.Prelude.{◌≡◌, ◌≤◌, ◌<◌, ◌+◌, ◌-◌, cond, ltb, length};
 ghost use Rattle.image.specs.Clearing.{cleared};
 ghost use Rattle.image.specs.Images.{image_length, image_of};
@@ -14,7 +16,7 @@ use model::{Cell, Side};
 use trie::Strings;
 
 // The strings from the first place on and below the second.
-#[derive(Drop)]
+#[derive(Clone, Copy)]
 pub struct Run {
     pub from: u16,
     pub to: u16,
@@ -52,7 +54,7 @@ fn starts_of(lens: &[u8; 256], count: usize) -> [u8; 256]
 }
 
 // The strings of a run with the fewest digits: the place of the last one, and their number.
-#[derive(Drop)]
+#[derive(Clone, Copy)]
 pub struct Shortest {
     pub last: usize,
     pub count: usize,

@@ -1,5 +1,7 @@
 // Remove: one store, or the two of a merge. It checks for itself, in the order of refusals R10.9, and then plans its stores,
 // without the limit and without writing, before it commits them.
+#![tactic(auto)]
+
 ghost use Rattle.std.specs.Prelude.{◌≡◌, ◌≤◌, ◌<◌, ◌+◌, length};
 ghost use Rattle.model.specs.Calls.{remove_of};
 ghost use Rattle.digits.specs.Keys.{key_value, value as digits_value};
@@ -23,7 +25,7 @@ use slots::Spot;
 const NO_BUCKET: usize = 17;
 
 // What a removal is to store. Where it merges, `right` is the place in order of the slot that is freed.
-#[derive(Drop)]
+#[derive(Clone, Copy)]
 pub struct RemovePlan {
     pub plan: Plan,
     pub right: usize,

@@ -1,5 +1,7 @@
 // The look at one bucket that look up begins with: whether it is seen to be well formed, with a name in its range. Of a no nothing is
 // promised.
+#![tactic(auto)]
+
 ghost use Rattle.std.specs.Prelude.{true, ◌≡◌, ◌*◌, ◌+◌, ◌≤◌, length};
 ghost use Rattle.model.specs.Format.{entry_length};
 ghost use Rattle.model.specs.declared.Layout.{Layout};

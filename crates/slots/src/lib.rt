@@ -1,5 +1,7 @@
 // One slot as its bounds and its entries: the place of a name and what is held there, the slot with a name put in or taken out, the two
 // halves of a split, two neighbours as one, and the parts that a list gives out.
+#![tactic(auto)]
+
 ghost use Rattle.std.specs.Prelude.{◌≡◌, ◌*◌, ◌+◌, ◌/◌, ◌<◌, ◌^◌, ◌≤◌, drop, length, take};
 ghost use Rattle.model.specs.Format.{AreBytes, entry_length};
 ghost use Rattle.digits.specs.Keys.{key_value};
@@ -17,7 +19,7 @@ use model::Layout;
 
 // Where in a slot a name is or would be: how many entries the slot has, how many of them are below the name, and whether the next is the
 // name's own.
-#[derive(Drop)]
+#[derive(Clone, Copy)]
 pub struct Spot {
     pub count: usize,
     pub place: usize,

@@ -1,5 +1,7 @@
 // The split of a bucket of b + 1 entries: the split string, what stays and what moves, the two slots, and the cells to be
 // added.
+#![tactic(auto)]
+
 ghost use Rattle.std.specs.Prelude.{◌≡◌, ◌<◌, ◌≤◌, ◌+◌, length, take};
 ghost use Rattle.model.specs.Order.{diff};
 ghost use Rattle.model.specs.Format.{padded};
@@ -17,7 +19,7 @@ use trie::Walk;
 
 // The split string and how many digits it has, how many entries stay, the walk of the split key, and how many digits of
 // the string are shared with the walk's path.
-#[derive(Drop)]
+#[derive(Clone, Copy)]
 pub struct Split {
     pub string: [u8; 24],
     pub len: usize,

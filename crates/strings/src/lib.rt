@@ -3,6 +3,8 @@
 // A beginning comes after everything that it begins. So after a bound x, before the next bound y, come the beginnings of x
 // that are longer than what x and y share, the longest first. Each string is kept as its length and its last digit, which
 // is what a cell holds of it, with the slot of the leaf just left of it.
+#![tactic(auto)]
+
 ghost use Rattle.std.specs.Prelude.{◌≤◌, ◌<◌, ◌+◌, length};
 ghost use Rattle.file.specs.Sizes.{Sized, Below};
 ghost use Rattle.strings.specs.Arrays.{Added, Listed, Whole, beyond};

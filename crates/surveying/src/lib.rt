@@ -2,6 +2,8 @@
 //
 // The order of the slots is first guessed and the guess checked, which tells that a file is sound. Where it does not, `file`
 // sorts the slots and decides.
+#![tactic(auto)]
+
 ghost use Rattle.std.specs.Prelude.{◌≡◌, ◌≤◌, length};
 ghost use Rattle.file.specs.Sizes.{Sized};
 ghost use Rattle.file.specs.Surveys.{Surveyed};
@@ -13,7 +15,7 @@ use file::{Kind, Size, Survey};
 mod row;
 
 // The used slots as a map, where each slot is free or stands in the order.
-#[derive(Drop)]
+#[derive(Clone, Copy)]
 pub enum Tally {
     Well(u64),
     Ill,

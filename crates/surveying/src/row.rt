@@ -10,14 +10,14 @@ use file::{Size, slot_at};
 const NONE: u8 = 255;
 
 // The used slots, each at the mark of its upper bound or behind it, and how many they are.
-#[derive(Drop)]
+#[derive(Clone, Copy)]
 struct Uppers {
     table: [u8; 320],
     count: usize,
 }
 
 // A guess of the used slots in range order, how many they are, and the place of each slot in the order.
-#[derive(Drop)]
+#[derive(Clone, Copy)]
 pub struct Guess {
     pub order: [u8; 64],
     pub count: usize,

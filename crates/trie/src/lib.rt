@@ -1,4 +1,6 @@
 // The trie: its cells held together with their count and a first leaf, and the walk (docs/RULES.md, R5.4 to R5.6).
+#![tactic(auto)]
+
 ghost use Rattle.std.specs.Prelude.{cond, ◌≡◌, ◌≤◌, ◌<◌, ◌+◌, leb, take};
 ghost use Rattle.model.specs.Tests as tests;
 ghost use Rattle.model.specs.Order.{Str};
@@ -11,7 +13,7 @@ use model::{Cell, Side, Trie};
 // The strings of a file in ascending order, each as its length and its last digit, which is what a cell holds of it; and
 // the slots of the leaves between them, one more than strings. `few` says that the strings are 256 or fewer; the other
 // parts hold them only then.
-#[derive(Drop)]
+#[derive(Clone, Copy)]
 pub struct Strings {
     pub few: bool,
     pub count: usize,
@@ -21,7 +23,7 @@ pub struct Strings {
 }
 
 // Where a walk stands: at a cell that it has yet to meet, at a slot, where it ends, or at what no agreeing trie has.
-#[derive(Drop)]
+#[derive(Clone, Copy)]
 pub enum Place {
     Cell(u16),
     Slot(u16),
@@ -30,7 +32,7 @@ pub enum Place {
 
 // A walk under way: the path, the place reached, the side by which it was reached, the trie's count, and how many cells
 // may still be met.
-#[derive(Drop)]
+#[derive(Clone, Copy)]
 pub struct Walk {
     pub path: [u8; 24],
     pub len: usize,

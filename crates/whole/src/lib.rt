@@ -1,5 +1,7 @@
 // The calls on a whole file: create, check, recover, rebuild. None asks anything of a file: each checks for itself, in the
 // order of refusals R10.9.
+#![tactic(auto)]
+
 ghost use Rattle.std.specs.Prelude.{◌≡◌, ◌<◌, length};
 ghost use Rattle.model.specs.Calls.{create_of, new_trie, recover_of};
 ghost use Rattle.model.specs.Format.{check_file};
