@@ -36,7 +36,7 @@ module _ (marks seen ks : List ℕ) (k : ℕ) where
   kept_push h e K = record {
     unmarked = λ i z. go (ℕ_discrete i k) i z refl;
     once = λ i. elim (ℕ_discrete i k) [
-      | yes q ↦ rw q (omega (arith, K.unmarked k e, one_if_equal k k refl))
+      | yes q ↦ omega (arith, K.unmarked i (rw q e), one_if_equal i k q)
       | no q ↦ omega (arith, K.once i, one_if_not i k q)
     ];
   }

@@ -92,6 +92,7 @@ pub met_below : {cs : List Cell} {a : Side} {t : Tree} {vs : List ℕ} {p r : St
 met_below (there h l x) at_once = h
 met_below (there h l x) (on_left y) = met_below l y
 met_below (there h l x) (on_right y) = met_below x y
+met_below {cs = cs} {p = p} {r = r} {k = k} (Rattle.model.specs.Tries.here {s = s}) x5 = elim x5 [ ]
 
 met_placed : {cs : List Cell} {a : Side} {p r : Str} {k : ℕ} (x : Side) → Met cs p a k r → a ≡ placed a x
 met_placed x at_once = refl

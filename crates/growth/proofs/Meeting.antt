@@ -32,6 +32,7 @@ pub met_visited : {cs : List Cell} {a : Side} {t : Tree} {vs : List ℕ} {p r : 
 met_visited (there {n = m} {vs = vs} {ws = ws} h l x) at_once = omega (arith, one_if_equal m m refl)
 met_visited (there {n = m} {vs = vs} {ws = ws} h l x) (on_left {k = k} y) = omega (arith, met_visited l y, occ_append k vs ws)
 met_visited (there {n = m} {vs = vs} {ws = ws} h l x) (on_right {k = k} y) = omega (arith, met_visited x y, occ_append k vs ws)
+met_visited {cs = cs} {p = p} {r = r} {k = k} (here {s = s}) x5 = elim x5 [ ]
 
 pub visited_met : {cs : List Cell} {a : Side} {t : Tree} {vs : List ℕ} → Reads cs a t vs → (p : Str) (k : ℕ) → 0 < occ k vs → (r : Str) × Met cs p a k r
 visited_met here p k h = absurd (omega arith)
@@ -52,6 +53,7 @@ met_agree f (there {n = m} {vs = vs} {ws = ws} h l x) (on_left y) =
     left_at (f m (omega (arith, one_if_equal m m refl))) (met_agree (λ i o. f i (omega (arith, o, occ_append i vs ws))) l y)
 met_agree f (there {n = m} {vs = vs} {ws = ws} h l x) (on_right y) =
     right_at (f m (omega (arith, one_if_equal m m refl))) (met_agree (λ i o. f i (omega (arith, o, occ_append i vs ws))) x y)
+met_agree {cs = cs} {p = p} {r = r} {k = k} f (here {s = s}) x9 = elim x9 [ ]
 
 -- What a met cell's side leads to is met.
 pub met_left : {cs : List Cell} {a : Side} {p r : Str} {m k : ℕ} → Met cs p a m r → (at_cell cs m).left ≡ further k → Met cs p a k (string_of (at_cell cs m) r)
@@ -83,6 +85,7 @@ met_kept f (there {n = m} h l x) (on_left {p = p} {r = r} {k = k} y) =
     let K = f m h in on_left {p = p} {r = r} {m = m} {k = k} (rw (K.digit, K.number, met_side y K.left) (met_kept f l y))
 met_kept f (there {n = m} h l x) (on_right {p = p} {r = r} {k = k} y) =
     let K = f m h in on_right {p = p} {r = r} {m = m} {k = k} (rw (met_side y K.right) (met_kept f x y))
+met_kept {cs = cs} {p = p} {r = r} {k = k} f (here {s = s}) x9 = elim x9 [ ]
 
 -- The walk comes to its leaf by a side of a cell that was met, or meets none.
 pub data Comes (cs : List Cell) (a : Side) (p : Str) (k : Spot) (s : ℕ) : Spot → Str → Type 0 where

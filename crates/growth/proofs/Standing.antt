@@ -93,6 +93,7 @@ met_stands {cs = cs} {u = u} (there {n = m} h x y) (cut {xs = xs} {ys = ys} i a 
       string = rw (up_to xs q ys u S.place (omega (arith, S.fits))) S.string;
       next = λ s e. rw (up_to xs q ys u (suc S.place) (omega (arith, S.fits))) (S.next s e);
     }
+met_stands {P = P} {cs = cs} {os = os} {l = l} {u = u} {ss = ss} {m = m} {r = r} (here {s = s}) _ _ x15 = elim x15 [ ]
 met_stands {cs = cs} {u = u} (there {n = m} h x y) (cut {xs = xs} {ys = ys} i a b X Y) (cells {vs = ns} {ws = ks} k o o') (on_right z) =
     let len : length ns ≡ length xs = order_size x o ∙ cells_count X in
     let q : Str = string_of (at_cell cs m) u in
@@ -139,12 +140,12 @@ module _ (cs : List Cell) (u q : Str) (xs ys : List Str) (ns ks : List ℕ) (m :
   second : (j i : ℕ) → i ≡ suc (length xs + j) → get_or (ns ++ (m ∷ ks)) i 0 ≡ get_or ks j 0
   second j i e = at_behind ns m ks 0 j i (omega arith)
 
-  by_first : {k sp : Spot} {j : ℕ} → SideBy (left m) ns j sp → SideBy k (ns ++ (m ∷ ks)) j sp
+  by_first : {k : Spot} {j : ℕ} {sp : Spot} → SideBy (left m) ns j sp → SideBy k (ns ++ (m ∷ ks)) j sp
   by_first (no_cell e) = left_as 0 m (omega (arith, length-append ns (m ∷ ks))) (middle 0 (omega arith))
   by_first (left_of j h) = left_as j (get_or ns j 0) (omega (arith, length-append ns (m ∷ ks))) (first j (omega arith))
   by_first (right_of j h) = right_as j (get_or ns j 0) (omega (arith, length-append ns (m ∷ ks))) (first j (omega arith))
 
-  by_second : {k sp : Spot} {j : ℕ} → SideBy (right m) ks j sp → SideBy k (ns ++ (m ∷ ks)) (suc (length xs + j)) sp
+  by_second : {k : Spot} {j : ℕ} {sp : Spot} → SideBy (right m) ks j sp → SideBy k (ns ++ (m ∷ ks)) (suc (length xs + j)) sp
   by_second (no_cell e) = right_as (length xs + 0) m (omega (arith, length-append ns (m ∷ ks))) (middle (length xs + 0) (omega arith))
   by_second (left_of j h) = left_as (suc (length xs + j)) (get_or ks j 0) (omega (arith, length-append ns (m ∷ ks))) (second j (suc (length xs + j)) refl)
   by_second (right_of j h) = right_as (length xs + suc j) (get_or ks j 0) (omega (arith, length-append ns (m ∷ ks))) (second j (length xs + suc j) (omega arith))

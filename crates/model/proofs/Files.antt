@@ -272,6 +272,7 @@ module _ (b : ℕ) where
         parts : (h : SlotHead) (y : Str) → BoundOf h y → IsUsed h × ((lower_of h ≡ at y) ⊎ (y ≡ upper_of h))
         parts (range (at l) u) y lower_bound = (tt, inl refl)
         parts (range l u) y upper_bound = (tt, inr refl)
+        parts no_range y x'' = elim x'' [ ]
 
         some_digit : (y : Str) → Begins y x → y ≺ []
         some_digit [] k = absurd (omega (arith, k.some, k.fits))

@@ -34,14 +34,14 @@ spot_visited {cs} n p k (there {n = m} {vs = vs} {ws = ws} h l r) = inr (go (le?
     q : Str
     q = cell (at_cell cs m).digit (at_cell cs m).number p
 
-    self : 0 < occ m (m ∷ (vs ++ ws))
-    self = omega (arith, one_if_equal m m refl)
+    self : (k : ℕ) → k ≡ m → 0 < occ k (m ∷ (vs ++ ws))
+    self k e = omega (arith, one_if_equal k m e)
 
     go : (d : Dec (n ⊑ q)) → Visited (at_cell cs m).left (left m) (spot n q (left m) l) vs → Visited (at_cell cs m).right (right m) (spot n p (right m) r) ws
         → 0 < occ (cell_of (elim d [ yes h ↦ spot n q (left m) l | no h ↦ spot n p (right m) r ])) (m ∷ (vs ++ ws))
-    go (yes h) (inl e) g = rw e.0 self
+    go (yes h) (inl e) g = self _ (ap cell_of e.0)
     go (yes h) (inr o) g = omega (arith, o.0, occ_append (cell_of (spot n q (left m) l)) vs ws)
-    go (no h) f (inl e) = rw e.0 self
+    go (no h) f (inl e) = self _ (ap cell_of e.0)
     go (no h) f (inr o) = omega (arith, o.0, occ_append (cell_of (spot n p (right m) r)) vs ws)
 
 -- cs' is cs with the spot's side set to new, which there leads to X by the cells xs.

@@ -67,6 +67,7 @@ snoc_lt (a ∷ p) d q = snoc_lt p d (tail_le q refl)
 pub sandwich : (k : ℕ) (x : Str) {y : Str} → x ⊑ y → y ⊑ take k x → k ≤ length x → (take k y ≡ take k x) × (k ≤ length y)
 sandwich zero x p q h = (refl, omega arith)
 sandwich (suc k) [] p q h = absurd (omega arith)
+sandwich (suc k) (a ∷ x) top q h = elim q [ ]
 sandwich (suc k) (a ∷ x) (digit {b = b} {y = y} p f) (digit q g) h =
     let e : b ≡ a = omega arith in
     let r : (take k y ≡ take k x) × (k ≤ length y) = sandwich k x (f (sym e)) (g e) (omega arith) in

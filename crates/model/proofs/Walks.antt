@@ -7,7 +7,7 @@ use Rattle.model.specs.declared.Trie.{Trie}
 use Rattle.model.specs.Order.{Str, ◌⊑◌}
 use Rattle.model.specs.Tests.{is_at_most}
 use Rattle.model.specs.Names.{limit}
-use Rattle.model.specs.Files.{BoundOf, IsString, Slot, Sound, Well, head, lower_bound, slot_at, upper_bound, used, well_used}
+use Rattle.model.specs.Files.{BoundOf, IsString, Slot, Sound, Well, free, head, lower_bound, slot_at, upper_bound, used, well_used}
 use Rattle.model.specs.Tries.{NumbersFit, Reads, Spot, Tree, at_cell, cell, here, leaf, left, node, occ, right, root_side, strings, there, walk_run, zero_cell}
 use Rattle.model.proofs.Deciding.{le?}
 use Rattle.model.proofs.Tests.{le_is_at_most, lt_is_at_most}
@@ -159,6 +159,7 @@ run_walk count {cs} n (suc f) p k (there {n = m} {L = L} {R = R} {vs = vs} {ws =
 pub bound_fits : (b : ℕ) (s : Slot) {y : Str} → Well b s → BoundOf (head s) y → length y ≤ 24
 bound_fits b (used l u es) (well_used (limit a) c h r k) lower_bound = a.fits
 bound_fits b (used l u es) (well_used a c h r k) upper_bound = c.fits
+bound_fits b free _ x3 = elim x3 [ ]
 
 pub string_fits : (b : ℕ) {fs : List Slot} → Sound b fs → (x : Str) → IsString fs x → length x ≤ 24
 string_fits b {fs} S x g =

@@ -267,7 +267,7 @@ module _ (image : List ℕ) {c : Checked} {xs : List ℕ} (G : Agreed c xs (trie
       many_told h fs e n v l u es F =
           rw (too_many y (two G) (few_entries G) xs e (known G e).sound t F (found e F).1 (omega (arith, m.shared_most, h, counted e F)))
 
-      module _ (h : t.count + s.len ≤ 256 + s.shared) {p : Plan} (D : DivideTold p xs c.size A N row s) {ys : List ℕ} {d : Bool}
+      module _ (h : t.count + s.len ≤ 256 + s.shared) (p : Plan) (D : DivideTold p xs c.size A N row s) {ys : List ℕ} {d : Bool}
           (C : Committed d xs ys y p limit) where
         pub split_stopped : d ≡ true → SplitTold (Stopped limit, ys, image) xs image c.size A row limit
         split_stopped k fs e n v l u es F =

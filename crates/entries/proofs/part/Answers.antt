@@ -1,0 +1,15 @@
+-- `entries::part` meets its contract.
+use Rattle.model.proofs.Prelude.{◌-◌, arith, drop, length-drop, length-take, length-take-le}
+use Rattle.entries.proofs.Lists.{part_is}
+use Rattle.entries.proofs.Products.{rest_is}
+use borrow.Author.Rules.{rules}
+use Rattle.entries.proofs.part.Statement.{statement}
+use Rattle.entries.proofs.part.Goals as goal
+
+pub returns : goal.returns
+returns c =
+    let x = c.entry_at-at in let y = c.entry_at-end in let a = c.args in (
+      part_is a.e a.from a.to x.result y.result a.entries.now x.ensures.is y.ensures.is,
+      omega (arith, length-take-le (y.result - x.result) (drop x.result a.entries.now) (omega (arith, length-drop x.result a.entries.now)), x.ensures.is, y.ensures.is, rest_is a.e a.from a.to),
+      omega (arith, length-take (y.result - x.result) (drop x.result a.entries.now)),
+    )

@@ -1,0 +1,17 @@
+-- `entries::part_between` meets its contract.
+use Rattle.model.proofs.Prelude.{◌∙◌, ap₂, arith, rules, ℕ}
+use Rattle.digits.specs.Keys.{key_value}
+use Rattle.entries.specs.Rows.{below, entries_from, is_not_above, values}
+use Rattle.entries.proofs.Lists.{part_none}
+use Rattle.entries.proofs.part_between.Goals as goal
+
+pub returns-then-to-from : goal.returns-then-to-from
+returns-then-to-from c =
+    let a = c.args in
+    let es = values a.e a.count a.entries.now in
+    (omega arith, part_none a.e c.rank-from.result c.not_above-to.result (below (key_value a.first) es) (is_not_above (key_value a.second) es) a.entries.now c.rank-from.ensures.1 c.not_above-to.ensures.1 (omega arith))
+
+pub returns : goal.returns
+returns c =
+    let a = c.args in
+    (c.part.ensures.2, c.part.ensures.0 ∙ ap₂ (λ (x y : ℕ). entries_from a.e x y a.entries.now) c.rank-from.ensures.1 c.not_above-to.ensures.1)

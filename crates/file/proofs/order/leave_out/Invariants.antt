@@ -1,0 +1,12 @@
+-- `leave_out` meets its contract: those behind the place move down, and what bounds them all still does.
+use Rattle.model.proofs.Prelude.{◌-◌, ◌<◌, ◌≡◌, ◌≤◌, arith, length, length-set, rules, ℕ}
+use Rattle.file.specs.Sizes.{Below}
+use Rattle.file.proofs.Laws.{below_set}
+use Rattle.file.proofs.Moves.{Closed, closed_end, closed_next, closed_start}
+use Rattle.file.proofs.order.leave_out.Given as goal
+
+abbrev pub invariant-loop-j : goal.invariant-loop-j
+invariant-loop-j l = (l.place < l.j) × (l.j ≤ l.count) × ((n : ℕ) → Below l.initial.order n → Below l.order n) × (length l.order ≡ 64) × Closed l.initial.order l.order l.place l.j
+
+abbrev pub decreases-loop-j : goal.decreases-loop-j
+decreases-loop-j l = l.count - l.j

@@ -1,0 +1,14 @@
+-- `is_chain` meets its contract: where the slots seen so far end, the next has to begin.
+use Rattle.model.proofs.Prelude.{List, ◌-◌, ◌≤◌, arith, rules, not-false, not-true, take}
+use Rattle.model.specs.Files.{Slot}
+use Rattle.digits.specs.Keys.{key_value}
+use Rattle.file.specs.Orders.{Known, Listed}
+use Rattle.file.proofs.Comparing.{place_high, place_low}
+use Rattle.file.proofs.Chains.{Ended, ended_end, ended_next, ended_start, ended_stop}
+use Rattle.file.proofs.survey.is_chain.Given as goal
+
+abbrev pub invariant-loop-j : goal.invariant-loop-j
+invariant-loop-j l = (l.j ≤ l.count) × ((fs : List Slot) → Known l.size.layout l.file fs → Listed fs l.order l.count → Ended fs (take l.count l.order) l.j (key_value l.end))
+
+abbrev pub decreases-loop-j : goal.decreases-loop-j
+decreases-loop-j l = l.count - l.j

@@ -1,0 +1,15 @@
+-- `repeated_upper` meets its contract: the neighbours passed have different upper bounds.
+use Rattle.model.proofs.Prelude.{List, ◌-◌, ◌<◌, ◌≡◌, ◌≤◌, arith, rules, subst, suc, ℕ, ℕ_discrete}
+use Rattle.model.specs.Files.{Slot, head, upper_of}
+use Rattle.digits.specs.Keys.{key_value}
+use Rattle.file.specs.Orders.{Known, Listed, placed}
+use Rattle.file.proofs.Comparing.{place_high}
+use Rattle.file.proofs.Chains.{other_upper, same_upper}
+use Rattle.file.proofs.survey.repeated_upper.Given as goal
+
+abbrev pub invariant-loop-j : goal.invariant-loop-j
+invariant-loop-j l = (1 ≤ l.j) × ((fs : List Slot) → Known l.size.layout l.file fs → Listed fs l.order l.count
+    → (i : ℕ) → suc i < l.j → suc i < l.count → upper_of (head (placed fs l.order i)) ≡ upper_of (head (placed fs l.order (suc i))) → ⊥)
+
+abbrev pub decreases-loop-j : goal.decreases-loop-j
+decreases-loop-j l = l.count - l.j

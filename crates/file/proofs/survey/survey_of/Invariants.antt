@@ -1,0 +1,18 @@
+-- `survey_of` meets its contract: with k slots left to see, the count and k together are not above the slots.
+use Rattle.model.proofs.Prelude.{◌+◌, ◌-◌, ◌<◌, ◌∙◌, ◌≤◌, arith, rules, replicate, subst, suc, sym, ℕ}
+use Rattle.file.specs.Sizes.{Below}
+use Rattle.bucket.specs.declared.Form.{Form}
+use Rattle.bucket.specs.Forms.{Formed}
+use Rattle.bucket.proofs.Slots.{vacant_free, vacant_taken}
+use Rattle.file.specs.declared.survey.Kind.TheVariants.{Bad}
+use Rattle.file.specs.Orders.{Laid}
+use Rattle.file.proofs.Laws.{below_zeros, some_slot}
+use Rattle.file.proofs.Laying.{ill_map, ill_order, ill_said, laid_free, laid_start, laid_used}
+use Rattle.file.proofs.Verdicts.{surveyed}
+use Rattle.file.proofs.survey.survey_of.Given as goal
+
+abbrev pub invariant-loop-k : goal.invariant-loop-k
+invariant-loop-k l = (l.k ≤ l.size.slots) × (l.count + l.k ≤ l.size.slots) × Below l.order l.size.slots × Laid l.file l.size l.k l.order l.count l.used
+
+abbrev pub decreases-loop-k : goal.decreases-loop-k
+decreases-loop-k l = l.k

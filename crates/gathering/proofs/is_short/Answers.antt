@@ -1,0 +1,13 @@
+-- `is_short` meets its contract.
+use Rattle.model.proofs.Prelude.{◌∙◌, arith, drop, eqb-true, rules, sym, take}
+use Rattle.digits.proofs.Bytes.{or_zero}
+use Rattle.gathering.proofs.Parts.{value_zero}
+use Rattle.gathering.proofs.Bounds.{short_bound}
+use Rattle.gathering.proofs.is_short.Goals as goal
+
+pub returns : goal.returns
+returns c t =
+    let g = c.args in let s = g.s.now in
+    let a = or_zero _ c.little_endian-2.result (eqb-true _ 0 t) in let d = or_zero c.part_faults.result c.little_endian.result a.0 in
+    short_bound s g.len (omega arith) (c.part_faults.ensures d.0)
+    (value_zero (take 8 (drop 8 s)) (sym c.little_endian.ensures ∙ d.1)) (value_zero (take 8 (drop 16 s)) (sym c.little_endian-2.ensures ∙ a.1))

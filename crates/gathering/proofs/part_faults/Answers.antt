@@ -1,0 +1,25 @@
+-- `gathering::part_faults` meets its contract.
+use Rattle.std.proofs.Common.{ℕ, ◌*◌, ◌/◌, ◌%◌, ◌^◌, refl, arith, rules}
+use lib.Bits.{bit_and, bit_or, or_lt}
+use Rattle.digits.proofs.Bytes.{or_zero}
+use Rattle.gathering.proofs.Parts.{part_digits, part_zero}
+use Rattle.gathering.proofs.part_faults.Statement.{statement}
+use Rattle.gathering.proofs.part_faults.Goals as goal
+
+pub returns : goal.returns
+returns c z =
+    let g = c.args in
+    let s = g.s.now in
+    let w = c.little_endian-w.result in
+    let e = c.little_endian-w.ensures in
+    let r = c.wrapping_add_u64 in
+    let u = c.wrapping_sub_u64 in
+    let behind = w / 2 ^ (4 * g.k) / 2 ^ (4 * g.k) in
+    let v = bit_or w (0x2020202020202020 * 2 ^ (4 * g.k) % 2 ^ 64 * 2 ^ (4 * g.k) % 2 ^ 64) in
+    let above = bit_or (bit_and v 0x8080808080808080) (bit_and r.result 0x8080808080808080) in
+    let a = or_zero (bit_or behind above) (bit_and u.result 0x8080808080808080) z in
+    let b = or_zero behind above a.0 in
+    let d = or_zero (bit_and v 0x8080808080808080) (bit_and r.result 0x8080808080808080) b.1 in (
+      part_digits s g.at g.k (omega arith) (omega arith) (λ i. omega (arith, c.type_inv.s i)) w e (omega arith) b.0 v r.result u.result refl (or_lt 64 w (0x2020202020202020 * 2 ^ (4 * g.k) % 2 ^ 64 * 2 ^ (4 * g.k) % 2 ^ 64) (omega arith) (omega arith)) d.0 r.ensures.value d.1 u.ensures.value (omega arith) a.1,
+      part_zero s g.at g.k (omega arith) (omega arith) (λ i. omega (arith, c.type_inv.s i)) w e (omega arith) b.0,
+    )

@@ -1,0 +1,10 @@
+-- `place_of` meets its contract: none before has so many digits.
+use Rattle.model.proofs.Prelude.{◌-◌, ◌<◌, ◌∙◌, ◌≡◌, ◌≤◌, arith, get_or, rules, sym, ℕ}
+use borrow.Author.Count.{below_more}
+use Rattle.growth.proofs.place_of.Given as goal
+
+abbrev pub invariant-loop-i : goal.invariant-loop-i
+invariant-loop-i l = (l.from ≤ l.i) × ((j : ℕ) → j < l.i → l.from ≤ j → get_or l.lens j 0 ≡ l.digits → ⊥)
+
+abbrev pub decreases-loop-i : goal.decreases-loop-i
+decreases-loop-i l = 256 - l.i

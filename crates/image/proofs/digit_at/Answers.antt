@@ -1,0 +1,8 @@
+-- `digit_at` is the cell's digit.
+use Rattle.model.proofs.Prelude.{ap, rules, sym}
+use Rattle.model.specs.declared.Cell.{Cell}
+use Rattle.image.proofs.Images.{cell_of}
+use Rattle.image.proofs.digit_at.Goals as goal
+
+pub returns : goal.returns
+returns c = let a = c.args in sym (ap (λ (x : Cell). x.digit) (cell_of a.image.now a.i (search rules)))

@@ -1,0 +1,12 @@
+-- `side_of` meets its contract, by the test that led to each answer.
+use Rattle.model.proofs.Prelude.{le-ltb, lt-ltb, rules}
+use Rattle.rebuilding.specs.Runs.{side_at}
+use Rattle.rebuilding.proofs.side_of.Goals as goal
+
+pub returns-then-from-to : goal.returns-then-from-to
+unfolding side_at
+returns-then-from-to c = rw (lt-ltb _ _ c.if-from-to.true, c.u16_of_usize.ensures)
+
+pub returns : goal.returns
+unfolding side_at
+returns c = rw (le-ltb _ _ c.if-from-to.false, c.u16_of_u8.ensures.0)

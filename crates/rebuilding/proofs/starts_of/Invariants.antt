@@ -1,0 +1,11 @@
+-- `starts_of` meets its contract: the starts before i are right.
+use Rattle.model.proofs.Prelude.{◌-◌, ◌≡◌, ◌≤◌, arith, length, length-set, rules, refl}
+use Rattle.rebuilding.specs.Starts.{Starts}
+use Rattle.rebuilding.proofs.Finding.{starts_more}
+use Rattle.rebuilding.proofs.starts_of.Given as goal
+
+abbrev pub invariant-loop-i : goal.invariant-loop-i
+invariant-loop-i l = (l.i ≤ l.count) × (length l.starts ≡ 256) × Starts l.lens l.starts l.i
+
+abbrev pub decreases-loop-i : goal.decreases-loop-i
+decreases-loop-i l = l.count - l.i

@@ -1,0 +1,9 @@
+-- `count_at_place` meets its contract.
+use Rattle.model.proofs.Prelude.{rules}
+use Rattle.removing.proofs.Neighbours.{count_told}
+use Rattle.removing.proofs.count_at_place.Goals as goal
+
+pub returns : goal.returns
+returns c =
+    let k = c.slot_at_place-k in
+    (c.count_of.ensures.1, count_told c.requires.0 c.args.place k.result c.count_of.result _ c.requires.1 k.ensures.0 c.slot_at.ensures.0 c.count_of.ensures.0)

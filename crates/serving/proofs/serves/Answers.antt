@@ -1,0 +1,11 @@
+-- `serves` meets its contract.
+use Rattle.model.proofs.Prelude.{◌*◌, ◌+◌, ◌∙◌, ap, arith, rules, refl, sym, ℕ}
+use Rattle.serving.proofs.serves.Goals as goal
+
+pub serves_by-requires : goal.serves_by-requires
+serves_by-requires c =
+    let a = c.args in let e = c.entry_size in
+    (c.requires.0 ∙ ap (λ (n : ℕ). 64 + n * a.layout.b) (sym e.ensures.0), c.requires.1, omega (arith, e.ensures.1.least), e.ensures.1.most)
+
+pub returns : goal.returns
+returns c t = let y = c.args.layout in c.serves_by.ensures t y (sym c.entry_size.ensures.0) refl

@@ -1,0 +1,8 @@
+-- `beginning` meets its contract.
+use Rattle.model.proofs.Prelude.{rules}
+use Rattle.splitting.proofs.Halving.{string_copied}
+use Rattle.splitting.proofs.beginning.Goals as goal
+
+pub returns : goal.returns
+returns c =
+    string_copied c.args.len c.args.name.now _ c.requires c.copy.ensures

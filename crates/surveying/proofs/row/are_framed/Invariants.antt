@@ -1,0 +1,13 @@
+-- `are_framed` meets its contract: the slots passed are framed, and low is where the range of the last of them ends.
+use Rattle.model.proofs.Prelude.{◌+◌, ◌-◌, ◌<◌, ◌∙◌, ◌≡◌, ◌≤◌, ap, arith, clash, eqb-true, get_or, rules, not-false, subst, suc, sym, ℕ, ℕ_discrete}
+use Rattle.model.specs.Format.{bytes_at_slot}
+use Rattle.digits.specs.Keys.{key_value}
+use Rattle.surveying.specs.Rows.{FramedAt, edge, place_before}
+use Rattle.surveying.proofs.Rows.{framed_at}
+use Rattle.surveying.proofs.row.are_framed.Given as goal
+
+abbrev pub invariant-loop-j : goal.invariant-loop-j
+invariant-loop-j l = (l.j ≤ l.count) × (l.before ≡ get_or l.order (place_before l.count l.j) 0) × (l.before < l.size.slots) × (key_value l.low ≡ edge l.file l.size l.order l.j) × ((i : ℕ) → i < l.j → FramedAt l.file l.size l.order l.count i)
+
+abbrev pub decreases-loop-j : goal.decreases-loop-j
+decreases-loop-j l = l.count - l.j

@@ -1,0 +1,11 @@
+-- `guessed` meets its contract: its numbers are slots.
+use Rattle.model.proofs.Prelude.{◌-◌, ◌<◌, ◌∙◌, ◌≡◌, ◌≤◌, arith, length, length-replicate, length-set, rules, ℕ}
+use Rattle.file.specs.Sizes.{Below}
+use Rattle.file.proofs.Laws.{below_set, below_zeros, some_slot}
+use Rattle.surveying.proofs.row.guessed.Given as goal
+
+abbrev pub invariant-loop-place : goal.invariant-loop-place
+invariant-loop-place l = (l.place ≤ l.count) × (l.count ≤ 64) × (l.k < l.size.slots) × Below l.order l.size.slots × (length l.order ≡ 64) × (length l.places ≡ 64)
+
+abbrev pub decreases-loop-place : goal.decreases-loop-place
+decreases-loop-place l = l.place

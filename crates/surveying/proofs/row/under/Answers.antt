@@ -1,0 +1,16 @@
+-- `under` meets its contract.
+use Rattle.model.proofs.Prelude.{◌-◌, rules}
+use Rattle.file.proofs.Laws.{some_slot}
+use Rattle.surveying.proofs.row.under.Goals as goal
+
+pub loop-spot-init : goal.loop-spot-init
+loop-spot-init c = tt
+
+pub returns-then-size-usize_of_u8 : goal.returns-then-size-usize_of_u8
+returns-then-size-usize_of_u8 c = (some_slot _ c.args.size c.requires.0).0
+
+pub loop-spot-preserved : goal.loop-spot-preserved
+loop-spot-preserved c = tt
+
+pub returns : goal.returns
+returns c = (some_slot _ c.args.size c.requires.0).0

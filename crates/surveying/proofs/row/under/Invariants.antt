@@ -1,0 +1,10 @@
+-- `under` meets its contract.
+use Rattle.model.proofs.Prelude.{◌-◌, rules}
+use Rattle.file.proofs.Laws.{some_slot}
+use Rattle.surveying.proofs.row.under.Given as goal
+
+abbrev pub invariant-loop-spot : goal.invariant-loop-spot
+invariant-loop-spot l = Unit {0}
+
+abbrev pub decreases-loop-spot : goal.decreases-loop-spot
+decreases-loop-spot l = 320 - l.spot
