@@ -2,11 +2,10 @@
 # benchmark.
 .PHONY: run test kill crash library python install notebook bench clean
 
-# The main job: prove, build, and run the program on the names of NAMES, one a line.
+# The main job: prove, build, and run the program on the names of NAMES, one a line. What `rt` says of it goes to stderr.
 NAMES ?= crates/overview/stdin
 run:
-	@rt check overview
-	@target/bin/overview < $(NAMES)
+	@cd crates/overview && rt run < $(abspath $(NAMES))
 
 # All proofs, the layout of every file, all tests.
 test:
@@ -22,11 +21,11 @@ STATES ?= 100000
 crash: python
 	@python3 python/tests/crash.py $(STATES)
 
-# The static library for C, Rust and whoever links it, in target/staticlib. The crates below it are checked first, because
-# `rt check` proves side by side what `rt staticlib` would prove one after the other.
+# The static library for C, Rust and whoever links it, in target/staticlib. All crates are checked first, because `rt all check`
+# proves side by side what the archive's own build would prove one after the other.
 library:
-	@rt check putting removing reading whole
-	@rt staticlib capi
+	@rt all check
+	@scripts/archive
 
 # The same as a shared library, in the Python package, and the package's extensions, where Python's headers are.
 python: library
@@ -54,9 +53,10 @@ install: library
 notebook:
 	@examples/render.sh
 
-# The benchmark. BEFORE is an earlier commit to compare with; its library is built once, proved, and kept in build/before.
+# The benchmark. BEFORE is an earlier commit to compare with; its library is built once, proved, and kept in build/before. A commit
+# that an older Rattle proved cannot be built any more: for one of those, BEFORE names a library's file.
 bench: library
 	@BEFORE="$(BEFORE)" ROUNDS="$(ROUNDS)" VERSIONS="$(VERSIONS)" bench/run.sh
 
 clean:
-	rm -rf target build python/palhavento/libpalhavento.so python/palhavento/*.abi3.so
+	rm -rf target build crates/*/out python/palhavento/libpalhavento.so python/palhavento/*.abi3.so

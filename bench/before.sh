@@ -1,7 +1,8 @@
 #!/bin/sh
 # Builds the library of an earlier commit, proved like every other, and prints where it is: bench/before.sh COMMIT
 #
-# What was built stays in build/before under the commit's number, and is not built again.
+# What was built stays in build/before under the commit's number, and is not built again. It is built outside the checkout, where `rt
+# ci` would take its crates for ours.
 set -eu
 
 cd "$(dirname "$0")/.."
@@ -12,17 +13,11 @@ fi
 kept=build/before/$commit.a
 if [ ! -f "$kept" ]; then
     echo "bench: building the library of $commit; this can take minutes" >&2
-    tree=build/before/$commit
-    rm -rf "$tree"
-    mkdir -p "$tree"
+    tree=$(mktemp -d)
+    trap 'rm -rf "$tree"' EXIT
     git archive "$commit" | tar -x -C "$tree"
-    # Crates that are the same today need no second proof.
-    if [ -d target ]; then
-        cp -a target "$tree/target"
-        rm -rf "$tree/target/staticlib"
-    fi
     make --no-print-directory -C "$tree" library >&2
+    mkdir -p build/before
     mv "$tree/target/staticlib/libcapi.a" "$kept"
-    rm -rf "$tree"
 fi
 echo "$kept"

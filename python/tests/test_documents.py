@@ -60,7 +60,9 @@ def texts() -> Iterator[tuple[str, str]]:
     for folder in ("bench", "crates", "docs", "edits", "examples", "include", "python", "tests"):
         for kind in ("antt", "c", "edit", "h", "md", "py", "rs", "rt"):
             for path in (PROJECT / folder).rglob(f"*.{kind}"):
-                yield str(path.relative_to(PROJECT)), path.read_text(encoding="utf-8")
+                place = path.relative_to(PROJECT)
+                if "out" not in place.parts:  # what `rt` makes
+                    yield str(place), path.read_text(encoding="utf-8")
     yield "README.md", (PROJECT / "README.md").read_text(encoding="utf-8")
 
 

@@ -516,7 +516,7 @@ fn rebuilds(sheet: &mut Sheet) {
 fn look_up(sheet: &mut Sheet, list: &'static str, file: &[u8], trie: &Trie, name: &[u8]) {
     let answer = calls::look_up(file, trie, name);
     let words = [sheet.file(file), sheet.trie(trie), bytes(name), said(answer)];
-    sheet.case(list, "looks-up", &words);
+    sheet.case(list, "looks_up", &words);
 }
 
 fn look_ups(sheet: &mut Sheet) {

@@ -26,6 +26,6 @@ fn the_statement_names_every_list() {
     let text = vectors::text();
     let lists = text.lines().filter_map(|line| line.strip_prefix("abbrev pub ")?.strip_suffix(" : List Case"));
     for list in lists {
-        assert!(statement.contains(&format!(": cases-hold {list} ≡ true\n")), "the statement lacks the list {list}");
+        assert!(statement.contains(&format!(": cases_hold {list} ≡ true\n")), "the statement lacks the list {list}");
     }
 }

@@ -11,12 +11,11 @@ const WIDTH: usize = 120;
 /// How the written file begins.
 const HEAD: &str = "\
 -- Cases made by the model in tests/src/model and written by tests/tests/vectors.rs. Do not edit.
-use mathlib.Core.Bool.{false, true}
-use mathlib.Core.List.{List, [], _∷_}
-use Rattle·model.specs.declared.Side.the-variants.{Cell as further, Slot as slot}
-use Rattle·model.specs.declared.Trie.{Trie}
-use Rattle·vectors·specs.specs.Vectors.{Case, Parts, agrees, arranged, blanks, byte, cell, checks, creates, grows, \
-inside, legal, lists, looks-up, ordered, puts, rebuilds, recovers, removes, splits, text, trie, zeros}
+use Rattle.std.specs.Prelude.{false, true, List, [], ◌∷◌}
+use Rattle.model.specs.declared.Side.TheVariants.{Cell as further, Slot as slot}
+use Rattle.model.specs.declared.Trie.{Trie}
+use Rattle.vectors.specs.Vectors.{Case, Parts, agrees, arranged, blanks, byte, cell, checks, creates, grows, \
+inside, legal, lists, looks_up, ordered, puts, rebuilds, recovers, removes, splits, text, trie, zeros}
 
 ";
 
