@@ -5,7 +5,7 @@ use Rattle.model.specs.Order.{Low, Str}
 use Rattle.model.specs.Entries.{Entry}
 use Rattle.model.specs.Files.{In, Slot, Sound, free, head, slot_at, used}
 use Rattle.model.specs.Format.{bytes_at_slot, read_file}
-use Rattle.model.proofs.Files.{first_right, found_in, one_range, used_inside}
+use Rattle.model.proofs.Files.{found_in, one_range, used_inside}
 use Rattle.model.proofs.Format.{read_slot-read_file}
 use Rattle.model.specs.Searches.{order_of}
 use Rattle.bucket.specs.Forms.{ReadAs}

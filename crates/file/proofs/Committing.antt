@@ -1,5 +1,5 @@
 -- A plan committed: the file after so many of its stores, and what each way out of `commit` leaves.
-use Rattle.model.proofs.Prelude.{List, [], ◌*◌, ◌+◌, ◌-◌, ◌<◌, ◌∙◌, ◌∷◌, ◌≡◌, ◌≤◌, ap, arith, false, le-ltb, length, lt-ltb, mul-le-mul, paste, refl, replicate, sym, take, take_all, true, ℕ}
+use Rattle.model.proofs.Prelude.{List, [], ◌*◌, ◌+◌, ◌<◌, ◌∙◌, ◌∷◌, ◌≡◌, ◌≤◌, ap, arith, false, le-ltb, length, lt-ltb, mul-le-mul, paste, refl, replicate, sym, take, take_all, true, ℕ}
 use Rattle.model.specs.declared.Layout.{Layout}
 use Rattle.model.specs.Changes.{Store}
 use Rattle.model.specs.Files.{free}

@@ -1,5 +1,5 @@
 -- Ranges compared as numbers are ranges in order.
-use Rattle.model.proofs.Prelude.{Bool, List, ◌&&◌, ◌-◌, ◌<◌, ◌||◌, ◌∙◌, ◌≡◌, ◌≤◌, ◌⊎◌, ap, arith, clash, eqb, eqb-false, eqb-true, false, get_or, inl, inr, le-leb, lt-ltb, ltb, ltb-false, ltb-true, not, not-true, refl, some, sym, true, ℕ}
+use Rattle.model.proofs.Prelude.{Bool, List, ◌&&◌, ◌<◌, ◌||◌, ◌∙◌, ◌≡◌, ◌≤◌, ◌⊎◌, ap, arith, clash, eqb, eqb-false, eqb-true, false, get_or, inl, inr, le-leb, lt-ltb, ltb, ltb-false, ltb-true, not, not-true, refl, some, sym, true, ℕ}
 use Rattle.model.specs.declared.Layout.{Layout}
 use Rattle.model.specs.Order.{Low, Str, ◌≺◌, ◌⊑◌, ◌⊴◌, at, below, least, none}
 use Rattle.model.specs.Tests.{is_above, is_at_most, is_legal_low}

@@ -1,5 +1,5 @@
 -- The search for the bucket that holds a name: what each probe says, and how the halves close in.
-use Rattle.model.proofs.Prelude.{Bool, List, [], ◌+◌, ◌-◌, ◌<◌, ◌∙◌, ◌∷◌, ◌≡◌, ◌≤◌, ap, arith, dec_lt, false, get_or, length, some, suc, sym, true, zero, ℕ}
+use Rattle.model.proofs.Prelude.{Bool, List, [], ◌+◌, ◌<◌, ◌∙◌, ◌∷◌, ◌≡◌, ◌≤◌, ap, arith, dec_lt, false, get_or, length, some, suc, sym, true, zero, ℕ}
 use Rattle.model.specs.Order.{Low, Str, ◌≺◌, ◌⊑◌, ◌⊴◌, ◌◁◌, above, at, least as unlimited, none, top}
 use Rattle.model.specs.Tests.{is_at_most}
 use Rattle.model.specs.Names.{Legal, within}

@@ -1,7 +1,7 @@
 -- What the survey says of slots that are laid out in order is what check says, and of a sound file its order and its map.
 use Rattle.model.proofs.Prelude.{Bool, List, Memᴰ, [], ◌++◌, ◌-◌, ◌<◌, ◌∙◌, ◌∷◌, ◌≡◌, ◌≤◌, ap, append_snoc, arith, dec_le, drop, drop-cons, false, get_or, get_or-take, length, length-take-le, nothing, refl, some, split_at, subst, suc, sym, take, take-suc, take-take, true, zero-add, ℕ}
 use Rattle.model.specs.declared.Layout.{Layout}
-use Rattle.model.specs.Order.{at, none}
+use Rattle.model.specs.Order.{none}
 use Rattle.model.specs.Files.{Chain, IsUsed, Slot, Sound, free, head, ranges, slot_at, upper_of, used}
 use Rattle.model.specs.Searches.{order_of}
 use Rattle.model.specs.Checks.{Kind, check, is_bad, is_cut, is_sound}

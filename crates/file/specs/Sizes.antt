@@ -1,5 +1,5 @@
 -- The sizes of a file that its header says, and what they say of its length.
-use Rattle.std.specs.Prelude.{◌≡◌, ℕ, ◌+◌, ◌*◌, ◌<◌, ◌≤◌, false, ◌&&◌, List, length, ◌==◌, slice_index}
+use Rattle.std.specs.Prelude.{◌≡◌, ℕ, ◌+◌, ◌*◌, ◌<◌, false, ◌&&◌, List, length, ◌==◌, slice_index}
 use Rattle.std.proofs.Math.Option.{none as nothing, some}
 use Rattle.model.specs.Format.{Sizes, are_legal_sizes, file_size, header_of, slot_size}
 use Rattle.model.specs.declared.Layout.{Layout}

@@ -1,5 +1,5 @@
 -- The names of a row, and what gathering tells of them.
-use Rattle.std.specs.Prelude.{◌≡◌, ℕ, zero, suc, ◌+◌, ◌-◌, ◌^◌, ◌<◌, ◌≤◌, true, List, [], ◌∷◌, take, drop, slice_index, slice_range}
+use Rattle.std.specs.Prelude.{◌≡◌, ℕ, zero, suc, ◌+◌, ◌^◌, ◌<◌, ◌≤◌, true, List, [], ◌∷◌, take, drop, slice_index, slice_range}
 use Rattle.model.specs.Order.{Str}
 use Rattle.model.specs.Tests.{are_digits, is_legal_filled}
 use Rattle.digits.specs.declared.Key.{Key}

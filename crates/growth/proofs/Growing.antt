@@ -5,7 +5,7 @@ use Rattle.model.specs.declared.Side.{Side}
 use Rattle.model.specs.declared.Side.TheVariants.{Cell as further, Slot as slot}
 use Rattle.model.specs.declared.Trie.{Trie}
 use Rattle.model.specs.Order.{Str, ◌⊑◌, diff}
-use Rattle.model.specs.Tries.{Reads, Spot, Tree, at_cell, cell, first_leaf_of, leaf, left, occ, right, root, root_side, trie_of, zero_cell}
+use Rattle.model.specs.Tries.{Reads, Spot, Tree, at_cell, first_leaf_of, leaf, left, occ, right, root, root_side, trie_of, zero_cell}
 use Rattle.model.specs.Rebuilding.{lay, side_of}
 use Rattle.model.specs.Growth.{cell_of, changed, grow_cells, grown, grown_trie, placed, turn, turn_cell, turn_cells, turn_side}
 use Rattle.model.proofs.Deciding.{le?}

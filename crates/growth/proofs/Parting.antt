@@ -4,7 +4,7 @@ use Rattle.model.specs.declared.Trie.{Trie}
 use Rattle.model.specs.Order.{Str, ◌⊑◌, diff, least, none, top}
 use Rattle.model.specs.Files.{ranges}
 use Rattle.model.specs.Searches.{all, bounds}
-use Rattle.model.specs.Tries.{Spot, left, root, walk_trie}
+use Rattle.model.specs.Tries.{Spot, root, walk_trie}
 use Rattle.model.proofs.Lists.{mem_place}
 use Rattle.model.proofs.Order.{Asc, diff_le_right, le_refl, le_take, le_trans, lt_le, sandwich, take_diff}
 use Rattle.model.proofs.Strings.{all_closed, mem_at, not_top, trie_asc}

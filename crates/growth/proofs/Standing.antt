@@ -3,7 +3,7 @@ use Rattle.model.proofs.Prelude.{List, get_or_eq_default, [], ◌++◌, ◌+◌,
 use Rattle.model.specs.declared.Cell.{Cell}
 use Rattle.model.specs.declared.Side.{Side}
 use Rattle.model.specs.declared.Side.TheVariants.{Slot as slot}
-use Rattle.model.specs.Order.{Low, Str, ◌≺◌, ◌⊑◌, ◌◁◌, above, at, top}
+use Rattle.model.specs.Order.{Low, Str, ◌≺◌, ◌⊑◌, ◌◁◌, above, top}
 use Rattle.model.specs.Tries.{Reads, Spot, Tree, at_cell, here, left, right, there}
 use Rattle.model.proofs.Deciding.{le?, over}
 use Rattle.model.proofs.Lists.{at_behind}

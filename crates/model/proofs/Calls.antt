@@ -1,6 +1,6 @@
 -- Each request has one list of stores or one refusal, and the function gives it.
 use Rattle.model.proofs.Prelude.{Bool, List, Option, ◌<◌, ◌∙◌, ◌≡◌, ◌≢◌, ◌≤◌, ap, arith, clash, cond, dec_le, dec_lt, false, le-leb, le-ltb, leb, length, lt-leb, lt-ltb, ltb-true, nothing, refl, some, subst, sym, true, ℕ}
-use Rattle.model.specs.Order.{Low, Str, ◌⊑◌, ◌◁◌, at}
+use Rattle.model.specs.Order.{Low, Str, ◌⊑◌, ◌◁◌}
 use Rattle.model.specs.Names.{Legal}
 use Rattle.model.specs.Entries.{Entry, find, insert, is_older, run_of_content}
 use Rattle.model.specs.Files.{In, Slot, Sound, entries_of, free, head, slot_at, used}

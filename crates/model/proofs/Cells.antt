@@ -3,7 +3,6 @@ use Rattle.model.proofs.Prelude.{Bool, List, Memᴰ, mem_head, mem_tail, get_or_
 use Rattle.model.specs.declared.Cell.{Cell}
 use Rattle.model.specs.declared.Side.{Side}
 use Rattle.model.specs.declared.Side.TheVariants.{Cell as further}
-use Rattle.model.specs.Order.{at}
 use Rattle.model.specs.Tries.{Reads, Tree, at_cell, here, leaf, node, occ, size, there, zero_cell}
 use Rattle.model.specs.Rebuilding.{lay, side_of}
 

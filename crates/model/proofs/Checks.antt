@@ -1,6 +1,6 @@
 -- The tests of check are what they test; so check names sound files, the slot to free of cut ones, and bad files.
 use Rattle.model.proofs.Prelude.{Bool, List, Memᴰ, mem_head, mem_not_nil, mem_tail, [], ◌&&◌, ◌+◌, ◌<◌, ◌||◌, ◌∙◌, ◌∷◌, ◌≡◌, ◌≤◌, add-zero, ap, ap₂, arith, clash, cond, eq-eqb, eqb, eqb-true, false, inl, inr, le-leb, leb, leb-true, length, not, not-true, refl, set, suc, true, zero, zero-add, ℕ, ℕ_discrete}
-use Rattle.model.specs.Order.{Low, Str, ◌◁◌, above, at, none}
+use Rattle.model.specs.Order.{Low, Str, ◌◁◌, at, none}
 use Rattle.model.specs.Tests.{is_above, is_at_most, is_legal_bound, is_legal_filled, is_legal_low, same_str}
 use Rattle.model.specs.Names.{BoundLow, limit, unlimited}
 use Rattle.model.specs.Entries.{Entry, Row, entry, move, name_at, no_entries, without}

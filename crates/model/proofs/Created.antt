@@ -1,7 +1,7 @@
 -- The file that create writes: sound, read back as it was meant, and create's trie agrees with it.
 use Rattle.model.proofs.Prelude.{Memᴰ, mem_head, [], ◌-◌, ◌∷◌, ◌≡◌, ◌≤◌, arith, length, length-replicate, nothing, refl, suc, zero, ℕ}
 use Rattle.model.specs.declared.Layout.{Layout}
-use Rattle.model.specs.Order.{at, least}
+use Rattle.model.specs.Order.{least}
 use Rattle.model.specs.Names.{unlimited}
 use Rattle.model.specs.Entries.{find, no_entries}
 use Rattle.model.specs.Files.{IsUsed, Sound, Well, created, entries_of, free, head, last, slot_at, well_free, well_used}

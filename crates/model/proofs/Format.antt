@@ -1,7 +1,7 @@
 -- The bytes of a file: their lengths, reading and writing undo each other, and a store changes exactly one slot.
 use Rattle.model.proofs.Prelude.{Bool, List, get_or_eq_default, Option, [], ◌%◌, ◌&&◌, ◌*◌, ◌++◌, ◌+◌, ◌-◌, ◌/◌, ◌<◌, ◌^◌, ◌∙◌, ◌∷◌, ◌≡◌, ◌≢◌, ◌≤◌, add-zero, ap, append_assoc, ap₂, arith, clash, cond, dec_lt, drop, drop_at, drop-cons, drop-drop, drop-nil, drop_of_length-le, drop-paste, eq-eqb, eqb, eqb-true, false, get_or, le-leb, leb, leb-true, length, length-append, length-replicate, length-set, length-take-le, mul-le-mul_left, mul-le-mul_right, nothing, paste, pow-suc, pow-zero, refl, replicate, set, some, suc, suc-mul, sym, take, take_all, take-append-drop, take-append-le, take-append_seam, take_at, take-take, true, zero, zero-add, zero-mul, ℕ}
 use Rattle.model.specs.declared.Layout.{Layout}
-use Rattle.model.specs.Order.{Low, Str, ◌◁◌, above, at, least, top}
+use Rattle.model.specs.Order.{Low, Str, ◌◁◌, above, least, top}
 use Rattle.model.specs.Tests.{same_str}
 use Rattle.model.specs.Names.{BoundLow, Digits, Legal, filled, limit, unlimited}
 use Rattle.model.specs.Entries.{Entry, Row, content_from, entry, find, no_entries, run_of_content, value_of_content}

@@ -3,7 +3,7 @@ use Rattle.model.proofs.Prelude.{Bool, List, Memᴰ, mem_append_cases, mem_cases
 use Rattle.model.specs.declared.Cell.{Cell}
 use Rattle.model.specs.declared.Side.{Side}
 use Rattle.model.specs.declared.Side.TheVariants.{Cell as further}
-use Rattle.model.specs.Order.{Low, Str, ◌≺◌, ◌⊑◌, ◌◁◌, above, at, diff, least, none, top}
+use Rattle.model.specs.Order.{Low, Str, ◌≺◌, ◌⊑◌, ◌◁◌, above, diff, least, none, top}
 use Rattle.model.specs.Files.{Chain, RangeTable}
 use Rattle.model.specs.Searches.{all, bounds}
 use Rattle.model.specs.Tries.{Leads, Reads, Spot, Tree, at_cell, cell, here, leaf, left, node, occ, right, root, size, there, zero_cell}

@@ -1,7 +1,7 @@
 -- The tests of names and bounds are what they test; a filled name has one name; within and not above are one; the split
 -- string is the first difference's.
 use Rattle.model.proofs.Prelude.{get_or_append, [], ◌&&◌, ◌++◌, ◌+◌, ◌-◌, ◌<◌, ◌∙◌, ◌∷◌, ◌≡◌, ◌≤◌, ap, ap₂, arith, clash, dec_le, eq-eqb, eqb, eqb-true, false, get_or, get_or-append-add, get_or-replicate, le-leb, leb, leb-true, length, length-append, length-replicate, length-take, ne_eqb, not, refl, replicate, suc, sym, take, take-append_seam, true, zero, ℕ, ℕ_discrete}
-use Rattle.model.specs.Order.{Str, ◌≺◌, at, diff, first_digit, last_digit}
+use Rattle.model.specs.Order.{Str, ◌≺◌, diff, first_digit, last_digit}
 use Rattle.model.specs.Tests.{are_digits, is_at_most, is_blank_digit, is_legal_bound, is_legal_filled, is_legal_name}
 use Rattle.model.specs.Names.{Bound, Digits, Legal, filled, not_greater, split_beginning, split_tried, within}
 use Rattle.model.proofs.Lists.{length_made, made_short}

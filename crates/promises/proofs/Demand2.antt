@@ -12,7 +12,6 @@ use Rattle.model.specs.Files.{In, Slot, Sound, entries_of, free, head, slot_at, 
 use Rattle.model.specs.Tries.{Spot, walk_of, walk_trie}
 use Rattle.model.specs.Checks.{is_well_formed}
 use Rattle.model.specs.Format.{SoundFile, header_of}
-use Rattle.model.specs.Answers.{stale_trie}
 use Rattle.model.specs.Calls.{arrived_answer, headed_answer, held_answer, landed, look_up_of, slot_answer}
 use Rattle.model.proofs.Tests.{is_above_above, is_at_most_le}
 use Rattle.model.proofs.LookUps.{lookup_agrees}

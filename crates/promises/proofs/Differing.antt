@@ -1,8 +1,8 @@
 -- The first difference of a name and a bound, and the one bound of a range that a name breaks.
 use Rattle.model.proofs.Prelude.{Bool, List, ◌<◌, ◌∙◌, ◌≡◌, ◌≤◌, ap, arith, cond, dec_lt, false, get_or, get_or-take, length, refl, sym, true, ℕ}
-use Rattle.model.specs.Order.{Low, Str, ◌⊑◌, ◌◁◌, above, at, diff, least, none}
+use Rattle.model.specs.Order.{Low, Str, ◌⊑◌, above, at, diff, least, none}
 use Rattle.model.specs.Tests.{is_at_most}
-use Rattle.model.specs.Names.{Bound, BoundLow, broken, limit}
+use Rattle.model.specs.Names.{BoundLow, broken, limit}
 use Rattle.model.specs.Entries.{Entry}
 use Rattle.model.specs.Files.{In, Well, range, used}
 use Rattle.model.proofs.Deciding.{over}

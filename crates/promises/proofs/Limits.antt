@@ -9,7 +9,7 @@ use Rattle.model.specs.Order.{Str}
 use Rattle.model.specs.Tests.{is_legal_name}
 use Rattle.model.specs.Names.{filled}
 use Rattle.model.specs.Files.{Slot, free}
-use Rattle.model.specs.Changes.{Result, Store, call, put, refuse, remove, stores}
+use Rattle.model.specs.Changes.{Result, Store, call, refuse, remove, stores}
 use Rattle.model.specs.Places.{place_of}
 use Rattle.model.specs.Checks.{Kind, is_bad, is_cut, is_sound}
 use Rattle.model.specs.Format.{check_file, kept_run, layout_of, store_bytes}

@@ -5,7 +5,7 @@ use Rattle.model.specs.declared.Layout.{Layout}
 use Rattle.model.specs.declared.ListAnswer.TheVariants.{Listed, Refused as ListRefused}
 use Rattle.model.specs.declared.RecoverAnswer.TheVariants.{Freed, Nothing, Refused as RecoverRefused, Stopped as RecoverStopped}
 use Rattle.model.specs.declared.Trie.{Trie}
-use Rattle.model.specs.Order.{Low, Str, at}
+use Rattle.model.specs.Order.{Low, Str}
 use Rattle.model.specs.Tests.{is_legal_name}
 use Rattle.model.specs.Names.{filled}
 use Rattle.model.specs.Entries.{Entry, insert}

@@ -25,7 +25,7 @@ use Rattle.model.specs.Tests.{are_digits, is_above, is_at_most, is_legal_bound, 
 use Rattle.model.specs.Names.{filled, not_greater, split_beginning, split_tried, within}
 use Rattle.model.specs.Entries.{content_from, find, insert, is_older, keep, run_of_content, value_of_content, without}
 use Rattle.model.specs.Files.{Slot, created, entries_of, free, slot_at, used}
-use Rattle.model.specs.Changes.{Map, Result, Store, call, left_of, merged_or, put, put_in, refuse, removal, remove, remove_in, right_of, split_of, split_string, stores, stores_if, trie_removed}
+use Rattle.model.specs.Changes.{Map, Result, Store, call, left_of, merged_or, put, put_in, refuse, removal, remove_in, right_of, split_of, split_string, stores, stores_if, trie_removed}
 use Rattle.model.specs.Checks.{all_well, are_same_entries, check, cut_among, has_one_more, has_twin, is_bad, is_chain, is_copied, is_cut_by, is_in, is_listed, is_row, is_sound_file, is_twin, is_well_formed}
 use Rattle.model.specs.Agreeing.{are_numbers, are_zero_cells, is_agreeing, is_each_once, is_trie_of, join_trees, read_tree, same_side, same_strs, slots_between}
 use Rattle.model.specs.Format.{are_legal_sizes, bytes_at_slot, bytes_of_entries, bytes_of_entry, bytes_of_slot, check_file, check_read, digits_of_low, entry_length, file_bytes, file_size, header_bytes, header_of, is_offered, is_right_header, joined, kept_run, laid_out, layout_of, little_endian, low_of, padded, read_by, read_entries, read_file, read_slot, read_slots, read_used_slot, slot_size, slots_bytes, store_bytes, used_of, value_of}

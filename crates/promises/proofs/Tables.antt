@@ -1,5 +1,5 @@
 -- A table's first cause is one only, so an answer that was decided line by line is given exactly then.
-use Rattle.model.proofs.Prelude.{[], ◌∙◌, ◌∷◌, ◌≡◌, ◌⊎◌, ap, inl, inr, refl, sym, ℕ}
+use Rattle.model.proofs.Prelude.{[], ◌∙◌, ◌∷◌, ◌≡◌, ap, inl, inr, refl, sym, ℕ}
 use Rattle.model.specs.declared.Cause.{Cause}
 use Rattle.model.specs.declared.Cause.TheVariants.{StaleTrie}
 use Rattle.promises.specs.Demand1.{Exactly, FirstHolding, Gives, Holds, Reason, Table, because, off_at}

@@ -17,14 +17,13 @@ use Rattle.model.specs.Order.{Low, Str}
 use Rattle.model.specs.Tests.{is_legal_name}
 use Rattle.model.specs.Names.{filled}
 use Rattle.model.specs.Entries.{Entry, content_from, find, without}
-use Rattle.model.specs.Files.{IsUsed, Slot, free, head, slot_at, upper_of, used}
+use Rattle.model.specs.Files.{Slot, free, head, slot_at, upper_of, used}
 use Rattle.model.specs.Changes.{Result, Store, left_of, merged_or, refuse, right_of, stores, stores_if}
 use Rattle.model.specs.Places.{place_of}
 use Rattle.model.specs.Format.{check_file, kept_run, layout_of, read_file, store_bytes}
 use Rattle.model.specs.Calls.{Looked, PutDone, RecoverDone, RemoveDone, create_of, fine, held, list_of, look_up_of, looked_of, put_answer, put_of, put_takes, rebuild_of, recover_of, refusal_of, refusing, remove_by_stores, remove_of, stores_bytes, trie_after_put}
 use Rattle.model.specs.Searches.{first, has_upper, is_in_range}
 use Rattle.promises.specs.Calls.{Calls}
-use Rattle.promises.specs.Demand3.{put, remove}
 
 -- R15.1: one of the calls refuses everything.
 abbrev pub IsRefused : {A : Type 0} → (Cause → A) → A → Type 0

@@ -7,7 +7,7 @@ use Rattle.model.specs.declared.Trie.{Trie}
 use Rattle.model.specs.Order.{Low, Str, ◌⊑◌, ◌◁◌, diff, none}
 use Rattle.model.specs.Names.{Legal}
 use Rattle.model.specs.Entries.{Entry, Row, insert, name_at}
-use Rattle.model.specs.Files.{In, Slot, Sound, head, slot_at, used}
+use Rattle.model.specs.Files.{In, Slot, Sound, head, slot_at}
 use Rattle.model.specs.Tries.{Agrees, root, walk_trie}
 use Rattle.model.specs.Agreeing.{slots_between}
 use Rattle.model.specs.Growth.{grown_trie}

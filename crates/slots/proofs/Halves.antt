@@ -1,5 +1,5 @@
 -- A row of b + 1 entries: the name at a place, how many of them stay at a split, and the two parts.
-use Rattle.model.proofs.Prelude.{List, [], ◌*◌, ◌+◌, ◌-◌, ◌<◌, ◌∙◌, ◌∷◌, ◌≡◌, ◌≤◌, ap, ap₂, arith, drop, false, length, length-drop, length-take-le, ltb, not, paste, refl, replicate, suc, sym, take, take_all, take_at, true, zero, ℕ}
+use Rattle.model.proofs.Prelude.{List, [], ◌*◌, ◌+◌, ◌-◌, ◌∙◌, ◌∷◌, ◌≡◌, ◌≤◌, ap, ap₂, arith, drop, false, length, length-drop, length-take-le, ltb, not, paste, refl, replicate, suc, sym, take, take_all, take_at, true, zero, ℕ}
 use mathlib.Core.Bool.{or-true}
 use Rattle.model.specs.declared.Layout.{Layout}
 use Rattle.model.specs.Order.{Low, Str, ◌≺◌, ◌⊑◌}

@@ -1,5 +1,5 @@
 -- Slots in an order that was guessed: they are a row, and a file of which all used slots stand in a row is sound.
-use Rattle.model.proofs.Prelude.{List, Memᴰ, [], ◌*◌, ◌+◌, ◌-◌, ◌<◌, ◌^◌, ◌∙◌, ◌∷◌, ◌≡◌, ◌≤◌, ap, arith, get_or, get_or-take, length, length-take-le, refl, some, subst, suc, sym, take, true, zero, zero-add, ℕ}
+use Rattle.model.proofs.Prelude.{List, Memᴰ, [], ◌*◌, ◌+◌, ◌<◌, ◌^◌, ◌∙◌, ◌∷◌, ◌≡◌, ◌≤◌, ap, arith, get_or, get_or-take, length, length-take-le, refl, some, subst, suc, sym, take, true, zero, zero-add, ℕ}
 use Rattle.model.specs.Order.{Low, at, none}
 use Rattle.model.specs.Tests.{is_legal_bound}
 use Rattle.model.specs.Files.{Chain, IsUsed, RangeTable, Slot, Sound, Well, free, head, lower_of, ranges, slot_at, upper_of, used, well_free}

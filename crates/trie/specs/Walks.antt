@@ -5,7 +5,7 @@ use Rattle.model.specs.declared.Cell.{Cell}
 use Rattle.model.specs.declared.Side.{Side}
 use Rattle.model.specs.declared.Side.TheVariants.{Cell as further, Slot as slot}
 use Rattle.model.specs.Order.{Str}
-use Rattle.model.specs.Tries.{Spot, at_cell, cell, left, right, root, walk_run}
+use Rattle.model.specs.Tries.{Spot, at_cell, left, right, root, walk_run}
 use Rattle.trie.specs.declared.Place.{Place}
 use Rattle.trie.specs.declared.Place.TheVariants.{Cell as before_cell, Slot as at_slot, Stale as stale}
 use Rattle.trie.specs.declared.Walk.{Walk}

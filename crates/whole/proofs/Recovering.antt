@@ -1,5 +1,5 @@
 -- Check, and recover by its order of refusals, from a look at the whole file.
-use Rattle.model.proofs.Prelude.{Bool, List, [], ◌-◌, ◌<◌, ◌∙◌, ◌∷◌, ◌≡◌, ◌≤◌, ap, arith, false, le-ltb, lt-ltb, ltb-false, ltb-true, nothing, refl, sym, take_all, true, ℕ}
+use Rattle.model.proofs.Prelude.{Bool, List, [], ◌<◌, ◌∙◌, ◌∷◌, ◌≡◌, ◌≤◌, ap, arith, false, le-ltb, lt-ltb, ltb-false, ltb-true, nothing, refl, sym, take_all, true, ℕ}
 use Rattle.model.specs.declared.Cause.TheVariants.{BadFile, WrongSize}
 use Rattle.model.specs.declared.Layout.{Layout}
 use Rattle.model.specs.declared.RecoverAnswer.TheVariants.{Freed, Nothing, Refused as RecoverRefused, Stopped as RecoverStopped}

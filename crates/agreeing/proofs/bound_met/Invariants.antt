@@ -1,8 +1,7 @@
 -- `bound_met` meets its contract: at each turn the beginnings longer than `len` digits are met.
-use Rattle.model.proofs.Prelude.{◌-◌, ◌<◌, ◌≡◌, ◌≤◌, arith, cond, eq-eqb, eqb, length, rules, refl}
+use Rattle.model.proofs.Prelude.{◌-◌, ◌<◌, ◌≡◌, ◌≤◌, cond, eqb, length}
 use Rattle.image.specs.Images.{trie_from}
-use Rattle.agreeing.specs.Ways.{BoundAt, Onward, Roomy, goes, standing, strays}
-use Rattle.agreeing.proofs.Ways.{bound_on, goes_to, left_next, onward_none}
+use Rattle.agreeing.specs.Ways.{BoundAt, Onward, Roomy, standing}
 use Rattle.agreeing.proofs.bound_met.Given as goal
 
 abbrev pub invariant-loop-len : goal.invariant-loop-len

@@ -1,7 +1,6 @@
 -- `entered` meets its contract: at each turn one more cell is marked and stands on the stack.
 use Rattle.model.proofs.Prelude.{◌-◌, ◌<◌, arith, rules, refl}
-use Rattle.image.specs.Images.{trie_from}
-use Rattle.agreeing.specs.Ways.{Onward, Roomy, Whatever, goes, marked, standing, strays}
+use Rattle.agreeing.specs.Ways.{goes, strays}
 use Rattle.agreeing.proofs.Ways.{entered_on, entered_room, marks_less, marks_room, onward_none}
 use Rattle.agreeing.proofs.entered.Goals.{After-u8_of_usize}
 use Rattle.agreeing.proofs.entered.Goals as goal

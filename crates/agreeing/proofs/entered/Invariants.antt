@@ -1,8 +1,7 @@
 -- `entered` meets its contract: at each turn one more cell is marked and stands on the stack.
-use Rattle.model.proofs.Prelude.{◌-◌, ◌<◌, arith, rules, refl}
+use Rattle.model.proofs.Prelude.{◌-◌}
 use Rattle.image.specs.Images.{trie_from}
-use Rattle.agreeing.specs.Ways.{Onward, Roomy, Whatever, goes, marked, standing, strays}
-use Rattle.agreeing.proofs.Ways.{entered_on, entered_room, marks_less, marks_room, onward_none}
+use Rattle.agreeing.specs.Ways.{Onward, Roomy, Whatever, marked, standing}
 use Rattle.agreeing.proofs.entered.Given as goal
 
 abbrev pub invariant-loop-side : goal.invariant-loop-side

@@ -1,5 +1,4 @@
 -- `is_agreeing` meets its contract: by the pass, or by the strings written down.
-use Rattle.model.proofs.Prelude.{rules}
 use Rattle.agreeing.proofs.Agreeing.{listed_told}
 use Rattle.agreeing.proofs.is_agreeing.Goals as goal
 

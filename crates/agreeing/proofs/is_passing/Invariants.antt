@@ -1,10 +1,8 @@
 -- `is_passing` meets its contract: at each turn the strings before a bucket's upper are met.
-use Rattle.model.proofs.Prelude.{◌*◌, ◌+◌, ◌-◌, ◌≡◌, ◌≤◌, arith, clash, eqb-true, get_or, length-replicate, rules, refl, ℕ}
+use Rattle.model.proofs.Prelude.{◌*◌, ◌-◌, ◌≡◌, ◌≤◌, get_or}
 use Rattle.image.specs.Images.{side_from, trie_from}
 use Rattle.agreeing.specs.Ways.{Roomy, standing}
-use Rattle.agreeing.proofs.Ways.{goes_to}
-use Rattle.agreeing.proofs.Bounds.{Reaches, reaches_end, reaches_start, reaches_step}
-use Rattle.agreeing.proofs.Agreeing.{given}
+use Rattle.agreeing.proofs.Bounds.{Reaches}
 use Rattle.agreeing.proofs.is_passing.Given as goal
 
 abbrev pub invariant-loop-j : goal.invariant-loop-j

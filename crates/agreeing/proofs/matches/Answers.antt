@@ -1,5 +1,5 @@
 -- `matches` meets its contract: the pass, over an image that begins and ends as one must.
-use Rattle.model.proofs.Prelude.{◌∙◌, arith, clash, rules, not-false, sym, ⊎_elim}
+use Rattle.model.proofs.Prelude.{◌∙◌, arith, clash, rules, sym}
 use Rattle.agreeing.proofs.Agreeing.{passing_told}
 use Rattle.agreeing.proofs.matches.Goals as goal
 use Rattle.agreeing.proofs.matches.Goals.{else-cells-gt0, then-cells-gt0+else-first-ne0}

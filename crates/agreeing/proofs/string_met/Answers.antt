@@ -1,6 +1,6 @@
 -- `string_met` meets its contract: up to a leaf, and then the cell on top of the stack.
 use Rattle.model.proofs.Prelude.{◌∙◌, rules, sym}
-use Rattle.agreeing.specs.Ways.{goes, strays}
+use Rattle.agreeing.specs.Ways.{goes}
 use Rattle.agreeing.proofs.Ways.{goes_to, met_on, met_room, top_room}
 use Rattle.agreeing.proofs.string_met.Goals as goal
 

@@ -1,5 +1,5 @@
 -- `agreement_of` meets its contract: each test that fails tells that the trie does not agree, and the pass decides the rest.
-use Rattle.model.proofs.Prelude.{◌∙◌, arith, rules, not-false, not-true, sym}
+use Rattle.model.proofs.Prelude.{◌∙◌, arith, rules, sym}
 use Rattle.image.specs.Images.{trie_from}
 use Rattle.image.proofs.Coding.{length-cells_from}
 use Rattle.agreement.proofs.Answers.{by_leaf, by_pass, not_clear, not_count, not_few, not_first}

@@ -1,9 +1,9 @@
 -- `pass` meets its contract: at each turn the pass from there on ends as the whole does (proofs/States.antt).
-use Rattle.model.proofs.Prelude.{◌*◌, ◌+◌, ◌-◌, ◌∙◌, arith, rules, sym}
+use Rattle.model.proofs.Prelude.{◌∙◌, arith, rules, sym}
 use Rattle.model.specs.declared.Side.TheVariants.{Cell as further}
 use Rattle.image.specs.Images.{trie_from}
 use Rattle.image.proofs.Images.{cell_of}
-use Rattle.agreement.proofs.States.{State, ended, entered_at, left, no_room, not_below, not_digit, not_leaf, not_least, not-length, not_new, refused, started}
+use Rattle.agreement.proofs.States.{ended, entered_at, left, no_room, not_below, not_digit, not_leaf, not_least, not-length, not_new, refused, started}
 use Rattle.agreement.proofs.pass.Goals as goal
 
 pub loop-place-init : goal.loop-place-init

@@ -1,5 +1,5 @@
 -- `bucket::count_of` meets its contract.
-use Rattle.model.proofs.Prelude.{arith, rules}
+use Rattle.model.proofs.Prelude.{arith}
 use Rattle.bucket.proofs.Parts.{count_most, count_read}
 use Rattle.bucket.proofs.count_of.Goals as goal
 

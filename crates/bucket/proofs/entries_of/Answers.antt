@@ -1,5 +1,5 @@
 -- `bucket::entries_of` meets its contract.
-use Rattle.model.proofs.Prelude.{◌∙◌, ap, arith, length, length-drop, rules}
+use Rattle.model.proofs.Prelude.{◌∙◌, ap, arith, length, length-drop}
 use Rattle.model.proofs.Lists.{rest}
 use Rattle.bucket.proofs.entries_of.Goals as goal
 

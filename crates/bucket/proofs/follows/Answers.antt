@@ -1,5 +1,5 @@
 -- `bucket::follows` meets its contract.
-use Rattle.model.proofs.Prelude.{◌<◌, ◌∙◌, arith, clash, eqb-true, get_or, rules, sym, ℕ}
+use Rattle.model.proofs.Prelude.{◌<◌, ◌∙◌, arith, clash, eqb-true, get_or, sym, ℕ}
 use Rattle.bucket.proofs.Parts.{parts_same}
 use Rattle.bucket.proofs.follows.Goals as goal
 

@@ -1,5 +1,5 @@
 -- `bucket::form_by` meets its contract.
-use Rattle.model.proofs.Prelude.{◌*◌, ◌+◌, ◌∙◌, ◌≡◌, ap, ap₂, arith, drop, get_or, ltb, rules, not-false, not-true, sym, take, true, ℕ}
+use Rattle.model.proofs.Prelude.{◌*◌, ◌+◌, ◌∙◌, ◌≡◌, ap, ap₂, arith, drop, get_or, ltb, sym, take, true, ℕ}
 use Rattle.model.proofs.Tests.{never_both}
 use Rattle.digits.specs.Keys.{key_value}
 use Rattle.bucket.specs.Forms.{is_all_clear}

@@ -1,5 +1,5 @@
 -- `bucket::form_of` meets its contract.
-use Rattle.model.proofs.Prelude.{◌*◌, ◌+◌, ◌∙◌, ◌≡◌, ap, arith, rules, refl, sym, ℕ}
+use Rattle.model.proofs.Prelude.{◌*◌, ◌+◌, ◌∙◌, ap, arith, refl, sym, ℕ}
 use Rattle.bucket.proofs.form_of.Goals as goal
 
 pub form_by-requires : goal.form_by-requires

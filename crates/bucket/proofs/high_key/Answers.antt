@@ -1,5 +1,4 @@
 -- `bucket::high_key` meets its contract.
-use Rattle.model.proofs.Prelude.{rules}
 use Rattle.bucket.proofs.high_key.Goals as goal
 
 pub returns : goal.returns

@@ -1,5 +1,5 @@
 -- `bucket::is_bound` meets its contract.
-use Rattle.model.proofs.Prelude.{rules, sym}
+use Rattle.model.proofs.Prelude.{sym}
 use Rattle.bucket.proofs.is_bound.Goals as goal
 
 pub returns-then-is_plain : goal.returns-then-is_plain

@@ -1,5 +1,5 @@
 -- `bucket::is_clear` meets its contract.
-use Rattle.model.proofs.Prelude.{◌∙◌, ap, arith, drop, rules, sym, take}
+use Rattle.model.proofs.Prelude.{◌∙◌, ap, arith, drop, sym, take}
 use Rattle.digits.specs.Keys.{is_all_zero}
 use Rattle.gathering.proofs.Parts.{value_zero}
 use Rattle.model.proofs.Lists.{rest}

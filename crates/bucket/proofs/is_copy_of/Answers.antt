@@ -1,5 +1,5 @@
 -- `bucket::is_copy_of` meets its contract: each test that it makes is one that a copy passes.
-use Rattle.model.proofs.Prelude.{◌∙◌, arith, rules, not-false, not-true, sym}
+use Rattle.model.proofs.Prelude.{◌∙◌, arith, sym}
 use native.Mathlib.Nat.{le_trans}
 use Rattle.digits.specs.Keys.{key_value}
 use Rattle.model.proofs.Format.{bytes_each}

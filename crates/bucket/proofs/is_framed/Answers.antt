@@ -1,5 +1,5 @@
 -- `bucket::is_framed` meets its contract.
-use Rattle.model.proofs.Prelude.{◌*◌, ◌+◌, ◌∙◌, ap, arith, clash, ltb-true, rules, not-false, subst, sym, ℕ}
+use Rattle.model.proofs.Prelude.{◌*◌, ◌+◌, ◌∙◌, ap, arith, clash, ltb-true, subst, sym, ℕ}
 use Rattle.digits.specs.Keys.{key_value}
 use Rattle.bucket.specs.Forms.{Stocked}
 use Rattle.bucket.proofs.is_framed.Goals as goal

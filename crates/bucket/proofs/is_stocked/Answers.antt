@@ -1,5 +1,5 @@
 -- `bucket::is_stocked` meets its contract.
-use Rattle.model.proofs.Prelude.{◌*◌, ◌+◌, ◌∙◌, ◌≡◌, ap, ap₂, arith, clash, get_or, rules, not-false, sym, ℕ}
+use Rattle.model.proofs.Prelude.{◌*◌, ◌+◌, ◌∙◌, ◌≡◌, ap, ap₂, arith, clash, get_or, sym, ℕ}
 use Rattle.digits.specs.Keys.{key_value}
 use Rattle.entries.specs.Rows.{are_between}
 use Rattle.model.proofs.Lists.{rest}

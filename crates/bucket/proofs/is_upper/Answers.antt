@@ -1,5 +1,5 @@
 -- `bucket::is_upper` meets its contract.
-use Rattle.model.proofs.Prelude.{◌∙◌, ap, arith, drop, rules, sym, take, ℕ}
+use Rattle.model.proofs.Prelude.{◌∙◌, ap, arith, drop, sym, take, ℕ}
 use Rattle.gathering.proofs.Bounds.{bound_in}
 use Rattle.digits.proofs.Keys.{length_part}
 use Rattle.bucket.specs.Slots.{is_a_bound}

@@ -1,5 +1,5 @@
 -- `bucket::is_upper_part` meets its contract.
-use Rattle.model.proofs.Prelude.{◌*◌, ◌+◌, ◌-◌, ◌∙◌, ◌≡◌, ap, ap₂, arith, rules, sym, ℕ}
+use Rattle.model.proofs.Prelude.{◌∙◌, arith, rules}
 use Rattle.bucket.specs.Copies.{is_upper_part}
 use Rattle.bucket.proofs.is_upper_part.Goals as goal
 

@@ -1,5 +1,5 @@
 -- `bucket::low_key` meets its contract.
-use Rattle.model.proofs.Prelude.{◌∙◌, arith, drop, get_or, length-drop, rules, sym}
+use Rattle.model.proofs.Prelude.{◌∙◌, arith, drop, get_or, length-drop, sym}
 use Rattle.digits.proofs.Bounds.{low_none, low_some}
 use Rattle.bucket.proofs.low_key.Goals as goal
 

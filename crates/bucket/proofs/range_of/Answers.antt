@@ -1,5 +1,5 @@
 -- `bucket::range_of` meets its contract.
-use Rattle.model.proofs.Prelude.{Bool, List, ◌&&◌, ◌≡◌, and-false, arith, false, true, le-ltb, length, lt-ltb, ltb, rules, not-false, not-true, ℕ, ⊎_elim}
+use Rattle.model.proofs.Prelude.{Bool, List, ◌&&◌, ◌≡◌, and-false, false, le-ltb, length, lt-ltb, ltb, not-false, not-true, ℕ}
 use Rattle.model.specs.Names.{within}
 use Rattle.bucket.specs.Slots.{lower_bytes}
 use Rattle.bucket.proofs.range_of.Goals.{Joined-lower-gt0, else-lower-gt0, then-lower-gt0+else-low}

@@ -1,5 +1,5 @@
 -- `shared_uppers` meets its contract: by the first word, or digit after digit.
-use Rattle.model.proofs.Prelude.{◌∙◌, ap₂, arith, rules}
+use Rattle.model.proofs.Prelude.{◌∙◌, ap₂, arith}
 use Rattle.model.specs.Order.{diff}
 use Rattle.bucket.proofs.Shared.{shared_by_digits, shared_by_word}
 use Rattle.bucket.proofs.shared_uppers.Goals as goal

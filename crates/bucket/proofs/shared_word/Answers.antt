@@ -1,5 +1,5 @@
 -- `shared_word` meets its contract: zeros below the lowest set digit of `^` are bytes that are the same.
-use Rattle.model.proofs.Prelude.{◌/◌, ◌∙◌, ap, ap₂, arith, drop, rules, take, ℕ}
+use Rattle.model.proofs.Prelude.{◌/◌, ◌∙◌, ap, ap₂, arith, drop, take, ℕ}
 use lib.Bits.{bit_xor}
 use lib.Count.{count_trailing_zeros}
 use Rattle.digits.proofs.Bytes.{word_part}

@@ -1,5 +1,5 @@
 -- `bucket::slot_size` meets its contract.
-use Rattle.model.proofs.Prelude.{◌*◌, ◌+◌, ◌∙◌, ◌≡◌, ap, ap₂, arith, rules, ℕ}
+use Rattle.model.proofs.Prelude.{◌*◌, ◌+◌, ◌∙◌, ap, arith, ℕ}
 use Rattle.model.specs.Format.{slot_size}
 use Rattle.bucket.proofs.slot_size.Goals as goal
 

@@ -1,5 +1,5 @@
 -- `bucket::upper_bound` meets its contract.
-use Rattle.model.proofs.Prelude.{arith, rules}
+use Rattle.model.proofs.Prelude.{arith}
 use Rattle.bucket.proofs.Parts.{bound_none, bound_read}
 use Rattle.bucket.proofs.upper_bound.Goals as goal
 

@@ -1,5 +1,4 @@
 -- `bucket::vacancy_of` meets its contract.
-use Rattle.model.proofs.Prelude.{rules}
 use Rattle.bucket.proofs.Slots.{zero-not}
 use Rattle.bucket.proofs.vacancy_of.Goals as goal
 

@@ -1,5 +1,5 @@
 -- `bucket::with_names` meets its contract.
-use Rattle.model.proofs.Prelude.{◌*◌, ◌≤◌, arith, length, rules, subst, sym, ℕ}
+use Rattle.model.proofs.Prelude.{◌*◌, ◌≤◌, arith, length, subst, sym, ℕ}
 use Rattle.model.specs.Format.{entry_length}
 use Rattle.entries.proofs.Products.{part_least}
 use Rattle.bucket.proofs.with_names.Goals as goal

@@ -1,5 +1,5 @@
 -- `pal_check` says what check finds.
-use Rattle.model.proofs.Prelude.{rules, refl}
+use Rattle.model.proofs.Prelude.{refl}
 use Rattle.capi.proofs.Doors.{check_said}
 use Rattle.capi.proofs.pal_check.Goals as goal
 

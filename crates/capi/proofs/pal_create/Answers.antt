@@ -1,5 +1,5 @@
 -- `pal_create` meets its contract.
-use Rattle.model.proofs.Prelude.{rules, refl}
+use Rattle.model.proofs.Prelude.{refl}
 use Rattle.capi.proofs.Doors.{create_malformed, create_said}
 use Rattle.capi.proofs.pal_create.Goals as goal
 

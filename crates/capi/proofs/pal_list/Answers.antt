@@ -1,5 +1,5 @@
 -- `pal_list` meets its contract.
-use Rattle.model.proofs.Prelude.{rules, refl}
+use Rattle.model.proofs.Prelude.{refl}
 use Rattle.capi.proofs.Doors.{list_malformed, list_said}
 use Rattle.capi.proofs.pal_list.Goals as goal
 

@@ -1,5 +1,5 @@
 -- `pal_lookup` meets its contract.
-use Rattle.model.proofs.Prelude.{rules, refl}
+use Rattle.model.proofs.Prelude.{refl}
 use Rattle.capi.proofs.Doors.{look_up_is_malformed, look_up_said, look_up_walked}
 use Rattle.capi.proofs.pal_lookup.Goals as goal
 

@@ -1,5 +1,5 @@
 -- `pal_put` meets its contract.
-use Rattle.model.proofs.Prelude.{rules, refl}
+use Rattle.model.proofs.Prelude.{refl}
 use Rattle.capi.proofs.Doors.{put_malformed, put_said}
 use Rattle.capi.proofs.pal_put.Goals as goal
 

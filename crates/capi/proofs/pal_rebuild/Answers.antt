@@ -1,5 +1,5 @@
 -- `pal_rebuild` meets its contract.
-use Rattle.model.proofs.Prelude.{rules, refl}
+use Rattle.model.proofs.Prelude.{refl}
 use Rattle.capi.proofs.Doors.{rebuild_malformed, rebuild_said}
 use Rattle.capi.proofs.pal_rebuild.Goals as goal
 

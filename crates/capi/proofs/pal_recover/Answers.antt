@@ -1,5 +1,5 @@
 -- `pal_recover` meets its contract.
-use Rattle.model.proofs.Prelude.{rules, refl}
+use Rattle.model.proofs.Prelude.{refl}
 use Rattle.capi.proofs.Doors.{recover_said}
 use Rattle.capi.proofs.pal_recover.Goals as goal
 

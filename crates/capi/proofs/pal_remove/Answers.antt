@@ -1,5 +1,5 @@
 -- `pal_remove` meets its contract.
-use Rattle.model.proofs.Prelude.{rules, refl}
+use Rattle.model.proofs.Prelude.{refl}
 use Rattle.capi.proofs.Doors.{remove_malformed, remove_said}
 use Rattle.capi.proofs.pal_remove.Goals as goal
 

@@ -1,6 +1,6 @@
 -- `refused` meets its contract: word 0 is what the cause carries.
 -- Every cause but a stale trie carries nothing.
-use Rattle.model.proofs.Prelude.{[], ◌∷◌, ◌≡◌, arith, inl, inr, rules, refl, ℕ}
+use Rattle.model.proofs.Prelude.{[], ◌∷◌, ◌≡◌, arith, inl, inr, refl, ℕ}
 use types.Run.{OneOf}
 use Rattle.model.specs.declared.Cause.{Cause}
 use Rattle.model.specs.declared.Cause.TheVariants.{BadFile, CutFile, IllegalName, ManyStrings, NoFreeSlot, OlderRun, ShortOutput, StaleTrie, WrongSize}

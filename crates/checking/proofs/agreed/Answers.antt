@@ -1,5 +1,5 @@
 -- `agreed` meets its contract: the trie agrees or is stale.
-use Rattle.model.proofs.Prelude.{rules, not-false, not-true, refl}
+use Rattle.model.proofs.Prelude.{refl}
 use Rattle.checking.proofs.Laws.{looked_refused}
 use Rattle.checking.proofs.Checking.{agreed_all, agreed_not}
 use Rattle.checking.proofs.agreed.Goals as goal

@@ -1,5 +1,4 @@
 -- `checks_of` meets its contract, refusal by refusal.
-use Rattle.model.proofs.Prelude.{rules}
 use Rattle.file.proofs.Surveying.{no_header_bad, right_said, right_sized, surveyed_is, wrong_said}
 use Rattle.checking.proofs.Laws.{looked_refused}
 use Rattle.checking.proofs.Checking.{looked_bad, looked_cut}

@@ -1,5 +1,5 @@
 -- `slot_at_place` meets its contract.
-use Rattle.model.proofs.Prelude.{arith, rules}
+use Rattle.model.proofs.Prelude.{arith}
 use Rattle.checking.proofs.slot_at_place.Goals as goal
 
 pub returns : goal.returns

@@ -1,5 +1,5 @@
 -- `digits::all_words` meets its contract.
-use Rattle.model.proofs.Prelude.{◌&&◌, ◌*◌, ◌+◌, ◌≡◌, arith, drop, eqb, rules, subst, ℕ}
+use Rattle.model.proofs.Prelude.{◌&&◌, ◌*◌, ◌+◌, ◌≡◌, arith, drop, eqb, subst, ℕ}
 use Rattle.digits.specs.Keys.{is_all_zero}
 use Rattle.digits.proofs.Bytes.{or_eqb, zero_word}
 use Rattle.digits.proofs.Laws.{gathers}

@@ -1,8 +1,6 @@
 -- `digits::all_words` meets its contract.
-use Rattle.model.proofs.Prelude.{◌&&◌, ◌*◌, ◌+◌, ◌≡◌, arith, drop, eqb, rules, subst, ℕ}
+use Rattle.model.proofs.Prelude.{◌&&◌, ◌*◌, ◌+◌, ◌≡◌, drop, eqb}
 use Rattle.digits.specs.Keys.{is_all_zero}
-use Rattle.digits.proofs.Bytes.{or_eqb, zero_word}
-use Rattle.digits.proofs.Laws.{gathers}
 use Rattle.digits.proofs.all_words.Given as goal
 
 abbrev pub invariant-loop-left : goal.invariant-loop-left

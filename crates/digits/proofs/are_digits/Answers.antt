@@ -1,5 +1,5 @@
 -- `digits::are_digits` meets its contract.
-use Rattle.model.proofs.Prelude.{◌&&◌, ◌+◌, ◌-◌, ◌∙◌, ◌≡◌, ◌≤◌, arith, drop, eqb, get_or, leb, length, rules}
+use Rattle.model.proofs.Prelude.{◌&&◌, ◌+◌, ◌∙◌, arith, drop, eqb, get_or, leb, rules}
 use Rattle.model.specs.Tests.{are_digits}
 use Rattle.digits.proofs.Laws.{digits_end, digits_next, gathered, gathers, larger_zero}
 use Rattle.digits.proofs.are_digits.Goals as goal

@@ -1,7 +1,6 @@
 -- `digits::are_zero` meets its contract.
-use Rattle.model.proofs.Prelude.{◌&&◌, ◌+◌, ◌-◌, ◌≡◌, ◌≤◌, arith, drop, eqb, get_or, length, rules}
+use Rattle.model.proofs.Prelude.{◌&&◌, ◌-◌, ◌≡◌, ◌≤◌, drop, eqb, length}
 use Rattle.digits.specs.Keys.{is_all_zero}
-use Rattle.digits.proofs.Laws.{gathered, gathers, larger_zero, zero_end, zero_next}
 use Rattle.digits.proofs.are_zero.Given as goal
 
 abbrev pub invariant-loop-i : goal.invariant-loop-i

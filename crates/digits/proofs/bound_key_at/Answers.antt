@@ -1,5 +1,5 @@
 -- `digits::bound_key_at` meets its contract.
-use Rattle.model.proofs.Prelude.{◌+◌, arith, drop, rules, take}
+use Rattle.model.proofs.Prelude.{◌+◌, arith, drop, take}
 use Rattle.digits.specs.Keys.{key_value}
 use Rattle.digits.proofs.Keys.{bound_key, word_behind}
 use Rattle.digits.proofs.bound_key_at.Goals as goal

@@ -1,5 +1,5 @@
 -- `digits::compared` meets its contract.
-use Rattle.model.proofs.Prelude.{arith, rules}
+use Rattle.model.proofs.Prelude.{arith}
 use Rattle.digits.proofs.Laws.{within_all, within_none, within_there}
 use Rattle.digits.proofs.compared.Goals as goal
 

@@ -1,5 +1,5 @@
 -- `digits::continued` meets its contract.
-use Rattle.model.proofs.Prelude.{◌+◌, ◌-◌, ◌^◌, ◌∙◌, ◌≡◌, ap, arith, drop, rules, take, ℕ}
+use Rattle.model.proofs.Prelude.{◌+◌, ◌-◌, ◌^◌, ◌∙◌, ◌≡◌, ap, arith, drop, take, ℕ}
 use Rattle.digits.proofs.Keys.{bytes_part, length_part, word_filled}
 use Rattle.digits.proofs.continued.Goals as goal
 

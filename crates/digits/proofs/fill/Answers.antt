@@ -1,5 +1,5 @@
 -- `digits::fill` meets its contract.
-use Rattle.model.proofs.Prelude.{arith, rules}
+use Rattle.model.proofs.Prelude.{arith}
 use Rattle.digits.proofs.Bytes.{fill_is}
 use Rattle.digits.proofs.fill.Goals as goal
 

@@ -1,5 +1,5 @@
 -- `digits::filled` meets its contract.
-use Rattle.model.proofs.Prelude.{◌-◌, ◌<◌, ◌∙◌, ◌≡◌, ◌≤◌, arith, length, rules, refl}
+use Rattle.model.proofs.Prelude.{◌∙◌, arith, rules, refl}
 use Rattle.digits.proofs.Laws.{filled_most, filled_next, filled_to}
 use Rattle.digits.proofs.filled.Goals as goal
 

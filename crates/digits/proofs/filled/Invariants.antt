@@ -1,6 +1,6 @@
 -- `digits::filled` meets its contract.
-use Rattle.model.proofs.Prelude.{◌-◌, ◌<◌, ◌∙◌, ◌≡◌, ◌≤◌, arith, length, rules, refl}
-use Rattle.digits.proofs.Laws.{filled_most, filled_next, filled_to}
+use Rattle.model.proofs.Prelude.{◌-◌, ◌≡◌, ◌≤◌, length}
+use Rattle.digits.proofs.Laws.{filled_to}
 use Rattle.digits.proofs.filled.Given as goal
 
 abbrev pub invariant-loop-i : goal.invariant-loop-i

@@ -1,5 +1,5 @@
 -- `digits::four` meets its contract.
-use Rattle.model.proofs.Prelude.{arith, rules}
+use Rattle.model.proofs.Prelude.{arith}
 use Rattle.digits.proofs.Bytes.{or_above, value_of_split}
 use Rattle.digits.proofs.four.Goals as goal
 

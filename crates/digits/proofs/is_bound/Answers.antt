@@ -1,5 +1,5 @@
 -- `digits::is_bound` meets its contract.
-use Rattle.model.proofs.Prelude.{◌-◌, ◌∙◌, ap, arith, drop, le-leb, length, length-drop, lt-leb, rules, not-false, not-true, sub-zero, take_all}
+use Rattle.model.proofs.Prelude.{◌-◌, ◌∙◌, ap, arith, drop, le-leb, length, length-drop, lt-leb, sub-zero, take_all}
 use Rattle.digits.specs.Keys.{is_all_zero}
 use Rattle.digits.proofs.Laws.{legal_part}
 use Rattle.digits.proofs.is_bound.Goals as goal

@@ -1,5 +1,5 @@
 -- `digits::is_zero` meets its contract.
-use Rattle.model.proofs.Prelude.{◌*◌, ◌-◌, ◌/◌, ◌∙◌, ap, arith, drop, eq-eqb, length, length-drop, ne_eqb, rules, sym, take_all}
+use Rattle.model.proofs.Prelude.{◌*◌, ◌-◌, ◌/◌, ◌∙◌, ap, arith, drop, eq-eqb, length, length-drop, ne_eqb, sym, take_all}
 use Rattle.digits.specs.Keys.{is_all_zero}
 use Rattle.digits.proofs.is_zero.Goals as goal
 

@@ -1,5 +1,5 @@
 -- `digits::key_at` meets its contract.
-use Rattle.model.proofs.Prelude.{arith, rules, sym}
+use Rattle.model.proofs.Prelude.{arith, sym}
 use Rattle.digits.specs.Keys.{key_value}
 use Rattle.digits.proofs.Keys.{value_words}
 use Rattle.digits.proofs.key_at.Goals as goal

@@ -1,5 +1,5 @@
 -- `digits::naming_of` meets its contract.
-use Rattle.model.proofs.Prelude.{◌∙◌, ap, arith, rules, not-false, not-true, sym, take_all}
+use Rattle.model.proofs.Prelude.{◌∙◌, ap, arith, sym, take_all}
 use Rattle.digits.specs.Keys.{value}
 use Rattle.digits.proofs.Laws.{blank_first, blank_last, legal_name, long_name, no_name}
 use Rattle.digits.proofs.naming_of.Goals as goal

@@ -1,6 +1,5 @@
 -- `digits::shared` meets its contract.
-use Rattle.model.proofs.Prelude.{◌+◌, ◌-◌, ◌≡◌, ◌≤◌, arith, drop, length, rules}
-use Rattle.model.specs.Order.{diff}
+use Rattle.model.proofs.Prelude.{arith, rules}
 use Rattle.digits.proofs.Laws.{diff_differ, diff_end, diff_same, diff_short}
 use Rattle.digits.proofs.shared.Goals as goal
 

@@ -1,7 +1,6 @@
 -- `digits::shared` meets its contract.
-use Rattle.model.proofs.Prelude.{◌+◌, ◌-◌, ◌≡◌, ◌≤◌, arith, drop, length, rules}
+use Rattle.model.proofs.Prelude.{◌+◌, ◌-◌, ◌≡◌, ◌≤◌, drop, length}
 use Rattle.model.specs.Order.{diff}
-use Rattle.digits.proofs.Laws.{diff_differ, diff_end, diff_same, diff_short}
 use Rattle.digits.proofs.shared.Given as goal
 
 abbrev pub invariant-loop-count : goal.invariant-loop-count

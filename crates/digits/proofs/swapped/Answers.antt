@@ -1,5 +1,5 @@
 -- `digits::swapped` meets its contract.
-use Rattle.model.proofs.Prelude.{◌∙◌, ◌≡◌, arith, drop, rules, take}
+use Rattle.model.proofs.Prelude.{◌∙◌, ◌≡◌, arith, drop, take}
 use lib.Bits.{and_mask, mask_lt}
 use Rattle.digits.specs.Keys.{value}
 use Rattle.digits.proofs.Bytes.{bytes_lower, bytes_upper, halves, length_lower, length_upper, lower_lt, or_below, value_halves}

@@ -1,5 +1,5 @@
 -- `digits::two` meets its contract.
-use Rattle.model.proofs.Prelude.{arith, rules}
+use Rattle.model.proofs.Prelude.{arith}
 use Rattle.digits.proofs.Bytes.{or_above, value_of_two}
 use Rattle.digits.proofs.two.Goals as goal
 

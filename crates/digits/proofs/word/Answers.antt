@@ -1,5 +1,5 @@
 -- `digits::word` meets its contract.
-use Rattle.model.proofs.Prelude.{arith, drop, rules, take}
+use Rattle.model.proofs.Prelude.{arith, drop, take}
 use Rattle.digits.proofs.Bytes.{word_part}
 use Rattle.digits.proofs.word.Goals as goal
 

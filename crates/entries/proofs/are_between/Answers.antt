@@ -1,5 +1,5 @@
 -- `entries::are_between` meets its contract.
-use Rattle.model.proofs.Prelude.{◌-◌, ◌<◌, ◌∙◌, ◌≡◌, ap, arith, drop, false, ltb, rules, not, not-false, not-true, sym, take, true, ℕ}
+use Rattle.model.proofs.Prelude.{◌-◌, ◌<◌, ◌∙◌, ◌≡◌, ap, arith, drop, false, ltb, not, sym, take, true, ℕ}
 use Rattle.digits.specs.Keys.{key_value, value}
 use Rattle.entries.proofs.Products.{part_least}
 use Rattle.entries.proofs.Searches.{between_high, between_low, between_none}

@@ -1,5 +1,5 @@
 -- `entries::are_entries` meets its contract.
-use Rattle.model.proofs.Prelude.{◌∙◌, rules, not-false, not-true, sym}
+use Rattle.model.proofs.Prelude.{◌∙◌, sym}
 use Rattle.digits.specs.Keys.{key_value}
 use Rattle.entries.proofs.Searches.{ends_faulty, entries_tested}
 use Rattle.entries.proofs.are_entries.Goals as goal

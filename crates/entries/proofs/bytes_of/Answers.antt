@@ -1,7 +1,5 @@
 -- `entries::bytes_of` meets its contract.
 use Rattle.entries.proofs.Contents.{eight_bytes}
-use borrow.Author.Rules.{rules}
-use Rattle.entries.proofs.bytes_of.Statement.{statement}
 use Rattle.entries.proofs.bytes_of.Goals as goal
 
 pub returns : goal.returns

@@ -4,7 +4,6 @@ use Rattle.model.specs.Entries.{content_from}
 use Rattle.entries.specs.Rows.{content_number}
 use Rattle.entries.proofs.Contents.{content_long, content_short}
 use borrow.Author.Rules.{rules}
-use Rattle.entries.proofs.content_at.Statement.{statement}
 use Rattle.entries.proofs.content_at.Goals as goal
 
 pub returns-then-e-lt40 : goal.returns-then-e-lt40

@@ -1,5 +1,5 @@
 -- `copy` meets its contract.
-use Rattle.model.proofs.Prelude.{◌-◌, ◌≡◌, ◌≤◌, add-one, arith, length, length-set, paste, paste-suc, paste-zero, refl}
+use Rattle.model.proofs.Prelude.{◌≡◌, add-one, arith, length, length-set, paste-suc, paste-zero, refl}
 use Rattle.entries.proofs.copy.Goals as goal
 
 pub loop-i-init : goal.loop-i-init

@@ -1,5 +1,5 @@
 -- `copy` meets its contract.
-use Rattle.model.proofs.Prelude.{◌-◌, ◌≡◌, ◌≤◌, add-one, arith, length, length-set, paste, paste-suc, paste-zero, refl}
+use Rattle.model.proofs.Prelude.{◌-◌, ◌≡◌, ◌≤◌, length, paste}
 use Rattle.entries.proofs.copy.Given as goal
 
 abbrev pub invariant-loop-i : goal.invariant-loop-i

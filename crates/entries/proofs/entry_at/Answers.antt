@@ -2,7 +2,6 @@
 use native.Mathlib.Nat.{mul-le-mul}
 use native.Mathlib.Omega.{arith}
 use Rattle.entries.proofs.Products.{stands}
-use Rattle.entries.proofs.entry_at.Statement.{statement}
 use Rattle.entries.proofs.entry_at.Goals as goal
 
 pub overflow_mul-result : goal.overflow_mul-result

@@ -6,7 +6,6 @@ use Rattle.model.specs.Entries.{content_from}
 use Rattle.entries.specs.Rows.{content_number}
 use Rattle.entries.proofs.Contents.{long_copies, short_copies}
 use borrow.Author.Rules.{rules}
-use Rattle.entries.proofs.entry_of.Statement.{statement}
 use Rattle.entries.proofs.entry_of.Goals as goal
 
 pub returns-then-e-lt40 : goal.returns-then-e-lt40

@@ -1,5 +1,5 @@
 -- `entries::held_under` meets its contract.
-use Rattle.model.proofs.Prelude.{◌*◌, ◌∙◌, ◌≡◌, ap, arith, drop, eqb, false, rules, not-false, not-true, some, sym, take, true, ℕ}
+use Rattle.model.proofs.Prelude.{◌*◌, ◌∙◌, ◌≡◌, ap, arith, drop, eqb, false, some, sym, take, true, ℕ}
 use Rattle.digits.specs.Keys.{key_value, value}
 use Rattle.entries.specs.Rows.{below, values}
 use Rattle.entries.proofs.Searches.{held_behind, held_here, held_other}

@@ -1,5 +1,5 @@
 -- `entries::is_at` meets its contract.
-use Rattle.model.proofs.Prelude.{◌*◌, ◌∙◌, ◌≡◌, ap, arith, drop, eqb, le-ltb, lt-ltb, rules, take, ℕ}
+use Rattle.model.proofs.Prelude.{◌*◌, ◌∙◌, ◌≡◌, ap, arith, drop, eqb, le-ltb, lt-ltb, take, ℕ}
 use Rattle.digits.specs.Keys.{key_value, value}
 use Rattle.entries.specs.Rows.{is_at}
 use Rattle.entries.proofs.is_at.Goals as goal

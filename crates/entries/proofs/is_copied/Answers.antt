@@ -1,6 +1,6 @@
 -- `entries::is_copied` meets its contract.
-use Rattle.model.proofs.Prelude.{List, ◌*◌, ◌-◌, ◌∙◌, ◌≡◌, ◌≤◌, ap₂, arith, drop, eq-eqb, ne_eqb, rules, ℕ}
-use Rattle.entries.specs.Rows.{are_among, pieces}
+use Rattle.model.proofs.Prelude.{List, ◌*◌, ◌∙◌, ap₂, arith, drop, eq-eqb, ne_eqb, ℕ}
+use Rattle.entries.specs.Rows.{are_among}
 use Rattle.entries.proofs.Among.{among_end, among_step, pieces_start}
 use Rattle.entries.proofs.is_copied.Goals as goal
 

@@ -1,7 +1,6 @@
 -- `entries::is_copied` meets its contract.
-use Rattle.model.proofs.Prelude.{List, ◌*◌, ◌-◌, ◌∙◌, ◌≡◌, ◌≤◌, ap₂, arith, drop, eq-eqb, ne_eqb, rules, ℕ}
+use Rattle.model.proofs.Prelude.{◌*◌, ◌-◌, ◌≡◌, ◌≤◌, drop}
 use Rattle.entries.specs.Rows.{are_among, pieces}
-use Rattle.entries.proofs.Among.{among_end, among_step, pieces_start}
 use Rattle.entries.proofs.is_copied.Given as goal
 
 abbrev pub invariant-loop-j : goal.invariant-loop-j

@@ -5,11 +5,9 @@ use Prim.Native.Nat.{◌+◌, ◌<◌, ℕ}
 use native.Mathlib.Omega.{arith}
 use lib.Dec.{eqb}
 use lib.ListN.{drop, get_or, take}
-use borrow.Author.Tests.{eq-eqb, ne_eqb, not-false, not-true}
+use borrow.Author.Tests.{eq-eqb, ne_eqb}
 use Rattle.digits.specs.Keys.{value}
 use Rattle.entries.proofs.Sames.{other_name, other_value, same_long, same_short}
-use borrow.Author.Rules.{rules}
-use Rattle.entries.proofs.is_same_entry.Statement.{statement}
 use Rattle.entries.proofs.is_same_entry.Goals as goal
 
 pub returns-then-not-is_same : goal.returns-then-not-is_same

@@ -1,5 +1,5 @@
 -- `entries::joined` meets its contract.
-use Rattle.model.proofs.Prelude.{arith, rules}
+use Rattle.model.proofs.Prelude.{arith}
 use Rattle.entries.proofs.Splices.{join_copies}
 use Rattle.entries.proofs.joined.Goals as goal
 

@@ -1,7 +1,6 @@
 -- `entries::not_above` meets its contract.
-use Rattle.model.proofs.Prelude.{◌*◌, ◌-◌, ◌∙◌, ◌≡◌, ◌≤◌, ap, arith, drop, false, ltb, rules, not-false, not-true, refl, sym, take, true, ℕ}
+use Rattle.model.proofs.Prelude.{◌*◌, ◌-◌, ◌∙◌, ◌≡◌, ap, arith, drop, false, ltb, refl, sym, take, true, ℕ}
 use Rattle.digits.specs.Keys.{key_value, value}
-use Rattle.entries.specs.Rows.{is_not_above, values}
 use Rattle.entries.proofs.Searches.{is_not_above_found, is_not_above_less, is_not_above-none}
 use Rattle.entries.proofs.not_above.Goals as goal
 

@@ -1,8 +1,7 @@
 -- `entries::not_above` meets its contract.
-use Rattle.model.proofs.Prelude.{◌*◌, ◌-◌, ◌∙◌, ◌≡◌, ◌≤◌, ap, arith, drop, false, ltb, rules, not-false, not-true, refl, sym, take, true, ℕ}
-use Rattle.digits.specs.Keys.{key_value, value}
+use Rattle.model.proofs.Prelude.{◌≡◌, ◌≤◌}
+use Rattle.digits.specs.Keys.{key_value}
 use Rattle.entries.specs.Rows.{is_not_above, values}
-use Rattle.entries.proofs.Searches.{is_not_above_found, is_not_above_less, is_not_above-none}
 use Rattle.entries.proofs.not_above.Given as goal
 
 abbrev pub invariant-loop-n : goal.invariant-loop-n

@@ -2,8 +2,6 @@
 use Rattle.model.proofs.Prelude.{◌-◌, arith, drop, length-drop, length-take, length-take-le}
 use Rattle.entries.proofs.Lists.{part_is}
 use Rattle.entries.proofs.Products.{rest_is}
-use borrow.Author.Rules.{rules}
-use Rattle.entries.proofs.part.Statement.{statement}
 use Rattle.entries.proofs.part.Goals as goal
 
 pub returns : goal.returns

@@ -1,5 +1,5 @@
 -- `entries::part_between` meets its contract.
-use Rattle.model.proofs.Prelude.{◌∙◌, ap₂, arith, rules, ℕ}
+use Rattle.model.proofs.Prelude.{◌∙◌, ap₂, arith, ℕ}
 use Rattle.digits.specs.Keys.{key_value}
 use Rattle.entries.specs.Rows.{below, entries_from, is_not_above, values}
 use Rattle.entries.proofs.Lists.{part_none}

@@ -1,15 +1,8 @@
 -- `entries::rank` meets its contract.
-use mathlib.Core.Bool.{false, true}
-use mathlib.Core.Path.{◌∙◌, ◌≡◌, ap, refl, sym}
-use Prim.Native.Nat.{◌*◌, ◌-◌, ◌≤◌, ℕ}
-use native.Mathlib.Omega.{arith}
-use lib.Dec.{ltb}
-use lib.ListN.{drop, take}
-use Rattle.digits.specs.Keys.{key_value, value}
+use mathlib.Core.Path.{◌≡◌}
+use Prim.Native.Nat.{◌≤◌}
+use Rattle.digits.specs.Keys.{key_value}
 use Rattle.entries.specs.Rows.{below, values}
-use Rattle.entries.proofs.Searches.{below_found, below_less, below_none}
-use borrow.Author.Rules.{rules}
-use Rattle.entries.proofs.rank.Statement.{statement}
 use Rattle.entries.proofs.rank.Given as goal
 
 abbrev pub invariant-loop-i : goal.invariant-loop-i

@@ -1,8 +1,6 @@
 -- `entries::spliced` meets its contract.
 use Rattle.entries.proofs.Products.{room_most}
 use Rattle.entries.proofs.Splices.{splice_copies}
-use borrow.Author.Rules.{rules}
-use Rattle.entries.proofs.spliced.Statement.{statement}
 use Rattle.entries.proofs.spliced.Goals as goal
 
 pub returns : goal.returns

@@ -1,5 +1,5 @@
 -- `entries::step` meets its contract.
-use Rattle.model.proofs.Prelude.{◌*◌, ◌≡◌, arith, drop, le-ltb, lt-ltb, rules, not-false, not-true, take}
+use Rattle.model.proofs.Prelude.{◌*◌, ◌≡◌, arith, drop, le-ltb, lt-ltb, take}
 use Rattle.model.specs.Tests.{same_str}
 use Rattle.entries.proofs.step.Goals as goal
 

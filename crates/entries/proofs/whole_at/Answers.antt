@@ -1,7 +1,5 @@
 -- `entries::whole_at` meets its contract.
 use native.Mathlib.Omega.{arith}
-use borrow.Author.Rules.{rules}
-use Rattle.entries.proofs.whole_at.Statement.{statement}
 use Rattle.entries.proofs.whole_at.Goals as goal
 
 pub returns : goal.returns

@@ -5,8 +5,6 @@ use Prim.Native.Nat.{ℕ}
 use Rattle.model.specs.Format.{padded}
 use Rattle.entries.specs.Rows.{content_number, room, spliced_bytes}
 use Rattle.entries.proofs.Contents.{entry_part}
-use borrow.Author.Rules.{rules}
-use Rattle.entries.proofs.with_entry.Statement.{statement}
 use Rattle.entries.proofs.with_entry.Goals as goal
 
 pub returns : goal.returns

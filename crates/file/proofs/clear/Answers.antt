@@ -1,5 +1,5 @@
 -- `clear` meets its contract: the bytes passed are zero.
-use Rattle.model.proofs.Prelude.{◌-◌, ◌≡◌, ◌≤◌, arith, length, length-set, rules, replicate, take}
+use Rattle.model.proofs.Prelude.{arith, length-set}
 use Rattle.file.proofs.Headers.{zeros_all, zeros_next}
 use Rattle.file.proofs.clear.Goals as goal
 

@@ -1,6 +1,5 @@
 -- `clear` meets its contract: the bytes passed are zero.
-use Rattle.model.proofs.Prelude.{◌-◌, ◌≡◌, ◌≤◌, arith, length, length-set, rules, replicate, take}
-use Rattle.file.proofs.Headers.{zeros_all, zeros_next}
+use Rattle.model.proofs.Prelude.{◌-◌, ◌≡◌, ◌≤◌, length, replicate, take}
 use Rattle.file.proofs.clear.Given as goal
 
 abbrev pub invariant-loop-i : goal.invariant-loop-i

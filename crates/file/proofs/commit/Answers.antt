@@ -1,6 +1,6 @@
 -- `commit` meets its contract: at each turn the file is that of the first `made` stores (proofs/Committing.antt).
-use Rattle.model.proofs.Prelude.{◌-◌, ◌∙◌, ◌≡◌, ◌≤◌, arith, length, rules, refl}
-use Rattle.file.proofs.Committing.{Made, made_all, made_first, made_none, made_second, made_stopped}
+use Rattle.model.proofs.Prelude.{◌∙◌, arith, refl}
+use Rattle.file.proofs.Committing.{made_all, made_first, made_none, made_second, made_stopped}
 use Rattle.file.proofs.commit.Goals as goal
 
 pub loop-made-init : goal.loop-made-init

@@ -1,6 +1,6 @@
 -- `commit` meets its contract: at each turn the file is that of the first `made` stores (proofs/Committing.antt).
-use Rattle.model.proofs.Prelude.{◌-◌, ◌∙◌, ◌≡◌, ◌≤◌, arith, length, rules, refl}
-use Rattle.file.proofs.Committing.{Made, made_all, made_first, made_none, made_second, made_stopped}
+use Rattle.model.proofs.Prelude.{◌-◌, ◌≡◌, ◌≤◌, length}
+use Rattle.file.proofs.Committing.{Made}
 use Rattle.file.proofs.commit.Given as goal
 
 abbrev pub invariant-loop-made : goal.invariant-loop-made

@@ -1,5 +1,5 @@
 -- `create` meets its contract: over zeros it writes the header, and that slot 0 is used.
-use Rattle.model.proofs.Prelude.{arith, length-set, rules}
+use Rattle.model.proofs.Prelude.{arith, length-set}
 use Rattle.file.proofs.Laws.{some_slot}
 use Rattle.model.proofs.Format.{offered_small}
 use Rattle.file.proofs.Headers.{created_bytes}

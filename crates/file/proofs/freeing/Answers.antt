@@ -1,5 +1,5 @@
 -- `freeing` meets its contract: the zeros begin with the bytes of a free slot.
-use Rattle.model.proofs.Prelude.{List, ◌∙◌, ap, rules, take, ℕ}
+use Rattle.model.proofs.Prelude.{List, ◌∙◌, ap, take, ℕ}
 use Rattle.model.specs.Format.{slot_size}
 use Rattle.file.proofs.Committing.{free_begins}
 use Rattle.file.proofs.freeing.Goals as goal

@@ -1,5 +1,5 @@
 -- `header_of` meets its contract: the length, the mark and the sizes are those of the header that is right.
-use Rattle.model.proofs.Prelude.{◌∙◌, arith, rules, not-false, not-true, sym}
+use Rattle.model.proofs.Prelude.{◌∙◌, arith, sym}
 use Rattle.file.proofs.Headers.{ill_marked, told, too_short}
 use Rattle.file.proofs.header_of.Goals as goal
 

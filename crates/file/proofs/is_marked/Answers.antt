@@ -1,5 +1,5 @@
 -- `is_marked` meets its contract.
-use Rattle.model.proofs.Prelude.{◌∙◌, arith, rules, refl, sym}
+use Rattle.model.proofs.Prelude.{◌∙◌, arith, refl, sym}
 use Rattle.model.specs.Format.{header_bytes}
 use Rattle.file.proofs.Headers.{marked_last, not_marked}
 use Rattle.file.proofs.is_marked.Goals as goal

@@ -1,5 +1,4 @@
 -- `layout_of` meets its contract.
-use Rattle.model.proofs.Prelude.{rules}
 use Rattle.model.specs.Format.{layout_of}
 use Rattle.file.proofs.layout_of.Goals as goal
 

@@ -1,5 +1,5 @@
 -- `sizes` meets its contract: the product of legal sizes fits, and a length that it tells of is whole.
-use Rattle.model.proofs.Prelude.{◌*◌, ◌+◌, ◌∙◌, ap, arith, rules, not-false, not-true, refl, sym, ℕ}
+use Rattle.model.proofs.Prelude.{◌*◌, ◌+◌, ◌∙◌, ap, arith, refl, sym, ℕ}
 use Rattle.model.proofs.Tests.{never_both}
 use Rattle.file.proofs.Laws.{slots_fit}
 use Rattle.file.proofs.Headers.{illegal}

@@ -1,5 +1,5 @@
 -- `slot_at` meets its contract: slot k lies within the file.
-use Rattle.model.proofs.Prelude.{◌*◌, ◌+◌, ◌∙◌, arith, rules}
+use Rattle.model.proofs.Prelude.{◌*◌, ◌+◌, ◌∙◌, arith}
 use Rattle.model.specs.Format.{bytes_at_slot, slot_size}
 use Rattle.file.proofs.Laws.{part_is, part_length, room}
 use Rattle.file.proofs.slot_at.Goals as goal

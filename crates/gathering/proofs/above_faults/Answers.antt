@@ -1,5 +1,5 @@
 -- `gathering::above_faults` meets its contract.
-use Rattle.model.proofs.Prelude.{arith, rules, refl}
+use Rattle.model.proofs.Prelude.{arith, refl}
 use lib.Bits.{bit_and}
 use Rattle.digits.proofs.Bytes.{or_zero}
 use Rattle.gathering.proofs.Bits.{above_none, none_above}

@@ -1,5 +1,5 @@
 -- `gathering::ascent` meets its contract.
-use Rattle.model.proofs.Prelude.{arith, rules}
+use Rattle.model.proofs.Prelude.{arith}
 use Rattle.digits.specs.Keys.{key_value}
 use Rattle.gathering.proofs.Signs.{below_first, below_sign, first_below, sign_below}
 use Rattle.gathering.proofs.ascent.Goals as goal

@@ -1,5 +1,5 @@
 -- `gathering::faults` meets its contract.
-use Rattle.model.proofs.Prelude.{◌≡◌, arith, length, length-map, rules, refl}
+use Rattle.model.proofs.Prelude.{◌≡◌, arith, length, rules, refl}
 use Rattle.model.specs.Format.{value_of}
 use Rattle.gathering.proofs.Bits.{begins, begins_low, blanks, blanks_low, clean, no_faults}
 use Rattle.gathering.proofs.faults.Goals as goal

@@ -1,5 +1,5 @@
 -- `is_long` meets its contract.
-use Rattle.model.proofs.Prelude.{arith, eqb-true, rules}
+use Rattle.model.proofs.Prelude.{arith, eqb-true}
 use Rattle.digits.proofs.Bytes.{or_zero}
 use Rattle.gathering.proofs.Bounds.{long_bound}
 use Rattle.gathering.proofs.is_long.Goals as goal

@@ -1,5 +1,5 @@
 -- `is_middle` meets its contract.
-use Rattle.model.proofs.Prelude.{◌∙◌, arith, drop, eqb-true, rules, sym, take}
+use Rattle.model.proofs.Prelude.{◌∙◌, arith, drop, eqb-true, sym, take}
 use Rattle.digits.proofs.Bytes.{or_zero}
 use Rattle.gathering.proofs.Parts.{value_zero}
 use Rattle.gathering.proofs.Bounds.{middle_bound}

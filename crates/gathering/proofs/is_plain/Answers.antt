@@ -1,5 +1,5 @@
 -- `is_plain` meets its contract.
-use Rattle.model.proofs.Prelude.{arith, clash, rules}
+use Rattle.model.proofs.Prelude.{arith, clash}
 use Rattle.gathering.proofs.Bounds.{bound_in}
 use Rattle.gathering.proofs.is_plain.Goals as goal
 

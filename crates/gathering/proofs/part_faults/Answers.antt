@@ -1,9 +1,8 @@
 -- `gathering::part_faults` meets its contract.
-use Rattle.std.proofs.Common.{ℕ, ◌*◌, ◌/◌, ◌%◌, ◌^◌, refl, arith, rules}
+use Rattle.std.proofs.Common.{◌*◌, ◌/◌, ◌%◌, ◌^◌, refl, arith}
 use lib.Bits.{bit_and, bit_or, or_lt}
 use Rattle.digits.proofs.Bytes.{or_zero}
 use Rattle.gathering.proofs.Parts.{part_digits, part_zero}
-use Rattle.gathering.proofs.part_faults.Statement.{statement}
 use Rattle.gathering.proofs.part_faults.Goals as goal
 
 pub returns : goal.returns

@@ -1,5 +1,5 @@
 -- `gathering::under_faults` meets its contract.
-use Rattle.model.proofs.Prelude.{arith, rules}
+use Rattle.model.proofs.Prelude.{arith}
 use Rattle.gathering.proofs.Bits.{none_under, under_none}
 use Rattle.gathering.proofs.under_faults.Goals as goal
 

@@ -1,7 +1,7 @@
 -- `gathering::with_names` meets its contract.
-use Rattle.model.proofs.Prelude.{◌*◌, ◌+◌, ◌-◌, ◌<◌, ◌^◌, ◌∙◌, ◌≡◌, ◌≤◌, arith, length, length-map, length-set, rules}
+use Rattle.model.proofs.Prelude.{◌∙◌, ◌≡◌, arith, length, length-set, rules}
 use lib.Bits.{and_le_l}
-use Rattle.gathering.proofs.Names.{Grown, Held, grown_next, grown_none, held_all, held_next, held_none, left_entry}
+use Rattle.gathering.proofs.Names.{grown_next, grown_none, held_all, held_next, held_none, left_entry}
 use Rattle.gathering.proofs.with_names.Goals as goal
 
 pub loop-left-init : goal.loop-left-init

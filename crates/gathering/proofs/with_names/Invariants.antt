@@ -1,7 +1,6 @@
 -- `gathering::with_names` meets its contract.
-use Rattle.model.proofs.Prelude.{◌*◌, ◌+◌, ◌-◌, ◌<◌, ◌^◌, ◌∙◌, ◌≡◌, ◌≤◌, arith, length, length-map, length-set, rules}
-use lib.Bits.{and_le_l}
-use Rattle.gathering.proofs.Names.{Grown, Held, grown_next, grown_none, held_all, held_next, held_none, left_entry}
+use Rattle.model.proofs.Prelude.{◌*◌, ◌+◌, ◌-◌, ◌<◌, ◌^◌, ◌≡◌, ◌≤◌, length}
+use Rattle.gathering.proofs.Names.{Grown, Held}
 use Rattle.gathering.proofs.with_names.Given as goal
 
 abbrev pub invariant-loop-i : goal.invariant-loop-i

@@ -1,24 +1,22 @@
 -- `append` meets its contract: the head is written, then new cells one by one.
-use Rattle.model.proofs.Prelude.{◌+◌, ◌-◌, ◌<◌, ◌∙◌, ◌≡◌, ◌≤◌, ap, arith, get_or, length, rules, ℕ}
+use Rattle.model.proofs.Prelude.{◌∙◌, ap, arith, rules}
 use Rattle.model.specs.declared.Trie.{Trie}
-use Rattle.image.specs.Images.{image_length, trie_from}
-use Rattle.growth.specs.Parts.{Written, new_cell}
+use Rattle.growth.specs.Parts.{new_cell}
 use Rattle.growth.proofs.Laws.{write_none, write_stored}
 use Rattle.growth.proofs.append.Goals as goal
 
 pub loop-at-init : goal.loop-at-init
-loop-at-init c =
-    (
-      search rules,
-      search rules,
-      search rules,
-      search rules,
-      search rules,
-      search rules,
-      search rules,
-      λ j. omega (arith, c.type_inv.image j),
-      (write_none _ _ _ _ _ _, ap (λ (t : Trie). t.count) c.write_head.ensures ∙ c.u16_of_usize.ensures, ap (λ (t : Trie). t.first) c.write_head.ensures),
-    )
+loop-at-init c = (
+  search rules,
+  search rules,
+  search rules,
+  search rules,
+  search rules,
+  search rules,
+  search rules,
+  λ j. omega (arith, c.type_inv.image j),
+  (write_none _ _ _ _ _ _, ap (λ (t : Trie). t.count) c.write_head.ensures ∙ c.u16_of_usize.ensures, ap (λ (t : Trie). t.first) c.write_head.ensures),
+)
 
 pub loop-at-preserved : goal.loop-at-preserved
 unfolding new_cell

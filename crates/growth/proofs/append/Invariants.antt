@@ -1,9 +1,7 @@
 -- `append` meets its contract: the head is written, then new cells one by one.
-use Rattle.model.proofs.Prelude.{◌+◌, ◌-◌, ◌<◌, ◌∙◌, ◌≡◌, ◌≤◌, ap, arith, get_or, length, rules, ℕ}
-use Rattle.model.specs.declared.Trie.{Trie}
+use Rattle.model.proofs.Prelude.{◌+◌, ◌-◌, ◌<◌, ◌≡◌, ◌≤◌, get_or, length, ℕ}
 use Rattle.image.specs.Images.{image_length, trie_from}
-use Rattle.growth.specs.Parts.{Written, new_cell}
-use Rattle.growth.proofs.Laws.{write_none, write_stored}
+use Rattle.growth.specs.Parts.{Written}
 use Rattle.growth.proofs.append.Given as goal
 
 abbrev pub invariant-loop-at : goal.invariant-loop-at

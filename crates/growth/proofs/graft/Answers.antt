@@ -1,5 +1,5 @@
 -- `graft` meets its contract.
-use Rattle.model.proofs.Prelude.{arith, le-leb, rules}
+use Rattle.model.proofs.Prelude.{arith, le-leb}
 use Rattle.growth.specs.Parts.{walk_joined}
 use Rattle.growth.proofs.Laws.{graft_stored}
 use Rattle.growth.proofs.graft.Goals as goal

@@ -1,5 +1,5 @@
 -- `grow` meets its contract: where s is a string already, and where cells are added.
-use Rattle.model.proofs.Prelude.{arith, rules}
+use Rattle.model.proofs.Prelude.{arith}
 use Rattle.growth.proofs.Growing.{grown_new, grown_string}
 use Rattle.growth.proofs.grow.Goals as goal
 

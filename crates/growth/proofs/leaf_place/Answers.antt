@@ -1,5 +1,5 @@
 -- `leaf_place` meets its contract.
-use Rattle.model.proofs.Prelude.{le-leb, lt-leb, rules}
+use Rattle.model.proofs.Prelude.{le-leb, lt-leb}
 use Rattle.growth.specs.Parts.{leaf_place}
 use Rattle.growth.proofs.leaf_place.Goals as goal
 

@@ -1,5 +1,5 @@
 -- `next_of` meets its contract, by the test that led to each answer.
-use Rattle.model.proofs.Prelude.{le-ltb, lt-ltb, rules}
+use Rattle.model.proofs.Prelude.{le-ltb, lt-ltb}
 use Rattle.growth.specs.Parts.{next_side}
 use Rattle.growth.proofs.next_of.Goals as goal
 

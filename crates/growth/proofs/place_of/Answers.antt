@@ -1,5 +1,5 @@
 -- `place_of` meets its contract: none before has so many digits.
-use Rattle.model.proofs.Prelude.{◌-◌, ◌<◌, ◌∙◌, ◌≡◌, ◌≤◌, arith, get_or, rules, sym, ℕ}
+use Rattle.model.proofs.Prelude.{◌∙◌, arith, rules, sym}
 use borrow.Author.Count.{below_more}
 use Rattle.growth.proofs.place_of.Goals as goal
 

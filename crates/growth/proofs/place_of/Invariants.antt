@@ -1,6 +1,5 @@
 -- `place_of` meets its contract: none before has so many digits.
-use Rattle.model.proofs.Prelude.{◌-◌, ◌<◌, ◌∙◌, ◌≡◌, ◌≤◌, arith, get_or, rules, sym, ℕ}
-use borrow.Author.Count.{below_more}
+use Rattle.model.proofs.Prelude.{◌-◌, ◌<◌, ◌≡◌, ◌≤◌, get_or, ℕ}
 use Rattle.growth.proofs.place_of.Given as goal
 
 abbrev pub invariant-loop-i : goal.invariant-loop-i

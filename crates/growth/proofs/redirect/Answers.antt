@@ -1,7 +1,5 @@
 -- `redirect` meets its contract: cells are turned one by one.
-use Rattle.model.proofs.Prelude.{◌-◌, ◌<◌, ◌≡◌, ◌≤◌, arith, get_or, length, rules, ℕ}
-use Rattle.image.specs.Images.{image_length, trie_from}
-use Rattle.growth.specs.Parts.{Redirected}
+use Rattle.model.proofs.Prelude.{◌≡◌, arith, rules}
 use Rattle.growth.proofs.Laws.{redirect_none, redirect_stored}
 use Rattle.growth.proofs.redirect.Goals as goal
 

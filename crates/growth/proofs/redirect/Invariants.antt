@@ -1,8 +1,7 @@
 -- `redirect` meets its contract: cells are turned one by one.
-use Rattle.model.proofs.Prelude.{◌-◌, ◌<◌, ◌≡◌, ◌≤◌, arith, get_or, length, rules, ℕ}
+use Rattle.model.proofs.Prelude.{◌-◌, ◌<◌, ◌≡◌, ◌≤◌, get_or, length, ℕ}
 use Rattle.image.specs.Images.{image_length, trie_from}
 use Rattle.growth.specs.Parts.{Redirected}
-use Rattle.growth.proofs.Laws.{redirect_none, redirect_stored}
 use Rattle.growth.proofs.redirect.Given as goal
 
 abbrev pub invariant-loop-i : goal.invariant-loop-i

@@ -1,5 +1,5 @@
 -- `shared_first` meets its contract.
-use Rattle.model.proofs.Prelude.{rules, sub-zero}
+use Rattle.model.proofs.Prelude.{sub-zero}
 use Rattle.growth.proofs.shared_first.Goals as goal
 
 pub returns : goal.returns

@@ -1,5 +1,4 @@
 -- `turned_cell` meets its contract.
-use Rattle.model.proofs.Prelude.{rules}
 use Rattle.growth.specs.Parts.{cell_turned}
 use Rattle.growth.proofs.turned_cell.Goals as goal
 

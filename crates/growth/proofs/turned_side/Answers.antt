@@ -1,5 +1,5 @@
 -- `turned_side` meets its contract, by the tests that led to each answer.
-use Rattle.model.proofs.Prelude.{rules, sym}
+use Rattle.model.proofs.Prelude.{sym}
 use Rattle.growth.proofs.Laws.{turned_further, turned_goes, turned_other, turned_stays}
 use Rattle.growth.proofs.turned_side.Goals as goal
 

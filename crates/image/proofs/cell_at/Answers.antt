@@ -1,5 +1,4 @@
 -- `cell_at` is the reader's cell.
-use Rattle.model.proofs.Prelude.{rules}
 use Rattle.image.proofs.cell_at.Goals as goal
 
 pub returns : goal.returns

@@ -1,5 +1,5 @@
 -- `side_of` is the reader's side of a number.
-use Rattle.model.proofs.Prelude.{arith, rules}
+use Rattle.model.proofs.Prelude.{arith}
 use Rattle.image.proofs.Coding.{side_cell, side_slot}
 use Rattle.image.proofs.side_of.Goals as goal
 

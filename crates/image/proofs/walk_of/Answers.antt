@@ -1,8 +1,6 @@
 -- `walk_of` is the walk over the trie of the image: each cell that it meets is read where it stands.
-use Rattle.model.proofs.Prelude.{◌*◌, ◌+◌, ◌∙◌, ap, arith, rules, sym, ℕ}
-use Rattle.model.specs.Tries.{walk_of}
-use Rattle.trie.specs.Walks.{Underway}
-use Rattle.trie.proofs.Laws.{before, ends, no_cell}
+use Rattle.model.proofs.Prelude.{◌*◌, ◌+◌, ◌∙◌, ap, arith, sym, ℕ}
+use Rattle.trie.proofs.Laws.{before, ends}
 use Rattle.image.specs.Images.{cell_from, trie_from}
 use Rattle.image.proofs.Images.{cell_of}
 use Rattle.image.proofs.walk_of.Goals as goal

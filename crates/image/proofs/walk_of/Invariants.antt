@@ -1,10 +1,7 @@
 -- `walk_of` is the walk over the trie of the image: each cell that it meets is read where it stands.
-use Rattle.model.proofs.Prelude.{◌*◌, ◌+◌, ◌∙◌, ap, arith, rules, sym, ℕ}
 use Rattle.model.specs.Tries.{walk_of}
 use Rattle.trie.specs.Walks.{Underway}
-use Rattle.trie.proofs.Laws.{before, ends, no_cell}
-use Rattle.image.specs.Images.{cell_from, trie_from}
-use Rattle.image.proofs.Images.{cell_of}
+use Rattle.image.specs.Images.{trie_from}
 use Rattle.image.proofs.walk_of.Given as goal
 
 abbrev pub invariant-loop-i : goal.invariant-loop-i

@@ -1,5 +1,5 @@
 -- `write_cell` makes the six stores of a cell.
-use Rattle.model.proofs.Prelude.{◌*◌, ◌+◌, arith, length-set, rules}
+use Rattle.model.proofs.Prelude.{◌*◌, ◌+◌, arith, length-set}
 use Rattle.image.proofs.Coding.{cell_written}
 use Rattle.image.proofs.write_cell.Goals as goal
 

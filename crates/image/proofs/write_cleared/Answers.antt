@@ -1,8 +1,7 @@
 -- `write_cleared` writes the image: after i cells the first 4 + 6 × i bytes are right.
-use Rattle.model.proofs.Prelude.{◌*◌, ◌+◌, ◌-◌, ◌≡◌, ◌≤◌, arith, length, length-set, rules, take}
+use Rattle.model.proofs.Prelude.{arith, length-set}
 use Rattle.image.specs.Clearing.{cleared}
-use Rattle.image.specs.Images.{image_length}
-use Rattle.image.proofs.Coding.{written, written_all, written_first, written_next, written_size}
+use Rattle.image.proofs.Coding.{written_all, written_first, written_next, written_size}
 use Rattle.image.proofs.Storing.{cleared_cell}
 use Rattle.image.proofs.write_cleared.Goals as goal
 

@@ -1,5 +1,5 @@
 -- `write_head` writes four bytes, and no cell.
-use Rattle.model.proofs.Prelude.{arith, length-set, rules}
+use Rattle.model.proofs.Prelude.{arith, length-set}
 use Rattle.image.proofs.Imaging.{head_written}
 use Rattle.image.proofs.write_head.Goals as goal
 

@@ -1,5 +1,5 @@
 -- `add` meets its contract: one store, of the slot with the new entry.
-use Rattle.model.proofs.Prelude.{List, rules, subst, sym, ℕ}
+use Rattle.model.proofs.Prelude.{List, subst, sym, ℕ}
 use Rattle.bucket.specs.Forms.{ReadAs}
 use Rattle.entries.specs.Rows.{content_number}
 use Rattle.checking.proofs.Ready.{slot_read}

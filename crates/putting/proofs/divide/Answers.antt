@@ -1,5 +1,5 @@
 -- `divide` meets its contract: two stores, the new slot first.
-use Rattle.model.proofs.Prelude.{rules, refl}
+use Rattle.model.proofs.Prelude.{refl}
 use Rattle.checking.proofs.Plans.{fits_two}
 use Rattle.putting.proofs.Dividing.{divide_told}
 use Rattle.putting.proofs.divide.Goals as goal

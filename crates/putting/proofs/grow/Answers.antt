@@ -1,5 +1,5 @@
 -- `grow` meets its contract.
-use Rattle.model.proofs.Prelude.{rules, subst, take, ℕ}
+use Rattle.model.proofs.Prelude.{subst, take, ℕ}
 use Rattle.growth.specs.Grows.{Grows}
 use Rattle.image.specs.Images.{trie_from}
 use Rattle.putting.proofs.grow.Goals as goal

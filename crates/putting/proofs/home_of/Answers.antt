@@ -1,5 +1,5 @@
 -- `home_of` meets its contract: the slot is the one whose range holds the name.
-use Rattle.model.proofs.Prelude.{arith, rules}
+use Rattle.model.proofs.Prelude.{arith}
 use Rattle.checking.proofs.Ready.{holder_slot, home_right, ready_ordered, ready_sound}
 use Rattle.putting.proofs.home_of.Goals as goal
 

@@ -1,5 +1,5 @@
 -- `is_full` meets its contract.
-use Rattle.model.proofs.Prelude.{Bool, ◌∙◌, ◌≡◌, clash, false, rules, sym, true}
+use Rattle.model.proofs.Prelude.{Bool, ◌∙◌, ◌≡◌, clash, false, sym, true}
 use Rattle.putting.proofs.is_full.Goals as goal
 
 pub returns-then-spot : goal.returns-then-spot

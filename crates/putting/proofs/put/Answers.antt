@@ -1,5 +1,5 @@
 -- `put` meets its contract: what is refused, and the rest.
-use Rattle.model.proofs.Prelude.{arith, rules}
+use Rattle.model.proofs.Prelude.{arith}
 use Rattle.model.proofs.Names.{is_legal_name_legal}
 use Rattle.checking.proofs.Laws.{fine_agreed, naming_illegal, naming_legal, refused_looked}
 use Rattle.putting.proofs.Putting.{file_refused, limit_refused, name_refused, put_fine, put_named}

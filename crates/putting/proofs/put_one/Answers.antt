@@ -1,5 +1,4 @@
 -- `put_one` meets its contract: what is left of a plan of at most one store.
-use Rattle.model.proofs.Prelude.{rules}
 use Rattle.entries.specs.Rows.{content_number}
 use Rattle.putting.proofs.Putting.{one_made, one_stopped}
 use Rattle.putting.proofs.put_one.Goals as goal

@@ -1,5 +1,5 @@
 -- `renew` meets its contract: refused where what is held has a higher run, else replaced.
-use Rattle.model.proofs.Prelude.{List, ◌<◌, ◌≡◌, ◌≤◌, arith, rules, subst, sym, ℕ}
+use Rattle.model.proofs.Prelude.{List, ◌<◌, ◌≡◌, ◌≤◌, arith, subst, sym, ℕ}
 use Rattle.model.specs.Entries.{run_of_content}
 use Rattle.entries.specs.Rows.{content_number}
 use Rattle.bucket.specs.Forms.{ReadAs}

@@ -1,5 +1,5 @@
 -- `replace` meets its contract: one store, of the slot with the content replaced.
-use Rattle.model.proofs.Prelude.{List, ◌∙◌, rules, subst, sym, ℕ}
+use Rattle.model.proofs.Prelude.{List, ◌∙◌, subst, sym, ℕ}
 use Rattle.bucket.specs.Forms.{ReadAs}
 use Rattle.entries.specs.Rows.{content_number}
 use Rattle.checking.proofs.Ready.{slot_read}

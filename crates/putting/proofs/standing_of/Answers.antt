@@ -1,5 +1,4 @@
 -- `standing_of` meets its contract.
-use Rattle.model.proofs.Prelude.{rules}
 use Rattle.putting.proofs.Dividing.{standing_told}
 use Rattle.putting.proofs.standing_of.Goals as goal
 

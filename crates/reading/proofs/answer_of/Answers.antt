@@ -1,5 +1,5 @@
 -- `answer_of` meets its contract: each stage's answer is the model's.
-use Rattle.model.proofs.Prelude.{◌∙◌, rules, sym}
+use Rattle.model.proofs.Prelude.{◌∙◌, sym}
 use Rattle.model.specs.Format.{slot_size}
 use Rattle.bucket.proofs.Slots.{vacant_free, vacant_taken}
 use Rattle.reading.proofs.LookingUp.{answer_absent, answer_found, answer_free, answer_ill, answer_lacks, by_digits, ill_formed, well_formed}

@@ -1,7 +1,7 @@
 -- `bytes_between` meets its contract: each slot passed gives at most 640 bytes, and those counted and those to come are all.
-use Rattle.model.proofs.Prelude.{◌*◌, ◌+◌, ◌-◌, ◌≡◌, ◌≤◌, ap, arith, length, rules}
+use Rattle.model.proofs.Prelude.{ap, arith, length}
 use Rattle.digits.specs.Keys.{key_value}
-use Rattle.reading.proofs.Writing.{rest, rest_length, rest_none}
+use Rattle.reading.proofs.Writing.{rest_length, rest_none}
 use Rattle.reading.proofs.bytes_between.Goals as goal
 
 pub loop-j-init : goal.loop-j-init

@@ -1,5 +1,4 @@
 -- `list` meets its contract: each refusal is the model's, and what passed the checks is listed.
-use Rattle.model.proofs.Prelude.{rules}
 use Rattle.model.proofs.Names.{is_legal_name_legal}
 use Rattle.image.specs.Images.{trie_from}
 use Rattle.checking.proofs.Laws.{fine_agreed, naming_illegal, naming_legal, refused_looked}

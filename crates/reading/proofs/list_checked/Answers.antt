@@ -1,5 +1,5 @@
 -- `list_checked` meets its contract: the buckets from the first name's to the second's have all that is to be listed.
-use Rattle.model.proofs.Prelude.{arith, rules}
+use Rattle.model.proofs.Prelude.{arith}
 use Rattle.model.proofs.Format.{bytes_each}
 use Rattle.checking.proofs.Ready.{ready_ordered}
 use Rattle.reading.proofs.Listing.{list_all, list_short}

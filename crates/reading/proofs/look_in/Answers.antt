@@ -1,5 +1,5 @@
 -- `look_in` meets its contract: a bucket that is seen to serve answers by what it holds.
-use Rattle.model.proofs.Prelude.{arith, rules, not-false}
+use Rattle.model.proofs.Prelude.{arith}
 use Rattle.reading.proofs.LookingUp.{answer_absent, answer_found, by_keys}
 use Rattle.reading.proofs.look_in.Goals as goal
 

@@ -3,7 +3,7 @@ use Rattle.model.proofs.Prelude.{arith, rules}
 use Rattle.model.proofs.Names.{is_legal_name_legal}
 use Rattle.file.proofs.Surveying.{right_said, right_sized, wrong_said}
 use Rattle.checking.proofs.Laws.{naming_illegal, naming_legal}
-use Rattle.reading.proofs.LookingUp.{arrived_looked, headless_looked, illegal_looked, no_slot, past_looked, stray_looked}
+use Rattle.reading.proofs.LookingUp.{arrived_looked, headless_looked, illegal_looked, past_looked, stray_looked}
 use Rattle.reading.proofs.look_up_from.Goals as goal
 
 pub returns-in_default : goal.returns-in_default

@@ -1,5 +1,5 @@
 -- `part_at` meets its contract, whether the bucket lies inside or not.
-use Rattle.model.proofs.Prelude.{◌&&◌, ◌≡◌, and-false, arith, false, le-ltb, lt-ltb, ltb, rules, true, ⊎_elim}
+use Rattle.model.proofs.Prelude.{◌&&◌, ◌≡◌, and-false, arith, false, le-ltb, lt-ltb, ltb, true}
 use Rattle.digits.specs.Keys.{key_value}
 use Rattle.reading.proofs.Writing.{part_inside, part_searched}
 use Rattle.reading.proofs.part_at.Goals as goal

@@ -1,7 +1,7 @@
 -- `write_between` meets its contract: what is written and what is to come are all that is to be listed.
-use Rattle.model.proofs.Prelude.{◌-◌, arith, rules}
+use Rattle.model.proofs.Prelude.{◌-◌}
 use Rattle.digits.specs.Keys.{key_value}
-use Rattle.reading.proofs.Writing.{Writing, rest, rest_length, rest_none, rest_step, writing_end, writing_length, writing_rest, writing_start, writing_step}
+use Rattle.reading.proofs.Writing.{Writing, rest}
 use Rattle.reading.proofs.write_between.Given as goal
 
 abbrev pub invariant-loop-j : goal.invariant-loop-j

@@ -1,5 +1,4 @@
 -- `write_part` meets its contract: the array holds the part, and what it holds is put over the output.
-use Rattle.model.proofs.Prelude.{rules}
 use Rattle.reading.proofs.Writing.{moved_over}
 use Rattle.reading.proofs.write_part.Goals as goal
 

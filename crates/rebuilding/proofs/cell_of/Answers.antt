@@ -1,5 +1,4 @@
 -- `cell_of` meets its contract: it puts together what its parts ensure.
-use Rattle.model.proofs.Prelude.{rules}
 use Rattle.rebuilding.specs.Runs.{cell_at}
 use Rattle.rebuilding.proofs.cell_of.Goals as goal
 

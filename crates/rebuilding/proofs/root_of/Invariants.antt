@@ -1,6 +1,5 @@
 -- `root_of` meets its contract: it goes back from the last of the shortest strings, half as many as there are (proofs/Finding.antt).
-use Rattle.model.proofs.Prelude.{◌-◌, ◌<◌, arith, rules}
-use Rattle.rebuilding.proofs.Finding.{Back, back_inside, back_last, back_next, back_root}
+use Rattle.rebuilding.proofs.Finding.{Back}
 use Rattle.rebuilding.proofs.root_of.Given as goal
 
 abbrev pub invariant-loop-left : goal.invariant-loop-left

@@ -1,7 +1,7 @@
 -- `shortest_of` meets its contract: at each turn the shortest of the strings from `first` on are known (proofs/Finding.antt).
-use Rattle.model.proofs.Prelude.{◌-◌, ◌≡◌, ◌≤◌, arith, get_or, rules}
+use Rattle.model.proofs.Prelude.{◌-◌, arith, rules}
 use Rattle.rebuilding.specs.Starts.{Start}
-use Rattle.rebuilding.proofs.Finding.{Seen, seen_all, seen_one, seen_same, seen_shorter}
+use Rattle.rebuilding.proofs.Finding.{seen_all, seen_one, seen_same, seen_shorter}
 use Rattle.rebuilding.proofs.shortest_of.Goals.{After-usize_of_u8-start}
 use Rattle.rebuilding.proofs.shortest_of.Goals as goal
 

@@ -1,7 +1,6 @@
 -- `shortest_of` meets its contract: at each turn the shortest of the strings from `first` on are known (proofs/Finding.antt).
-use Rattle.model.proofs.Prelude.{◌-◌, ◌≡◌, ◌≤◌, arith, get_or, rules}
-use Rattle.rebuilding.specs.Starts.{Start}
-use Rattle.rebuilding.proofs.Finding.{Seen, seen_all, seen_one, seen_same, seen_shorter}
+use Rattle.model.proofs.Prelude.{◌≡◌, ◌≤◌, get_or}
+use Rattle.rebuilding.proofs.Finding.{Seen}
 use Rattle.rebuilding.proofs.shortest_of.Given as goal
 
 abbrev pub invariant-loop-from : goal.invariant-loop-from

@@ -1,5 +1,5 @@
 -- `side_of` meets its contract, by the test that led to each answer.
-use Rattle.model.proofs.Prelude.{le-ltb, lt-ltb, rules}
+use Rattle.model.proofs.Prelude.{le-ltb, lt-ltb}
 use Rattle.rebuilding.specs.Runs.{side_at}
 use Rattle.rebuilding.proofs.side_of.Goals as goal
 

@@ -1,6 +1,6 @@
 -- `start_of` meets its contract: from the start so far on, all strings before the one at i are longer.
-use Rattle.model.proofs.Prelude.{◌-◌, ◌≤◌, arith, rules, refl}
-use Rattle.rebuilding.specs.Starts.{Longer, Start}
+use Rattle.model.proofs.Prelude.{◌-◌, arith, refl}
+use Rattle.rebuilding.specs.Starts.{Start}
 use Rattle.rebuilding.proofs.Finding.{start_farther}
 use Rattle.rebuilding.proofs.start_of.Goals.{After-usize_of_u8-start}
 use Rattle.rebuilding.proofs.start_of.Goals as goal
@@ -8,7 +8,6 @@ use Rattle.rebuilding.proofs.start_of.Goals as goal
 -- The start that is gone on to.
 next : (c : After-usize_of_u8-start) → Start c.args.lens.now (c.loop-start.start - 1) c.usize_of_u8-start.result
 next c =
-    
     rw c.usize_of_u8-start.ensures.0 (c.requires.1 (c.loop-start.start - 1) (omega arith))
 
 pub loop-start-init : goal.loop-start-init

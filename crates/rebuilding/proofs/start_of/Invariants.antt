@@ -1,7 +1,6 @@
 -- `start_of` meets its contract: from the start so far on, all strings before the one at i are longer.
-use Rattle.model.proofs.Prelude.{◌-◌, ◌≤◌, arith, rules, refl}
-use Rattle.rebuilding.specs.Starts.{Longer, Start}
-use Rattle.rebuilding.proofs.Finding.{start_farther}
+use Rattle.model.proofs.Prelude.{◌≤◌}
+use Rattle.rebuilding.specs.Starts.{Longer}
 use Rattle.rebuilding.proofs.start_of.Given as goal
 
 abbrev pub invariant-loop-start : goal.invariant-loop-start

@@ -1,6 +1,5 @@
 -- `starts_of` meets its contract: the starts before i are right.
-use Rattle.model.proofs.Prelude.{◌-◌, ◌≡◌, ◌≤◌, arith, length, length-set, rules, refl}
-use Rattle.rebuilding.specs.Starts.{Starts}
+use Rattle.model.proofs.Prelude.{arith, length-set, rules, refl}
 use Rattle.rebuilding.proofs.Finding.{starts_more}
 use Rattle.rebuilding.proofs.starts_of.Goals as goal
 

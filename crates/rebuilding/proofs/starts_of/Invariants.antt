@@ -1,7 +1,6 @@
 -- `starts_of` meets its contract: the starts before i are right.
-use Rattle.model.proofs.Prelude.{◌-◌, ◌≡◌, ◌≤◌, arith, length, length-set, rules, refl}
+use Rattle.model.proofs.Prelude.{◌-◌, ◌≡◌, ◌≤◌, length}
 use Rattle.rebuilding.specs.Starts.{Starts}
-use Rattle.rebuilding.proofs.Finding.{starts_more}
 use Rattle.rebuilding.proofs.starts_of.Given as goal
 
 abbrev pub invariant-loop-i : goal.invariant-loop-i

@@ -1,8 +1,7 @@
 -- `write_cells` meets its contract: the cells written and those of the stacked runs make the whole (proofs/States.antt).
-use Rattle.model.proofs.Prelude.{◌-◌, ◌∙◌, ap, arith, length, length-replicate, rules, refl, replicate, sym}
-use Rattle.image.proofs.Storing.{image_size}
+use Rattle.model.proofs.Prelude.{arith, length-replicate, rules, refl, replicate}
 use Rattle.rebuilding.proofs.Stacks.{no_run}
-use Rattle.rebuilding.proofs.States.{Top, Written, topped, written_all, written_first, written_next, written_size}
+use Rattle.rebuilding.proofs.States.{Top, topped, written_all, written_first, written_next, written_size}
 use Rattle.rebuilding.proofs.write_cells.Goals.{In-loop-i}
 use Rattle.rebuilding.proofs.write_cells.Goals as goal
 

@@ -1,5 +1,4 @@
 -- `count_at_place` meets its contract.
-use Rattle.model.proofs.Prelude.{rules}
 use Rattle.removing.proofs.Neighbours.{count_told}
 use Rattle.removing.proofs.count_at_place.Goals as goal
 

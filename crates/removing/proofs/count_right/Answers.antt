@@ -1,5 +1,5 @@
 -- `count_right` meets its contract.
-use Rattle.model.proofs.Prelude.{arith, rules, refl}
+use Rattle.model.proofs.Prelude.{arith, refl}
 use Rattle.removing.specs.Merges.{having, lacking}
 use Rattle.removing.proofs.count_right.Goals as goal
 

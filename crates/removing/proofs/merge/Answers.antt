@@ -1,5 +1,5 @@
 -- `merge` meets its contract: the widened slot, then the freed one.
-use Rattle.model.proofs.Prelude.{rules, refl}
+use Rattle.model.proofs.Prelude.{refl}
 use Rattle.checking.proofs.Plans.{fits_two}
 use Rattle.removing.proofs.Neighbours.{merge_told}
 use Rattle.removing.proofs.merge.Goals as goal

@@ -1,5 +1,5 @@
 -- `rebuild_without` meets its contract.
-use Rattle.model.proofs.Prelude.{arith, rules}
+use Rattle.model.proofs.Prelude.{arith}
 use Rattle.removing.proofs.Removing.{rebuild_told}
 use Rattle.removing.proofs.rebuild_without.Goals as goal
 

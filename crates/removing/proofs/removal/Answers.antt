@@ -1,5 +1,5 @@
 -- `removal` meets its contract: to the right, to the left, alone.
-use Rattle.model.proofs.Prelude.{arith, rules}
+use Rattle.model.proofs.Prelude.{arith}
 use Rattle.checking.proofs.Plans.{fits_one}
 use Rattle.removing.proofs.Neighbours.{place_read, removal_left, removal_one, removal_right, small, there}
 use Rattle.removing.proofs.removal.Goals as goal

@@ -1,5 +1,5 @@
 -- `remove_plan` meets its contract: none where the name is absent, else the stores of its removal.
-use Rattle.model.proofs.Prelude.{◌∙◌, ap, get_or, rules, not-false, not-true}
+use Rattle.model.proofs.Prelude.{◌∙◌, ap, get_or, not-false, not-true}
 use Rattle.model.specs.Searches.{order_of}
 use Rattle.file.specs.declared.Plan.{Plan}
 use Rattle.checking.proofs.Plans.{fits_none}

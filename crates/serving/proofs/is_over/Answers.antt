@@ -1,5 +1,5 @@
 -- `is_over` meets its contract.
-use Rattle.model.proofs.Prelude.{◌&&◌, ◌∙◌, ◌≡◌, ap, clash, drop, leb, ltb, ltb-true, rules, not-false, subst, sym, take, true, ℕ}
+use Rattle.model.proofs.Prelude.{◌&&◌, ◌∙◌, ◌≡◌, ap, clash, drop, leb, ltb, ltb-true, subst, sym, take, true, ℕ}
 use Rattle.model.specs.Tests.{is_legal_bound}
 use Rattle.digits.specs.Keys.{is_all_zero, key_value}
 use Rattle.serving.proofs.is_over.Goals as goal

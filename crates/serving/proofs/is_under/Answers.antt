@@ -1,5 +1,5 @@
 -- `is_under` meets its contract.
-use Rattle.model.proofs.Prelude.{◌&&◌, ◌∙◌, ◌≡◌, ap, clash, drop, leb, ltb, ltb-false, rules, not-false, not-true, subst, sym, take, true, ℕ}
+use Rattle.model.proofs.Prelude.{◌&&◌, ◌∙◌, ◌≡◌, ap, clash, drop, leb, ltb, ltb-false, not-true, subst, sym, take, true, ℕ}
 use Rattle.model.specs.Tests.{is_legal_bound}
 use Rattle.digits.specs.Keys.{is_all_zero, key_value}
 use Rattle.serving.proofs.is_under.Goals as goal

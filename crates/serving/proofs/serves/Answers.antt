@@ -1,5 +1,5 @@
 -- `serves` meets its contract.
-use Rattle.model.proofs.Prelude.{◌*◌, ◌+◌, ◌∙◌, ap, arith, rules, refl, sym, ℕ}
+use Rattle.model.proofs.Prelude.{◌*◌, ◌+◌, ◌∙◌, ap, arith, refl, sym, ℕ}
 use Rattle.serving.proofs.serves.Goals as goal
 
 pub serves_by-requires : goal.serves_by-requires

@@ -1,5 +1,5 @@
 -- `serves_by` meets its contract: what it tested is what a bucket that is well formed passes.
-use Rattle.model.proofs.Prelude.{List, ◌*◌, ◌+◌, ◌-◌, ◌∙◌, ◌≡◌, ap, arith, clash, drop, eqb-true, get_or, rules, not-false, subst, sym, ℕ}
+use Rattle.model.proofs.Prelude.{List, ◌*◌, ◌+◌, ◌-◌, ◌∙◌, ◌≡◌, ap, arith, clash, drop, eqb-true, get_or, subst, sym, ℕ}
 use Rattle.model.proofs.Lists.{rest}
 use Rattle.digits.specs.Keys.{key_value}
 use Rattle.gathering.specs.Names.{Rising, names}

@@ -1,5 +1,5 @@
 -- `slots::added` meets its contract.
-use Rattle.model.proofs.Prelude.{◌+◌, ◌-◌, ◌∙◌, arith, rules}
+use Rattle.model.proofs.Prelude.{◌+◌, ◌∙◌, arith}
 use Rattle.model.proofs.Format.{bytes_each}
 use Rattle.slots.proofs.Slots.{slot_rewritten}
 use Rattle.slots.proofs.Spots.{slot_reads}

@@ -1,5 +1,5 @@
 -- `slots::all_of` meets its contract.
-use Rattle.model.proofs.Prelude.{◌∙◌, arith, rules}
+use Rattle.model.proofs.Prelude.{◌∙◌, arith}
 use Rattle.entries.proofs.Products.{part_fits, room_most}
 use Rattle.slots.specs.Parts.{all_of}
 use Rattle.slots.proofs.all_of.Goals as goal

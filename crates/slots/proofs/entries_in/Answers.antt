@@ -1,5 +1,5 @@
 -- `slots::entries_in` meets its contract.
-use Rattle.model.proofs.Prelude.{arith, rules}
+use Rattle.model.proofs.Prelude.{arith}
 use Rattle.slots.proofs.entries_in.Goals as goal
 
 pub nonzero_div-result : goal.nonzero_div-result

@@ -1,5 +1,5 @@
 -- `slots::lessened` meets its contract.
-use Rattle.model.proofs.Prelude.{◌-◌, ◌∙◌, arith, rules}
+use Rattle.model.proofs.Prelude.{◌-◌, ◌∙◌, arith}
 use Rattle.model.proofs.Format.{bytes_each}
 use Rattle.entries.proofs.Products.{part_fits}
 use Rattle.slots.proofs.Slots.{slot_rewritten}

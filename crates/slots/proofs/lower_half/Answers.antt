@@ -1,5 +1,5 @@
 -- `slots::lower_half` meets its contract.
-use Rattle.model.proofs.Prelude.{◌+◌, ◌-◌, ◌∙◌, ◌≡◌, arith, rules, refl}
+use Rattle.model.proofs.Prelude.{◌+◌, ◌-◌, ◌∙◌, ◌≡◌, arith, refl}
 use Rattle.model.proofs.Format.{bytes_each}
 use Rattle.entries.proofs.Products.{room_most, stands}
 use Rattle.slots.proofs.Halves.{lower_row}

@@ -1,5 +1,5 @@
 -- `slots::name_in` meets its contract.
-use Rattle.model.proofs.Prelude.{List, ◌*◌, ◌+◌, ◌-◌, ◌∙◌, ◌≡◌, ap, ap₂, arith, drop, length-drop, length-take-le, rules, take, ℕ}
+use Rattle.model.proofs.Prelude.{List, ◌*◌, ◌+◌, ◌-◌, ◌∙◌, ◌≡◌, ap, ap₂, arith, drop, length-drop, length-take-le, take, ℕ}
 use Rattle.entries.proofs.Products.{part_fits}
 use Rattle.slots.proofs.name_in.Goals as goal
 

@@ -1,5 +1,5 @@
 -- `slots::name_of` meets its contract.
-use Rattle.model.proofs.Prelude.{◌-◌, ◌∙◌, arith, rules}
+use Rattle.model.proofs.Prelude.{◌∙◌, arith}
 use Rattle.slots.proofs.Halves.{name_copied, name_is}
 use Rattle.slots.proofs.name_of.Goals as goal
 

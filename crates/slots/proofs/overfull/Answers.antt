@@ -1,5 +1,5 @@
 -- `slots::overfull` meets its contract.
-use Rattle.model.proofs.Prelude.{◌-◌, arith, rules}
+use Rattle.model.proofs.Prelude.{arith}
 use Rattle.model.proofs.Format.{bytes_each}
 use Rattle.entries.proofs.Products.{part_fits}
 use Rattle.slots.proofs.Spots.{entry_added, row_of}

@@ -1,5 +1,5 @@
 -- `slots::part_between` meets its contract.
-use Rattle.model.proofs.Prelude.{◌∙◌, arith, rules}
+use Rattle.model.proofs.Prelude.{◌∙◌, arith}
 use Rattle.entries.proofs.Products.{part_fits, room_most}
 use Rattle.slots.specs.Parts.{part_of}
 use Rattle.slots.proofs.part_between.Goals as goal

@@ -1,5 +1,4 @@
 -- `slots::rewritten` meets its contract.
-use Rattle.model.proofs.Prelude.{rules}
 use Rattle.slots.proofs.rewritten.Goals as goal
 
 pub returns : goal.returns

@@ -1,5 +1,5 @@
 -- `slots::spot_in` meets its contract.
-use Rattle.model.proofs.Prelude.{◌∙◌, arith, rules, sym}
+use Rattle.model.proofs.Prelude.{◌∙◌, arith, sym}
 use Rattle.model.proofs.Format.{bytes_each}
 use Rattle.entries.proofs.Products.{part_fits}
 use Rattle.slots.proofs.Spots.{held_inside, spot_is}

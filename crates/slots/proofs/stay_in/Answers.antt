@@ -1,5 +1,5 @@
 -- `slots::stay_in` meets its contract.
-use Rattle.model.proofs.Prelude.{◌-◌, arith, length-drop, rules}
+use Rattle.model.proofs.Prelude.{◌-◌, arith, length-drop}
 use Rattle.entries.proofs.Products.{stands}
 use Rattle.model.proofs.Lists.{rest}
 use Rattle.slots.proofs.Halves.{stay_counted}

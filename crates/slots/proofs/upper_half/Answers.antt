@@ -1,5 +1,5 @@
 -- `slots::upper_half` meets its contract.
-use Rattle.model.proofs.Prelude.{◌+◌, ◌-◌, ◌∙◌, arith, rules, refl}
+use Rattle.model.proofs.Prelude.{◌+◌, ◌-◌, ◌∙◌, arith, refl}
 use Rattle.model.proofs.Format.{bytes_each}
 use Rattle.entries.proofs.Products.{room_most, stands}
 use Rattle.model.specs.Order.{at}

@@ -1,5 +1,5 @@
 -- `slots::widened` meets its contract.
-use Rattle.model.proofs.Prelude.{◌+◌, ◌-◌, ◌∙◌, arith, rules}
+use Rattle.model.proofs.Prelude.{◌+◌, ◌-◌, ◌∙◌, arith}
 use Rattle.model.proofs.Format.{bytes_each}
 use Rattle.entries.proofs.Products.{part_fits, room_most}
 use Rattle.slots.proofs.Slots.{lower_is, slot_cut, upper_is}

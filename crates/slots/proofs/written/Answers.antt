@@ -1,5 +1,5 @@
 -- `slots::written` meets its contract.
-use Rattle.model.proofs.Prelude.{arith, rules}
+use Rattle.model.proofs.Prelude.{arith}
 use Rattle.model.proofs.Format.{bytes_each}
 use Rattle.slots.proofs.Slots.{written_copies}
 use Rattle.slots.proofs.written.Goals as goal

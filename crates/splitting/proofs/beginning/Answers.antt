@@ -1,5 +1,4 @@
 -- `beginning` meets its contract.
-use Rattle.model.proofs.Prelude.{rules}
 use Rattle.splitting.proofs.Halving.{string_copied}
 use Rattle.splitting.proofs.beginning.Goals as goal
 

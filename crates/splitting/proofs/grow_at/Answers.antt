@@ -1,5 +1,5 @@
 -- `grow_at` meets its contract.
-use Rattle.model.proofs.Prelude.{List, rules, subst, ℕ}
+use Rattle.model.proofs.Prelude.{List, subst, ℕ}
 use Rattle.growth.specs.Grows.{Grows}
 use Rattle.image.specs.Images.{trie_from}
 use Rattle.splitting.proofs.Halving.{front}

@@ -1,5 +1,4 @@
 -- `length_at` meets its contract: the key and the last name are those of the row.
-use Rattle.model.proofs.Prelude.{rules}
 use Rattle.splitting.proofs.Halving.{length_found}
 use Rattle.splitting.proofs.length_at.Goals as goal
 

@@ -1,5 +1,5 @@
 -- `splitting::new_slot` meets its contract.
-use Rattle.model.proofs.Prelude.{List, arith, rules, subst, ℕ}
+use Rattle.model.proofs.Prelude.{List, arith, subst, ℕ}
 use Rattle.slots.specs.Halves.{UpperTold}
 use Rattle.splitting.proofs.Halving.{front}
 use Rattle.splitting.proofs.new_slot.Goals as goal

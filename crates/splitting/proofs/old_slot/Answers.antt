@@ -1,5 +1,5 @@
 -- `splitting::old_slot` meets its contract.
-use Rattle.model.proofs.Prelude.{List, arith, rules, subst, ℕ}
+use Rattle.model.proofs.Prelude.{List, arith, subst, ℕ}
 use Rattle.slots.specs.Halves.{LowerTold}
 use Rattle.splitting.proofs.Halving.{front}
 use Rattle.splitting.proofs.old_slot.Goals as goal

@@ -1,7 +1,6 @@
 -- `add` meets its contract: at each turn the arrays have the beginnings that are longer than `len` digits (proofs/Adding.antt).
-use Rattle.model.proofs.Prelude.{◌+◌, ◌-◌, ◌≡◌, ◌≤◌, length, rules}
-use Rattle.strings.specs.Arrays.{Added, beyond}
-use Rattle.strings.proofs.Adding.{added_start, added_step, left_after, left_start, left_step}
+use Rattle.model.proofs.Prelude.{◌≡◌, rules}
+use Rattle.strings.proofs.Adding.{added_start, added_step, left_start, left_step}
 use Rattle.strings.proofs.add.Goals as goal
 
 pub loop-len-init : goal.loop-len-init

@@ -1,7 +1,7 @@
 -- `add` meets its contract: at each turn the arrays have the beginnings that are longer than `len` digits (proofs/Adding.antt).
-use Rattle.model.proofs.Prelude.{◌+◌, ◌-◌, ◌≡◌, ◌≤◌, length, rules}
+use Rattle.model.proofs.Prelude.{◌+◌, ◌-◌, ◌≡◌, ◌≤◌, length}
 use Rattle.strings.specs.Arrays.{Added, beyond}
-use Rattle.strings.proofs.Adding.{added_start, added_step, left_after, left_start, left_step}
+use Rattle.strings.proofs.Adding.{left_after}
 use Rattle.strings.proofs.add.Given as goal
 
 abbrev pub invariant-loop-len : goal.invariant-loop-len

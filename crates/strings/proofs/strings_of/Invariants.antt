@@ -1,9 +1,7 @@
 -- `strings_of` meets its contract: at each turn the arrays have the strings that come before a bucket's upper (proofs/Listing.antt).
-use Rattle.model.proofs.Prelude.{◌-◌, ◌∙◌, ◌≤◌, ap, arith, rules, refl}
-use Rattle.bucket.specs.Slots.{upper_bytes}
+use Rattle.model.proofs.Prelude.{◌-◌, ◌≤◌}
 use Rattle.strings.specs.Arrays.{Whole}
-use Rattle.strings.proofs.Adding.{length_beyond}
-use Rattle.strings.proofs.Listing.{Goes, goes_end, goes_many, goes_none, goes_start, goes_step, upper_in}
+use Rattle.strings.proofs.Listing.{Goes}
 use Rattle.strings.proofs.strings_of.Given as goal
 
 abbrev pub invariant-loop-j : goal.invariant-loop-j

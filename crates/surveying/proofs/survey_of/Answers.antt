@@ -1,5 +1,5 @@
 -- `survey_of` meets its contract: what the guess does not tell is told by sorting.
-use Rattle.model.proofs.Prelude.{◌≤◌, arith, length, rules, not-false, subst}
+use Rattle.model.proofs.Prelude.{◌≤◌, arith, length, subst}
 use Rattle.file.specs.declared.survey.Kind.TheVariants.{Sound}
 use Rattle.surveying.specs.declared.Tally.{Tally}
 use Rattle.surveying.specs.Rows.{TallyTold}

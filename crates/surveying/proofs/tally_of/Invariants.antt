@@ -1,11 +1,7 @@
 -- `tally_of` meets its contract: the slots passed are read, and are free or in the order.
-use Rattle.model.proofs.Prelude.{◌-◌, ◌<◌, ◌∙◌, ◌≤◌, ap, arith, rules, not-false, subst, suc, sym, ℕ}
-use Rattle.model.specs.Files.{free, well_free}
-use Rattle.model.specs.Format.{bytes_at_slot, read_slot}
+use Rattle.model.proofs.Prelude.{◌<◌, ◌≤◌, ℕ}
 use Rattle.bucket.specs.Forms.{Standing}
-use Rattle.bucket.proofs.Slots.{vacant_free}
 use Rattle.surveying.specs.Rows.{Tallied, placed}
-use Rattle.surveying.proofs.Rows.{free_read, placed_mem, tallied_next, tallied_start}
 use Rattle.surveying.proofs.tally_of.Given as goal
 
 abbrev pub invariant-loop-k : goal.invariant-loop-k

@@ -1,5 +1,5 @@
 -- `goes_left` is the model's `is_at_most` on the string's first digits, which are no more than the name's.
-use Rattle.model.proofs.Prelude.{◌∙◌, ◌≡◌, ◌≤◌, arith, length, length-take, rules, sub-zero, take}
+use Rattle.model.proofs.Prelude.{◌∙◌, ◌≡◌, arith, length, length-take, rules, sub-zero, take}
 use Rattle.model.proofs.Names.{within_is_at_most}
 use Rattle.trie.proofs.goes_left.Goals as goal
 

@@ -1,5 +1,5 @@
 -- `place_of` is its definition, case by case.
-use Rattle.model.proofs.Prelude.{arith, rules}
+use Rattle.model.proofs.Prelude.{arith}
 use Rattle.trie.proofs.Laws.{place_cell, place_none, place_past, place_slot}
 use Rattle.trie.proofs.place_of.Goals as goal
 

@@ -1,5 +1,4 @@
 -- `check` meets its contract: the survey is of a file whose sizes are right.
-use Rattle.model.proofs.Prelude.{rules}
 use Rattle.file.proofs.Surveying.{right_said, right_sized, wrong_said}
 use Rattle.whole.proofs.Recovering.{bad_found, surveyed_found}
 use Rattle.whole.proofs.check.Goals as goal

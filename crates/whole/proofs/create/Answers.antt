@@ -1,5 +1,5 @@
 -- `create` meets its contract: the image is written before the sizes are looked at.
-use Rattle.model.proofs.Prelude.{◌∙◌, rules}
+use Rattle.model.proofs.Prelude.{◌∙◌}
 use Rattle.whole.proofs.Creating.{create_given, fitting_right, fitting_wrong, sizes_refused}
 use Rattle.whole.proofs.Rebuilding.{cleared_new}
 use Rattle.whole.proofs.create.Goals as goal

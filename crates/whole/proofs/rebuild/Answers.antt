@@ -1,5 +1,5 @@
 -- `rebuild` meets its contract, refusal by refusal.
-use Rattle.model.proofs.Prelude.{rules, not-false, not-true, refl}
+use Rattle.model.proofs.Prelude.{not-false, not-true, refl}
 use Rattle.file.specs.Sizes.{Saying}
 use Rattle.file.proofs.Surveying.{no_header_bad, right_said, right_sized, surveyed_is, wrong_said}
 use Rattle.whole.proofs.Rebuilding.{rebuild_bad, rebuild_cut, rebuild_given, rebuild_many}

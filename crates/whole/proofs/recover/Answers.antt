@@ -1,5 +1,5 @@
 -- `recover` meets its contract: the slot that it frees is one of the file's.
-use Rattle.model.proofs.Prelude.{arith, rules}
+use Rattle.model.proofs.Prelude.{arith}
 use Rattle.file.proofs.Surveying.{no_header_bad, right_said, right_sized, surveyed_is, wrong_said}
 use Rattle.whole.proofs.Recovering.{recover_bad, recover_fits, recover_freed, recover_limit, recover_sound, recover_stopped}
 use Rattle.whole.proofs.recover.Goals as goal

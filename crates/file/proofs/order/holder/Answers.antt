@@ -1,9 +1,6 @@
 -- `holder` meets its contract: the halves close in on the name's place.
-use Rattle.model.proofs.Prelude.{List, ◌+◌, ◌-◌, ◌/◌, ◌<◌, ◌≡◌, ◌≤◌, arith, rules}
-use Rattle.model.specs.Names.{Legal}
-use Rattle.model.specs.Files.{Slot}
-use Rattle.file.specs.Holders.{Ordered}
-use Rattle.file.proofs.Holding.{Closing, closing_down, closing_end, closing_start, closing_up, ordered_some, probe_below, probe_upto}
+use Rattle.model.proofs.Prelude.{◌+◌, ◌-◌, ◌/◌, arith}
+use Rattle.file.proofs.Holding.{closing_down, closing_end, closing_start, closing_up, ordered_some, probe_below, probe_upto}
 use Rattle.file.proofs.order.holder.Goals as goal
 
 pub returns-then-count-eq0 : goal.returns-then-count-eq0

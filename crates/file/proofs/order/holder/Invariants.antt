@@ -1,9 +1,9 @@
 -- `holder` meets its contract: the halves close in on the name's place.
-use Rattle.model.proofs.Prelude.{List, ◌+◌, ◌-◌, ◌/◌, ◌<◌, ◌≡◌, ◌≤◌, arith, rules}
+use Rattle.model.proofs.Prelude.{List, ◌-◌, ◌<◌, ◌≤◌}
 use Rattle.model.specs.Names.{Legal}
 use Rattle.model.specs.Files.{Slot}
 use Rattle.file.specs.Holders.{Ordered}
-use Rattle.file.proofs.Holding.{Closing, closing_down, closing_end, closing_start, closing_up, ordered_some, probe_below, probe_upto}
+use Rattle.file.proofs.Holding.{Closing}
 use Rattle.file.proofs.order.holder.Given as goal
 
 abbrev pub invariant-loop-least : goal.invariant-loop-least

@@ -1,8 +1,7 @@
 -- `insert` meets its contract: those from the place on move up, and what bounds them all still does.
-use Rattle.model.proofs.Prelude.{◌-◌, ◌≡◌, ◌≤◌, arith, length, length-set, rules, subst, ℕ}
+use Rattle.model.proofs.Prelude.{◌≡◌, ◌≤◌, length, ℕ}
 use Rattle.file.specs.Sizes.{Below}
-use Rattle.file.proofs.Laws.{below_set}
-use Rattle.file.proofs.Moves.{Raised, raised_end, raised_next, raised_start}
+use Rattle.file.proofs.Moves.{Raised}
 use Rattle.file.proofs.order.insert.Given as goal
 
 abbrev pub invariant-loop-j : goal.invariant-loop-j

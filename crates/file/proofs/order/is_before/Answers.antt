@@ -1,5 +1,5 @@
 -- `is_before` meets its contract: the high ends decide, and where they are equal the low ends.
-use Rattle.model.proofs.Prelude.{rules, not-false, not-true, refl}
+use Rattle.model.proofs.Prelude.{refl}
 use Rattle.model.specs.Files.{head, lower_of}
 use Rattle.digits.specs.Keys.{key_value, low_value}
 use Rattle.file.proofs.Comparing.{ahead_first, ahead_last, ahead_not, slot_high, slot_low, stands_by}

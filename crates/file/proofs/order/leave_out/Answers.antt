@@ -1,8 +1,7 @@
 -- `leave_out` meets its contract: those behind the place move down, and what bounds them all still does.
-use Rattle.model.proofs.Prelude.{◌-◌, ◌<◌, ◌≡◌, ◌≤◌, arith, length, length-set, rules, ℕ}
-use Rattle.file.specs.Sizes.{Below}
+use Rattle.model.proofs.Prelude.{◌-◌, arith, length-set}
 use Rattle.file.proofs.Laws.{below_set}
-use Rattle.file.proofs.Moves.{Closed, closed_end, closed_next, closed_start}
+use Rattle.file.proofs.Moves.{closed_end, closed_next, closed_start}
 use Rattle.file.proofs.order.leave_out.Goals as goal
 
 pub loop-j-init : goal.loop-j-init

@@ -1,5 +1,5 @@
 -- `place_of` meets its contract: the halves close in on a place not above the count.
-use Rattle.model.proofs.Prelude.{List, ◌+◌, ◌-◌, ◌/◌, ◌<◌, ◌∙◌, ◌≡◌, ◌≤◌, arith, false, get_or, rules, subst, suc, sym, true, ℕ}
+use Rattle.model.proofs.Prelude.{List, ◌+◌, ◌-◌, ◌/◌, ◌<◌, ◌∙◌, ◌≡◌, arith, false, get_or, subst, sym, true, ℕ}
 use Rattle.model.specs.Files.{Slot}
 use Rattle.digits.specs.Keys.{key_value}
 use Rattle.file.specs.Orders.{Known, Listed, placed, stands}
@@ -38,8 +38,7 @@ loop-least-preserved c =
 
 pub returns : goal.returns
 returns c =
-    let l = c.loop-least in
-    (
+    let l = c.loop-least in (
       omega arith,
       λ fs. λ K. λ L. record {
         left = (l.invariant.2 fs K L).0;

@@ -1,9 +1,8 @@
 -- `place_of` meets its contract: the halves close in on a place not above the count.
-use Rattle.model.proofs.Prelude.{List, ◌+◌, ◌-◌, ◌/◌, ◌<◌, ◌∙◌, ◌≡◌, ◌≤◌, arith, false, get_or, rules, subst, suc, sym, true, ℕ}
+use Rattle.model.proofs.Prelude.{List, ◌-◌, ◌<◌, ◌≡◌, ◌≤◌, false, suc, true, ℕ}
 use Rattle.model.specs.Files.{Slot}
 use Rattle.digits.specs.Keys.{key_value}
 use Rattle.file.specs.Orders.{Known, Listed, placed, stands}
-use Rattle.file.proofs.Comparing.{place_read}
 use Rattle.file.proofs.order.place_of.Given as goal
 
 abbrev pub invariant-loop-least : goal.invariant-loop-least

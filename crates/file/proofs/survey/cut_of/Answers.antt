@@ -1,5 +1,5 @@
 -- `cut_of` meets its contract: the second of the two is the slot to free, where it is a copy and the rest is a chain.
-use Rattle.model.proofs.Prelude.{◌-◌, ◌∙◌, ap, arith, rules, not-false, not-true, ℕ}
+use Rattle.model.proofs.Prelude.{◌-◌, ◌∙◌, ap, arith, ℕ}
 use Rattle.model.specs.Checks.{is_cut}
 use Rattle.model.specs.Format.{bytes_at_slot}
 use Rattle.file.specs.declared.survey.Kind.TheVariants.{Bad, Cut}

@@ -1,10 +1,8 @@
 -- `is_chain` meets its contract: where the slots seen so far end, the next has to begin.
-use Rattle.model.proofs.Prelude.{List, ◌-◌, ◌≤◌, arith, rules, not-false, not-true, take}
-use Rattle.model.specs.Files.{Slot}
+use Rattle.model.proofs.Prelude.{arith}
 use Rattle.digits.specs.Keys.{key_value}
-use Rattle.file.specs.Orders.{Known, Listed}
 use Rattle.file.proofs.Comparing.{place_high, place_low}
-use Rattle.file.proofs.Chains.{Ended, ended_end, ended_next, ended_start, ended_stop}
+use Rattle.file.proofs.Chains.{ended_end, ended_next, ended_start, ended_stop}
 use Rattle.file.proofs.survey.is_chain.Goals as goal
 
 pub loop-j-init : goal.loop-j-init
@@ -25,8 +23,7 @@ returns-then-not-is_same c =
 
 pub loop-j-preserved : goal.loop-j-preserved
 loop-j-preserved c =
-    let l = c.loop-j in
-    (
+    let l = c.loop-j in (
       omega arith,
       λ fs. λ K. λ L. ended_next K c.args.order.now c.args.count (omega (arith, c.requires.3)) L l.j (key_value l.end) (l.invariant.1 fs K L) (omega arith)
           (key_value c.low_key.result)

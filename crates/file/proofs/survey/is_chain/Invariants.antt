@@ -1,10 +1,9 @@
 -- `is_chain` meets its contract: where the slots seen so far end, the next has to begin.
-use Rattle.model.proofs.Prelude.{List, ◌-◌, ◌≤◌, arith, rules, not-false, not-true, take}
+use Rattle.model.proofs.Prelude.{List, ◌-◌, ◌≤◌, take}
 use Rattle.model.specs.Files.{Slot}
 use Rattle.digits.specs.Keys.{key_value}
 use Rattle.file.specs.Orders.{Known, Listed}
-use Rattle.file.proofs.Comparing.{place_high, place_low}
-use Rattle.file.proofs.Chains.{Ended, ended_end, ended_next, ended_start, ended_stop}
+use Rattle.file.proofs.Chains.{Ended}
 use Rattle.file.proofs.survey.is_chain.Given as goal
 
 abbrev pub invariant-loop-j : goal.invariant-loop-j

@@ -1,5 +1,5 @@
 -- `kind_of` meets its contract: slots of which no two neighbours have one upper bound are a chain, or the file is bad.
-use Rattle.model.proofs.Prelude.{arith, rules, not-false, not-true}
+use Rattle.model.proofs.Prelude.{arith}
 use Rattle.file.specs.declared.survey.Kind.TheVariants.{Bad, Sound}
 use Rattle.file.proofs.Laws.{some_slot}
 use Rattle.file.proofs.Verdicts.{laid_known, laid_listed, laid_map, laid_order, said_bad, said_sound, surveyed}

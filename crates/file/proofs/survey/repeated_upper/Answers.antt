@@ -1,5 +1,5 @@
 -- `repeated_upper` meets its contract: the neighbours passed have different upper bounds.
-use Rattle.model.proofs.Prelude.{List, ◌-◌, ◌<◌, ◌≡◌, ◌≤◌, arith, rules, subst, suc, ℕ, ℕ_discrete}
+use Rattle.model.proofs.Prelude.{List, ◌-◌, ◌≡◌, arith, subst, suc, ℕ, ℕ_discrete}
 use Rattle.model.specs.Files.{Slot, head, upper_of}
 use Rattle.digits.specs.Keys.{key_value}
 use Rattle.file.specs.Orders.{Known, Listed, placed}

@@ -1,10 +1,7 @@
 -- `repeated_upper` meets its contract: the neighbours passed have different upper bounds.
-use Rattle.model.proofs.Prelude.{List, ◌-◌, ◌<◌, ◌≡◌, ◌≤◌, arith, rules, subst, suc, ℕ, ℕ_discrete}
+use Rattle.model.proofs.Prelude.{List, ◌-◌, ◌<◌, ◌≡◌, ◌≤◌, suc, ℕ}
 use Rattle.model.specs.Files.{Slot, head, upper_of}
-use Rattle.digits.specs.Keys.{key_value}
 use Rattle.file.specs.Orders.{Known, Listed, placed}
-use Rattle.file.proofs.Comparing.{place_high}
-use Rattle.file.proofs.Chains.{other_upper, same_upper}
 use Rattle.file.proofs.survey.repeated_upper.Given as goal
 
 abbrev pub invariant-loop-j : goal.invariant-loop-j

@@ -1,6 +1,5 @@
 -- `survey_of` meets its contract: with k slots left to see, the count and k together are not above the slots.
-use Rattle.model.proofs.Prelude.{◌+◌, ◌-◌, ◌<◌, ◌∙◌, ◌≤◌, arith, rules, replicate, subst, suc, sym, ℕ}
-use Rattle.file.specs.Sizes.{Below}
+use Rattle.model.proofs.Prelude.{◌-◌, ◌<◌, ◌∙◌, arith, replicate, subst, suc, sym, ℕ}
 use Rattle.bucket.specs.declared.Form.{Form}
 use Rattle.bucket.specs.Forms.{Formed}
 use Rattle.bucket.proofs.Slots.{vacant_free, vacant_taken}

@@ -1,14 +1,7 @@
 -- `survey_of` meets its contract: with k slots left to see, the count and k together are not above the slots.
-use Rattle.model.proofs.Prelude.{◌+◌, ◌-◌, ◌<◌, ◌∙◌, ◌≤◌, arith, rules, replicate, subst, suc, sym, ℕ}
+use Rattle.model.proofs.Prelude.{◌+◌, ◌≤◌}
 use Rattle.file.specs.Sizes.{Below}
-use Rattle.bucket.specs.declared.Form.{Form}
-use Rattle.bucket.specs.Forms.{Formed}
-use Rattle.bucket.proofs.Slots.{vacant_free, vacant_taken}
-use Rattle.file.specs.declared.survey.Kind.TheVariants.{Bad}
 use Rattle.file.specs.Orders.{Laid}
-use Rattle.file.proofs.Laws.{below_zeros, some_slot}
-use Rattle.file.proofs.Laying.{ill_map, ill_order, ill_said, laid_free, laid_start, laid_used}
-use Rattle.file.proofs.Verdicts.{surveyed}
 use Rattle.file.proofs.survey.survey_of.Given as goal
 
 abbrev pub invariant-loop-k : goal.invariant-loop-k

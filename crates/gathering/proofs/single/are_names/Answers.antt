@@ -1,5 +1,5 @@
 -- `are_names` meets its contract.
-use Rattle.model.proofs.Prelude.{eqb-true, rules}
+use Rattle.model.proofs.Prelude.{eqb-true}
 use Rattle.gathering.proofs.single.are_names.Goals as goal
 
 pub returns : goal.returns

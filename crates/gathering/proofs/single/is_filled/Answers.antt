@@ -1,5 +1,5 @@
 -- `is_filled` meets its contract.
-use Rattle.model.proofs.Prelude.{eqb-true, rules, refl}
+use Rattle.model.proofs.Prelude.{eqb-true, refl}
 use Rattle.model.specs.Format.{value_of}
 use Rattle.gathering.proofs.Bits.{begins, begins_low, blanks, blanks_low}
 use Rattle.gathering.proofs.Legal.{words_name}

@@ -1,5 +1,5 @@
 -- `is_legal` meets its contract.
-use Rattle.model.proofs.Prelude.{◌∙◌, ◌≡◌, ap, arith, clash, length, rules, subst, true}
+use Rattle.model.proofs.Prelude.{◌∙◌, ap, arith, clash, length, rules}
 use Rattle.model.proofs.Names.{length_filled}
 use Rattle.gathering.proofs.Legal.{filled_legal}
 use Rattle.gathering.proofs.single.is_legal.Goals as goal

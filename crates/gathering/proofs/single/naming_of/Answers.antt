@@ -1,5 +1,5 @@
 -- `naming_of` meets its contract.
-use Rattle.model.proofs.Prelude.{◌∙◌, ap, arith, rules, take_all}
+use Rattle.model.proofs.Prelude.{◌∙◌, ap, arith, take_all}
 use Rattle.digits.specs.Keys.{value}
 use Rattle.gathering.proofs.single.naming_of.Goals as goal
 

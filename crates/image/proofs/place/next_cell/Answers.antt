@@ -1,5 +1,5 @@
 -- `next_cell` is the reader's cell of a number.
-use Rattle.model.proofs.Prelude.{◌∙◌, ap, arith, rules}
+use Rattle.model.proofs.Prelude.{◌∙◌, ap, arith}
 use Rattle.model.specs.declared.Side.TheVariants.{Cell as further}
 use Rattle.image.proofs.Coding.{side_cell}
 use Rattle.image.proofs.place.next_cell.Goals as goal

@@ -1,8 +1,5 @@
 -- `place_in` meets its contract: at each turn of its loop the walk is on its way.
-use Rattle.model.proofs.Prelude.{◌∙◌, ◌≤◌, arith, rules}
-use Rattle.model.specs.declared.Side.TheVariants.{Cell as further}
-use Rattle.model.specs.Tries.{walk_of}
-use Rattle.image.specs.Courses.{Course}
+use Rattle.model.proofs.Prelude.{◌∙◌, arith}
 use Rattle.image.specs.Images.{trie_from}
 use Rattle.image.proofs.Coding.{side_slot}
 use Rattle.image.proofs.Courses.{begins, course_cell, course_none, course_past, course_slot, course_stray, no_cells, step_on, step_strays, too_many}

@@ -1,5 +1,5 @@
 -- `stepped` meets its contract: each way to go on, or not, is the definition's.
-use Rattle.model.proofs.Prelude.{ap, arith, get_or, rules, sym, ℕ}
+use Rattle.model.proofs.Prelude.{ap, arith, get_or, sym, ℕ}
 use Rattle.image.specs.Images.{cell_from, side_from}
 use Rattle.image.proofs.Courses.{above_goes, apart_goes, below_goes, last_strays, number_strays, on_goes, within_same}
 use Rattle.image.proofs.place.stepped.Goals as goal

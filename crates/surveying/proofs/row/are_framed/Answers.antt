@@ -1,8 +1,8 @@
 -- `are_framed` meets its contract: the slots passed are framed, and low is where the range of the last of them ends.
-use Rattle.model.proofs.Prelude.{◌+◌, ◌-◌, ◌<◌, ◌∙◌, ◌≡◌, ◌≤◌, ap, arith, clash, eqb-true, get_or, rules, not-false, subst, suc, sym, ℕ, ℕ_discrete}
+use Rattle.model.proofs.Prelude.{◌+◌, ◌-◌, ◌∙◌, ◌≡◌, ap, arith, clash, eqb-true, get_or, subst, suc, sym, ℕ, ℕ_discrete}
 use Rattle.model.specs.Format.{bytes_at_slot}
 use Rattle.digits.specs.Keys.{key_value}
-use Rattle.surveying.specs.Rows.{FramedAt, edge, place_before}
+use Rattle.surveying.specs.Rows.{edge, place_before}
 use Rattle.surveying.proofs.Rows.{framed_at}
 use Rattle.surveying.proofs.row.are_framed.Goals as goal
 

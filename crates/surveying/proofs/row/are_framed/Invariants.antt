@@ -1,9 +1,7 @@
 -- `are_framed` meets its contract: the slots passed are framed, and low is where the range of the last of them ends.
-use Rattle.model.proofs.Prelude.{◌+◌, ◌-◌, ◌<◌, ◌∙◌, ◌≡◌, ◌≤◌, ap, arith, clash, eqb-true, get_or, rules, not-false, subst, suc, sym, ℕ, ℕ_discrete}
-use Rattle.model.specs.Format.{bytes_at_slot}
+use Rattle.model.proofs.Prelude.{◌-◌, ◌<◌, ◌≡◌, ◌≤◌, get_or, ℕ}
 use Rattle.digits.specs.Keys.{key_value}
 use Rattle.surveying.specs.Rows.{FramedAt, edge, place_before}
-use Rattle.surveying.proofs.Rows.{framed_at}
 use Rattle.surveying.proofs.row.are_framed.Given as goal
 
 abbrev pub invariant-loop-j : goal.invariant-loop-j

@@ -1,8 +1,6 @@
 -- `are_named` meets its contract: where what was gathered is fine, the names of the slots passed rise.
-use Rattle.model.proofs.Prelude.{◌-◌, ◌<◌, ◌∙◌, ◌≤◌, ap, arith, eqb-true, rules, ℕ, ℕ_discrete}
+use Rattle.model.proofs.Prelude.{◌∙◌, ap, arith, eqb-true, ℕ, ℕ_discrete}
 use Rattle.model.specs.Format.{bytes_at_slot}
-use Rattle.gathering.specs.Names.{Fine}
-use Rattle.surveying.specs.Rows.{NamedAt}
 use Rattle.surveying.proofs.row.are_named.Goals as goal
 
 pub loop-place-init : goal.loop-place-init

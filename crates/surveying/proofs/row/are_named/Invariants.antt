@@ -1,6 +1,5 @@
 -- `are_named` meets its contract: where what was gathered is fine, the names of the slots passed rise.
-use Rattle.model.proofs.Prelude.{◌-◌, ◌<◌, ◌∙◌, ◌≤◌, ap, arith, eqb-true, rules, ℕ, ℕ_discrete}
-use Rattle.model.specs.Format.{bytes_at_slot}
+use Rattle.model.proofs.Prelude.{◌-◌, ◌<◌, ◌≤◌, ℕ}
 use Rattle.gathering.specs.Names.{Fine}
 use Rattle.surveying.specs.Rows.{NamedAt}
 use Rattle.surveying.proofs.row.are_named.Given as goal

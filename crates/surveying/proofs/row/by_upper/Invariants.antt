@@ -1,5 +1,5 @@
 -- `by_upper` meets its contract.
-use Rattle.model.proofs.Prelude.{◌-◌, ◌≤◌, rules}
+use Rattle.model.proofs.Prelude.{◌-◌, ◌≤◌}
 use Rattle.surveying.proofs.row.by_upper.Given as goal
 
 abbrev pub invariant-loop-k : goal.invariant-loop-k

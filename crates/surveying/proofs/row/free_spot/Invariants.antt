@@ -1,5 +1,5 @@
 -- `free_spot` meets its contract.
-use Rattle.model.proofs.Prelude.{◌-◌, ◌<◌, rules}
+use Rattle.model.proofs.Prelude.{◌-◌, ◌<◌}
 use Rattle.surveying.proofs.row.free_spot.Given as goal
 
 abbrev pub invariant-loop-spot : goal.invariant-loop-spot

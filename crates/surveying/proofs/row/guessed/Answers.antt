@@ -1,6 +1,5 @@
 -- `guessed` meets its contract: its numbers are slots.
-use Rattle.model.proofs.Prelude.{◌-◌, ◌<◌, ◌∙◌, ◌≡◌, ◌≤◌, arith, length, length-replicate, length-set, rules, ℕ}
-use Rattle.file.specs.Sizes.{Below}
+use Rattle.model.proofs.Prelude.{◌-◌, ◌∙◌, arith, length-replicate, length-set, ℕ}
 use Rattle.file.proofs.Laws.{below_set, below_zeros, some_slot}
 use Rattle.surveying.proofs.row.guessed.Goals as goal
 

@@ -1,7 +1,6 @@
 -- `guessed` meets its contract: its numbers are slots.
-use Rattle.model.proofs.Prelude.{◌-◌, ◌<◌, ◌∙◌, ◌≡◌, ◌≤◌, arith, length, length-replicate, length-set, rules, ℕ}
+use Rattle.model.proofs.Prelude.{◌<◌, ◌≡◌, ◌≤◌, length}
 use Rattle.file.specs.Sizes.{Below}
-use Rattle.file.proofs.Laws.{below_set, below_zeros, some_slot}
 use Rattle.surveying.proofs.row.guessed.Given as goal
 
 abbrev pub invariant-loop-place : goal.invariant-loop-place

@@ -1,6 +1,5 @@
 -- `highest` meets its contract.
-use Rattle.model.proofs.Prelude.{◌-◌, rules}
-use Rattle.file.proofs.Laws.{some_slot}
+use Rattle.model.proofs.Prelude.{◌-◌}
 use Rattle.surveying.proofs.row.highest.Given as goal
 
 abbrev pub invariant-loop-spot : goal.invariant-loop-spot

@@ -1,5 +1,5 @@
 -- `is_placed` meets its contract.
-use Rattle.model.proofs.Prelude.{◌∙◌, arith, clash, eqb-true, rules, sym}
+use Rattle.model.proofs.Prelude.{◌∙◌, arith, clash, eqb-true, sym}
 use Rattle.surveying.proofs.row.is_placed.Goals as goal
 
 pub returns-then-count-place : goal.returns-then-count-place

@@ -1,5 +1,5 @@
 -- `is_row` meets its contract.
-use Rattle.model.proofs.Prelude.{arith, clash, rules, not-false}
+use Rattle.model.proofs.Prelude.{arith, clash}
 use Rattle.surveying.proofs.Rows.{row_of}
 use Rattle.surveying.proofs.row.is_row.Goals as goal
 

@@ -1,5 +1,4 @@
 -- `under` meets its contract.
-use Rattle.model.proofs.Prelude.{◌-◌, rules}
 use Rattle.file.proofs.Laws.{some_slot}
 use Rattle.surveying.proofs.row.under.Goals as goal
 

@@ -1,5 +1,5 @@
 -- `begin` meets its contract: the path is empty, and the place is the root's.
-use Rattle.model.proofs.Prelude.{rules, refl}
+use Rattle.model.proofs.Prelude.{refl}
 use Rattle.trie.proofs.Laws.{begins}
 use Rattle.trie.proofs.Walk.begin.Goals as goal
 

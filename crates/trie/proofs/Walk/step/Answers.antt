@@ -1,5 +1,5 @@
 -- `step` meets its contract: the path with the digit written into it is the cell's string.
-use Rattle.model.proofs.Prelude.{◌∙◌, arith, rules, sym}
+use Rattle.model.proofs.Prelude.{◌∙◌, arith, sym}
 use Rattle.trie.proofs.Laws.{goes_left, goes_right, last_strays, number_strays, strays}
 use Rattle.trie.proofs.Walk.step.Goals as goal
 
