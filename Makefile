@@ -21,10 +21,8 @@ STATES ?= 100000
 crash: python
 	@python3 python/tests/crash.py $(STATES)
 
-# The static library for C, Rust and whoever links it, in target/staticlib. All crates are checked first, because `rt all check`
-# proves side by side what the archive's own build would prove one after the other.
+# The static library for C, Rust and whoever links it, in target/staticlib. Every crate is checked for it.
 library:
-	@rt all check
 	@scripts/archive
 
 # The same as a shared library, in the Python package, and the package's extensions, where Python's headers are.

@@ -1,8 +1,8 @@
 #!/bin/sh
 # Builds the library of an earlier commit, proved like every other, and prints where it is: bench/before.sh COMMIT
 #
-# What was built stays in build/before under the commit's number, and is not built again. It is built outside the checkout, where `rt
-# ci` would take its crates for ours.
+# What was built stays in build/before under the commit's number, and is not built again. It is built outside the checkout, since `rt
+# ci` refuses a second crates.txt in one. A commit that an older Rattle proved cannot be built.
 set -eu
 
 cd "$(dirname "$0")/.."
@@ -16,6 +16,10 @@ if [ ! -f "$kept" ]; then
     tree=$(mktemp -d)
     trap 'rm -rf "$tree"' EXIT
     git archive "$commit" | tar -x -C "$tree"
+    if [ ! -d "$tree/crates/capi_c" ]; then
+        echo "bench: $1 was proved by an older Rattle and cannot be built; name a library's file" >&2
+        exit 1
+    fi
     make --no-print-directory -C "$tree" library >&2
     mkdir -p build/before
     mv "$tree/target/staticlib/libcapi.a" "$kept"

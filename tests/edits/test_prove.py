@@ -39,6 +39,17 @@ class Prove(unittest.TestCase):
         said = OK.replace("3 refused", "2 refused, 1 bad") + "5 passed, 0 failed\n"
         self.assertEqual(self.run_script(said), (1, "5 passed, 1 failed"))
 
+    def test_an_edit_refused_by_a_limit_alone_fails(self):
+        said = OK.replace("3 refused", "3 refused, 1 of them only by a limit") + "5 passed, 0 failed\n"
+        self.assertEqual(self.run_script(said), (1, "5 passed, 1 failed"))
+
+    def test_the_libraries_that_lie_there_are_listed(self):
+        self.run_script(OK + "5 passed, 0 failed\n")
+        self.assertEqual((self.top / "build" / "libraries-before").read_text(), "")
+        (self.top / "crates" / "c" / "out" / "rlib").mkdir(parents=True)
+        self.run_script(OK + "5 passed, 0 failed\n")
+        self.assertEqual((self.top / "build" / "libraries-before").read_text(), "crates/c/out/rlib\n")
+
     def test_a_run_that_does_not_say_ok_fails(self):
         self.assertEqual(self.run_script("5 passed, 0 failed\n"), (1, "5 passed, 1 failed"))
 

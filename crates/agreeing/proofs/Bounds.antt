@@ -203,12 +203,12 @@ module _ (file order : List ℕ) (size : Size) (count : ℕ) (cs : List Cell) (c
   pub reaches_step : {g h : Standing} (n j B C k : ℕ) (x xs ys : List ℕ) → Below order size.slots → 1 ≤ j → j < count → B ≡ get_or order (j - 1) 0 → C ≡ get_or order j 0
       → xs ≡ bytes_at_slot size.layout B file → ys ≡ bytes_at_slot size.layout C file → x ≡ upper_bytes xs → SharedTold k xs ys → k ≤ length x
       → Reaches g n j → Onward cs cells (BoundAt x k B C) (length x - k) g h → Reaches h (n + (length x - k)) (j + 1)
-  reaches_step n j B C k x xs ys below first more b-is c-is xs-is ys-is x-is told fits R O fs g =
-      let U : Uppered xs ((ranges fs).upper (get_or (order_of fs) (j - 1) 0)) = rw xs-is (uppered_at file order size count fs g (j - 1) B (omega arith) b-is (rw b-is (below (j - 1)))) in
-      let W : Uppered ys ((ranges fs).upper (get_or (order_of fs) j 0)) = rw ys-is (uppered_at file order size count fs g j C more c-is (rw c-is (below j))) in
-      let u : x ≡ (ranges fs).upper (get_or (order_of fs) (j - 1) 0) = x-is ∙ uppered_bytes U in
+  reaches_step n j B C k x xs ys below first more b_is c_is xs_is ys_is x_is told fits R O fs g =
+      let U : Uppered xs ((ranges fs).upper (get_or (order_of fs) (j - 1) 0)) = rw xs_is (uppered_at file order size count fs g (j - 1) B (omega arith) b_is (rw b_is (below (j - 1)))) in
+      let W : Uppered ys ((ranges fs).upper (get_or (order_of fs) j 0)) = rw ys_is (uppered_at file order size count fs g j C more c_is (rw c_is (below j))) in
+      let u : x ≡ (ranges fs).upper (get_or (order_of fs) (j - 1) 0) = x_is ∙ uppered_bytes U in
       reached_step fs cs cells a (R fs g) B C k x ((ranges fs).upper (get_or (order_of fs) j 0)) (omega (arith, g.2))
-      (b-is ∙ order_at file order size count fs g (j - 1) (omega arith)) (c-is ∙ order_at file order size count fs g j more) u refl (rw u (told _ _ U W)) fits O
+      (b_is ∙ order_at file order size count fs g (j - 1) (omega arith)) (c_is ∙ order_at file order size count fs g j more) u refl (rw u (told _ _ U W)) fits O
 
   pub reaches_end : (image : List ℕ) (side : ℕ) → cs ≡ (trie_from image).cells → a ≡ side_from side
       → (marks arr : List ℕ) (p : Spot) (n j x : ℕ) → 1 ≤ j → count ≤ j → p.side ≡ x → x ≡ get_or order (j - 1) 0 → x < 256 → p.top ≡ 0 → n ≡ cells

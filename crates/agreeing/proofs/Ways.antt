@@ -128,9 +128,9 @@ module _ (marks cells : List ℕ) (count side top least k : ℕ) (R : Roomy mark
   pub entered_on : {cs : List Cell} {f : Standing} (byte left : ℕ) → 32768 ≤ side → k ≡ 65536 - side → byte ≡ k → least ≤ (at_cell cs k).number → side_from left ≡ (at_cell cs k).left
       → Onward cs count Whatever 0 f (standing marks cells (record { side = side; top = top; least = least }))
       → Onward cs count Whatever 0 f (standing (set marks k 1) (set cells top byte) (record { side = left; top = top + 1; least = least }))
-  entered_on byte left h k-is e l q P =
+  entered_on byte left h k_is e l q P =
       let push : stack (top + 1) (set cells top byte) ≡ k ∷ stack top cells = rw e (stack_push top cells k (omega (arith, R.room, marks_room, R.cells_whole))) in
-      let side_is : side_from side ≡ further k = rw k-is (side_further side h) in
+      let side_is : side_from side ≡ further k = rw k_is (side_further side h) in
       rw (push, q) (onward_then 0 P (onward_enter marks (stack top cells) (side_from side) k least side_is inside within new l) refl (λ s d a. (tt, tt)))
 
 -- What `string_met` does at a leaf.
@@ -145,8 +145,8 @@ module _ (marks cells : List ℕ) (leaf : Spot) where
       → k ≡ get_or cells (leaf.top - 1) 0 → (at_cell cs k).digit ≡ digit → (at_cell cs k).number ≡ number → side_from right ≡ (at_cell cs k).right
       → Onward cs count Whatever 0 f (standing marks cells leaf)
       → Onward cs count (StringAt x number digit) 1 f (standing marks cells (record { side = right; top = leaf.top - 1; least = number }))
-  met_on {cs} {count} x number digit k right e h t k-is d n r P =
-      let pop : stack leaf.top cells ≡ k ∷ stack (leaf.top - 1) cells = rw k-is (stack_pop leaf.top cells t) in
+  met_on {cs} {count} x number digit k right e h t k_is d n r P =
+      let pop : stack leaf.top cells ≡ k ∷ stack (leaf.top - 1) cells = rw k_is (stack_pop leaf.top cells t) in
       let side_is : side_from leaf.side ≡ slot x = rw e (sym (side_slot x (omega arith))) in
       let Q = onward_meet {cs = cs} {count = count} marks (stack (leaf.top - 1) cells) (side_from leaf.side) x k leaf.least side_is in
       rw (← d, ← n, r) (onward_then 1 (rw pop at P) Q refl (λ s q a. (tt, rw add-zero a)))

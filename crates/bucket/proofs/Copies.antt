@@ -89,7 +89,7 @@ module _ (y : Layout) (n a : List ℕ) where
     abbrev test : Bool
     test = is_upper_part (entry_length y) (drop 64 n) (count_at y.b n) (drop 64 a) (count_at y.b a) kn
 
-    module _ (ln-size : length n ≡ 64 + entry_length y * y.b) (la-size : length a ≡ 64 + entry_length y * y.b) (gn : AreBytes n) (ga : AreBytes a) where
+    module _ (ln_size : length n ≡ 64 + entry_length y * y.b) (la_size : length a ≡ 64 + entry_length y * y.b) (gn : AreBytes n) (ga : AreBytes a) where
       module _ {ln la : Low} {un ua : Str} {en ea : List Entry} (rn : ReadAs y n ln un en) (ra : ReadAs y a la ua ea) (low : Str) (i : ln ≡ at low) where
         N : Reads y n ln un en
         N = reads y n rn.0 rn.1
@@ -117,7 +117,7 @@ module _ (y : Layout) (n a : List ℕ) where
         test_is : test ≡ met (entry_length y) (move low ea) en
         test_is =
             ap (is_upper_part (entry_length y) (drop 64 n) (count_at y.b n) (drop 64 a) (count_at y.b a)) key
-            ∙ upper_part (entry_length y) (count_at y.b n) (count_at y.b a) (drop 64 n) (drop 64 a) least (entries_fit n ln-size N) (entries_fit a la-size A)
+            ∙ upper_part (entry_length y) (count_at y.b n) (count_at y.b a) (drop 64 n) (drop 64 a) least (entries_fit n ln_size N) (entries_fit a la_size A)
             (bytes_drop 64 n gn) (bytes_drop 64 a ga) (row_read N cn) (row_read A ca) N.row A.row low legal
 
         pub test_copied : test ≡ true → Copied (move low ea) en

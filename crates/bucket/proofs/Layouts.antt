@@ -67,10 +67,10 @@ row_entries : (e : ℕ) → 24 ≤ e → (es : List Entry) (ys : List ℕ) (l : 
     → is_row l es u ≡ true → are_entries e (length es) (bytes_of_entries e es ++ ys) (low_value l) (value (continued u)) ≡ true
 unfolding are_entries is_row bytes_of_entries bytes_of_entry is_legal_low low_value
 row_entries e big [] ys l u g h k q = rw (le-ltb (value (continued u)) (low_value l) k)
-row_entries e big (x ∷ es) ys l u g h k true-row =
+row_entries e big (x ∷ es) ys l u g h k true_row =
     let n = x.0 in
     let hi = value (continued u) in
-    let p = both_true (is_legal_filled n && is_above l n && is_at_most n u) (is_row (at n) es u) true-row in
+    let p = both_true (is_legal_filled n && is_above l n && is_at_most n u) (is_row (at n) es u) true_row in
     let q = both_true (is_legal_filled n && is_above l n) (is_at_most n u) p.0 in
     let s = both_true (is_legal_filled n) (is_above l n) q.0 in
     let len : length n ≡ 24 = legal_length (is_legal_filled_legal n s.0) in

@@ -110,7 +110,7 @@ module _ {xs : List ℕ} {size : Size} {order : List ℕ} {count map : ℕ} (few
     said k e = sym (check_slots size.layout size.slots xs L.slots read_is ∙ e)
 
     -- No two neighbours with one upper bound: sound, or bad.
-    module _ (place : ℕ) (T : Twinned L.slots order count place) (None-found : count ≤ place) (r : Bool) (C : Chained r (ranges L.slots) (take count order)) where
+    module _ (place : ℕ) (T : Twinned L.slots order count place) (none_found : count ≤ place) (r : Bool) (C : Chained r (ranges L.slots) (take count order)) where
       apart : Apart L.slots (take count order)
       apart = neighbours_places (Differ (ranges L.slots)) (take count order)
           (λ j h.

@@ -234,10 +234,10 @@ module _ (b : ℕ) where
 
   pub merge_fine : {fs : List Slot} {m : Map} → Fine fs m → (L R : ℕ) (l : Low) (s u : Str) (es gs : List Entry) → slot_at fs L ≡ used l s es → slot_at fs R ≡ used (at s) u gs
       → (n : Str) → l ◁ n → n ⊑ u → length (without n (es ++ gs)) ≤ b / 2 → Fine (stored (merged n L R l u es gs) fs) (meant (remove n) m)
-  merge_fine {fs} {m} F L R l s u es gs l-is r_is n lo up k = record {
-    sound = merge_sound b fs F.sound L R l s u es gs l-is r_is n lo up k;
-    means = merge_means b fs F.sound L R l s u es gs l-is r_is n lo up m F.means;
-    few = omega (arith, merge_few b fs F.sound L R l s u es gs l-is r_is n lo up k, F.few);
+  merge_fine {fs} {m} F L R l s u es gs l_is r_is n lo up k = record {
+    sound = merge_sound b fs F.sound L R l s u es gs l_is r_is n lo up k;
+    means = merge_means b fs F.sound L R l s u es gs l_is r_is n lo up m F.means;
+    few = omega (arith, merge_few b fs F.sound L R l s u es gs l_is r_is n lo up k, F.few);
   }
 
   -- A store that keeps the range keeps the number of strings.
@@ -261,10 +261,10 @@ module _ (b : ℕ) where
   removal_made {fs} {m} F A l u es n is lo up (rightward {R = R} {v = v} {gs = gs} r_is k) =
       let up' : n ⊑ v = le_trans up (lt_le (over (well_a fs F.sound R (at u) v gs r_is).2)) in
       merge_fine F A R l u v es gs is r_is n lo up' k
-  removal_made {fs} {m} F A l u es n is lo up (leftward {L = L} {k = k} {s = s} {ds = ds} c q l-is f) =
+  removal_made {fs} {m} F A l u es n is lo up (leftward {L = L} {k = k} {s = s} {ds = ds} c q l_is f) =
       let r_is : slot_at fs A ≡ used (at s) u es = is ∙ ap (λ x. used x u es) q in
-      let lo' : k ◁ n = low_lower (low_at (well_a fs F.sound L k s ds l-is).2) (rw q at lo) in
-      merge_fine F L A k s u ds es l-is r_is n lo' up f
+      let lo' : k ◁ n = low_lower (low_at (well_a fs F.sound L k s ds l_is).2) (rw q at lo) in
+      merge_fine F L A k s u ds es l_is r_is n lo' up f
 
   -- No string is new.
   pub removal_few : {fs : List Slot} (S : Sound b fs) (A : ℕ) (l : Low) (u : Str) (es : List Entry) (n : Str) → slot_at fs A ≡ used l u es → l ◁ n → n ⊑ u
@@ -277,10 +277,10 @@ module _ (b : ℕ) where
   removal_few {fs} S A l u es n is lo up (rightward {R = R} {v = v} {gs = gs} r_is k) =
       let up' : n ⊑ v = le_trans up (lt_le (over (well_a fs S R (at u) v gs r_is).2)) in
       merge_few b fs S A R l u v es gs is r_is n lo up' k
-  removal_few {fs} S A l u es n is lo up (leftward {L = L} {k = k} {s = s} {ds = ds} c q l-is f) =
+  removal_few {fs} S A l u es n is lo up (leftward {L = L} {k = k} {s = s} {ds = ds} c q l_is f) =
       let r_is : slot_at fs A ≡ used (at s) u es = is ∙ ap (λ x. used x u es) q in
-      let lo' : k ◁ n = low_lower (low_at (well_a fs S L k s ds l-is).2) (rw q at lo) in
-      merge_few b fs S L A k s u ds es l-is r_is n lo' up f
+      let lo' : k ◁ n = low_lower (low_at (well_a fs S L k s ds l_is).2) (rw q at lo) in
+      merge_few b fs S L A k s u ds es l_is r_is n lo' up f
 
   -- A removal stopped after a store: only a merge can be, after its first of two.
   pub removal_stopped : {fs : List Slot} {m : Map} → Fine fs m → (A : ℕ) (l : Low) (u : Str) (es : List Entry) (n : Str) (w : ℕ) → slot_at fs A ≡ used l u es → l ◁ n → n ⊑ u
@@ -290,12 +290,12 @@ module _ (b : ℕ) where
   removal_stopped {fs} F A l u es n w is lo up e (rightward {R = R} {v = v} {gs = gs} r_is k) zero h =
       let up' : n ⊑ v = le_trans up (lt_le (over (well_a fs F.sound R (at u) v gs r_is).2)) in
       (R, merge_cut b fs F.sound A R l u v es gs is r_is n lo up' k (inl up), refl)
-  removal_stopped {fs} F A l u es n w is lo up e (leftward {L = L} {k = k} {s = s} {ds = ds} c q l-is f) zero h =
+  removal_stopped {fs} F A l u es n w is lo up e (leftward {L = L} {k = k} {s = s} {ds = ds} c q l_is f) zero h =
       let r_is : slot_at fs A ≡ used (at s) u es = is ∙ ap (λ x. used x u es) q in
-      let lo' : k ◁ n = low_lower (low_at (well_a fs F.sound L k s ds l-is).2) (rw q at lo) in
-      (A, merge_cut b fs F.sound L A k s u ds es l-is r_is n lo' up f (inr (w, e)), refl)
+      let lo' : k ◁ n = low_lower (low_at (well_a fs F.sound L k s ds l_is).2) (rw q at lo) in
+      (A, merge_cut b fs F.sound L A k s u ds es l_is r_is n lo' up f (inr (w, e)), refl)
   removal_stopped F A l u es n w is lo up e (rightward r_is k) (suc j) h = absurd (omega arith)
-  removal_stopped F A l u es n w is lo up e (leftward c q l-is f) (suc j) h = absurd (omega arith)
+  removal_stopped F A l u es n w is lo up e (leftward c q l_is f) (suc j) h = absurd (omega arith)
 
   module _ (place : List Entry → ℕ) (place_lt : (ws : List Entry) → place ws < b) where
     -- No change has more than two stores.

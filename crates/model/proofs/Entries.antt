@@ -183,24 +183,24 @@ at_find (e ∷ es) (suc i) h = elim (str? (name_at es i) e.0) [
 
 -- The split string of two entries lies strictly inside the range, from the first of them on and below the second: for a
 -- split key at any place before the last name.
-module _ {l : Low} {u : Str} {ws : List Entry} (R : Row l ws u) (i j : ℕ) (i_lt : i < j) (j-lt : j < length ws) where
+module _ {l : Low} {u : Str} {ws : List Entry} (R : Row l ws u) (i j : ℕ) (i_lt : i < j) (j_lt : j < length ws) where
   i_in : i < length ws
   i_in = omega arith
 
   pub split_take : split_string i j ws ≡ take (suc (diff (name_at ws i) (name_at ws j))) (name_at ws i)
-  split_take = split_is (name_at ws i) (name_at ws j) (row_lt R i j i_lt j-lt)
+  split_take = split_is (name_at ws i) (name_at ws j) (row_lt R i j i_lt j_lt)
 
   pub split_key : name_at ws i ⊑ split_string i j ws
   split_key = rw split_take (le_take (suc (diff (name_at ws i) (name_at ws j))) (name_at ws i))
 
   pub split_last : split_string i j ws ≺ name_at ws j
-  split_last = rw split_take (split_lt (name_at ws i) (name_at ws j) (row_lt R i j i_lt j-lt))
+  split_last = rw split_take (split_lt (name_at ws i) (name_at ws j) (row_lt R i j i_lt j_lt))
 
   pub split_over : l ◁ split_string i j ws
   split_over = low_le (row_at R i i_in).1 split_key
 
   pub split_under : split_string i j ws ≺ u
-  split_under = lt_le_trans split_last (row_at R j j-lt).2
+  split_under = lt_le_trans split_last (row_at R j j_lt).2
 
   pub split_bound : Bound (split_string i j ws)
   split_bound = rw split_take (legal_bound (row_at R i i_in).0 (suc (diff (name_at ws i) (name_at ws j))))

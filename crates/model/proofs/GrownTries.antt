@@ -57,7 +57,7 @@ root_further zero first h = absurd (h refl)
 root_further (suc count) first h = refl
 
 root_right : {F : RangeTable} {Bs : List ℕ} {cs : List Cell} {a : Side} → CellsAgree F Bs cs a → ((m : ℕ) → a ≡ further m → m ≡ 0) → a ≡ root_side (length cs) (first_leaf_of a)
-root_right {cs = cs} {a = a} A zero-root = go a A.reads (visits_count A.reads A.each) zero-root
+root_right {cs = cs} {a = a} A zero_root = go a A.reads (visits_count A.reads A.each) zero_root
   where
     go : (a : Side) {t : Tree} {vs : List ℕ} → Reads cs a t vs → length vs ≡ length cs → ((m : ℕ) → a ≡ further m → m ≡ 0) → a ≡ root_side (length cs) (first_leaf_of a)
     go (slot s) here e f = rw (← e)
@@ -132,10 +132,10 @@ module _ (b : ℕ) where
   removal_agrees {fs} S A l u es n is lo up (rightward {R = R} {v = v} {gs = gs} r_is k) G =
       let up' : n ⊑ v = le_trans up (lt_le (over (well_a b fs S R (at u) v gs r_is).2)) in
       rebuilt_trie_agrees b (merge_sound b fs S A R l u v es gs is r_is n lo up' k) (omega (arith, merge_few b fs S A R l u v es gs is r_is n lo up' k, agrees_few b S G))
-  removal_agrees {fs} S A l u es n is lo up (leftward {L = L} {k = k} {s = s} {ds = ds} c q l-is f) G =
+  removal_agrees {fs} S A l u es n is lo up (leftward {L = L} {k = k} {s = s} {ds = ds} c q l_is f) G =
       let r_is : slot_at fs A ≡ used (at s) u es = is ∙ ap (λ x. used x u es) q in
-      let lo' : k ◁ n = low_lower (low_at (well_a b fs S L k s ds l-is).2) (rw q at lo) in
-      rebuilt_trie_agrees b (merge_sound b fs S L A k s u ds es l-is r_is n lo' up f) (omega (arith, merge_few b fs S L A k s u ds es l-is r_is n lo' up f, agrees_few b S G))
+      let lo' : k ◁ n = low_lower (low_at (well_a b fs S L k s ds l_is).2) (rw q at lo) in
+      rebuilt_trie_agrees b (merge_sound b fs S L A k s u ds es l_is r_is n lo' up f) (omega (arith, merge_few b fs S L A k s u ds es l_is r_is n lo' up f, agrees_few b S G))
 
   pub change_agrees : (place : List Entry → ℕ) → ((ws : List Entry) → place ws < b) → {fs : List Slot} {q : Request} {ss : List Store} (S : Sound b fs) (c : Change b place fs q ss) {t : Trie} → Agrees fs t → Agrees (stored ss fs) (trie_after b place c t)
   unfolding trie_after

@@ -159,15 +159,15 @@ bound_free p = elim p [ ]
 
 -- L and R are neighbours of a sound file, with the bound s between them.
 module _ (b : ℕ) (fs : List Slot) (S : Sound b fs) (L R : ℕ) (l : Low) (s u : Str) (es gs : List Entry)
-    (l-is : slot_at fs L ≡ used l s es) (r_is : slot_at fs R ≡ used (at s) u gs) where
+    (l_is : slot_at fs L ≡ used l s es) (r_is : slot_at fs R ≡ used (at s) u gs) where
   pub well_l : BoundLow l × Bound s × (l ◁ s) × Row l es s × (length es ≤ b)
-  well_l = well_parts b (rw l-is at (S.well L))
+  well_l = well_parts b (rw l_is at (S.well L))
 
   pub well_r : BoundLow (at s) × Bound u × (at s ◁ u) × Row (at s) gs u × (length gs ≤ b)
   well_r = well_parts b (rw r_is at (S.well R))
 
   inside_l : L < length fs
-  inside_l = used_inside fs L (rw l-is tt)
+  inside_l = used_inside fs L (rw l_is tt)
 
   inside_r : R < length fs
   inside_r = used_inside fs R (rw r_is tt)
@@ -180,15 +180,15 @@ module _ (b : ℕ) (fs : List Slot) (S : Sound b fs) (L R : ℕ) (l : Low) (s u 
 
   pub left_not_right : L ≢ R
   left_not_right e =
-      let q : l ≡ at s = ap (λ x. lower_of (head x)) (sym l-is ∙ ap (slot_at fs) e ∙ r_is) in
+      let q : l ≡ at s = ap (λ x. lower_of (head x)) (sym l_is ∙ ap (slot_at fs) e ∙ r_is) in
       over (rw q at well_l.2) (le_refl s)
 
   -- R comes right after L.
   pub neighbours : (Xs : List ℕ) × (Ys : List ℕ) × (S.order ≡ Xs ++ (L ∷ R ∷ Ys))
-  neighbours = go (mem_parts S.order (S.listed L (rw l-is tt)))
+  neighbours = go (mem_parts S.order (S.listed L (rw l_is tt)))
     where
       upper_l : upper_of (head (slot_at fs L)) ≡ s
-      upper_l = ap (λ x. upper_of (head x)) l-is
+      upper_l = ap (λ x. upper_of (head x)) l_is
 
       not_last : (ranges fs).upper L ≺ []
       not_last h = s_under (le_trans top (rw upper_l at h))
@@ -223,7 +223,7 @@ module _ (b : ℕ) (fs : List Slot) (S : Sound b fs) (L R : ℕ) (l : Low) (s u 
     pub joins : Joins (ranges fs) (ranges joined) L R
     joins = record {
       left_used = rw joined_left tt;
-      left_lower = rw (joined_left, l-is);
+      left_lower = rw (joined_left, l_is);
       left_upper = rw (joined_left, r_is);
       other = λ B d c h. let e : slot_at joined B ≡ slot_at fs B = get_or-set_other widened R B free free c ∙ get_or-set_other fs L B (used l u ws) free d in
           (rw e h, rw e, rw e);
@@ -270,7 +270,7 @@ module _ (b : ℕ) (fs : List Slot) (S : Sound b fs) (L R : ℕ) (l : Low) (s u 
         (λ h. f k h.1 h.2)
         (λ h. absurd h.0)
         (λ B d c h. M k B h ∙ g k (λ q. elim (le? k s) [
-          | yes p ↦ d (one_range b S k h (rw l-is (tt, q.1, p)))
+          | yes p ↦ d (one_range b S k h (rw l_is (tt, q.1, p)))
           | no p ↦ c (one_range b S k h (rw r_is (tt, above p, q.2)))
         ]))
 
@@ -281,7 +281,7 @@ module _ (b : ℕ) (fs : List Slot) (S : Sound b fs) (L R : ℕ) (l : Low) (s u 
       where
         found : (B : ℕ) (y : Str) → BoundOf (head (slot_at joined B)) y → (C : ℕ) × BoundOf (head (slot_at fs C)) y
         found B y = in_joined (λ B x. BoundOf (head x) y → (C : ℕ) × BoundOf (head (slot_at fs C)) y)
-            (λ h. elim (bound_parts h) [ inl q ↦ (L, rw (l-is, q) lower_bound) | inr q ↦ (R, rw (r_is, q) upper_bound) ])
+            (λ h. elim (bound_parts h) [ inl q ↦ (L, rw (l_is, q) lower_bound) | inr q ↦ (R, rw (r_is, q) upper_bound) ])
             (λ h. absurd (bound_free h))
             (λ B d c h. (B, h)) B
 
@@ -333,7 +333,7 @@ module _ (b : ℕ) (fs : List Slot) (S : Sound b fs) (L R : ℕ) (l : Low) (s u 
 
     pub find_both : (m : Map) → Means fs m → (k : Str) → l ◁ k → k ⊑ u → find k (es ++ gs) ≡ m k
     find_both m M k a c = elim (le? k s) [
-      | yes h ↦ find_left es gs k (find_above well_r.3 k (λ q. over q h)) ∙ (rw l-is at (M k L (rw l-is (tt, a, h))))
+      | yes h ↦ find_left es gs k (find_above well_r.3 k (λ q. over q h)) ∙ (rw l_is at (M k L (rw l_is (tt, a, h))))
       | no h ↦ find_right well_l.3 gs k h ∙ (rw r_is at (M k R (rw r_is (tt, above h, c))))
     ]
 
@@ -540,21 +540,21 @@ module _ (b : ℕ) {fs : List Slot} (S : Sound b fs) (A : ℕ) (l : Low) (u : St
     pub last_not_right : (Xs : List ℕ) → order_of fs ≡ Xs ++ (A ∷ []) → ¬ ToRight b fs n A l u es
     last_not_right Xs e h = rw (right_none Xs e) at h
 
-    module _ (Xs : List ℕ) (L : ℕ) (Ys : List ℕ) (e : order_of fs ≡ Xs ++ (L ∷ A ∷ Ys)) {k : Low} {s : Str} {ds : List Entry} (l-is : slot_at fs L ≡ used k s ds) where
+    module _ (Xs : List ℕ) (L : ℕ) (Ys : List ℕ) (e : order_of fs ≡ Xs ++ (L ∷ A ∷ Ys)) {k : Low} {s : Str} {ds : List Entry} (l_is : slot_at fs L ≡ used k s ds) where
       low_s : l ≡ at s
-      low_s = (left_next Xs L Ys e).1 ∙ ap at (ap (λ x. upper_of (head x)) l-is)
+      low_s = (left_next Xs L Ys e).1 ∙ ap at (ap (λ x. upper_of (head x)) l_is)
 
       left_is : slot_at fs A ≡ used (at s) u es
       left_is = is ∙ ap (λ x. used x u es) low_s
 
       left_size : suc (length (without n (ds ++ es))) ≡ length ds + length es
-      left_size = size_left b fs S L A k s u ds es l-is left_is n (low_lower (low_at (well_l b fs S L A k s u ds es l-is left_is).2) (rw low_s at lo)) up (over (rw low_s at lo)) held
+      left_size = size_left b fs S L A k s u ds es l_is left_is n (low_lower (low_at (well_l b fs S L A k s u ds es l_is left_is).2) (rw low_s at lo)) up (over (rw low_s at lo)) held
 
       pub by_left : ¬ ToRight b fs n A l u es → length ds + length es ≤ suc (b / 2) → removal b fs n A l u es ≡ merged n L A k u ds es
-      by_left c h = removal_left b fs n A l u es c (left_next Xs L Ys e).0 l-is (omega (arith, left_size, h))
+      by_left c h = removal_left b fs n A l u es c (left_next Xs L Ys e).0 l_is (omega (arith, left_size, h))
 
       pub not_left : suc (b / 2) < length ds + length es → ¬ ToLeft b fs n A l u es
-      not_left h c = omega (arith, left_size, h, rw ((left_next Xs L Ys e).0, l-is) at c)
+      not_left h c = omega (arith, left_size, h, rw ((left_next Xs L Ys e).0, l_is) at c)
 
     pub first_not_left : (Ys : List ℕ) → order_of fs ≡ A ∷ Ys → ¬ ToLeft b fs n A l u es
     first_not_left Ys e h = rw (left_none Ys e) at h

@@ -107,7 +107,7 @@ pub positions_two : positions 2 ≡ 2 ∷ 1 ∷ []
 unfolding positions only_from
 positions_two = refl
 
-module _ (b : ℕ) (b-two : 2 ≤ b) where
+module _ (b : ℕ) (b_two : 2 ≤ b) where
   -- m, then m − 1, then m + 1 if it is not above b.
   positions_first : positions b ≡ (b / 2 + 1) ∷ (b / 2) ∷ only_from 1 b ((b / 2 + 2) ∷ [])
   unfolding positions only_from

@@ -58,20 +58,20 @@ unfolding one_sound
 one_order_of b fs S A l u es is es' r k = order_right b (one_sound b fs S A l u es is es' r k) ∙ sym (order_right b S)
 
 module _ (b : ℕ) (fs : List Slot) (S : Sound b fs) where
-  pub merge_entries : (L R : ℕ) (l : Low) (s u : Str) (es gs : List Entry) (l-is : slot_at fs L ≡ used l s es) (r_is : slot_at fs R ≡ used (at s) u gs)
+  pub merge_entries : (L R : ℕ) (l : Low) (s u : Str) (es gs : List Entry) (l_is : slot_at fs L ≡ used l s es) (r_is : slot_at fs R ≡ used (at s) u gs)
       (n : Str) (lo : l ◁ n) (up : n ⊑ u) (few : length (without n (es ++ gs)) ≤ b / 2)
-      → entries_in (after_second b fs S L R l s u es gs l-is r_is n lo up) (order_of (after_second b fs S L R l s u es gs l-is r_is n lo up)) ≡ without n (entries_in fs (order_of fs))
+      → entries_in (after_second b fs S L R l s u es gs l_is r_is n lo up) (order_of (after_second b fs S L R l s u es gs l_is r_is n lo up)) ≡ without n (entries_in fs (order_of fs))
   unfolding entries_in
-  merge_entries L R l s u es gs l-is r_is n lo up few = go (neighbours b fs S L R l s u es gs l-is r_is)
+  merge_entries L R l s u es gs l_is r_is n lo up few = go (neighbours b fs S L R l s u es gs l_is r_is)
     where
       hs : List Slot
-      hs = after_second b fs S L R l s u es gs l-is r_is n lo up
+      hs = after_second b fs S L R l s u es gs l_is r_is n lo up
 
       lacks : (B : ℕ) → B ≢ L → B ≢ R → without n (entries_of (slot_at fs B)) ≡ entries_of (slot_at hs B)
       lacks B d c =
           let e : slot_at hs B ≡ slot_at fs B = get_or-set_other (set fs L (used l u (without n (es ++ gs)))) R B free free c ∙ get_or-set_other fs L B (used l u (without n (es ++ gs))) free d in
           without_out b n (slot_at fs B) (S.well B) (λ h. elim (le? n s) [
-            | yes p ↦ d (one_range b S n h (rw l-is (tt, lo, p)))
+            | yes p ↦ d (one_range b S n h (rw l_is (tt, lo, p)))
             | no p ↦ c (one_range b S n h (rw r_is (tt, above p, up)))
           ]) ∙ sym (ap entries_of e)
 
@@ -82,15 +82,15 @@ module _ (b : ℕ) (fs : List Slot) (S : Sound b fs) where
           let front : without n (entries_in fs Xs) ≡ entries_in hs Xs = entries_in_without n fs hs Xs (λ B m. lacks B
           (λ q. chain_before (ranges fs) Xs L (R ∷ Ys) c B m L (mem_head refl) (sym q)) (λ q. chain_before (ranges fs) Xs L (R ∷ Ys) c B m R (mem_tail (mem_head refl)) (sym q))) in
           let rear : without n (entries_in fs Ys) ≡ entries_in hs Ys = entries_in_without n fs hs Ys (λ B m. let d = chain_behind (ranges fs) Xs L R Ys c B m in lacks B d.0 d.1) in
-          ap (entries_in hs) (merge_order b fs S L R l s u es gs l-is r_is n lo up few Xs Ys o)
+          ap (entries_in hs) (merge_order b fs S L R l s u es gs l_is r_is n lo up few Xs Ys o)
           ∙ entries_in_append hs Xs (L ∷ Ys)
-          ∙ ap (λ (x : Slot). entries_in hs Xs ++ (entries_of x ++ entries_in hs Ys)) (joined_left b fs S L R l s u es gs l-is r_is (without n (es ++ gs)))
+          ∙ ap (λ (x : Slot). entries_in hs Xs ++ (entries_of x ++ entries_in hs Ys)) (joined_left b fs S L R l s u es gs l_is r_is (without n (es ++ gs)))
           ∙ sym (without_parts n (entries_in fs Xs) es gs (entries_in fs Ys) front rear)
           ∙ ap (without n) (before Xs Ys)
           ∙ ap (λ (Bs : List ℕ). without n (entries_in fs Bs)) (sym o)
         where
           before : (Xs Ys : List ℕ) → entries_in fs Xs ++ (es ++ (gs ++ entries_in fs Ys)) ≡ entries_in fs (Xs ++ (L ∷ R ∷ Ys))
-          before Xs Ys = ap (λ (x : Slot). entries_in fs Xs ++ (entries_of x ++ (gs ++ entries_in fs Ys))) (sym l-is)
+          before Xs Ys = ap (λ (x : Slot). entries_in fs Xs ++ (entries_of x ++ (gs ++ entries_in fs Ys))) (sym l_is)
               ∙ ap (λ (x : Slot). entries_in fs Xs ++ (entries_of (slot_at fs L) ++ (entries_of x ++ entries_in fs Ys))) (sym r_is)
               ∙ sym (entries_in_append fs Xs (L ∷ R ∷ Ys))
 
@@ -100,10 +100,10 @@ module _ (b : ℕ) (fs : List Slot) (S : Sound b fs) where
   removal_entries A l u es n is lo up (rightward {R = R} {v = v} {gs = gs} r_is k) =
       let up' : n ⊑ v = le_trans up (lt_le (over (well_a b fs S R (at u) v gs r_is).2)) in
       merge_entries A R l u v es gs is r_is n lo up' k
-  removal_entries A l u es n is lo up (leftward {L = L} {k = k} {s = s} {ds = ds} c q l-is f) =
+  removal_entries A l u es n is lo up (leftward {L = L} {k = k} {s = s} {ds = ds} c q l_is f) =
       let r_is : slot_at fs A ≡ used (at s) u es = is ∙ ap (λ x. used x u es) q in
-      let lo' : k ◁ n = low_lower (low_at (well_a b fs S L k s ds l-is).2) (rw q at lo) in
-      merge_entries L A k s u ds es l-is r_is n lo' up f
+      let lo' : k ◁ n = low_lower (low_at (well_a b fs S L k s ds l_is).2) (rw q at lo) in
+      merge_entries L A k s u ds es l_is r_is n lo' up f
   removal_entries A l u es n is lo up (alone c d) = ap (entries_in hs) order ∙ sym (entries_in_without n fs hs (order_of fs) (λ B m. each B))
     where
       hs : List Slot

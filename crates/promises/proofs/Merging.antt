@@ -70,7 +70,7 @@ module _ (xs : List ℕ) (t : Trie) (name : List ℕ) (y : Layout) (fs : List Sl
 
     not_to_left : NotLeft y.b fs A es → ¬ ToLeft y.b fs n A l u es
     not_to_left (no_left Ys e) = first_not_left y.b p.sound A l u es is n inside.0 inside.1 held Ys e
-    not_to_left (left_many Xs L Ys e l-is k) = not_left y.b p.sound A l u es is n inside.0 inside.1 held Xs L Ys e l-is k
+    not_to_left (left_many Xs L Ys e l_is k) = not_left y.b p.sound A l u es is n inside.0 inside.1 held Xs L Ys e l_is k
 
     called : {r : Result} → Answered y.b (place_of y) fs (remove n) r → {ss : List Store} → Change y.b (place_of y) fs (remove n) ss → r ≡ stores ss
     called (is_made c) d = ap stores (change_unique y.b (place_of y) p.sound c d)
@@ -82,7 +82,7 @@ module _ (xs : List ℕ) (t : Trie) (name : List ℕ) (y : Layout) (fs : List Sl
     rule : Rule our_calls xs t name y fs A l u es
     rule = record {
       right = λ Xs R Ys e r_is k. takes (the_call ∙ ap stores (by_right y.b p.sound A l u es is n inside.0 inside.1 held Xs R Ys e r_is k));
-      left = λ c Xs L Ys e l-is k. takes (the_call ∙ ap stores (by_left y.b p.sound A l u es is n inside.0 inside.1 held Xs L Ys e l-is (not_to_right c) k));
+      left = λ c Xs L Ys e l_is k. takes (the_call ∙ ap stores (by_left y.b p.sound A l u es is n inside.0 inside.1 held Xs L Ys e l_is (not_to_right c) k));
       alone = λ c d. takes (the_call ∙ ap stores (removal_alone y.b fs n A l u es (not_to_right c) (not_to_left d)));
     }
 
@@ -271,7 +271,7 @@ module _ (xs : List ℕ) (t : Trie) (name : List ℕ) where
                 trie = refl;
               }
               view (rightward r_is few) k = absurd (omega arith)
-              view (leftward c q l-is few) k = absurd (omega arith)
+              view (leftward c q l_is few) k = absurd (omega arith)
 
   made_recovers : (reached : ℕ) → AreBytes xs → (remove_of xs t name 1).answer ≡ RemoveStopped reached → (limit : ℕ) → 0 < limit → limit ≤ 2
       → ((N : ℕ) × ((recover_of (remove_of xs t name 1).file limit).answer ≡ Freed N))

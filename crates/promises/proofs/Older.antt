@@ -359,13 +359,13 @@ change_fit y two {fs} S (removes A {l = l} {u = u} {es = es} {n = n} is lo up f)
   where
     merge : (L R : ℕ) (k : Low) (s v : Str) (ds gs : List Entry) → slot_at fs L ≡ used k s ds → slot_at fs R ≡ used (at s) v gs → k ◁ n → n ⊑ v
         → length (without n (ds ++ gs)) ≤ y.b / 2 → EachFit y.b (length fs) (merged n L R k v ds gs)
-    merge L R k s v ds gs l-is r_is lo up few =
-        let w = well_a y.b fs S L k s ds l-is in
+    merge L R k s v ds gs l_is r_is lo up few =
+        let w = well_a y.b fs S L k s ds l_is in
         let x = well_a y.b fs S R (at s) v gs r_is in
-        let r = row_merged y.b fs S L R k s v ds gs l-is r_is n lo up in
-        let e : plain_entries (ds ++ gs) ≡ true = plain_append ds gs (rw l-is at (p L)) (rw r_is at (p R)) in
+        let r = row_merged y.b fs S L R k s v ds gs l_is r_is n lo up in
+        let e : plain_entries (ds ++ gs) ≡ true = plain_append ds gs (rw l_is at (p L)) (rw r_is at (p R)) in
         let c : length (without n (ds ++ gs)) ≤ y.b = omega (arith, few) in
-        (inside_a y.b fs S L k s ds l-is, (well_used w.0 x.1 (whole_low y.b fs S L R k s v ds gs l-is r_is) r c, plain_keep _ (ds ++ gs) e), (inside_a y.b fs S R (at s) v gs r_is, (well_free, plain_none), tt))
+        (inside_a y.b fs S L k s ds l_is, (well_used w.0 x.1 (whole_low y.b fs S L R k s v ds gs l_is r_is) r c, plain_keep _ (ds ++ gs) e), (inside_a y.b fs S R (at s) v gs r_is, (well_free, plain_none), tt))
 
     go : {ss : List Store} → Removal y.b fs n A l u es ss → EachFit y.b (length fs) ss
     go (alone c d) =
@@ -376,8 +376,8 @@ change_fit y two {fs} S (removes A {l = l} {u = u} {es = es} {n = n} is lo up f)
         (inside_a y.b fs S A l u es is, (well_used w.0 w.1 w.2 r k, plain_keep _ es e), tt)
     go (rightward {R = R} {v = v} {gs = gs} r_is k) =
         merge A R l u v es gs is r_is lo (le_trans up (lt_le (over (well_a y.b fs S R (at u) v gs r_is).2))) k
-    go (leftward {L = L} {k = k} {s = s} {ds = ds} c q l-is few) =
-        merge L A k s u ds es l-is (is ∙ ap (λ x. used x u es) q) (low_lower (low_at (well_a y.b fs S L k s ds l-is).2) (rw q at lo)) up few
+    go (leftward {L = L} {k = k} {s = s} {ds = ds} c q l_is few) =
+        merge L A k s u ds es l_is (is ∙ ap (λ x. used x u es) q) (low_lower (low_at (well_a y.b fs S L k s ds l_is).2) (rw q at lo)) up few
 change_fit y two S (absent A is lo up f) a p = tt
 
 -- So what some or all of a change's stores leave is plain.

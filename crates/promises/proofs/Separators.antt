@@ -35,11 +35,11 @@ one_offered v (inr (inr e)) = rw e refl
 later : ◌≢◌ {A = ℕ} 2 1
 later e = omega (arith, e)
 
-module _ (b : ℕ) (b-two : 2 ≤ b) (ws : List Entry) where
+module _ (b : ℕ) (b_two : 2 ≤ b) (ws : List Entry) where
   no_longer : length (split_of b (place_of (version_2 b)) ws) ≤ length (split_of b (place_of (version_1 b)) ws)
   no_longer =
       let e : b / 2 + 1 - 1 ≡ b / 2 = omega arith in
-      rw (place_first (version_1 b) refl ws) (rw e at (place_shortest (version_2 b) b-two later ws (b / 2 + 1) (positions_m b b-two)))
+      rw (place_first (version_1 b) refl ws) (rw e at (place_shortest (version_2 b) b_two later ws (b / 2 + 1) (positions_m b b_two)))
 
 -- Stores that are made are a change.
 made_change : {b : ℕ} {place : List Entry → ℕ} {fs : List Slot} {q : Request} {r : Result} {ss : List Store} → Answered b place fs q r → r ≡ stores ss → Change b place fs q ss

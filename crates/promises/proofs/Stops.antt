@@ -148,26 +148,26 @@ module _ (xs : List ℕ) (bytes : AreBytes xs) (t : Trie) (y : Layout) (fs : Lis
       → length (without n (es ++ gs)) ≤ y.b / 2 → (n ⊑ s) ⊎ ((w : ℕ) × (find n gs ≡ some w)) → LegalStores (entry_length y) (length fs) (merged n L R l u es gs)
       → replaced xs (store_bytes y L (used l u (without n (es ++ gs))) xs) ≡ 1
   unfolding stores_bytes
-  merged_one L R l s u es gs l-is r_is n lo up few held g = replaced_other xs p.is L inside new other
+  merged_one L R l s u es gs l_is r_is n lo up few held g = replaced_other xs p.is L inside new other
     where
       new : Slot
       new = used l u (without n (es ++ gs))
 
       inside : L < length fs
-      inside = used_inside fs L (rw l-is tt)
+      inside = used_inside fs L (rw l_is tt)
 
       after : read_file (store_bytes y L new xs) ≡ some (y, set fs L new)
       after = (left_stored y xs bytes p.is ((L, new) ∷ []) (legal_take (entry_length y) (length fs) 1 (merged n L R l u es gs) g)
-          (cut_well y.b (merge_cut y.b fs p.sound L R l s u es gs l-is r_is n lo up few held))).is
+          (cut_well y.b (merge_cut y.b fs p.sound L R l s u es gs l_is r_is n lo up few held))).is
 
       other : bytes_at_slot y L xs ≢ bytes_at_slot y L (store_bytes y L new xs)
       other q =
-          let before : read_slot y (bytes_at_slot y L xs) ≡ some (used l s es) = read_slot-read_file xs p.is L inside ∙ ap some l-is in
+          let before : read_slot y (bytes_at_slot y L xs) ≡ some (used l s es) = read_slot-read_file xs p.is L inside ∙ ap some l_is in
           let now : read_slot y (bytes_at_slot y L (store_bytes y L new xs)) ≡ some new =
           read_slot-read_file (store_bytes y L new xs) after L (rw (length-set fs L new) inside) ∙ ap some (get_or-set_same fs L new free inside) in
           let same : ◌≡◌ {A = Option Slot} (some (used l s es)) (some new) = sym before ∙ ap (read_slot y) q ∙ now in
           let same_upper : s ≡ u = cc in
-          over (well_r y.b fs p.sound L R l s u es gs l-is r_is).2 (rw same_upper (le_refl u))
+          over (well_r y.b fs p.sound L R l s u es gs l_is r_is).2 (rw same_upper (le_refl u))
 
   -- The first of a removal's stores, fewer than it needs.
   first_removed : {n : Str} (A : ℕ) (l : Low) (u : Str) (es : List Entry) {w : ℕ} → slot_at fs A ≡ used l u es → l ◁ n → n ⊑ u → find n es ≡ some w
@@ -176,14 +176,14 @@ module _ (xs : List ℕ) (bytes : AreBytes xs) (t : Trie) (y : Layout) (fs : Lis
   unfolding stores_bytes
   first_removed A l u es is lo up f (alone c d) g zero h = replaced_none xs p.is
   first_removed A l u es is lo up f (rightward r_is few) g zero h = replaced_none xs p.is
-  first_removed A l u es is lo up f (leftward c q l-is few) g zero h = replaced_none xs p.is
+  first_removed A l u es is lo up f (leftward c q l_is few) g zero h = replaced_none xs p.is
   first_removed A l u es is lo up f (alone c d) g (suc k) h = absurd (omega arith)
   first_removed {n} A l u es is lo up f (rightward {R = R} {v = v} {gs = gs} r_is few) g (suc zero) h =
       merged_one A R l u v es gs is r_is n lo (le_trans up (lt_le (over (well_parts y.b (rw r_is at (p.sound.well R))).2))) few (inl up) g
-  first_removed {n} A l u es {w} is lo up f (leftward {L = L} {k = k} {s = s} {ds = ds} c q l-is few) g (suc zero) h =
-      merged_one L A k s u ds es l-is (is ∙ ap (λ x. used x u es) q) n (low_lower (low_at (well_parts y.b (rw l-is at (p.sound.well L))).2) (rw q at lo)) up few (inr (w, f)) g
+  first_removed {n} A l u es {w} is lo up f (leftward {L = L} {k = k} {s = s} {ds = ds} c q l_is few) g (suc zero) h =
+      merged_one L A k s u ds es l_is (is ∙ ap (λ x. used x u es) q) n (low_lower (low_at (well_parts y.b (rw l_is at (p.sound.well L))).2) (rw q at lo)) up few (inr (w, f)) g
   first_removed A l u es is lo up f (rightward r_is few) g (suc (suc k)) h = absurd (omega arith)
-  first_removed A l u es is lo up f (leftward c q l-is few) g (suc (suc k)) h = absurd (omega arith)
+  first_removed A l u es is lo up f (leftward c q l_is few) g (suc (suc k)) h = absurd (omega arith)
 
 module _ (xs : List ℕ) (bytes : AreBytes xs) (t : Trie) (name : List ℕ) (limit made : ℕ) where
   abbrev RemoveStops : RemoveDone → Type 0

@@ -239,8 +239,8 @@ computed = record {
 -- Another digit number than ours: demand 1 lets a lookup carry one only.
 one_carried : (C : Calls) (k : ℕ) → C.look_up i_file new_trie (bytes "i") ≡ LookUpRefused (StaleTrie k) → ¬ (k ≡ 2) → ¬ Demand1 C
 one_carried C k e n D =
-    let n-i = bytes "i" in
-    let q : LookUpRefused (StaleTrie 2) ≡ LookUpRefused (StaleTrie k) = sym situations.left_ranges.i_left ∙ (demand_1.look_up i_file new_trie n-i (StaleTrie k)).1 ((D.look_up i_file new_trie n-i (StaleTrie k)).0 e) in
+    let n_i = bytes "i" in
+    let q : LookUpRefused (StaleTrie 2) ≡ LookUpRefused (StaleTrie k) = sym situations.left_ranges.i_left ∙ (demand_1.look_up i_file new_trie n_i (StaleTrie k)).1 ((D.look_up i_file new_trie n_i (StaleTrie k)).0 e) in
     n cc
 
 -- Refusing everything: where ours does not refuse, demand 1 lets nobody refuse.

@@ -117,10 +117,10 @@ module _ (y : Layout) (two : 2 ≤ y.b) (few : y.b ≤ 16) (xs : List ℕ) {fs :
   both_planned : {s : Split} → Divides s y t ws → (N : ℕ) (p : Plan) (slot new old : List ℕ) → slot ≡ bytes_at_slot y A xs
       → UpperTold new y slot row (take s.len s.string) s.stay → LowerTold old y slot row (take s.len s.string) s.stay → TwoStores p N new A old
       → Planned p y (halves y.b (place_of y) N A l u ws)
-  both_planned {s} D N p slot new old here New-is old-is q =
+  both_planned {s} D N p slot new old here new_is old_is q =
       let at_slot : ReadAs y slot l u es = subst (λ (z : List ℕ). ReadAs y z l u es) (sym here) at_a in
-      let x = new_slot_is row_all y two length_all D slot row at_slot F.row_is new New-is in
-      let z = old_slot_is row_all y two length_all D slot row at_slot F.row_is old old-is in
+      let x = new_slot_is row_all y two length_all D slot row at_slot F.row_is new new_is in
+      let z = old_slot_is row_all y two length_all D slot row at_slot F.row_is old old_is in
       (q.0, (q.1, rw q.2 x), (q.3, rw q.4 z))
 
   -- What is told of them once they are made, and the trie then.
@@ -212,8 +212,8 @@ module _ {c : Checked} {xs : List ℕ} {t : Trie} (G : Agreed c xs t) where
 pub divide_told : (xs : List ℕ) (size : Size) → Sized (length xs) size → (A : ℕ) (row : List ℕ) {p : Plan} {N : ℕ} {s : Split} {slot new old : List ℕ}
     → slot ≡ bytes_at_slot size.layout A xs → UpperTold new size.layout slot row (take s.len s.string) s.stay
     → LowerTold old size.layout slot row (take s.len s.string) s.stay → TwoStores p N new A old → DivideTold p xs size A N row s
-divide_told xs size Z A row {p} {N} {s} {slot} {new} {old} here New-is old-is q fs e S n v l u es F t D =
-    both_planned size.layout Z.legal.b_least Z.legal.b_most xs e S t F D N p slot new old here New-is old-is q
+divide_told xs size Z A row {p} {N} {s} {slot} {new} {old} here new_is old_is q fs e S n v l u es F t D =
+    both_planned size.layout Z.legal.b_least Z.legal.b_most xs e S t F D N p slot new old here new_is old_is q
 
 -- Where the cells stand, and how long the strings are.
 pub standing_told : {c : Checked} {xs : List ℕ} {t : Trie} (G : Agreed c xs t) {g : Strings} {a : Agreement} → Listed g xs c.size c.survey.order c.survey.count → Decides t g a

@@ -43,16 +43,16 @@ without_next xs p h = sym (ap (λ (ys : List ℕ). ys ++ drop (suc (suc p)) xs) 
 
 -- What a merge of the buckets at places p and p + 1 leaves.
 module _ (b : ℕ) {fs : List Slot} (S : Sound b fs) (p : ℕ) (inside : suc p < length (order_of fs)) {l : Low} {s u : Str} {es gs : List Entry}
-    (l-is : placed fs p ≡ used l s es) (r_is : placed fs (suc p) ≡ used (at s) u gs) (k : Str) (lo : l ◁ k) (up : k ⊑ u) (few : length (without k (es ++ gs)) ≤ b / 2) where
+    (l_is : placed fs p ≡ used l s es) (r_is : placed fs (suc p) ≡ used (at s) u gs) (k : Str) (lo : l ◁ k) (up : k ⊑ u) (few : length (without k (es ++ gs)) ≤ b / 2) where
   abbrev O : List ℕ
   O = order_of fs
 
   merge_joins : Joined b fs (merged k (get_or O p 0) (get_or O (suc p) 0) l u es gs) (suc p)
   merge_joins = record {
     inside = inside;
-    sound = merge_sound b fs S (get_or O p 0) (get_or O (suc p) 0) l s u es gs l-is r_is k lo up few;
-    order = merge_order b fs S (get_or O p 0) (get_or O (suc p) 0) l s u es gs l-is r_is k lo up few (take p O) (drop (suc (suc p)) O) (about O p inside) ∙ without_next O p (omega arith);
-    few = merge_few b fs S (get_or O p 0) (get_or O (suc p) 0) l s u es gs l-is r_is k lo up few;
+    sound = merge_sound b fs S (get_or O p 0) (get_or O (suc p) 0) l s u es gs l_is r_is k lo up few;
+    order = merge_order b fs S (get_or O p 0) (get_or O (suc p) 0) l s u es gs l_is r_is k lo up few (take p O) (drop (suc (suc p)) O) (about O p inside) ∙ without_next O p (omega arith);
+    few = merge_few b fs S (get_or O p 0) (get_or O (suc p) 0) l s u es gs l_is r_is k lo up few;
   }
 
 module _ {c : Checked} {xs : List ℕ} (R : Ready c xs) where
@@ -79,24 +79,24 @@ module _ {c : Checked} {xs : List ℕ} (R : Ready c xs) where
   there (having t l k) h = (t, l, k)
 
   -- The two stores of a merge.
-  pub merge_told : (r : RemovePlan) (q : Plan) (right m n i L K : ℕ) (wide zeros left-bytes right-bytes : List ℕ) → right < c.survey.count
-      → L ≡ get_or order (right - 1) 0 → K ≡ get_or order right 0 → left-bytes ≡ bytes_at_slot y L xs → right-bytes ≡ bytes_at_slot y K xs
-      → WidenedTold wide y left-bytes m right-bytes n i → TwoStores q L wide K zeros → zeros ≡ replicate 704 0 → (r.plan ≡ q) × (r.right ≡ right)
+  pub merge_told : (r : RemovePlan) (q : Plan) (right m n i L K : ℕ) (wide zeros left_bytes right_bytes : List ℕ) → right < c.survey.count
+      → L ≡ get_or order (right - 1) 0 → K ≡ get_or order right 0 → left_bytes ≡ bytes_at_slot y L xs → right_bytes ≡ bytes_at_slot y K xs
+      → WidenedTold wide y left_bytes m right_bytes n i → TwoStores q L wide K zeros → zeros ≡ replicate 704 0 → (r.plan ≡ q) × (r.right ≡ right)
       → MergeTold r c xs right m n i
-  merge_told r q right m n i L K wide zeros left-bytes right-bytes h l-at k-at l-bytes r-bytes W T z g fs e p t l s u es gs l-is r_is hm hn k lo up few w f j =
+  merge_told r q right m n i L K wide zeros left_bytes right_bytes h l_at k_at l_bytes r_bytes W T z g fs e p t l s u es gs l_is r_is hm hn k lo up few w f j =
       let O = ready_ordered R e in
       let S = ready_sound R e in
       let before : right - 1 ≡ p = omega arith in
-      let a : L ≡ get_or (order_of fs) p 0 = l-at ∙ ap (λ (v : ℕ). get_or order v 0) before ∙ place_number O p (omega arith) in
-      let d : K ≡ get_or (order_of fs) (suc p) 0 = k-at ∙ ap (λ (v : ℕ). get_or order v 0) (sym t) ∙ place_number O (suc p) (omega arith) in
-      let la : slot_at fs L ≡ used l s es = ap (slot_at fs) a ∙ l-is in
+      let a : L ≡ get_or (order_of fs) p 0 = l_at ∙ ap (λ (v : ℕ). get_or order v 0) before ∙ place_number O p (omega arith) in
+      let d : K ≡ get_or (order_of fs) (suc p) 0 = k_at ∙ ap (λ (v : ℕ). get_or order v 0) (sym t) ∙ place_number O (suc p) (omega arith) in
+      let la : slot_at fs L ≡ used l s es = ap (slot_at fs) a ∙ l_is in
       let ra : slot_at fs K ≡ used (at s) u gs = ap (slot_at fs) d ∙ r_is in
       let rl = slot_read xs e S L la in
       let rr = slot_read xs e S K ra in
-      let x : Begins wide y (used l u (without k (es ++ gs))) = W l s u es gs (rw l-bytes rl) (rw r-bytes rr) hm hn k w f j in
+      let x : Begins wide y (used l u (without k (es ++ gs))) = W l s u es gs (rw l_bytes rl) (rw r_bytes rr) hm hn k w f j in
       let o : r.right ≡ suc p = g.1 ∙ sym t in (
         rw g.0 (T.0, (T.1 ∙ a, ap (take (slot_size y)) T.2 ∙ x), (T.3 ∙ d, ap (take (slot_size y)) (T.4 ∙ z) ∙ free_begins y R.said.sized.legal.b_most)),
-        (λ two. rw o (merge_joins y.b S p (omega (arith, ready_count R e)) l-is r_is k lo up few)),
+        (λ two. rw o (merge_joins y.b S p (omega (arith, ready_count R e)) l_is r_is k lo up few)),
       )
 
   -- The removal of n, which the bucket at a place holds at a spot.

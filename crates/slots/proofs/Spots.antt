@@ -141,7 +141,7 @@ module _ (y : Layout) (xs : List ℕ) (size : OfSize xs y) (bytes : AreBytes xs)
       ∙ ap (bytes_of_entries e) (ap (λ (i : ℕ). take i (read_entries e count behind)) (sub-zero count ∙ sym k) ∙ take-length (read_entries e count behind) ∙ slot_row)
 
 -- Two neighbours: the entries of both, in one row, and this row without a name.
-module _ (y : Layout) (xs zs : List ℕ) (size-x : OfSize xs y) (size-z : OfSize zs y) (bytes-x : AreBytes xs) (bytes-z : AreBytes zs)
+module _ (y : Layout) (xs zs : List ℕ) (size_x : OfSize xs y) (size_z : OfSize zs y) (bytes_x : AreBytes xs) (bytes_z : AreBytes zs)
     {l : Low} {s u : Str} {es gs : List Entry} (r : ReadAs y xs l s es) (q : ReadAs y zs (at s) u gs)
     (m n : ℕ) (h : m ≡ length es) (k : n ≡ length gs) (few : m + n ≤ 16) where
   abbrev z : ℕ
@@ -155,12 +155,12 @@ module _ (y : Layout) (xs zs : List ℕ) (size-x : OfSize xs y) (size-z : OfSize
 
   both_read : read_entries z (m + n) both ≡ es ++ gs
   both_read =
-      let a : m ≡ count_at y.b xs = h ∙ sym (slot_count y xs size-x bytes-x r) in
-      let b : n ≡ count_at y.b zs = k ∙ sym (slot_count y zs size-z bytes-z q) in
-      let f : z * m ≤ length (drop 64 xs) = rw a (slot_fits y xs size-x bytes-x r) in
-      let g : z * n ≤ length (drop 64 zs) = rw b (slot_fits y zs size-z bytes-z q) in
-      let c : read_entries z m (drop 64 xs) ≡ es = rw a (slot_row y xs size-x bytes-x r) in
-      let d : read_entries z n (drop 64 zs) ≡ gs = rw b (slot_row y zs size-z bytes-z q) in
+      let a : m ≡ count_at y.b xs = h ∙ sym (slot_count y xs size_x bytes_x r) in
+      let b : n ≡ count_at y.b zs = k ∙ sym (slot_count y zs size_z bytes_z q) in
+      let f : z * m ≤ length (drop 64 xs) = rw a (slot_fits y xs size_x bytes_x r) in
+      let g : z * n ≤ length (drop 64 zs) = rw b (slot_fits y zs size_z bytes_z q) in
+      let c : read_entries z m (drop 64 xs) ≡ es = rw a (slot_row y xs size_x bytes_x r) in
+      let d : read_entries z n (drop 64 zs) ≡ gs = rw b (slot_row y zs size_z bytes_z q) in
       joined_list z m n (drop 64 xs) (drop 64 zs) (omega (arith, (entry_size y).least)) f g (omega (arith, some_most)) ∙ ap₂ (λ (v w : List Entry). v ++ w) c d
 
   both_row : Row l (read_entries z (m + n) both) u

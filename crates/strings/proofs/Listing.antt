@@ -223,25 +223,25 @@ module _ (file order : List ℕ) (size : Size) (count : ℕ) where
   goes_start lens digits slots fs g = going_start g.1 lens digits slots
 
   module _ (below : Below order size.slots) (n j B C k : ℕ) (x y : Str) (first : 1 ≤ j) (more : j < count)
-      (b-is : B ≡ get_or order (j - 1) 0) (c-is : C ≡ get_or order j 0) (x-is : x ≡ upper_in B) (y-is : y ≡ upper_in C) (k-is : k ≡ diff x y)
+      (b_is : B ≡ get_or order (j - 1) 0) (c_is : C ≡ get_or order j 0) (x_is : x ≡ upper_in B) (y_is : y ≡ upper_in C) (k_is : k ≡ diff x y)
       (lens digits slots : List ℕ) (goes : Goes lens digits slots n j) where
     x_upper : (fs : List Slot) → Given fs → x ≡ Upper fs (j - 1)
-    x_upper fs g = upper_is fs g (j - 1) B x (omega arith) b-is (rw b-is (below (j - 1))) x-is
+    x_upper fs g = upper_is fs g (j - 1) B x (omega arith) b_is (rw b_is (below (j - 1))) x_is
 
     y_upper : (fs : List Slot) → Given fs → y ≡ Upper fs j
-    y_upper fs g = upper_is fs g j C y more c-is (rw c-is (below j)) y-is
+    y_upper fs g = upper_is fs g j C y more c_is (rw c_is (below j)) y_is
 
     pub goes_step : (lens' digits' slots' : List ℕ) (r : ℕ) → Added (beyond k x) B C n r lens lens' digits digits' slots slots'
         → Goes lens' digits' slots' r (j + 1)
     goes_step lens' digits' slots' r A fs g =
         going_step fs lens lens' digits digits' slots slots' n r j B C k x y first (omega (arith, g.2))
-        (b-is ∙ order_at fs g (j - 1) (omega arith)) (c-is ∙ order_at fs g j more) (x_upper fs g) (y_upper fs g) k-is (goes fs g) A
+        (b_is ∙ order_at fs g (j - 1) (omega arith)) (c_is ∙ order_at fs g j more) (x_upper fs g) (y_upper fs g) k_is (goes fs g) A
 
     pub goes_many : (s : Strings) → s.few ≡ false → s.count ≡ 0 → 256 + k < n + length x → Listed s file size order count
     goes_many s f z h = record {
       count_most = omega arith;
       strung = λ fs e S c o. let g : Given fs = (e, S, c, o) in
-          let m : 256 < length (strings_of fs) = going_many fs lens digits slots n j k x y (omega arith) (x_upper fs g) (y_upper fs g) k-is (goes fs g) h in
+          let m : 256 < length (strings_of fs) = going_many fs lens digits slots n j k x y (omega arith) (x_upper fs g) (y_upper fs g) k_is (goes fs g) h in
           record { few_is = f ∙ sym (lt-leb (length (strings_of fs)) 256 m); holds = λ l. absurd (omega arith) };
     }
 

@@ -22,12 +22,12 @@ returns c l s u es gs r q h k x w f g =
     let all = c.joined-all in let second = c.entries_of-2 in let first = c.entries_of in
     let e = c.entry_size-e in
     let a = c.args in let p = c.requires in
-    let bytes-l = bytes_each a.left.now (λ j. omega (arith, c.shared_slice_known-1.given j)) in
-    let bytes-r = bytes_each a.right.now (λ j. omega (arith, c.shared_slice_known-2-1.given j)) in
+    let bytes_l = bytes_each a.left.now (λ j. omega (arith, c.shared_slice_known-1.given j)) in
+    let bytes_r = bytes_each a.right.now (λ j. omega (arith, c.shared_slice_known-2-1.given j)) in
     slot_cut a.layout l u _ _ _ row.result (a.m + a.n - 1) i.result v.result p.0.1
-    (lower.ensures.0 ∙ lower_is a.layout a.left.now (slot_reads a.layout a.left.now p.0 bytes-l r))
-    (upper.ensures.0 ∙ upper_is a.layout a.right.now (slot_reads a.layout a.right.now p.1 bytes-r q))
+    (lower.ensures.0 ∙ lower_is a.layout a.left.now (slot_reads a.layout a.left.now p.0 bytes_l r))
+    (upper.ensures.0 ∙ upper_is a.layout a.right.now (slot_reads a.layout a.right.now p.1 bytes_r q))
     (i.ensures.is ∙ rw e.ensures.0) (omega arith) v.ensures.1
     (rw (row.ensures, all.ensures, e.ensures.0, first.ensures.0, second.ensures.0)
-    (both_without a.layout a.left.now a.right.now p.0 p.1 bytes-l bytes-r r q a.m a.n h k p.4 a.i x w f g))
+    (both_without a.layout a.left.now a.right.now p.0 p.1 bytes_l bytes_r r q a.m a.n h k p.4 a.i x w f g))
     v.ensures.0

@@ -25,10 +25,10 @@ returns-then-shared-n c =
     let l = c.loop-j in let f = c.args.file.now in
     let o = c.args.order.now in let z = c.args.size in
     let up = upper_in f o z c.args.count in
-    let x-is = c.upper_bound-x.ensures.0 ∙ ap upper_bytes c.slot_at.ensures.0 ∙ ap up c.usize_of_u8.ensures.0 in
-    let y-is = c.upper_bound-y.ensures.0 ∙ ap upper_bytes c.slot_at-in-loop-j.ensures.0 ∙ ap up c.usize_of_u8-in-loop-j.ensures.0 in
+    let x_is = c.upper_bound-x.ensures.0 ∙ ap upper_bytes c.slot_at.ensures.0 ∙ ap up c.usize_of_u8.ensures.0 in
+    let y_is = c.upper_bound-y.ensures.0 ∙ ap upper_bytes c.slot_at-in-loop-j.ensures.0 ∙ ap up c.usize_of_u8-in-loop-j.ensures.0 in
     goes_many f o z c.args.count c.requires.1 l.n l.j _ _ c.shared-shared.result _ _ l.invariant.1 c.loop-j-test.true
-    refl refl x-is y-is c.shared-shared.ensures.2 l.lens l.digits l.slots l.invariant.3 _ refl refl c.if-shared-n.true
+    refl refl x_is y_is c.shared-shared.ensures.2 l.lens l.digits l.slots l.invariant.3 _ refl refl c.if-shared-n.true
 
 pub add-n-requires : goal.add-n-requires
 add-n-requires c = (search rules, search rules, search rules, c.loop-j.invariant.2)
@@ -38,15 +38,15 @@ loop-j-preserved c =
     let l = c.loop-j in let f = c.args.file.now in
     let o = c.args.order.now in let z = c.args.size in
     let up = upper_in f o z c.args.count in
-    let x-is = c.upper_bound-x.ensures.0 ∙ ap upper_bytes c.slot_at.ensures.0 ∙ ap up c.usize_of_u8.ensures.0 in
-    let y-is = c.upper_bound-y.ensures.0 ∙ ap upper_bytes c.slot_at-in-loop-j.ensures.0 ∙ ap up c.usize_of_u8-in-loop-j.ensures.0 in
+    let x_is = c.upper_bound-x.ensures.0 ∙ ap upper_bytes c.slot_at.ensures.0 ∙ ap up c.usize_of_u8.ensures.0 in
+    let y_is = c.upper_bound-y.ensures.0 ∙ ap upper_bytes c.slot_at-in-loop-j.ensures.0 ∙ ap up c.usize_of_u8-in-loop-j.ensures.0 in
     let a = c.add-n.ensures in
     let x = c.upper_bound-x.result.now in (
       omega (arith, a.count_is, length_beyond c.shared-shared.result x, c.if-shared-n.false),
       search rules,
       a.whole,
       goes_step f o z c.args.count c.requires.1 l.n l.j _ _ c.shared-shared.result _ _ l.invariant.1 c.loop-j-test.true
-          refl refl x-is y-is c.shared-shared.ensures.2 l.lens l.digits l.slots l.invariant.3 _ _ _ _ a,
+          refl refl x_is y_is c.shared-shared.ensures.2 l.lens l.digits l.slots l.invariant.3 _ _ _ _ a,
     )
 
 pub returns-then-count-gt0 : goal.returns-then-count-gt0

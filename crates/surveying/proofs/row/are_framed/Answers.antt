@@ -33,8 +33,8 @@ loop-j-preserved c =
     let xs = c.args.file.now in let size = c.args.size in let order = c.args.order.now in
     let k = c.usize_of_u8-k in
     let is = c.slot_at-slot.ensures.0 ∙ ap (λ (B : ℕ). bytes_at_slot size.layout B xs) k.ensures.0 in
-    let before-is = c.slot_at-in-loop-j.ensures.0 ∙ ap (λ (B : ℕ). bytes_at_slot size.layout B xs) l.invariant.1 in
-    let F = framed_at xs size order c.args.count l.j _ _ _ _ is before-is c.slot_at-slot.ensures.1 l.invariant.3 c.high_key-high.ensures
+    let before_is = c.slot_at-in-loop-j.ensures.0 ∙ ap (λ (B : ℕ). bytes_at_slot size.layout B xs) l.invariant.1 in
+    let F = framed_at xs size order c.args.count l.j _ _ _ _ is before_is c.slot_at-slot.ensures.1 l.invariant.3 c.high_key-high.ensures
     (c.is_framed.ensures (c.if-not-is_framed.false)) in
     let next : suc l.j ≡ l.j + 1 = omega arith in (
       omega arith,
