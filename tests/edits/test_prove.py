@@ -43,6 +43,10 @@ class Prove(unittest.TestCase):
         said = OK.replace("3 refused", "3 refused, 1 of them only by a limit") + "5 passed, 0 failed\n"
         self.assertEqual(self.run_script(said), (1, "5 passed, 1 failed"))
 
+    def test_an_edit_refused_for_a_name_alone_fails(self):
+        said = "rt: must-fail c/one.edit: refused, as it must be (only because a proof file names what the edit took away, so ..\n"
+        self.assertEqual(self.run_script(said + OK + "5 passed, 0 failed\n"), (1, "5 passed, 1 failed"))
+
     def test_the_libraries_that_lie_there_are_listed(self):
         self.run_script(OK + "5 passed, 0 failed\n")
         self.assertEqual((self.top / "build" / "libraries-before").read_text(), "")

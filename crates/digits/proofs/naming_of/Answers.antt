@@ -11,19 +11,19 @@ pub returns-then-name-gt24 : goal.returns-then-name-gt24
 returns-then-name-gt24 c = long_name c.args.name.now c.if-name-gt24.true
 
 pub returns-then-name-eq32 : goal.returns-then-name-eq32
-returns-then-name-eq32 c = blank_first c.args.name.now c.if-name-eq32.true
+returns-then-name-eq32 c = blank_first c.args.name.now (omega (arith, c.if-name-eq32.true))
 
 pub returns-then-name-eq32-2 : goal.returns-then-name-eq32-2
-returns-then-name-eq32-2 c = blank_last c.args.name.now c.if-name-eq32-2.true
+returns-then-name-eq32-2 c = blank_last c.args.name.now (omega (arith, c.if-name-eq32-2.true))
 
 pub returns-then-not-are_digits : goal.returns-then-not-are_digits
 returns-then-not-are_digits c =
     let n = c.args.name.now in
-    legal_name n (omega arith) (omega arith) c.if-name-eq32.false c.if-name-eq32-2.false ∙ sym c.are_digits.ensures ∙ c.if-not-are_digits.true
+    legal_name n (omega arith) (omega arith) (λ q. c.if-name-eq32.false (omega (arith, q))) (λ q. c.if-name-eq32-2.false (omega (arith, q))) ∙ sym c.are_digits.ensures ∙ c.if-not-are_digits.true
 
 pub returns : goal.returns
 returns c =
     let a = c.args in let n = a.name.now in (
-      legal_name n (omega arith) (omega arith) c.if-name-eq32.false c.if-name-eq32-2.false ∙ sym c.are_digits.ensures ∙ c.if-not-are_digits.false,
+      legal_name n (omega arith) (omega arith) (λ q. c.if-name-eq32.false (omega (arith, q))) (λ q. c.if-name-eq32-2.false (omega (arith, q))) ∙ sym c.are_digits.ensures ∙ c.if-not-are_digits.false,
       c.key_at.ensures ∙ ap value (take_all 24 a.filled.now (omega arith)),
     )

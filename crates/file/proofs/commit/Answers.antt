@@ -25,7 +25,7 @@ loop-made-preserved-then-made-eq1 c =
       c.store.ensures.0 ∙ l.invariant.0,
       omega (arith, c.if-limit-made.false),
       omega (arith, c.loop-made-test.true),
-      made_first a.size.layout a.plan a.file.now l.made l.file _ c.loop-made-test.true l.invariant.3 c.if-made-eq1.true c.store.ensures.1,
+      made_first a.size.layout a.plan a.file.now l.made l.file _ c.loop-made-test.true l.invariant.3 (omega (arith, c.if-made-eq1.true)) c.store.ensures.1,
     )
 
 pub store-requires-else-made-eq1 : goal.store-requires-else-made-eq1
@@ -40,7 +40,7 @@ loop-made-preserved c =
       c.store-else-made-eq1.ensures.0 ∙ l.invariant.0,
       omega (arith, c.if-limit-made.false),
       omega (arith, c.loop-made-test.true),
-      made_second a.size.layout a.plan a.file.now l.made l.file _ c.loop-made-test.true l.invariant.3 c.if-made-eq1.false c.store-else-made-eq1.ensures.1,
+      made_second a.size.layout a.plan a.file.now l.made l.file _ c.loop-made-test.true l.invariant.3 (λ q. c.if-made-eq1.false (omega (arith, q))) c.store-else-made-eq1.ensures.1,
     )
 
 pub returns : goal.returns

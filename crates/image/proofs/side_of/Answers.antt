@@ -4,7 +4,7 @@ use Rattle.image.proofs.Coding.{side_cell, side_slot}
 use Rattle.image.proofs.side_of.Goals as goal
 
 pub returns-then-x-lt32768 : goal.returns-then-x-lt32768
-returns-then-x-lt32768 c = side_slot _ c.if-x-lt32768.true
+returns-then-x-lt32768 c = side_slot c.args.x (omega arith)
 
 pub returns : goal.returns
 returns c = side_cell _ (omega arith) (omega arith)

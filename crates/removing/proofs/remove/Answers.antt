@@ -54,7 +54,7 @@ returns-then-stores-lt1 c =
 
 pub returns-then-stores-lt2 : goal.returns-then-stores-lt2
 returns-then-stores-lt2 c =
-    left_removed (prepared (goal.at.returns-then-stores-lt2 c).After-remove_plan-change) c.commit.result c.commit.ensures c.if-commit.false (omega (arith, c.if-stores-lt1.false)) c.if-stores-lt2.true
+    left_removed (prepared (goal.at.returns-then-stores-lt2 c).After-remove_plan-change) c.commit.result c.commit.ensures c.if-commit.false (omega (arith, c.if-stores-lt1.false)) (omega (arith, c.if-stores-lt2.true))
 
 pub rebuild_without-requires : goal.rebuild_without-requires
 rebuild_without-requires c =
