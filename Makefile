@@ -5,7 +5,7 @@
 # The main job: prove, build, and run the program on the names of NAMES, one a line. What `rt` says of it goes to stderr.
 NAMES ?= crates/overview/stdin
 run:
-	@cd crates/overview && rt run < $(abspath $(NAMES))
+	@cd crates/overview && rt run --cpu x86-64 < $(abspath $(NAMES))
 
 # All proofs, the layout of every file, all tests.
 test:

@@ -24,6 +24,7 @@ if [ "$crate" = d ]; then
     exit "$(cat "$PLACE/alone")"
 fi
 cp proofs/C.antt "$PLACE/cases"
+! grep -q three_hold proofs/C.antt || { echo logic=not-proved; exit 1; }
 [ -e ../d/proofs/Laws.antt ] || [ ! -e "$PLACE/needs-laws" ] || { echo logic=not-proved; exit 1; }
 if grep -q edited ../d/specs/D.antt; then
     tail -n +2 "$PLACE/answer"
@@ -141,6 +142,15 @@ class Edits(unittest.TestCase):
         self.assertEqual(status, 0, said)
         self.assertNotIn("one_hold", (self.top / "cases").read_text())
         self.assertIn("two_hold", (self.top / "cases").read_text())
+
+    def test_the_control_has_the_lists_of_the_edit(self):
+        self.write("crates/c/proofs/C.antt", "use Rattle.d.proofs.Prelude.{refl}\n  two_hold = refl;\n  three_hold = refl;\n")
+        for lists, passes in (("two", True), ("two three", False), ("three", False)):
+            self.write("edits/c/one.edit", f"crate: d\ncases: {lists}\nfile: specs/D.antt\nold: first;\nnew: edited;\n")
+            if passes:
+                self.assertEqual(self.run_script()[0], 0)
+            else:
+                self.fails("c is not proved over d cut down")
 
     def test_the_control_must_be_proved_over_the_other_crate_cut_down(self):
         self.write("needs-laws", "")
