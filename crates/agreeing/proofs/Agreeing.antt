@@ -1,5 +1,6 @@
 -- A trie whose cells meet all strings agrees.
-use Rattle.model.proofs.Prelude.{List, [], ◌*◌, ◌<◌, ◌∙◌, ◌∷◌, ◌≡◌, ◌≤◌, ap, arith, dec_lt, drop, le-leb, le-ltb, length, lt-ltb, mul-le-mul_right, refl, some, suc, suc-mul, sym, take, take_all, true, zero, ℕ}
+use Rattle.std.specs.Prelude.{None, Option as Maybe, Some, is_some}
+use Rattle.model.proofs.Prelude.{List, [], ◌*◌, ◌<◌, ◌∙◌, ◌∷◌, ◌≡◌, ◌≤◌, ap, arith, dec_lt, drop, le-ltb, length, lt-ltb, mul-le-mul_right, refl, some, suc, suc-mul, sym, take, take_all, true, zero, ℕ}
 use Rattle.model.specs.declared.Cell.{Cell}
 use Rattle.model.specs.declared.Side.TheVariants.{Cell as further}
 use Rattle.model.specs.declared.Trie.{Trie}
@@ -14,12 +15,11 @@ use Rattle.model.specs.Searches.{order_of, strings_of}
 use Rattle.file.specs.declared.Size.{Size}
 use Rattle.file.specs.Sizes.{Sized}
 use Rattle.trie.specs.declared.Strings.{Strings}
-use Rattle.trie.specs.Strung.{Strung, last_digits, lengths}
+use Rattle.trie.specs.Strung.{Holds, last_digits, lengths}
 use Rattle.image.specs.Images.{side_from, trie_from}
 use Rattle.image.proofs.Coding.{length-cells_from}
 use Rattle.strings.specs.Arrays.{Listed}
 use Rattle.strings.proofs.Listing.{Given}
-use Rattle.agreement.specs.declared.Agreement.{Agreement}
 use Rattle.agreement.specs.Decides.{Decides}
 use Rattle.agreement.specs.Passes.{Passes, enters}
 use Rattle.agreement.proofs.Laws.{passing_agrees}
@@ -40,18 +40,15 @@ length_between fs l [] = refl
 length_between fs l (s ∷ ss) = ap suc (length_between fs (at s) ss)
 
 -- Arrays as long as need be hold the strings.
-strings_strung : (fs : List Slot) (count : ℕ) → length (strings_of fs) ≡ count → count ≤ 256
-    → Strung (strings_in count fs) (strings_of fs) (slots_between fs none (strings_of fs))
-strings_strung fs count e h =
+strings_held : (fs : List Slot) (count : ℕ) (few : count ≤ 256) → length (strings_of fs) ≡ count
+    → Holds (strings_in count few fs) (strings_of fs) (slots_between fs none (strings_of fs))
+strings_held fs count few e =
     let ss : List Str = strings_of fs in
     record {
-      few_is = sym (le-leb (length ss) 256 (omega arith));
-      holds = λ l. record {
-        count_is = sym e;
-        lens_are = take_all (length ss) (lengths ss) (omega (arith, length_lengths ss));
-        digits_are = take_all (length ss) (last_digits ss) (omega (arith, length_last_digits ss));
-        slots_are = take_all (suc (length ss)) (slots_between fs none ss) (omega (arith, length_between fs none ss));
-      };
+      count_is = sym e;
+      lens_are = take_all (length ss) (lengths ss) (omega (arith, length_lengths ss));
+      digits_are = take_all (length ss) (last_digits ss) (omega (arith, length_last_digits ss));
+      slots_are = take_all (suc (length ss)) (slots_between fs none ss) (omega (arith, length_between fs none ss));
     }
 
 -- The pass begins at the trie's root.
@@ -89,13 +86,14 @@ module _ (xs : List ℕ) (size : Size) (order : List ℕ) (count : ℕ) (sized :
       → AgreeingTold true xs size order count (trie_from image)
   passing_told image cells first ec ef few leaf clear T fs e S c o =
       let t : Trie = trie_from image in
-      let P = T fs e S c o in
-      let H : Strung (strings_in cells fs) (strings_of fs) (slots_between fs none (strings_of fs)) = strings_strung fs cells P.all few in
-      sym (agrees_is_agreeing size.layout.b S (passing_agrees size.layout.b S t H (length-cells_from 256 image) refl few (sym ec) clear (λ h. sym ef ∙ leaf (omega (arith, ec))) record {
+      let P = T few fs e S c o in
+      let H : Holds (strings_in cells few fs) (strings_of fs) (slots_between fs none (strings_of fs)) = strings_held fs cells few P.all in
+      sym (agrees_is_agreeing size.layout.b S (passing_agrees size.layout.b S t H (length-cells_from 256 image) few (sym ec) clear (λ h. sym ef ∙ leaf (omega (arith, ec))) record {
         order = P.order;
         passes = rw (← ec, ← ef) (root_passes cells first refl P.passes);
       }))
 
-  -- By the strings written down.
-  pub listed_told : (s : Strings) (r : Agreement) {t : Trie} → Listed s xs size order count → Decides t s r → AgreeingTold r.agrees xs size order count t
-  listed_told s r L D fs e S c o = (D size.layout.b fs S (L.strung fs (given fs e S c o).0 S c o)).agrees_is
+  -- By the strings written down, if they are.
+  pub listed_told : (s : Maybe Strings) (r : Maybe (List ℕ)) (t : Trie) → Listed s xs size order count → Decides t s r → AgreeingTold (is_some r) xs size order count t
+  listed_told s (Some places) t L D fs e S c o = sym (D size.layout.b fs S (L.strung fs (given fs e S c o).0 S c o)).0
+  listed_told s None t L D fs e S c o = sym (D size.layout.b fs S (L.strung fs (given fs e S c o).0 S c o))

@@ -1,4 +1,5 @@
 -- The pass from one spot to another: nothing done, one part and then another, a cell entered, a string met.
+use Rattle.std.specs.Prelude.{Option as Maybe, Some}
 use Rattle.model.proofs.Prelude.{List, [], ◌++◌, ◌+◌, ◌-◌, ◌<◌, ◌∙◌, ◌∷◌, ◌≡◌, ◌≤◌, add-zero, ap, append_assoc, append-nil, arith, cond, eqb, get_or, get_or-set_other, get_or-set_same, le-ltb, length, length-append, length-set, ne_eqb, refl, set, subst, suc, sym, zero, ℕ, ℕ_discrete}
 use Rattle.model.specs.declared.Cell.{Cell}
 use Rattle.model.specs.declared.Side.{Side}
@@ -11,8 +12,6 @@ use Rattle.image.proofs.Coding.{side_slot}
 use Rattle.agreement.specs.Passes.{enters, leaves, stack}
 use Rattle.agreement.proofs.Marks.{stack_pop, stack_push}
 use Rattle.agreeing.specs.declared.Spot.{Spot}
-use Rattle.agreeing.specs.declared.Way.{Way}
-use Rattle.agreeing.specs.declared.Way.TheVariants.{At}
 use Rattle.agreeing.specs.Ways.{BoundAt, Goes, Kept, Onward, Roomy, Standing, StringAt, Whatever, goes, marked, standing}
 
 -- A mark more.
@@ -168,9 +167,9 @@ module _ (x : List ℕ) (slot next len : ℕ) (some : 0 < len) (most : len ≤ l
 
 -- What an answer says, once it is known which it is.
 module _ {image : List ℕ} {count : ℕ} {Asked : Strings → ℕ → Type 0} {n : ℕ} {marks cells : List ℕ} {p : Spot} {marks' cells' : List ℕ} where
-  pub goes_to : {w : Way} {q : Spot} → w ≡ At q → Goes image count Asked n marks cells p marks' cells' w
+  pub goes_to : {w : Maybe Spot} {q : Spot} → w ≡ Some q → Goes image count Asked n marks cells p marks' cells' w
       → Roomy marks' cells' q × Onward (trie_from image).cells count Asked n (standing marks cells p) (standing marks' cells' q)
-  goes_to {w} {q} e h = here (subst (λ (x : Way). Goes image count Asked n marks cells p marks' cells' x) e h)
+  goes_to {w} {q} e h = here (subst (λ (x : Maybe Spot). Goes image count Asked n marks cells p marks' cells' x) e h)
     where
-      here : Goes image count Asked n marks cells p marks' cells' (At q) → Roomy marks' cells' q × Onward (trie_from image).cells count Asked n (standing marks cells p) (standing marks' cells' q)
+      here : Goes image count Asked n marks cells p marks' cells' (Some q) → Roomy marks' cells' q × Onward (trie_from image).cells count Asked n (standing marks cells p) (standing marks' cells' q)
       here (goes R P) = (R, P)

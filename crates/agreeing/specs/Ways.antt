@@ -1,5 +1,5 @@
 -- What the pass over an image does from one spot to another, said of every pass that goes on from there.
-use Rattle.std.specs.Prelude.{◌≡◌, cond, List, [], ◌++◌, ◌∷◌, ◌+◌, ◌-◌, ◌<◌, ◌≤◌, suc, zero, ℕ, eqb, get_or, length}
+use Rattle.std.specs.Prelude.{Option, Some, None, ◌≡◌, cond, List, [], ◌++◌, ◌∷◌, ◌+◌, ◌-◌, ◌<◌, ◌≤◌, suc, zero, ℕ, eqb, get_or, length}
 use Rattle.model.specs.declared.Cell.{Cell}
 use Rattle.model.specs.declared.Side.{Side}
 use Rattle.model.specs.Tries.{occ}
@@ -7,8 +7,6 @@ use Rattle.trie.specs.declared.Strings.{Strings}
 use Rattle.image.specs.Images.{side_from, trie_from}
 use Rattle.agreement.specs.Passes.{Passes, stack}
 use Rattle.agreeing.specs.declared.Spot.{Spot}
-use Rattle.agreeing.specs.declared.Way.{Way}
-use Rattle.agreeing.specs.declared.Way.TheVariants.{Astray, At}
 
 -- The side that the whole trie is, as a number. The root has the number after the last that two bytes hold.
 unfoldable pub root_of : ℕ → ℕ → ℕ
@@ -68,7 +66,7 @@ BoundAt x shared slot next s d =
     (m : ℕ) → shared ≤ m → m < length x → StringAt (cond (eqb (suc m) (length x)) slot next) m (get_or x m 0) s (d + (length x - suc m))
 
 -- The pass goes on to a spot, or says nothing.
-pub data Goes (image : List ℕ) (count : ℕ) (Asked : Strings → ℕ → Type 0) (n : ℕ) (marks cells : List ℕ) (p : Spot) (marks' cells' : List ℕ) : Way → Type 0 where
-  strays : Goes image count Asked n marks cells p marks' cells' Astray
+pub data Goes (image : List ℕ) (count : ℕ) (Asked : Strings → ℕ → Type 0) (n : ℕ) (marks cells : List ℕ) (p : Spot) (marks' cells' : List ℕ) : Option Spot → Type 0 where
+  strays : Goes image count Asked n marks cells p marks' cells' None
   goes : {q : Spot} → Roomy marks' cells' q → Onward (trie_from image).cells count Asked n (standing marks cells p) (standing marks' cells' q)
-      → Goes image count Asked n marks cells p marks' cells' (At q)
+      → Goes image count Asked n marks cells p marks' cells' (Some q)

@@ -7,12 +7,13 @@
 
 ghost use Rattle.std.specs.Prelude.{true, ◌≡◌, ◌≤◌, ◌<◌, ◌-◌, get_or, length};
 ghost use Rattle.file.specs.Sizes.{Below, Sized};
-ghost use Rattle.image.specs.Images.{image_length, trie_from};
+ghost use Rattle.image.specs.Images.{trie_from};
 ghost use Rattle.agreeing.specs.Agreeing.{AgreeingTold, PassingTold};
 ghost use Rattle.agreeing.specs.Ways.{BoundAt, Goes, Roomy, StringAt, Whatever, root_of};
 
-use digits::{u8_of_usize, usize_of_u8};
 use file::Size;
+use image::Image;
+use trie::Hand;
 
 // Where the pass stands: at a side, with so many cells on the stack, where no number may be smaller than `least`. A side is
 // the number that it is written as; the root, to which none leads, would be 65,536.
@@ -23,43 +24,38 @@ pub struct Spot {
     pub least: usize,
 }
 
-// A pass that strays tells nothing of the trie.
-#[derive(Clone, Copy)]
-pub enum Way {
-    At(Spot),
-    Astray,
-}
-
-// Enters cells, each the left side of the one before, up to a leaf. A cell is marked, and none is entered twice.
+// Enters cells, each the left side of the one before, up to a leaf. A cell is marked, and none is entered twice. A pass that
+// strays gives no spot, and tells nothing of the trie.
 fn entered(
-    image: &[u8],
+    image: &Image,
     cells: usize,
     marks: &mut [u8; 256],
     stack: &mut [u8; 256],
     spot: Spot,
-) -> Way
-    requires { (length image.now ≡ image_length) × (cells ≤ 256) × (Roomy marks.old stack.old spot) }
+) -> Option<Spot>
+    requires { (cells ≤ 256) × (Roomy marks.old stack.old spot) }
     ensures { Goes image.now cells Whatever 0 marks.old stack.old spot marks.new stack.new result }
 {
     let mut side = spot.side;
     let mut top = spot.top;
+    // A walk over links: no index is counted.
     while 32768 <= side {
         let k = 65536 - side;
         if cells <= k {
-            return Way::Astray;
+            return None;
         }
         if marks[k] != 0 {
-            return Way::Astray;
+            return None;
         }
         if image::number_at(image, k) < spot.least {
-            return Way::Astray;
+            return None;
         }
         marks[k] = 1;
-        stack[top] = u8_of_usize(k);
+        stack[top] = k as u8;
         top += 1;
-        side = image::left_at(image, k);
+        side = image::side_at(image, k, Hand::Left) as usize;
     }
-    Way::At(Spot {
+    Some(Spot {
         side,
         top,
         least: spot.least,
@@ -70,7 +66,7 @@ fn entered(
 // top of the stack must be its cell.
 #[tactic(auto, using(crate::specs::Ways::strays))]
 fn string_met(
-    image: &[u8],
+    image: &Image,
     cells: usize,
     marks: &mut [u8; 256],
     stack: &mut [u8; 256],
@@ -78,30 +74,28 @@ fn string_met(
     slot: usize,
     x: &[u8],
     number: usize,
-) -> Way
-    requires { (length image.now ≡ image_length) × (cells ≤ 256) × (Roomy marks.old stack.old spot) × (slot < 256) × (number < length x.now) }
+) -> Option<Spot>
+    requires { (cells ≤ 256) × (Roomy marks.old stack.old spot) × (slot < 256) × (number < length x.now) }
     ensures { Goes image.now cells (StringAt slot number (get_or x.now number 0)) 1 marks.old stack.old spot
         marks.new stack.new result }
 {
-    let Way::At(leaf) = entered(image, cells, marks, stack, spot) else {
-        return Way::Astray;
-    };
+    let leaf = entered(image, cells, marks, stack, spot)?;
     if leaf.side != slot {
-        return Way::Astray;
+        return None;
     }
     if leaf.top == 0 {
-        return Way::Astray;
+        return None;
     }
     let top = leaf.top - 1;
-    let k = usize_of_u8(stack[top]);
+    let k = stack[top] as usize;
     if image::digit_at(image, k) != x[number] {
-        return Way::Astray;
+        return None;
     }
     if image::number_at(image, k) != number {
-        return Way::Astray;
+        return None;
     }
-    Way::At(Spot {
-        side: image::right_at(image, k),
+    Some(Spot {
+        side: image::side_at(image, k, Hand::Right) as usize,
         top,
         least: number,
     })
@@ -109,8 +103,9 @@ fn string_met(
 
 // The beginnings of x that are longer than `shared` digits, the longest first. Left of x itself stands the bucket that x
 // ends, left of the others the next one.
+#[tactic(auto, using(crate::specs::Ways::strays))]
 fn bound_met(
-    image: &[u8],
+    image: &Image,
     cells: usize,
     marks: &mut [u8; 256],
     stack: &mut [u8; 256],
@@ -119,23 +114,18 @@ fn bound_met(
     shared: usize,
     slot: usize,
     next: usize,
-) -> Way
-    requires { (length image.now ≡ image_length) × (cells ≤ 256) × (Roomy marks.old stack.old spot) × (slot < 256) × (next < 256) × (shared ≤ length x.now) }
+) -> Option<Spot>
+    requires { (cells ≤ 256) × (Roomy marks.old stack.old spot) × (slot < 256) × (next < 256) × (shared ≤ length x.now) }
     ensures { Goes image.now cells (BoundAt x.now shared slot next) (length x.now - shared) marks.old stack.old spot
         marks.new stack.new result }
 {
     let mut here = spot;
-    let mut len = x.len();
     let mut left = slot;
-    while shared < len {
-        len -= 1;
-        let Way::At(after) = string_met(image, cells, marks, stack, here, left, x, len) else {
-            return Way::Astray;
-        };
-        here = after;
+    for len in (shared..x.len()).rev() {
+        here = string_met(image, cells, marks, stack, here, left, x, len)?;
         left = next;
     }
-    Way::At(here)
+    Some(here)
 }
 
 // The pass, from the side that the whole trie is.
@@ -144,11 +134,11 @@ fn is_passing(
     size: Size,
     order: &[u8; 64],
     count: usize,
-    image: &[u8],
+    image: &Image,
     cells: usize,
     side: usize,
 ) -> bool
-    requires { (Sized (length file.now) size) × (Below order.now size.slots) × (count ≤ 64) × (length image.now ≡ image_length) × (cells ≤ 256) × (side ≤ 65536) }
+    requires { (Sized (length file.now) size) × (Below order.now size.slots) × (count ≤ 64) × (cells ≤ 256) × (side ≤ 65536) }
     ensures { result ≡ true → PassingTold file.now size order.now count image.now cells side }
 {
     if count == 0 {
@@ -162,18 +152,17 @@ fn is_passing(
         least: 0,
     };
     let mut met = 0usize;
-    let mut slot = usize_of_u8(order[0]);
-    let mut j = 1usize;
-    while j < count {
-        let next = usize_of_u8(order[j]);
+    let mut slot = order[0] as usize;
+    for j in 1..count {
+        let next = order[j] as usize;
         let one = file::slot_at(file, size, slot);
         let two = file::slot_at(file, size, next);
-        let x = bucket::upper_bound(one);
-        let shared = bucket::shared_uppers(one, two);
+        let x = one.upper();
+        let shared = bucket::shared_uppers(one.bytes, two.bytes);
         if x.len() < shared {
             return false;
         }
-        let Way::At(after) = bound_met(
+        let Some(after) = bound_met(
             image, cells, &mut marks, &mut stack, spot, x, shared, slot, next,
         ) else {
             return false;
@@ -181,7 +170,6 @@ fn is_passing(
         spot = after;
         met += x.len() - shared;
         slot = next;
-        j += 1;
     }
     if spot.side != slot {
         return false;
@@ -204,8 +192,8 @@ fn root_of(cells: usize, first: usize) -> usize
 }
 
 // True tells that the trie agrees; false tells nothing.
-fn matches(file: &[u8], size: Size, order: &[u8; 64], count: usize, image: &[u8]) -> bool
-    requires { (Sized (length file.now) size) × (Below order.now size.slots) × (count ≤ 64) × (length image.now ≡ image_length) }
+fn matches(file: &[u8], size: Size, order: &[u8; 64], count: usize, image: &Image) -> bool
+    requires { (Sized (length file.now) size) × (Below order.now size.slots) × (count ≤ 64) }
     ensures { result ≡ true → AgreeingTold true file.now size order.now count (trie_from image.now) }
 {
     let cells = image::count_of(image);
@@ -233,14 +221,13 @@ fn matches(file: &[u8], size: Size, order: &[u8; 64], count: usize, image: &[u8]
 }
 
 // Whether the trie of an image agrees with a sound file whose used slots stand in range order.
-pub fn is_agreeing(file: &[u8], size: Size, order: &[u8; 64], count: usize, image: &[u8]) -> bool
-    requires { (Sized (length file.now) size) × (Below order.now size.slots) × (count ≤ 64) × (length image.now ≡ image_length) }
+pub fn is_agreeing(file: &[u8], size: Size, order: &[u8; 64], count: usize, image: &Image) -> bool
+    requires { (Sized (length file.now) size) × (Below order.now size.slots) × (count ≤ 64) }
     ensures { AgreeingTold result file.now size order.now count (trie_from image.now) }
 {
     if matches(file, size, order, count, image) {
         return true;
     }
     let strings = strings::strings_of(file, size, order, count);
-    let agreement = agreement::agreement_of(image, strings);
-    agreement.agrees
+    agreement::agreement_of(image, strings.as_ref()).is_some()
 }

@@ -1,5 +1,6 @@
 -- The pass decides agreement: over the cells of a trie that agrees there is one, and where there is one the trie agrees.
-use Rattle.model.proofs.Prelude.{Bool, List, [], ◌<◌, ◌∙◌, ◌∷◌, ◌≡◌, ◌≤◌, ap, arith, clash, drop, false, get_or, get_or-take, le-leb, leb-true, length, length-take-le, refl, sym, take, true, ℕ}
+use Rattle.std.specs.Prelude.{None}
+use Rattle.model.proofs.Prelude.{Bool, List, [], ◌<◌, ◌∙◌, ◌∷◌, ◌≡◌, ◌≤◌, ap, arith, drop, false, get_or, get_or-take, length, length-take-le, refl, sym, take, true, ℕ}
 use Rattle.model.specs.declared.Cell.{Cell}
 use Rattle.model.specs.declared.Side.{Side}
 use Rattle.model.specs.declared.Trie.{Trie}
@@ -9,7 +10,7 @@ use Rattle.model.specs.Searches.{all, bounds, strings_of}
 use Rattle.model.specs.Tries.{Agrees, Leads, NumbersFit, Tree, at_cell, leaves, occ, root_side, size, strings, zero_cell}
 use Rattle.model.specs.Rebuilding.{rebuilt}
 use Rattle.model.specs.Agreeing.{are_zero_cells, is_agreeing, slots_between}
-use Rattle.model.proofs.Agreeing.{agrees_is_agreeing, is_agreeing_agrees, trie_slots, zeros_past}
+use Rattle.model.proofs.Agreeing.{is_agreeing_agrees, trie_slots, zeros_past}
 use Rattle.model.proofs.Agreement.{CellsAgree, agrees_cells, cells_agree}
 use Rattle.model.proofs.Cells.{each_once, reads_size, reads_total, total_once, visits_count}
 use Rattle.model.proofs.Files.{strings_right}
@@ -18,9 +19,8 @@ use Rattle.model.proofs.Shapes.{Floors, same_shapes, shapes, spans_floors}
 use Rattle.model.proofs.Tries.{Spans, cast, cells_count, flat_trie, inside, strings_are, trie_flat}
 use Rattle.trie.specs.declared.Strings.{Strings}
 use Rattle.trie.specs.Places.{Placed}
-use Rattle.trie.specs.Strung.{Holds, Strung}
+use Rattle.trie.specs.Strung.{Holds}
 use Rattle.trie.proofs.Strung.{order_size}
-use Rattle.agreement.specs.declared.Agreement.{Agreement}
 use Rattle.agreement.specs.Decides.{Decided}
 use Rattle.agreement.specs.Passes.{Passes}
 use Rattle.agreement.proofs.Parts.{Fits, Rest, Whole, all as all_met, ordered, pass_tree, same_cells, whole}
@@ -93,15 +93,9 @@ module _ (b : ℕ) {fs : List Slot} (S : Sound b fs) where
         sym (length-take-le t.count t.cells (omega (arith, A.few, A.whole)))
         ∙ sym (visits_count C.reads C.each) ∙ reads_size C.reads ∙ spanned_size C.tree C.trie
 
-    module _ {s : Strings} (H : Strung s (strings_of fs) (slots_between fs none (strings_of fs))) where
-      pub agreed_few : Agrees fs t → s.few ≡ true
-      agreed_few A = H.few_is ∙ le-leb (length (strings_of fs)) 256 (omega (arith, agreed_count A, A.few))
-
-      held : s.few ≡ true → Holds s (strings_of fs) (slots_between fs none (strings_of fs))
-      held e = H.holds (leb-true (length (strings_of fs)) 256 (sym H.few_is ∙ e))
-
+    module _ {s : Strings} (H : Holds s (strings_of fs) (slots_between fs none (strings_of fs))) where
       pub agreed_same : Agrees fs t → t.count ≡ s.count
-      agreed_same A = agreed_count A ∙ sym (held (agreed_few A)).count_is
+      agreed_same A = agreed_count A ∙ sym H.count_is
 
       pub agreed_passing : Agrees fs t → Passing t.cells s start
       agreed_passing A =
@@ -113,11 +107,11 @@ module _ (b : ℕ) {fs : List Slot} (S : Sound b fs) where
           let o : (i : ℕ) → occ i O.order ≤ 1 = λ i. omega (arith, same_cells C.reads O.in_order i, each_once C.reads C.each i) in
           record {
             order = O.order;
-            passes = pass_tree t.cells s live l (same_live e) [] 0 [] O.order C.reads O.in_order (spanned_fits C.tree C.trie (held (agreed_few A)))
+            passes = pass_tree t.cells s live l (same_live e) [] 0 [] O.order C.reads O.in_order (spanned_fits C.tree C.trie H)
                 (spanned_floors C.tree C.trie) o (n, refl);
           }
 
-      module _ (full : length t.cells ≡ 256) (few : s.few ≡ true) (small : s.count ≤ 256) (e : t.count ≡ s.count)
+      module _ (full : length t.cells ≡ 256) (small : s.count ≤ 256) (e : t.count ≡ s.count)
           (clear : are_zero_cells (drop s.count t.cells) ≡ true) (first : 0 < t.count → t.first ≡ 0) where
         live_is : length live ≡ s.count
         live_is = length-take-le t.count t.cells (omega arith) ∙ e
@@ -142,7 +136,7 @@ module _ (b : ℕ) {fs : List Slot} (S : Sound b fs) where
                 visits = P.visits;
                 reads = P.reads;
                 each = total_once (length live) P.visits once (sym (reads_total P.reads) ∙ v);
-                trie = fits_spanned P.tree (held few) (count_is ∙ (held few).count_is) P.floors P.fits;
+                trie = fits_spanned P.tree H (count_is ∙ H.count_is) P.floors P.fits;
               }
 
           pub passing_agrees : Agrees fs t
@@ -151,15 +145,10 @@ module _ (b : ℕ) {fs : List Slot} (S : Sound b fs) where
           pub passing_placed : (places : List ℕ) → ((j : ℕ) → j < length M.order → get_or places (get_or M.order j 0) 0 ≡ j) → Placed t places
           passing_placed places h = record { order = M.order; in_order = rw order_is at W.part.in_order; place_is = h }
 
-    -- An answer that is yes where the trie agrees, and then has the places, and only there.
-    pub decided : {r : Agreement} → (r.agrees ≡ true → Agrees fs t × Placed t r.places) → (Agrees fs t → r.agrees ≡ true) → Decided fs t r
-    decided {r} f g = record { agrees_is = go r.agrees (is_agreeing fs t) refl refl; placed = λ e. (f e).1 }
+    -- Where it cannot agree, the answer is no.
+    pub refused : (Agrees fs t → ⊥) → Decided fs t None
+    refused n = go (is_agreeing fs t) refl
       where
-        go : (x y : Bool) → r.agrees ≡ x → is_agreeing fs t ≡ y → r.agrees ≡ is_agreeing fs t
-        go true y p q = p ∙ sym (agrees_is_agreeing b S (f p).0)
-        go false false p q = p ∙ sym q
-        go false true p q = g (is_agreeing_agrees b S t q) ∙ sym q
-
-    -- An answer that is no where it does not agree.
-    pub refused : {r : Agreement} → r.agrees ≡ false → (Agrees fs t → ⊥) → Decided fs t r
-    refused {r} e n = decided (λ p. clash cc) (λ A. absurd (n A))
+        go : (y : Bool) → is_agreeing fs t ≡ y → y ≡ false
+        go true q = absurd (n (is_agreeing_agrees b S t q))
+        go false q = refl

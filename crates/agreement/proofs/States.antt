@@ -1,11 +1,12 @@
 -- The loop of the pass: what holds before each turn, at the start, from one turn to the next, and at each end.
-use Rattle.model.proofs.Prelude.{List, [], ◌++◌, ◌+◌, ◌-◌, ◌<◌, ◌∙◌, ◌∷◌, ◌≡◌, ◌≤◌, arith, clash, eq-eqb, eqb, eqb-true, false, get_or, length, length-append, length-replicate, length-set, refl, replicate, set, subst, suc, sym, ℕ}
+use Rattle.std.specs.Bool.{then_some}
+use Rattle.std.specs.Prelude.{Option}
+use Rattle.model.proofs.Prelude.{Bool, List, [], ◌++◌, ◌+◌, ◌-◌, ◌<◌, ◌∙◌, ◌∷◌, ◌≡◌, ◌≤◌, arith, clash, eq-eqb, eqb, eqb-true, false, get_or, length, length-append, length-replicate, length-set, refl, replicate, set, subst, suc, sym, true, ℕ}
 use Rattle.model.specs.declared.Cell.{Cell}
 use Rattle.model.specs.declared.Side.{Side}
 use Rattle.model.specs.declared.Side.TheVariants.{Cell as further, Slot as slot}
 use Rattle.model.specs.Tries.{at_cell, occ}
 use Rattle.trie.specs.declared.Strings.{Strings}
-use Rattle.agreement.specs.declared.Agreement.{Agreement}
 use Rattle.agreement.specs.Passes.{Passed, Passes, ends, enters, leaves, stack}
 use Rattle.agreement.proofs.Marks.{Marks, length_stack, marks_next, marks_none, marks_unseen, stack_none, stack_pop, stack_push}
 
@@ -55,12 +56,6 @@ module _ (cs : List Cell) (s : Strings) (a : Side) where
   abbrev pub Never : Type 0
   Never = (last : List ℕ) → Passes cs s [] a 0 [] last → ⊥
 
-  pub refused : {r : Agreement} → r.agrees ≡ false → Never → Passed cs s a r
-  refused {r} e n = record {
-    met = λ q. clash cc;
-    every = λ order p. absurd (n order p);
-  }
-
   pub started : s.count ≤ 256 → State cs s a (replicate {A = ℕ} 256 256) (replicate {A = ℕ} 256 0) 0 0 0 0 a
   unfolding stack
   started h = record {
@@ -85,16 +80,19 @@ module _ {cs : List Cell} {s : Strings} {a : Side} {places cells : List ℕ} {to
     pub not_leaf : (x ≡ get_or s.slots done 0 → ⊥) → Never cs s a
     not_leaf h last p = h (rw S.done_is at (at_leaf (leaf_now last p)))
 
-    pub ended : top ≡ 0 → x ≡ get_or s.slots done 0 → Passed cs s a (record { agrees = eqb done s.count; places = places })
-    ended z h = record {
-      met = λ q. record { order = S.seen; passes = S.back S.seen (last_leaf (eqb-true done s.count q)); place_is = S.marks.place_is };
-      every = λ order p. eq-eqb done s.count (sym S.done_is ∙ at_end (rw (stack_none top cells z) at (leaf_now order p)));
-    }
+    pub ended : {r : Option (List ℕ)} → r ≡ then_some (eqb done s.count) places → top ≡ 0 → x ≡ get_or s.slots done 0 → Passed cs s a r
+    ended {r} f z h = subst (λ (r : Option (List ℕ)). Passed cs s a r) (sym f) (go (eqb done s.count) refl)
       where
         last_leaf : done ≡ s.count → Passes cs s (stack top cells) place least S.seen S.seen
         last_leaf q =
             let h' : x ≡ get_or s.slots (length S.seen) 0 = rw S.done_is h in
             rw (e, stack_none top cells z) (ends h' (S.done_is ∙ q))
+
+        go : (q : Bool) → eqb done s.count ≡ q → Passed cs s a (then_some q places)
+        go true q = record { order = S.seen; passes = S.back S.seen (last_leaf (eqb-true done s.count q)); place_is = S.marks.place_is }
+        go false q = λ order p.
+            let y : eqb done s.count ≡ true = eq-eqb done s.count (sym S.done_is ∙ at_end (rw (stack_none top cells z) at (leaf_now order p))) in
+            clash cc
 
     -- The cell on top of the stack.
     module _ (p : top ≡ 0 → ⊥) where

@@ -1,11 +1,10 @@
 -- The pass of a trie's cells against strings, rule by rule.
-use Rattle.std.specs.Prelude.{◌≡◌, true, List, [], ◌++◌, ◌∷◌, ◌<◌, ◌≤◌, suc, zero, ℕ, get_or, length}
+use Rattle.std.specs.Prelude.{◌≡◌, List, Option, Some, None, [], ◌++◌, ◌∷◌, ◌<◌, ◌≤◌, suc, zero, ℕ, get_or, length}
 use Rattle.model.specs.declared.Cell.{Cell}
 use Rattle.model.specs.declared.Side.{Side}
 use Rattle.model.specs.declared.Side.TheVariants.{Cell as further, Slot as slot}
 use Rattle.model.specs.Tries.{at_cell, occ}
 use Rattle.trie.specs.declared.Strings.{Strings}
-use Rattle.agreement.specs.declared.Agreement.{Agreement}
 
 -- The first t numbers of the list, the last one on top.
 unfoldable pub stack : ℕ → List ℕ → List ℕ
@@ -37,7 +36,7 @@ module _ (cs : List Cell) (s : Strings) where
     pub passes : Passes [] a 0 [] order
     pub place_is : (j : ℕ) → j < length order → get_or places (get_or order j 0) 0 ≡ j
 
-  -- The answer says whether it does.
-  pub record Passed (a : Side) (r : Agreement) : Type 0 where
-    pub met : r.agrees ≡ true → Met a r.places
-    pub every : (order : List ℕ) → Passes [] a 0 [] order → r.agrees ≡ true
+  -- The answer has the places where it does, and is nothing where it does not.
+  abbrev pub Passed : Side → Option (List ℕ) → Type 0
+  Passed a (Some places) = Met a places
+  Passed a None = (order : List ℕ) → Passes [] a 0 [] order → ⊥

@@ -6,91 +6,73 @@
 // at most one digit falls away.
 #![tactic(auto)]
 
-ghost use Rattle.std.specs.Prelude.{◌≡◌, false, ◌≤◌, length};
-ghost use Rattle.image.specs.Images.{image_length, trie_from};
+ghost use Rattle.std.specs.Option.{option_copied};
+ghost use Rattle.image.specs.Images.{trie_from};
 ghost use Rattle.agreement.specs.Decides.{Decides};
 ghost use Rattle.agreement.specs.Passes.{Passed};
 
-use digits::{u8_of_usize, u16_of_usize, usize_of_u8, usize_of_u16};
+use image::Image;
 use model::Side;
 use trie::Strings;
 
-// Whether the trie agrees; then the place of each cell's string among the strings.
-#[derive(Clone, Copy)]
-pub struct Agreement {
-    pub agrees: bool,
-    pub places: [u16; 256],
-}
-
-// The place of a cell that was not reached.
+// The place of a cell that was not reached. It stays a number: an Option would double the table.
 const NOWHERE: u16 = 256;
 
-fn disagreement() -> Agreement
-    ensures { result.agrees ≡ false }
-{
-    Agreement {
-        agrees: false,
-        places: [256u16; 256],
-    }
-}
-
-// The pass itself, over a trie whose count is the number of strings and not 0.
-fn pass(image: &[u8], strings: Strings) -> Agreement
-    requires { (length image.now ≡ image_length) × (strings.count ≤ 256) }
-    ensures { Passed (trie_from image.now).cells strings (Side.Cell 0) result }
+// The pass itself, over a trie whose count is the number of strings.
+fn pass(image: &Image, strings: &Strings) -> Option<[u16; 256]>
+    ensures { Passed (trie_from image.now).cells strings.now (Side.Cell 0) result }
 {
     let count = strings.count;
-    let mut places = [256u16; 256];
+    let mut places = [NOWHERE; 256];
+    // An array and a top, no ArrayVec: the byte stack of one pass, whose depth the invariant speaks of (no plainer).
     let mut stack = [0u8; 256];
     let mut top = 0usize;
     let mut entered = 0usize;
     let mut done = 0usize;
     let mut least = 0usize;
     let mut place = Side::Cell(0);
+    // The pass goes from side to side, down into a left part or back up to a cell: it stays a loop.
     loop {
         match place {
             Side::Slot(s) => {
-                if usize_of_u16(s) != usize_of_u8(strings.slots[done]) {
-                    return disagreement();
+                if s as usize != strings.slots[done] as usize {
+                    return None;
                 }
                 if top == 0 {
-                    return Agreement {
-                        agrees: done == count,
-                        places,
-                    };
+                    return (done == count).then_some(places);
                 }
                 top -= 1;
-                let k = usize_of_u8(stack[top]);
+                let k = stack[top] as usize;
                 let cell = image::cell_at(image, k);
-                let n = usize_of_u8(cell.number);
-                if n + 1 != usize_of_u8(strings.lens[done]) {
-                    return disagreement();
+                let n = cell.number as usize;
+                if n + 1 != strings.lens[done] as usize {
+                    return None;
                 }
                 if cell.digit != strings.digits[done] {
-                    return disagreement();
+                    return None;
                 }
                 if places[k] != NOWHERE {
-                    return disagreement();
+                    return None;
                 }
-                places[k] = u16_of_usize(done);
+                places[k] = done as u16;
                 done += 1;
                 least = n;
                 place = cell.right;
             }
             Side::Cell(i) => {
                 if count <= entered {
-                    return disagreement();
+                    return None;
                 }
-                let k = usize_of_u16(i);
+                let k = i as usize;
                 if count <= k {
-                    return disagreement();
+                    return None;
                 }
                 let cell = image::cell_at(image, k);
-                let n = usize_of_u8(cell.number);
+                let n = cell.number as usize;
                 if n < least {
-                    return disagreement();
+                    return None;
                 }
-                stack[top] = u8_of_usize(k);
+                stack[top] = k as u8;
                 top += 1;
                 entered += 1;
                 place = cell.left;
@@ -99,30 +81,25 @@ fn pass(image: &[u8], strings: Strings) -> Agreement
     }
 }
 
-// Whether the trie agrees with the file that has these strings.
-pub fn agreement_of(image: &[u8], strings: Strings) -> Agreement
-    requires { (length image.now ≡ image_length) × (strings.count ≤ 256) }
-    ensures { Decides (trie_from image.now) strings result }
+// The place of each cell's string among the strings, or nothing where the trie does not agree with the file that has these strings.
+// No strings are given where the file has more than 256, and with it no trie agrees.
+pub fn agreement_of(image: &Image, strings: Option<&Strings>) -> Option<[u16; 256]>
+    ensures { Decides (trie_from image.now) (option_copied strings.entry) result }
 {
-    if !strings.few {
-        return disagreement();
-    }
+    let strings = strings?;
     let count = strings.count;
     if image::count_of(image) != count {
-        return disagreement();
+        return None;
     }
     if !image::is_clear_past(image, count) {
-        return disagreement();
+        return None;
     }
     let first = image::first_of(image);
     if count == 0 {
-        return Agreement {
-            agrees: first == usize_of_u8(strings.slots[0]),
-            places: [256u16; 256],
-        };
+        return (first == strings.slots[0] as usize).then_some([NOWHERE; 256]);
     }
     if first != 0 {
-        return disagreement();
+        return None;
     }
     pass(image, strings)
 }

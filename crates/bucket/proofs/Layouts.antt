@@ -23,7 +23,7 @@ use Rattle.bucket.proofs.Reading.{are_zeros, bound_legal, bound_short, bounded, 
 use Rattle.bucket.specs.Forms.{Formed, WellRead, is_all_clear}
 use Rattle.bucket.specs.Slots.{bound_bytes_at, count_at, high_in, is_a_bound, low_in, lower_bytes, upper_bytes}
 use Rattle.bucket.specs.declared.Bucket.{Bucket}
-use Rattle.bucket.specs.declared.Form.TheVariants.{Ill, Well}
+use Rattle.std.specs.Prelude.{None, Some}
 
 -- The parts of a slot's bytes as they are read.
 module _ (y : Layout) (l : Low) (u : Str) (es : List Entry) where
@@ -291,11 +291,11 @@ not_read y xs f s = go (same_str xs (bytes_of_slot y (used_of (entry_length y) x
 
 -- As the code says it, which knows the entry size and b.
 module _ (e b : ℕ) (xs : List ℕ) where
-  pub ill : (Tested e b xs → ⊥) → (y : Layout) → entry_length y ≡ e → y.b ≡ b → Formed y xs Ill
+  pub ill : (Tested e b xs → ⊥) → (y : Layout) → entry_length y ≡ e → y.b ≡ b → Formed y xs None
   ill f y p q = not_read y xs (λ t. f (rw (p, q) at t))
 
   pub well_formed : length xs ≡ 64 + e * b → ((i : ℕ) → get_or xs i 0 < 256) → Tested e b xs → (k : Bucket) → key_value k.low ≡ low_value (low_in xs)
-      → key_value k.high ≡ value (continued (high_in xs)) → (y : Layout) → entry_length y ≡ e → y.b ≡ b → Formed y xs (Well k)
+      → key_value k.high ≡ value (continued (high_in xs)) → (y : Layout) → entry_length y ≡ e → y.b ≡ b → Formed y xs (Some k)
   well_formed size bytes t k f g y p q = well_read y xs (rw (p, q) size) bytes (rw (p, q) t) k f g
 
 pub same_entries : (e : ℕ) {m n : ℕ} {x y : List ℕ} {p q v w : ℕ} → m ≡ n → x ≡ y → p ≡ q → v ≡ w → are_entries e m x p v ≡ are_entries e n y q w

@@ -10,9 +10,12 @@ use Rattle.gathering.proofs.Parts.{value_zero}
 use Rattle.bucket.specs.Slots.{bound_bytes_at, count_at}
 
 -- The parts of a slot as the code reads them; r is the byte that says how long.
-pub bound_none : (k at r : ℕ) (xs : List ℕ) → r ≡ get_or xs k 0 → 24 < r → [] ≡ bound_bytes_at k at xs
+pub bound_none : (k at r : ℕ) (xs : List ℕ) → r ≡ get_or xs k 0 → 24 < r
+    → (take (at - at) (drop at xs) ≡ bound_bytes_at k at xs) × (length (take (at - at) (drop at xs)) ≤ 24)
 unfolding bound_bytes_at
-bound_none k at r xs e h = rw (← e, lt-ltb 24 r h)
+bound_none k at r xs e h =
+    let i : at - at ≡ 0 = omega arith in
+    rw (i, ← e, lt-ltb 24 r h) (refl, omega arith)
 
 pub bound_read : (k at r : ℕ) (xs : List ℕ) → r ≡ get_or xs k 0 → r ≤ 24
     → (take (at + r - at) (drop at xs) ≡ bound_bytes_at k at xs) × (length (take (at + r - at) (drop at xs)) ≤ 24)

@@ -19,10 +19,9 @@ use Rattle.bucket.proofs.Reading.{are_zeros, by_bound, low_digits}
 use Rattle.bucket.specs.Forms.{Formed, WellRead, ranged, vacant}
 use Rattle.bucket.specs.Slots.{HighTold, LowTold, count_at, high_in, low_in, lower_bytes, upper_bytes}
 use Rattle.bucket.specs.declared.Bucket.{Bucket}
-use Rattle.bucket.specs.declared.Form.TheVariants.{Ill}
 use Rattle.model.proofs.Names.{is_legal_bound_bound, within_is_at_most}
 use Rattle.digits.proofs.Bounds.{low_legal}
-use Rattle.bucket.specs.declared.Range.TheVariants.{Holds, Lacks}
+use Rattle.std.specs.Prelude.{Err, None, Ok, Result}
 use Rattle.bucket.specs.declared.Vacancy.TheVariants.{Free, Taken}
 
 -- What is read was written.
@@ -122,7 +121,7 @@ module _ (y : Layout) (xs : List ℕ) (size : length xs ≡ slot_size y) where
   taken_read e = read_by_zero y xs size ∙ rw e
 
   -- What is not free and not well formed reads as nothing that is well formed.
-  pub ill_read : is_all_zero xs ≡ false → Formed y xs Ill → (s : Slot) → read_slot y xs ≡ some s → is_well_formed y.b s ≡ false
+  pub ill_read : is_all_zero xs ≡ false → Formed y xs None → (s : Slot) → read_slot y xs ≡ some s → is_well_formed y.b s ≡ false
   ill_read e f s h = f s (sym (taken_read e) ∙ h)
 
 pub free_zero : (y : Layout) (xs : List ℕ) → read_slot y xs ≡ some free → is_all_zero xs ≡ true
@@ -153,18 +152,18 @@ read_upper {y} {xs} {l} {u} {es} R = ap upper_bytes R.is ∙ upper_bytes_slot y 
 
 -- The range test as the code makes it: the name is in the range, or which bound it breaks and how far it agrees with that.
 range_is : (z u n : Str) → length z ≤ length n → length u ≤ length n
-    → ranged z u n ≡ cond (is_above (low_of z) n && is_at_most n u) Holds (Lacks (broken (low_of z) u n))
+    → ranged z u n ≡ cond (is_above (low_of z) n && is_at_most n u) (Ok tt) (Err (broken (low_of z) u n))
 unfolding is_above broken low_of
 range_is [] u n h k = rw (within_is_at_most n u k)
 range_is (d ∷ z) u n h k = rw (lt-ltb 0 (length (d ∷ z)) (omega arith), within_is_at_most n (d ∷ z) h, within_is_at_most n u k) (go (is_at_most n (d ∷ z)) (is_at_most n u))
   where
-    go : (q p : Bool) → cond q (Lacks (diff n (d ∷ z))) (cond p Holds (Lacks (diff n u))) ≡ cond (not q && p) Holds (Lacks (cond q (diff n (d ∷ z)) (diff n u)))
+    go : (q p : Bool) → ◌≡◌ {A = Result Unit ℕ} (cond q (Err (diff n (d ∷ z))) (cond p (Ok tt) (Err (diff n u)))) (cond (not q && p) (Ok tt) (Err (cond q (diff n (d ∷ z)) (diff n u))))
     go true p = refl
     go false true = refl
     go false false = refl
 
 pub range_told : {y : Layout} {xs : List ℕ} {k : Bucket} (W : WellRead y xs k) (n : Str) → length n ≡ 24
-    → ranged (lower_bytes xs) (upper_bytes xs) n ≡ cond (is_above W.lower n && is_at_most n W.upper) Holds (Lacks (broken W.lower W.upper n))
+    → ranged (lower_bytes xs) (upper_bytes xs) n ≡ cond (is_above W.lower n && is_at_most n W.upper) (Ok tt) (Err (broken W.lower W.upper n))
 range_told {xs = xs} W n h =
     let R = well_reads W in
     let z : Str = take (get_or xs 2 0) (drop 8 xs) in
@@ -172,7 +171,7 @@ range_told {xs = xs} W n h =
     range_is (lower_bytes xs) (upper_bytes xs) n
     (omega (arith, h, ap length (read_lower R), (is_legal_bound_bound (digits_of_low W.lower) (low_legal W.lower R.low)).fits))
     (omega (arith, h, ap length (read_upper R), (is_legal_bound_bound W.upper R.high).fits))
-    ∙ ap₂ (λ (m : Low) (u : Str). cond (is_above m n && is_at_most n u) Holds (Lacks (broken m u n))) l (read_upper R)
+    ∙ ap₂ (λ (m : Low) (u : Str). cond (is_above m n && is_at_most n u) (Ok tt) (Err (broken m u n))) l (read_upper R)
 
 -- The entries are those that are read behind the bounds.
 pub entries_are : {y : Layout} {xs : List ℕ} {l : Low} {u : Str} {es : List Entry} → Reads y xs l u es → Contents (entry_length y) es

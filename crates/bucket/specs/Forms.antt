@@ -1,21 +1,18 @@
 -- What the code tests in a slot's bytes, and a slot of any layout as it is read: free, or used and well formed.
-use Rattle.std.specs.Prelude.{Bool, ◌&&◌, cond, false, true, List, ◌≡◌, ◌*◌, ◌+◌, ◌<◌, ◌≤◌, ℕ, ltb, drop, get_or, length, take}
+use Rattle.std.specs.Prelude.{Option, Some, None, Result, Ok, Err, Bool, ◌&&◌, cond, false, true, List, ◌≡◌, ◌*◌, ◌+◌, ◌<◌, ◌≤◌, ℕ, ltb, drop, get_or, length, take}
 use Rattle.std.proofs.Math.Option.{some}
 use Rattle.model.specs.Checks.{is_well_formed}
 use Rattle.model.specs.Entries.{Entry}
 use Rattle.model.specs.Files.{Slot, Well as WellFormed, used}
-use Rattle.model.specs.Format.{read_slot, read_used_slot}
+use Rattle.model.specs.Format.{EntrySize, entry_length, read_slot, read_used_slot}
 use Rattle.model.specs.Names.{within}
 use Rattle.model.specs.Order.{Low, Str, diff}
 use Rattle.model.specs.declared.Layout.{Layout}
 use Rattle.digits.specs.Keys.{continued, is_all_zero, key_value, low_value, value}
 use Rattle.entries.specs.Rows.{are_between}
+use Rattle.entries.specs.declared.row.Row.{Row}
 use Rattle.bucket.specs.Slots.{Following, high_in, is_a_bound, low_in}
 use Rattle.bucket.specs.declared.Bucket.{Bucket}
-use Rattle.bucket.specs.declared.Form.{Form}
-use Rattle.bucket.specs.declared.Form.TheVariants.{Ill, Well}
-use Rattle.bucket.specs.declared.Range.{Range}
-use Rattle.bucket.specs.declared.Range.TheVariants.{Holds, Lacks}
 use Rattle.bucket.specs.declared.Vacancy.{Vacancy}
 use Rattle.bucket.specs.declared.Vacancy.TheVariants.{Free, Taken}
 
@@ -23,14 +20,22 @@ abbrev pub vacant : Bool → Vacancy
 vacant true = Free
 vacant false = Taken
 
--- The range test of a name, by the digits of the lower and of the upper bound.
-abbrev pub ranged : List ℕ → List ℕ → List ℕ → Range
+-- The range test of a name, by the digits of the lower and of the upper bound: the first digit number where the name differs from the one
+-- that it breaks.
+abbrev pub ranged : List ℕ → List ℕ → List ℕ → Result Unit ℕ
 ranged lower upper n =
-    cond (ltb 0 (length lower) && within n lower) (Lacks (diff n lower)) (cond (within n upper) Holds (Lacks (diff n upper)))
+    cond (ltb 0 (length lower) && within n lower) (Err (diff n lower)) (cond (within n upper) (Ok tt) (Err (diff n upper)))
 
 -- R3.6, R3.11 and R3.17: what is always zero; the entries reach to `end`.
 unfoldable pub is_all_clear : List ℕ → ℕ → Bool
 is_all_clear xs end = is_all_zero (take 4 (drop 4 xs)) && is_all_zero (take 8 (drop 56 xs)) && is_all_zero (drop end xs)
+
+-- The entries, so many as byte 1 says: none, where they do not fit or a byte that is always zero is not.
+abbrev pub RowTold : Layout → List ℕ → Option Row → Type 0
+RowTold y xs (Some r) =
+    (r.bytes.now ≡ drop 64 xs) × (r.e ≡ entry_length y) × (r.count ≡ get_or xs 1 0) × (get_or xs 1 0 ≤ y.b) × (is_all_clear xs (64 + entry_length y * get_or xs 1 0) ≡ true)
+    × EntrySize r.e
+RowTold y xs None = get_or xs 1 0 ≤ y.b → is_all_clear xs (64 + entry_length y * get_or xs 1 0) ≡ false
 
 -- Bytes that read as a used slot with these bounds and entries, well formed.
 abbrev pub ReadAs : Layout → List ℕ → Low → Str → List Entry → Type 0
@@ -52,9 +57,9 @@ pub record Standing (y : Layout) (xs : List ℕ) : Type 0 where
   pub read : read_slot y xs ≡ some (used (low_in xs) (high_in xs) entries)
   pub well : WellFormed y.b (used (low_in xs) (high_in xs) entries)
 
-abbrev pub Formed : Layout → List ℕ → Form → Type 0
-Formed y xs (Well k) = WellRead y xs k
-Formed y xs Ill = (s : Slot) → read_used_slot y xs ≡ some s → is_well_formed y.b s ≡ false
+abbrev pub Formed : Layout → List ℕ → Option Bucket → Type 0
+Formed y xs (Some k) = WellRead y xs k
+Formed y xs None = (s : Slot) → read_used_slot y xs ≡ some s → is_well_formed y.b s ≡ false
 
 -- A used slot of b entries of e bytes between two limits, but for what stands in its bounds, and for its names other than the first and
 -- the last.

@@ -10,12 +10,9 @@ ghost use Rattle.model.specs.Answers.{number};
 ghost use Rattle.model.specs.Sayings.{carried};
 ghost use Rattle.capi.specs.Doors.{pal_check_of, pal_create_of, pal_list_of, pal_look_up_of, pal_put_of, pal_rebuild_of, pal_recover_of, pal_remove_of};
 
-use digits::u64_of_usize;
-use file::Kind;
-use model::{
-    Cause, ListAnswer, LookUpAnswer, PutAnswer, RecoverAnswer, RemoveAnswer, TrieAnswer,
-    cause_number,
-};
+use file::Fault;
+use image::BYTES;
+use model::{Cause, Put, Recovery, Removal};
 
 // What refuses a trie image of another length, before everything else.
 const MALFORMED: u64 = 255;
@@ -24,85 +21,78 @@ const MALFORMED: u64 = 255;
 fn refused(cause: Cause, out: &mut [u64; 4]) -> u64
     ensures { (result ≡ number cause) × (out.new ≡ sets out.old 0 (carried cause)) }
 {
-    let number = cause_number(cause);
-    let Cause::StaleTrie(digit) = cause else {
-        return number;
-    };
-    out[0] = digit;
-    number
+    if let Cause::StaleTrie(digit) = cause {
+        out[0] = digit;
+    }
+    u64::from(cause)
 }
 
 pub fn pal_create(file: &mut [u8], version: u64, b: u64, slots: u64, trie: &mut [u8]) -> u64
     ensures { pal_create_of file.old version b slots trie.old ≡ (result, file.new, trie.new) }
 {
-    if trie.len() != image::BYTES {
+    let Some(image) = trie.as_mut_array::<BYTES>() else {
         return MALFORMED;
-    }
-    let answer = whole::create(file, trie, version, b, slots);
-    match answer {
-        TrieAnswer::Given => 150,
-        TrieAnswer::Refused(cause) => cause_number(cause),
+    };
+    match whole::create(file, image, version, b, slots) {
+        Ok(()) => 150,
+        Err(cause) => u64::from(cause),
     }
 }
 
 pub fn pal_check(file: &[u8]) -> u64
     ensures { result ≡ pal_check_of file.now }
 {
-    let kind = whole::check(file);
-    match kind {
-        Kind::Sound => 140,
-        Kind::Cut => 141,
-        Kind::Bad => 142,
+    match whole::check(file) {
+        Ok(()) => 140,
+        Err(Fault::Cut(_)) => 141,
+        Err(Fault::Bad) => 142,
     }
 }
 
 pub fn pal_recover(file: &mut [u8], limit: u64, out: &mut [u64; 4]) -> u64
     ensures { pal_recover_of file.old limit out.old ≡ (result, file.new, out.new) }
 {
-    let answer = whole::recover(file, limit);
-    match answer {
-        RecoverAnswer::Freed(slot) => {
-            out[0] = u64_of_usize(slot);
+    match whole::recover(file, limit) {
+        Ok(Recovery::Freed(slot)) => {
+            out[0] = slot as u64;
             130
         }
-        RecoverAnswer::Nothing => 131,
-        RecoverAnswer::Stopped(stores) => {
+        Ok(Recovery::Nothing) => 131,
+        Ok(Recovery::Stopped(stores)) => {
             out[0] = stores;
             112
         }
-        RecoverAnswer::Refused(cause) => refused(cause, out),
+        Err(cause) => refused(cause, out),
     }
 }
 
 pub fn pal_rebuild(file: &[u8], trie: &mut [u8]) -> u64
     ensures { pal_rebuild_of file.now trie.old ≡ (result, trie.new) }
 {
-    if trie.len() != image::BYTES {
+    let Some(image) = trie.as_mut_array::<BYTES>() else {
         return MALFORMED;
-    }
-    let answer = whole::rebuild(file, trie);
-    match answer {
-        TrieAnswer::Given => 151,
-        TrieAnswer::Refused(cause) => cause_number(cause),
+    };
+    match whole::rebuild(file, image) {
+        Ok(()) => 151,
+        Err(cause) => u64::from(cause),
     }
 }
 
 pub fn pal_lookup(file: &[u8], trie: &[u8], name: &[u8], out: &mut [u64; 4]) -> u64
     ensures { pal_look_up_of file.now trie.now name.now out.old ≡ (result, out.new) }
 {
-    if trie.len() != image::BYTES {
+    let Some(image) = trie.as_array::<BYTES>() else {
         return MALFORMED;
-    }
+    };
     let filled = digits::filled(name);
-    let answer = reading::look_up_from(file, image::place_in(trie, &filled), name, &filled);
-    match answer {
-        LookUpAnswer::Found(value, run) => {
-            out[0] = value;
-            out[1] = run;
+    match reading::look_up_from(file, image::place_in(image, &filled), name, &filled) {
+        Ok(Some(held)) => {
+            out[0] = held.value;
+            out[1] = held.run;
             100
         }
-        LookUpAnswer::Absent => 101,
-        LookUpAnswer::Refused(cause) => refused(cause, out),
+        Ok(None) => 101,
+        Err(cause) => refused(cause, out),
     }
 }
 
@@ -119,22 +109,21 @@ pub fn pal_put(
     ensures { pal_put_of file.old trie.old name.now value run limit out.old
         ≡ (result, file.new, trie.new, out.new) }
 {
-    if trie.len() != image::BYTES {
+    let Some(image) = trie.as_mut_array::<BYTES>() else {
         return MALFORMED;
-    }
-    let answer = putting::put(file, trie, name, value, run, limit);
-    match answer {
-        PutAnswer::Added => 110,
-        PutAnswer::Replaced(old, run) => {
-            out[0] = old;
-            out[1] = run;
+    };
+    match putting::put(file, image, name, value, run, limit) {
+        Ok(Put::Added) => 110,
+        Ok(Put::Replaced(old)) => {
+            out[0] = old.value;
+            out[1] = old.run;
             111
         }
-        PutAnswer::Stopped(stores) => {
+        Ok(Put::Stopped(stores)) => {
             out[0] = stores;
             112
         }
-        PutAnswer::Refused(cause) => refused(cause, out),
+        Err(cause) => refused(cause, out),
     }
 }
 
@@ -148,18 +137,17 @@ pub fn pal_remove(
     ensures { pal_remove_of file.old trie.old name.now limit out.old
         ≡ (result, file.new, trie.new, out.new) }
 {
-    if trie.len() != image::BYTES {
+    let Some(image) = trie.as_mut_array::<BYTES>() else {
         return MALFORMED;
-    }
-    let answer = removing::remove(file, trie, name, limit);
-    match answer {
-        RemoveAnswer::Removed(_) => 120,
-        RemoveAnswer::Absent => 101,
-        RemoveAnswer::Stopped(stores) => {
+    };
+    match removing::remove(file, image, name, limit) {
+        Ok(Removal::Removed(_)) => 120,
+        Ok(Removal::Absent) => 101,
+        Ok(Removal::Stopped(stores)) => {
             out[0] = stores;
             112
         }
-        RemoveAnswer::Refused(cause) => refused(cause, out),
+        Err(cause) => refused(cause, out),
     }
 }
 
@@ -174,15 +162,14 @@ pub fn pal_list(
     ensures { pal_list_of file.now trie.now first.now second.now output.old out.old
         ≡ (result, output.new, out.new) }
 {
-    if trie.len() != image::BYTES {
+    let Some(image) = trie.as_array::<BYTES>() else {
         return MALFORMED;
-    }
-    let answer = reading::list(file, trie, first, second, output);
-    match answer {
-        ListAnswer::Listed(entries) => {
+    };
+    match reading::list(file, image, first, second, output) {
+        Ok(entries) => {
             out[0] = entries;
             152
         }
-        ListAnswer::Refused(cause) => refused(cause, out),
+        Err(cause) => refused(cause, out),
     }
 }

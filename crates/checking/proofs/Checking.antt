@@ -1,4 +1,5 @@
 -- The checks that put, remove and list make alike: what a sound file's survey and agreement say together.
+use Rattle.std.specs.Prelude.{Err}
 use Rattle.model.proofs.Prelude.{Bool, List, ◌∙◌, ◌≡◌, ap, arith, cond, false, some, sym, true, ℕ}
 use Rattle.model.specs.declared.Cause.TheVariants.{BadFile, CutFile}
 use Rattle.model.specs.declared.Layout.{Layout}
@@ -11,14 +12,15 @@ use Rattle.model.specs.Answers.{stale_trie}
 use Rattle.model.specs.Calls.{fine, looked_at_by, looked_of, refusing}
 use Rattle.model.proofs.Agreeing.{is_agreeing_agrees}
 use Rattle.file.specs.declared.Size.{Size}
+use Rattle.file.specs.declared.survey.Fault.{Fault}
+use Rattle.file.specs.declared.survey.Fault.TheVariants.{Bad, Cut}
 use Rattle.file.specs.declared.survey.Survey.{Survey}
 use Rattle.file.specs.Sizes.{Saying}
-use Rattle.file.specs.Surveys.{Surveyed}
+use Rattle.file.specs.Surveys.{Sounded, cause_of, verdict}
 use Rattle.agreement.proofs.Laws.{agreed_count}
 use Rattle.file.proofs.Surveying.{Read, sound_read}
 use Rattle.strings.proofs.Surveyed.{counted}
 use Rattle.agreeing.specs.Agreeing.{AgreeingTold}
-use Rattle.checking.specs.declared.Checked.{Checked}
 use Rattle.checking.specs.Ready.{Agreed}
 
 -- What is refused, in the order 2, 3, 4.
@@ -26,9 +28,13 @@ pub looked_bad : (xs : List ℕ) (t : Trie) → check_file xs ≡ is_bad → loo
 unfolding looked_of looked_at_by
 looked_bad xs t e = rw e
 
-pub looked_cut : (xs : List ℕ) (t : Trie) {N : ℕ} → check_file xs ≡ is_cut N → looked_of xs t ≡ refusing CutFile
+looked_cut : (xs : List ℕ) (t : Trie) {N : ℕ} → check_file xs ≡ is_cut N → looked_of xs t ≡ refusing CutFile
 unfolding looked_of looked_at_by
 looked_cut xs t e = rw e
+
+pub looked_faulty : (xs : List ℕ) (t : Trie) (f : Fault) → check_file xs ≡ verdict (Err f) → looked_of xs t ≡ refusing (cause_of f)
+looked_faulty xs t Bad e = looked_bad xs t e
+looked_faulty xs t (Cut N) e = looked_cut xs t e
 
 looked_by : (xs : List ℕ) (t : Trie) {y : Layout} {fs : List Slot} → check_file xs ≡ is_sound → read_file xs ≡ some (y, fs)
     → looked_of xs t ≡ cond (is_agreeing fs t) (fine y fs) (refusing stale_trie)
@@ -37,7 +43,7 @@ looked_by xs t e f = rw (e, f)
 
 -- The agreement with a sound file.
 module _ (xs : List ℕ) (t : Trie) (s : Size) (v : Survey) (a : Bool)
-    (h : Saying s xs) (e : check_file xs ≡ is_sound) (z : Surveyed v xs s) (d : AgreeingTold a xs s v.order v.count t) where
+    (h : Saying s xs) (e : check_file xs ≡ is_sound) (z : Sounded v xs s) (d : AgreeingTold a xs s v.order v.count t) where
   R : Read s xs
   R = sound_read xs s h e
 
@@ -47,23 +53,23 @@ module _ (xs : List ℕ) (t : Trie) (s : Size) (v : Survey) (a : Bool)
   pub agreed_not : a ≡ false → looked_of xs t ≡ refusing stale_trie
   agreed_not f = looked_by xs t e R.is ∙ ap (λ (x : Bool). cond x (fine s.layout R.slots) (refusing stale_trie)) (sym decided ∙ f)
 
-  pub agreed_all : (c : Checked) → a ≡ true → c.size ≡ s → c.survey ≡ v → Agreed c xs t
-  agreed_all c f p q =
+  pub agreed_all : a ≡ true → Agreed (record { size = s; survey = v }) xs t
+  agreed_all f =
       let y : is_agreeing R.slots t ≡ true = sym decided ∙ f in
       let A = is_agreeing_agrees s.layout.b R.sound t y in
       record {
         ready = record {
-          said = rw p h;
+          said = h;
           slots = R.slots;
-          is = rw p R.is;
-          sound = rw p R.sound;
-          slots_inside = rw (p, q) z.slots_inside;
-          count_most = rw q z.count_most;
-          count_is = rw q (counted R z).0;
-          order_is = rw q (counted R z).1;
-          used_is = rw q (z.used_is R.listed R.sound);
+          is = R.is;
+          sound = R.sound;
+          slots_inside = z.slots_inside;
+          count_most = z.count_most;
+          count_is = (counted R z).0;
+          order_is = (counted R z).1;
+          used_is = z.used_is R.listed R.sound;
           few = omega (arith, agreed_count s.layout.b R.sound t A, A.few);
         };
         agrees = A;
-        looked = rw p (looked_by xs t e R.is ∙ ap (λ (x : Bool). cond x (fine s.layout R.slots) (refusing stale_trie)) y);
+        looked = looked_by xs t e R.is ∙ ap (λ (x : Bool). cond x (fine s.layout R.slots) (refusing stale_trie)) y;
       }

@@ -1,5 +1,5 @@
 -- What is known of a file and a trie once put's, remove's and list's checks have passed; and which cause holds where not.
-use Rattle.std.specs.Prelude.{◌≡◌, List, ◌≤◌, ℕ, length, take}
+use Rattle.std.specs.Prelude.{Result, Ok, Err, ◌≡◌, List, ◌≤◌, ℕ, length, take}
 use Rattle.std.proofs.Math.Option.{some}
 use Rattle.model.specs.declared.Trie.{Trie}
 use Rattle.model.specs.Files.{Slot, Sound}
@@ -10,8 +10,7 @@ use Rattle.model.specs.Searches.{order_of, strings_of}
 use Rattle.file.specs.Sizes.{Below, Saying}
 use Rattle.file.specs.Maps.{map_of}
 use Rattle.checking.specs.declared.Checked.{Checked}
-use Rattle.checking.specs.declared.Verdict.{Verdict}
-use Rattle.checking.specs.declared.Verdict.TheVariants.{Fine, Refused}
+use Rattle.model.specs.declared.Cause.{Cause}
 
 -- The file is sound; its slots are read, in range order and as a map; its strings are not too many.
 pub record Ready (c : Checked) (xs : List ℕ) : Type 0 where
@@ -32,9 +31,7 @@ pub record Agreed (c : Checked) (xs : List ℕ) (t : Trie) : Type 0 where
   pub agrees : Agrees ready.slots t
   pub looked : looked_of xs t ≡ fine c.size.layout ready.slots
 
-abbrev pub AgreedWhere : Verdict → Checked → List ℕ → Trie → Type 0
-AgreedWhere Fine c xs t = Agreed c xs t
-AgreedWhere (Refused cause) c xs t = looked_of xs t ≡ refusing cause
-
-abbrev pub Passed : Checked → List ℕ → Trie → Type 0
-Passed c xs t = AgreedWhere c.verdict c xs t
+-- What the checks found, or why they refuse.
+abbrev pub Passed : Result Checked Cause → List ℕ → Trie → Type 0
+Passed (Ok c) xs t = Agreed c xs t
+Passed (Err cause) xs t = looked_of xs t ≡ refusing cause

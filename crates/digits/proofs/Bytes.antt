@@ -1,18 +1,16 @@
--- Bytes put together by shifts and `|`, and in the other order.
-use Rattle.model.proofs.Prelude.{List, [], ◌%◌, ◌&&◌, ◌*◌, ◌++◌, ◌+◌, ◌-◌, ◌/◌, ◌<◌, ◌^◌, ◌∙◌, ◌∷◌, ◌≡◌, ◌≤◌, ap, arith, drop, drop-cons, drop-drop, eq-eqb, eqb, get_or, length, length-drop, length-take, mod-eq_of_lt, mul_assoc, ne_eqb, pow-suc, pow-succ', refl, suc, sym, take, take-add, take-append-drop, zero, ℕ, ℕ_discrete}
-use lib.Bits.{and_le_l, and_le_r, bit_or, or_add_and, or_shifted, or_shifted_r}
+-- Bytes as one number, the first lowest or highest.
+use Rattle.model.proofs.Prelude.{List, [], ◌&&◌, ◌*◌, ◌++◌, ◌+◌, ◌-◌, ◌/◌, ◌<◌, ◌^◌, ◌∙◌, ◌∷◌, ◌≡◌, ◌≤◌, ap, arith, drop, drop-cons, drop-drop, eq-eqb, eqb, get_or, length, length-take, mul_assoc, ne_eqb, pow-suc, pow-succ', refl, suc, sym, take, take-add, take-append-drop, zero, ℕ, ℕ_discrete}
+use Rattle.std.specs.Int.{w64, from_be_bytes, from_le_bytes}
+use lib.Bits.{and_le_l, and_le_r, bit_or, or_add_and}
 use Rattle.model.specs.Format.{AreBytes, value_of}
-use Rattle.model.proofs.Format.{bytes_drop, bytes_take}
+use Rattle.model.proofs.Format.{bytes_take}
 use Rattle.digits.specs.Keys.{is_all_zero, value}
-use Rattle.digits.specs.Words.{Word}
-use Rattle.digits.proofs.Keys.{bytes_part, length_part, value_append, zero_append}
+use Rattle.digits.proofs.Keys.{bytes_part, length_part, zero_append}
 
--- `a | b << k` and `b << k | a`.
-pub or_above : (k a b : ℕ) → a < 2 ^ k → b * 2 ^ k < 2 ^ 64 → bit_or a (b * 2 ^ k % 2 ^ 64) ≡ b * 2 ^ k + a
-or_above k a b h l = rw (mod-eq_of_lt l) (or_shifted_r b k a h)
-
-pub or_below : (k a b : ℕ) → a < 2 ^ k → b * 2 ^ k < 2 ^ 64 → bit_or (b * 2 ^ k % 2 ^ 64) a ≡ b * 2 ^ k + a
-or_below k a b h l = rw (mod-eq_of_lt l) (or_shifted b k a h)
+-- The bytes of one word.
+pub record Word (x : List ℕ) : Type 0 where
+  pub bytes : AreBytes x
+  pub eight : length x ≡ 8
 
 -- The eight bytes from `at` on are a word.
 pub word_part : (s : List ℕ) (at : ℕ) → at + 8 ≤ length s → ((i : ℕ) → get_or s i 0 < 256) → Word (take 8 (drop at s))
@@ -22,23 +20,10 @@ word_part s at h f = record { bytes = bytes_part s 8 at f; eight = length_part s
 pub or_zero : (a b : ℕ) → bit_or a b ≡ 0 → (a ≡ 0) × (b ≡ 0)
 or_zero a b e = (omega (arith, or_add_and a b, and_le_l a b, and_le_r a b), omega (arith, or_add_and a b, and_le_l a b, and_le_r a b))
 
-pub or_eqb : (a b : ℕ) → eqb (bit_or a b) 0 ≡ (eqb a 0 && eqb b 0)
-or_eqb a b = elim (ℕ_discrete a 0) [
-  | no n ↦ rw (ne_eqb a 0 n, ne_eqb (bit_or a b) 0 (λ z. n (or_zero a b z).0))
-  | yes e ↦ elim (ℕ_discrete b 0) [
-    | no n ↦ rw (eq-eqb a 0 e, ne_eqb b 0 n, ne_eqb (bit_or a b) 0 (λ z. n (or_zero a b z).1))
-    | yes f ↦ rw (e, f)
-  ]
-]
-
 -- Numbers whose first byte is lowest.
 value_of_step : (n k m : ℕ) (xs : List ℕ) → k < length xs → m ≡ suc k → value_of (take (suc n) (drop k xs)) ≡ get_or xs k 0 + 256 * value_of (take n (drop m xs))
 unfolding value_of
 value_of_step n k m xs h e = rw (drop-cons xs k 0 h, e)
-
-pub value_of_two : (k : ℕ) (xs : List ℕ) → k + 2 ≤ length xs → value_of (take 2 (drop k xs)) ≡ get_or xs k 0 + 256 * get_or xs (k + 1) 0
-unfolding value_of
-value_of_two k xs h = omega (arith, value_of_step 1 k (k + 1) xs (omega arith) (omega arith), value_of_step 0 (k + 1) (k + 2) xs (omega arith) (omega arith))
 
 pub value_of_append : (x y : List ℕ) → value_of (x ++ y) ≡ value_of x + 256 ^ length x * value_of y
 unfolding value_of
@@ -55,36 +40,38 @@ unfolding value_of
 value_of_lt [] h = omega arith
 value_of_lt (d ∷ x) h = omega (arith, h.0, value_of_lt x h.1, pow-suc 256 (length x))
 
--- The other order.
-pub swap_two : (x : List ℕ) → AreBytes x → length x ≡ 2 → (w : ℕ) → w ≡ value_of x → w % 256 * 256 + w / 256 ≡ value x
-unfolding value value_of
-swap_two [] f e w h = absurd (omega arith)
-swap_two (a ∷ []) f e w h = absurd (omega arith)
-swap_two (a ∷ b ∷ []) f e w h = omega (arith, f.0, f.1.0)
-swap_two (a ∷ b ∷ c ∷ x) f e w h = absurd (omega arith)
+-- Eight bytes, the first one lowest or highest.
+pub value_of_eight : (xs : List ℕ) (k : ℕ) → k + 8 ≤ length xs
+    → from_le_bytes w64 (get_or xs k 0 ∷ get_or xs (k + 1) 0 ∷ get_or xs (k + 2) 0 ∷ get_or xs (k + 3) 0 ∷ get_or xs (k + 4) 0 ∷ get_or xs (k + 5) 0 ∷ get_or xs (k + 6) 0 ∷ get_or xs (k + 7) 0 ∷ [])
+    ≡ value_of (take 8 (drop k xs))
+unfolding value_of
+value_of_eight xs k h =
+    omega (arith, value_of_step 7 k (k + 1) xs (omega arith) (omega arith), value_of_step 6 (k + 1) (k + 2) xs (omega arith) (omega arith), value_of_step 5 (k + 2) (k + 3) xs (omega arith) (omega arith), value_of_step 4 (k + 3) (k + 4) xs (omega arith) (omega arith), value_of_step 3 (k + 4) (k + 5) xs (omega arith) (omega arith), value_of_step 2 (k + 5) (k + 6) xs (omega arith) (omega arith), value_of_step 1 (k + 6) (k + 7) xs (omega arith) (omega arith), value_of_step 0 (k + 7) (k + 8) xs (omega arith) (omega arith))
+
+value_step : (n k m : ℕ) (xs : List ℕ) → k + suc n ≤ length xs → m ≡ suc k → value (take (suc n) (drop k xs)) ≡ get_or xs k 0 * 256 ^ n + value (take n (drop m xs))
+unfolding value
+value_step n k m xs h e = rw (drop-cons xs k 0 (omega arith), e, length_part xs (suc k) n (omega arith))
+
+pub value_eight : (xs : List ℕ) (k : ℕ) → k + 8 ≤ length xs
+    → from_be_bytes w64 (get_or xs k 0 ∷ get_or xs (k + 1) 0 ∷ get_or xs (k + 2) 0 ∷ get_or xs (k + 3) 0 ∷ get_or xs (k + 4) 0 ∷ get_or xs (k + 5) 0 ∷ get_or xs (k + 6) 0 ∷ get_or xs (k + 7) 0 ∷ [])
+    ≡ value (take 8 (drop k xs))
+unfolding value
+value_eight xs k h =
+    omega (arith, value_step 7 k (k + 1) xs (omega arith) (omega arith), value_step 6 (k + 1) (k + 2) xs (omega arith) (omega arith), value_step 5 (k + 2) (k + 3) xs (omega arith) (omega arith), value_step 4 (k + 3) (k + 4) xs (omega arith) (omega arith), value_step 3 (k + 4) (k + 5) xs (omega arith) (omega arith), value_step 2 (k + 5) (k + 6) xs (omega arith) (omega arith), value_step 1 (k + 6) (k + 7) xs (omega arith) (omega arith), value_step 0 (k + 7) (k + 8) xs (omega arith) (omega arith))
 
 -- A number's halves are those of the string.
 module _ (n : ℕ) (x : List ℕ) (f : AreBytes x) (e : length x ≡ n + n) where
   pub length_lower : length (take n x) ≡ n
   length_lower = omega (arith, length-take n x)
 
-  pub length_upper : length (drop n x) ≡ n
-  length_upper = omega (arith, length-drop n x)
-
   pub bytes_lower : AreBytes (take n x)
   bytes_lower = bytes_take n x f
-
-  pub bytes_upper : AreBytes (drop n x)
-  bytes_upper = bytes_drop n x f
 
   pub halves : value_of x ≡ value_of (take n x) + 256 ^ n * value_of (drop n x)
   halves = ap value_of (sym (take-append-drop n x)) ∙ value_of_append (take n x) (drop n x) ∙ ap (λ (m : ℕ). value_of (take n x) + 256 ^ m * value_of (drop n x)) length_lower
 
   pub lower_lt : value_of (take n x) < 256 ^ n
   lower_lt = rw length_lower at (value_of_lt (take n x) bytes_lower)
-
-  pub value_halves : value x ≡ value (take n x) * 256 ^ n + value (drop n x)
-  value_halves = ap value (sym (take-append-drop n x)) ∙ value_append (take n x) (drop n x) ∙ ap (λ (m : ℕ). value (take n x) * 256 ^ m + value (drop n x)) length_upper
 
 -- 0xFF behind the first n bytes of a word.
 pub fill_is : (n : ℕ) → n ≤ 8 → 18446744073709551615 / 2 ^ (4 * n) / 2 ^ (4 * n) + 1 ≡ 256 ^ (8 - n)

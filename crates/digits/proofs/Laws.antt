@@ -1,5 +1,7 @@
 -- What one turn of each loop does to the definition that its function meets.
-use Rattle.model.proofs.Prelude.{Bool, List, [], ◌&&◌, ◌*◌, ◌++◌, ◌+◌, ◌<◌, ◌^◌, ◌∙◌, ◌∷◌, ◌≡◌, ◌≤◌, ◌⊎◌, add-one, and-false, and-true, append-nil, arith, cond, dec_lt, drop, drop-cons, drop_of_length-le, eq-eqb, eqb, eqb-true, false, get_or, le-leb, le-ltb, leb, length, length-take, lt-leb, lt-ltb, ltb, mul-le-mul_right, ne_eqb, not, paste-suc, refl, replicate, set, suc, suc-mul, sym, take, take_all, take-append-le, take-nil, true, zero-add, ℕ, ℕ_discrete, ⊎_elim}
+use Rattle.model.proofs.Prelude.{Bool, List, [], ◌&&◌, ◌*◌, ◌++◌, ◌+◌, ◌<◌, ◌^◌, ◌∙◌, ◌∷◌, ◌≡◌, ◌≤◌, and-false, and-true, append-nil, arith, cond, dec_lt, drop, drop-cons, drop_of_length-le, eq-eqb, eqb, eqb-true, false, get_or, le-leb, le-ltb, leb, length, length-take, lt-leb, lt-ltb, ltb, mul-le-mul_right, ne_eqb, not, not-false, not-true, refl, replicate, suc, suc-mul, sym, take, take_all, take-append-le, take-nil, true, ℕ, ℕ_discrete}
+use Rattle.std.specs.List.{list_all}
+use Rattle.std.specs.Prelude.{◌==◌}
 use Rattle.model.specs.Names.{filled, not_greater, within}
 use Rattle.model.specs.Order.{diff, first_digit, last_digit}
 use Rattle.model.specs.Tests.{are_digits, is_blank_digit, is_legal_bound, is_legal_filled, is_legal_name}
@@ -9,37 +11,19 @@ use Rattle.model.proofs.Names.{filled_short, no_blank}
 use Rattle.digits.specs.declared.Key.{Key}
 use Rattle.digits.specs.Keys.{is_all_zero, key_value}
 
--- A check that gathers: w of the whole is a so far and b of what is left.
-pub gathers : (w a b c d r : Bool) → w ≡ (a && b) → b ≡ (c && d) → r ≡ (a && c) → w ≡ (r && d)
-gathers w true b c d r p q s = p ∙ q ∙ rw s
-gathers w false b c d r p q s = p ∙ rw s
-
 pub gathered : (w a b : Bool) → w ≡ (a && b) → b ≡ true → a ≡ w
 gathered w true b p q = sym (p ∙ q)
 gathered w false b p q = sym p
 
-pub larger_zero : (x y r : ℕ) → x ≤ r → y ≤ r → (r ≡ x) ⊎ (r ≡ y) → eqb r 0 ≡ (eqb x 0 && eqb y 0)
-larger_zero x y r hx hy h = elim (ℕ_discrete r 0) [
-  | yes e ↦ rw (eq-eqb r 0 e, eq-eqb x 0 (omega arith), eq-eqb y 0 (omega arith))
-  | no n ↦ rw (ne_eqb r 0 n) (sym (⊎_elim (λ e. rw (ne_eqb x 0 (λ z. n (omega arith)))) (λ e. rw (ne_eqb y 0 (λ z. n (omega arith))) (and-false (eqb x 0))) h))
-]
+pub all_zero : (s : List ℕ) → list_all (λ x. x == 0) s ≡ is_all_zero s
+unfolding is_all_zero
+all_zero [] = refl
+all_zero (x ∷ s) = rw (all_zero s)
 
-module _ (s : List ℕ) (i : ℕ) where
-  pub zero_next : i < length s → is_all_zero (drop i s) ≡ (eqb (get_or s i 0) 0 && is_all_zero (drop (i + 1) s))
-  unfolding is_all_zero
-  zero_next h = rw (add-one, drop-cons s i 0)
-
-  pub zero_end : length s ≤ i → is_all_zero (drop i s) ≡ true
-  unfolding is_all_zero
-  zero_end h = rw (drop_of_length-le s h)
-
-  pub digits_next : (lo : ℕ) → i < length s → are_digits lo (drop i s) ≡ (leb lo (get_or s i 0) && leb (get_or s i 0) 0x7D && are_digits lo (drop (i + 1) s))
-  unfolding are_digits
-  digits_next lo h = rw (add-one, drop-cons s i 0)
-
-  pub digits_end : (lo : ℕ) → length s ≤ i → are_digits lo (drop i s) ≡ true
-  unfolding are_digits
-  digits_end lo h = rw (drop_of_length-le s h)
+pub all_digits : (s : List ℕ) → list_all (λ x. leb 0x20 x && leb x 0x7D) s ≡ are_digits 0x20 s
+unfolding are_digits
+all_digits [] = refl
+all_digits (x ∷ s) = rw (all_digits s)
 
 -- A name within a bound, decided by the digits at i.
 module _ (n p : List ℕ) (i : ℕ) where
@@ -93,12 +77,6 @@ module _ (n p : List ℕ) (i : ℕ) (e : i ≡ diff n p) where
 
 -- What two strings share, from i on.
 module _ (x y : List ℕ) (i : ℕ) where
-  pub diff_differ : i < length x → i < length y → (get_or x i 0 ≡ get_or y i 0 → ⊥) → diff (drop i x) (drop i y) ≡ 0
-  diff_differ hx hy n = rw (drop-cons x i 0 hx, drop-cons y i 0 hy, ne_eqb (get_or x i 0) (get_or y i 0) n)
-
-  pub diff_same : i < length x → i < length y → get_or x i 0 ≡ get_or y i 0 → i + diff (drop i x) (drop i y) ≡ i + 1 + diff (drop (i + 1) x) (drop (i + 1) y)
-  diff_same hx hy e = rw (add-one, drop-cons x i 0 hx, drop-cons y i 0 hy, eq-eqb (get_or x i 0) (get_or y i 0) e) (omega arith)
-
   pub diff_short : length y ≤ i → diff (drop i x) (drop i y) ≡ 0
   diff_short h = rw (drop_of_length-le y h) (go (drop i x))
     where
@@ -112,10 +90,6 @@ module _ (x y : List ℕ) (i : ℕ) where
 -- The first i digits of a name, filled.
 unfoldable pub filled_to : List ℕ → ℕ → List ℕ
 filled_to n i = take i n ++ drop i (replicate 24 0x20)
-
-pub filled_next : (n : List ℕ) (i : ℕ) → i < 24 → i < length n → set (filled_to n i) i (get_or n i 0) ≡ filled_to n (i + 1)
-unfolding filled_to
-filled_next n i h k = rw add-one (simp zero-add at (paste-suc (replicate 24 0x20) 0 n i 0 (omega arith) k))
 
 pub filled_full : (n : List ℕ) (i : ℕ) → i ≡ 24 → 24 ≤ length n → filled_to n i ≡ filled n
 unfolding filled_to filled
@@ -191,6 +165,25 @@ module _ (x y : Key) (xc : x.c < 2 ^ 64) (yc : y.c < 2 ^ 64) (e : key_value x �
     | yes h ↦ absurd (omega (arith, lt_second x y a h xc))
     | no h ↦ elim (dec_lt y.b x.b) [ yes k ↦ absurd (omega (arith, lt_second y x (sym a) k yc)) | no k ↦ omega arith ]
   ]
+
+-- Two keys are the same where their words are.
+pub same_words : (x y : Key) → x.b < 2 ^ 64 → x.c < 2 ^ 64 → y.b < 2 ^ 64 → y.c < 2 ^ 64
+    → (eqb x.a y.a && (eqb x.b y.b && eqb x.c y.c)) ≡ eqb (key_value x) (key_value y)
+same_words x y xb xc yb yc = elim (ℕ_discrete x.a y.a) [
+  | no n ↦ rw (ne_eqb x.a y.a n) (sym (ne_eqb (key_value x) (key_value y) (λ e. n (same_first x y xc yc e xb yb))))
+  | yes a ↦ elim (ℕ_discrete x.b y.b) [
+    | no n ↦ rw (eq-eqb x.a y.a a, ne_eqb x.b y.b n) (sym (ne_eqb (key_value x) (key_value y) (λ e. n (same_second x y xc yc e a))))
+    | yes b ↦ rw (eq-eqb x.a y.a a, eq-eqb x.b y.b b) (same_last x y a b)
+  ]
+]
+
+-- What `x != y` says of two keys, answered yes and no.
+module _ (x y : Key) (xb : x.b < 2 ^ 64) (xc : x.c < 2 ^ 64) (yb : y.b < 2 ^ 64) (yc : y.c < 2 ^ 64) (r : Bool) (e : r ≡ not (eqb x.a y.a && (eqb x.b y.b && eqb x.c y.c))) where
+  pub other_keys : r ≡ true → eqb (key_value x) (key_value y) ≡ false
+  other_keys t = sym (same_words x y xb xc yb yc) ∙ not-true _ (sym e ∙ t)
+
+  pub same_keys : r ≡ false → eqb (key_value x) (key_value y) ≡ true
+  same_keys t = sym (same_words x y xb xc yb yc) ∙ not-false _ (sym e ∙ t)
 
 -- A name is legal where neither its first nor its last digit is a blank and all are digits.
 pub no_name : (n : List ℕ) → length n < 1 → is_legal_name n ≡ false

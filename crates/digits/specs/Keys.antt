@@ -1,10 +1,8 @@
 -- Strings of digits as numbers, as the code compares them.
-use Rattle.std.specs.Prelude.{◌≡◌, ℕ, ◌+◌, ◌*◌, ◌^◌, Bool, true, false, ◌&&◌, List, [], ◌∷◌, ◌++◌, length, take, replicate, ◌==◌}
+use Rattle.std.specs.Prelude.{Option, Some, None, ◌≡◌, ℕ, ◌+◌, ◌*◌, ◌^◌, Bool, true, false, ◌&&◌, List, [], ◌∷◌, ◌++◌, length, take, replicate, ◌==◌}
 use Rattle.model.specs.Order.{Low, at, none}
 use Rattle.model.specs.Tests.{is_legal_name}
 use Rattle.digits.specs.declared.Key.{Key}
-use Rattle.digits.specs.declared.Naming.{Naming}
-use Rattle.digits.specs.declared.Naming.TheVariants.{Illegal, Legal}
 
 -- The number of a list of bytes, the first byte highest.
 unfoldable pub value : List ℕ → ℕ
@@ -24,9 +22,9 @@ is_all_zero [] = true
 is_all_zero (d ∷ x) = d == 0 && is_all_zero x
 
 -- What is said of a name, and of the digits that its key is made of.
-abbrev pub NamingTold : Naming → List ℕ → List ℕ → Type 0
-NamingTold (Legal k) n x = (is_legal_name n ≡ true) × (key_value k ≡ value x)
-NamingTold Illegal n x = is_legal_name n ≡ false
+abbrev pub NamingTold : Option Key → List ℕ → List ℕ → Type 0
+NamingTold (Some k) n x = (is_legal_name n ≡ true) × (key_value k ≡ value x)
+NamingTold None n x = is_legal_name n ≡ false
 
 -- A lower limit as it is compared. What is above none is above zero.
 unfoldable pub low_value : Low → ℕ

@@ -1,11 +1,11 @@
 -- Little-endian numbers, one after the other, are the sum; the content of an entry as value and run; and an entry as the code writes it.
 use Rattle.model.proofs.Prelude.{List, [], ◌%◌, ◌*◌, ◌++◌, ◌+◌, ◌-◌, ◌/◌, ◌<◌, ◌^◌, ◌∙◌, ◌∷◌, ◌≡◌, ◌≤◌, ap, append_assoc, arith, drop, length, length-append, mul_assoc, paste, pow-succ', pow-zero, refl, replicate, suc, sym, take, zero, ℕ}
 use Rattle.model.specs.Entries.{Entry, run_of_content, value_of_content}
-use Rattle.model.specs.Format.{bytes_of_entry, little_endian, padded, value_of}
-use Rattle.model.proofs.Format.{EntrySize, length-bytes_of_entry, length_little_endian, run_part, value_part}
+use Rattle.model.specs.Format.{EntrySize, bytes_of_entry, little_endian, padded, value_of}
+use Rattle.model.proofs.Format.{length-bytes_of_entry, length_little_endian, run_part, value_part}
 use Rattle.digits.proofs.Bytes.{value_of_split}
 use Rattle.entries.specs.Rows.{content_number}
-use Rattle.entries.specs.declared.Content.{Content}
+use Rattle.model.specs.declared.Content.{Content}
 use Rattle.entries.proofs.Padding.{copied, take_padded_whole, zeros_padded}
 
 -- Writing m bytes and then n bytes is writing the sum.

@@ -12,12 +12,12 @@ use Rattle.model.proofs.Format.{Contents}
 use Rattle.digits.proofs.Bounds.{name_over}
 use Rattle.digits.specs.Keys.{continued, value}
 use Rattle.entries.proofs.Places.{numbers}
-use Rattle.entries.specs.Rows.{are_among, is_not_above}
+use Rattle.entries.specs.Rows.{are_among, is_not_above, last_of}
 
 -- The entries behind those that are not above a bound are those that move.
 pub moved : {l : Low} {u : Str} {es : List Entry} (low : Str) → is_legal_bound low ≡ true → Row l es u
     → (drop (is_not_above (value (continued low)) (numbers es)) es ≡ move low es) × (is_not_above (value (continued low)) (numbers es) + length (move low es) ≡ length es)
-unfolding is_not_above keep
+unfolding last_of keep
 moved low h no_entries = (refl, refl)
 moved low h (entry {e = e} {es = es} g a c r) = elim (le? e.0 low) [
   | yes p ↦ let t : ltb (value (continued low)) (value e.0) ≡ false = name_over low e.0 h g ∙ ap not (le_is_at_most e.0 low p) in

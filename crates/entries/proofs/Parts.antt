@@ -11,12 +11,12 @@ use Rattle.model.proofs.Order.{le_refl}
 use Rattle.model.proofs.Tests.{equal_same_str, le_is_at_most, lt_is_at_most, same_str_other}
 use Rattle.digits.proofs.Bounds.{names_over}
 use Rattle.digits.specs.Keys.{value}
-use Rattle.entries.specs.Rows.{below, place}
+use Rattle.entries.specs.Rows.{below, place, last_of}
 use Rattle.entries.proofs.Places.{find_behind, find_first, numbers, place_first}
 
 -- On a row, going down from the last entry comes to the same place as going up from the first.
 pub below_row : {l : Low} {u : Str} {es : List Entry} (n : Str) → Row l es u → Legal n → below (value n) (numbers es) ≡ place n es
-unfolding below place
+unfolding last_of place
 below_row n no_entries g = refl
 below_row n (entry {e = e} {es = es} f a c r) g = elim (le? n e.0) [
   | yes p ↦ let t : ltb (value e.0) (value n) ≡ false = names_over e.0 n f g ∙ ap not (le_is_at_most n e.0 p) in

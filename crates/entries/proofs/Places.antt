@@ -12,7 +12,7 @@ use Rattle.model.proofs.Order.{le_refl, le_trans, low_at, low_lower, lt_le}
 use Rattle.model.proofs.Tests.{equal_same_str, le_is_at_most, lt_is_at_most, same_str_other}
 use Rattle.digits.proofs.Bounds.{names_over}
 use Rattle.digits.specs.Keys.{value}
-use Rattle.entries.specs.Rows.{is_not_above, place}
+use Rattle.entries.specs.Rows.{is_not_above, place, last_of}
 
 -- The numbers of the names.
 abbrev pub numbers : List Entry → List ℕ
@@ -97,7 +97,7 @@ place_first n no_entries h = refl
 place_first n (entry {e = e} g a c r) h = rw (le_is_at_most n e.0 (le_trans h (lt_le (over a))))
 
 pub is_not_above_most : (w : ℕ) (es : List Entry) → is_not_above w (numbers es) ≤ length es
-unfolding is_not_above
+unfolding last_of
 is_not_above_most w [] = omega arith
 is_not_above_most w (e ∷ es) = go (ltb 0 (is_not_above w (numbers es)) || not (ltb w (value e.0))) (is_not_above_most w es)
   where
@@ -107,7 +107,7 @@ is_not_above_most w (e ∷ es) = go (ltb 0 (is_not_above w (numbers es)) || not 
 
 -- Behind a name that is above m all are.
 all_above : {u x : Str} {es : List Entry} (m : Str) → Legal m → Row (at x) es u → ¬ (x ⊑ m) → is_not_above (value m) (numbers es) ≡ 0
-unfolding is_not_above
+unfolding last_of
 all_above m g no_entries h = refl
 all_above m g (entry {e = e} k a c r) h =
     let i : ¬ (e.0 ⊑ m) = λ p. h (le_trans (lt_le (over a)) p) in
@@ -119,7 +119,7 @@ take_none k es = let z : 0 - k ≡ 0 = omega arith in rw z
 
 pub between_part : {l : Low} {u : Str} {es : List Entry} (n m : Str) → Row l es u → Legal n → Legal m
     → take (is_not_above (value m) (numbers es) - place n es) (drop (place n es) es) ≡ between n m es
-unfolding is_not_above place between
+unfolding last_of place between
 between_part n m no_entries f g = refl
 between_part n m (entry {e = e} {es = es} k a c r) f g = elim (le? e.0 m) [
   | no p ↦ let t : ltb (value m) (value e.0) ≡ true = names_over m e.0 g k ∙ ap not (lt_is_at_most e.0 m p) in

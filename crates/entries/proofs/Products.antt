@@ -33,7 +33,3 @@ part_least e i n h = mul-le-mul_left e h
 -- Those before a place and those from it on.
 pub parts_are : (e i n : ℕ) → i ≤ n → e * i + e * (n - i) ≡ e * n
 parts_are e i n h = omega (arith, mul-sub e n i, mul-le-mul_left e h)
-
--- As many entries as there is room for.
-pub part_fits : (e s n b k : ℕ) → e ≡ s → k ≡ s * b → n ≤ b → e * n ≤ k
-part_fits e s n b k q r h = rw (q, r) (mul-le-mul_left s h)

@@ -1,24 +1,13 @@
 -- What the code counts and finds in entries of e bytes, entry by entry: going down for a name and for a string, and which rows of names pass.
-use Rattle.model.proofs.Prelude.{Bool, List, [], ◌&&◌, ◌*◌, ◌++◌, ◌+◌, ◌-◌, ◌<◌, ◌∙◌, ◌∷◌, ◌≡◌, ◌≤◌, ap, arith, drop, drop-drop, eqb, eqb-false, eqb-true, false, le-ltb, length, lt-ltb, ltb, ltb-true, not, nothing, refl, some, suc, sym, take, true, zero, ℕ}
+use Rattle.model.proofs.Prelude.{Bool, add-one, List, [], ◌&&◌, ◌*◌, ◌++◌, ◌+◌, ◌-◌, ◌<◌, ◌∙◌, ◌∷◌, ◌≡◌, ◌≤◌, ap, arith, drop, drop-drop, eqb, eqb-false, eqb-true, false, le-ltb, length, lt-ltb, ltb, ltb-true, not, nothing, refl, some, suc, sym, take, true, zero, ℕ}
 use Rattle.model.specs.Tests.{is_legal_filled}
 use native.Mathlib.Nat.{mul-zero}
 use Rattle.model.specs.Format.{value_of}
 use Rattle.model.proofs.Tests.{both_true}
 use Rattle.digits.specs.Keys.{value}
 use Rattle.gathering.specs.Names.{Rising, names}
-use Rattle.entries.specs.Rows.{are_between, are_entries, below, held_at, is_not_above, values}
+use Rattle.entries.specs.Rows.{are_between, are_entries, below, held_at, is_at, last_of, values}
 use Rattle.entries.proofs.Products.{next_is}
-
--- The number behind the others decides first.
-below_here : (v w : ℕ) (ws : List ℕ) → ltb w v ≡ true → below v (ws ++ (w ∷ [])) ≡ suc (length ws)
-unfolding below
-below_here v w [] t = rw t
-below_here v w (u ∷ ws) t = rw (below_here v w ws t, lt-ltb 0 (suc (length ws)) (omega arith))
-
-below_there : (v w : ℕ) (ws : List ℕ) → ltb w v ≡ false → below v (ws ++ (w ∷ [])) ≡ below v ws
-unfolding below
-below_there v w [] t = rw t
-below_there v w (u ∷ ws) t = rw (below_there v w ws t)
 
 pub length_values : (e n : ℕ) (xs : List ℕ) → length (values e n xs) ≡ n
 unfolding values
@@ -29,6 +18,10 @@ length_values e (suc n) xs = ap suc (length_values e n (drop e xs))
 pub drop_next : (e i : ℕ) (xs : List ℕ) → drop (e * i) (drop e xs) ≡ drop (e * suc i) xs
 drop_next e i xs = drop-drop (e * i) e xs ∙ ap (λ (n : ℕ). drop n xs) (next_is e i)
 
+-- The name of the first entry.
+pub first_name : (e : ℕ) (xs : List ℕ) → value (take 24 (drop (e * 0) xs)) ≡ value (take 24 xs)
+first_name e xs = rw (mul-zero e)
+
 values_last : (e i : ℕ) (xs : List ℕ) → values e (suc i) xs ≡ values e i xs ++ (value (take 24 (drop (e * i) xs)) ∷ [])
 unfolding values
 values_last e zero xs = rw (mul-zero e)
@@ -36,41 +29,39 @@ values_last e (suc i) xs =
     ap (λ (ws : List ℕ). value (take 24 xs) ∷ ws) (values_last e i (drop e xs)
     ∙ ap (λ (ys : List ℕ). values e i (drop e xs) ++ (value (take 24 ys) ∷ [])) (drop_next e i xs))
 
--- One turn of the search, from i entries to one less.
+-- The number behind the others decides first.
+last_here : (t : ℕ → Bool) (w : ℕ) (ws : List ℕ) → t w ≡ true → last_of t (ws ++ (w ∷ [])) ≡ suc (length ws)
+unfolding last_of
+last_here t w [] p = rw p
+last_here t w (u ∷ ws) p = rw (last_here t w ws p, lt-ltb 0 (suc (length ws)) (omega arith))
+
+last_there : (t : ℕ → Bool) (w : ℕ) (ws : List ℕ) → t w ≡ false → last_of t (ws ++ (w ∷ [])) ≡ last_of t ws
+unfolding last_of
+last_there t w [] p = rw p
+last_there t w (u ∷ ws) p = rw (last_there t w ws p)
+
+-- One turn of the search, from one entry more.
+module _ (t : ℕ → Bool) (e k : ℕ) (xs : List ℕ) where
+  pub last_found : t (value (take 24 (drop (e * k) xs))) ≡ true → last_of t (values e (k + 1) xs) ≡ k + 1
+  last_found p = rw (add-one, values_last e k xs) (last_here t (value (take 24 (drop (e * k) xs))) (values e k xs) p ∙ ap suc (length_values e k xs))
+
+  pub last_less : t (value (take 24 (drop (e * k) xs))) ≡ false → last_of t (values e (k + 1) xs) ≡ last_of t (values e k xs)
+  last_less p = rw (add-one, values_last e k xs) (last_there t (value (take 24 (drop (e * k) xs))) (values e k xs) p)
+
+pub last_none : (t : ℕ → Bool) (e i : ℕ) (xs : List ℕ) → i ≤ 0 → last_of t (values e i xs) ≡ 0
+unfolding last_of values
+last_none t e i xs h = let z : i ≡ 0 = omega arith in rw z
+
+-- The same of the search for a name: one turn, from i entries to one less.
 module _ (e i k : ℕ) (xs : List ℕ) (v : ℕ) (h : i ≡ suc k) where
   pub below_found : ltb (value (take 24 (drop (e * k) xs))) v ≡ true → below v (values e i xs) ≡ i
-  below_found t =
-      rw (h, values_last e k xs) (below_here v (value (take 24 (drop (e * k) xs))) (values e k xs) t ∙ ap suc (length_values e k xs))
+  below_found p = let q : i ≡ k + 1 = omega arith in rw q (last_found (λ w. ltb w v) e k xs p)
 
   pub below_less : ltb (value (take 24 (drop (e * k) xs))) v ≡ false → below v (values e i xs) ≡ below v (values e k xs)
-  below_less t = rw (h, values_last e k xs) (below_there v (value (take 24 (drop (e * k) xs))) (values e k xs) t)
+  below_less p = let q : i ≡ k + 1 = omega arith in rw q (last_less (λ w. ltb w v) e k xs p)
 
 pub below_none : (e i : ℕ) (xs : List ℕ) (v : ℕ) → i ≤ 0 → below v (values e i xs) ≡ 0
-unfolding below values
-below_none e i xs v h = let z : i ≡ 0 = omega arith in rw z
-
--- The same for a string: the number behind the others decides first.
-is_not_above_here : (v w : ℕ) (ws : List ℕ) → ltb v w ≡ false → is_not_above v (ws ++ (w ∷ [])) ≡ suc (length ws)
-unfolding is_not_above
-is_not_above_here v w [] t = rw t
-is_not_above_here v w (u ∷ ws) t = rw (is_not_above_here v w ws t, lt-ltb 0 (suc (length ws)) (omega arith))
-
-pub is_not_above_there : (v w : ℕ) (ws : List ℕ) → ltb v w ≡ true → is_not_above v (ws ++ (w ∷ [])) ≡ is_not_above v ws
-unfolding is_not_above
-is_not_above_there v w [] t = rw t
-is_not_above_there v w (u ∷ ws) t = rw (is_not_above_there v w ws t)
-
-module _ (e i k : ℕ) (xs : List ℕ) (v : ℕ) (h : i ≡ suc k) where
-  pub is_not_above_found : ltb v (value (take 24 (drop (e * k) xs))) ≡ false → is_not_above v (values e i xs) ≡ i
-  is_not_above_found t =
-      rw (h, values_last e k xs) (is_not_above_here v (value (take 24 (drop (e * k) xs))) (values e k xs) t ∙ ap suc (length_values e k xs))
-
-  pub is_not_above_less : ltb v (value (take 24 (drop (e * k) xs))) ≡ true → is_not_above v (values e i xs) ≡ is_not_above v (values e k xs)
-  is_not_above_less t = rw (h, values_last e k xs) (is_not_above_there v (value (take 24 (drop (e * k) xs))) (values e k xs) t)
-
-pub is_not_above-none : (e i : ℕ) (xs : List ℕ) (v : ℕ) → i ≤ 0 → is_not_above v (values e i xs) ≡ 0
-unfolding is_not_above values
-is_not_above-none e i xs v h = let z : i ≡ 0 = omega arith in rw z
+below_none e i xs v h = last_none (λ w. ltb w v) e i xs h
 
 -- What is held at a place.
 module _ (e i j : ℕ) (xs : List ℕ) (count v : ℕ) (q : i ≡ j) where
@@ -85,6 +76,20 @@ module _ (e i j : ℕ) (xs : List ℕ) (count v : ℕ) (q : i ≡ j) where
   pub held_here : i < count → eqb (value (take 24 (drop (e * i) xs))) v ≡ true → some (value_of (take (e - 24) (drop (e * i + 24) xs))) ≡ held_at e j xs count v
   unfolding held_at
   held_here h t = rw (← q, lt-ltb i count h, t)
+
+-- The same by the test of the place.
+module _ (e i j : ℕ) (xs : List ℕ) (count v : ℕ) (q : i ≡ j) where
+  pub held_none : is_at e xs count i v ≡ false → nothing ≡ held_at e j xs count v
+  unfolding held_at is_at
+  held_none t = rw (← q, t)
+
+  pub held_some : is_at e xs count i v ≡ true → some (value_of (take (e - 24) (drop (e * i + 24) xs))) ≡ held_at e j xs count v
+  unfolding held_at is_at
+  held_some t = rw (← q, t)
+
+pub there : (e i count : ℕ) (xs : List ℕ) (v : ℕ) → is_at e xs count i v ≡ true → i < count
+unfolding is_at
+there e i count xs v t = ltb-true i count (both_true (ltb i count) (eqb (value (take 24 (drop (e * i) xs))) v) t).0
 
 -- The test of the names: a row that rises passes by its ends, and no other row passes.
 rising_entries : (e n : ℕ) (xs : List ℕ) (last high : ℕ) → Rising last (names e (suc n) xs) → are_entries e (suc n) xs last high ≡ not (ltb high (value (take 24 (drop (e * n) xs))))

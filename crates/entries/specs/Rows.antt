@@ -1,15 +1,13 @@
 -- Rows of entries of e bytes each: where one stands, its content, the place of a name, what is held under it, which entries are met
 -- among others, and a row of which a part is replaced.
-use Rattle.std.specs.Prelude.{Bool, ◌&&◌, ◌||◌, cond, false, not, true, List, [], ◌++◌, ◌∷◌, ◌≡◌, ◌*◌, ◌+◌, ◌-◌, ◌<◌, ◌^◌, ◌≤◌, suc, zero, ℕ, eqb, ltb, drop, take}
+use Rattle.std.specs.Prelude.{Option as Maybe, Some, None, Bool, ◌&&◌, ◌||◌, cond, false, not, true, List, [], ◌++◌, ◌∷◌, ◌≡◌, ◌*◌, ◌+◌, ◌-◌, ◌<◌, ◌^◌, ◌≤◌, suc, zero, ℕ, eqb, ltb, drop, take}
 use Rattle.std.proofs.Math.Option.{Option, none as nothing, some}
 use Rattle.model.specs.Entries.{Entry, content_from}
 use Rattle.model.specs.Format.{value_of}
 use Rattle.model.specs.Order.{Str}
 use Rattle.model.specs.Tests.{is_at_most, is_legal_filled, same_str}
 use Rattle.digits.specs.Keys.{value}
-use Rattle.entries.specs.declared.Content.{Content}
-use Rattle.entries.specs.declared.Held.{Held}
-use Rattle.entries.specs.declared.Held.TheVariants.{Absent, Holds}
+use Rattle.model.specs.declared.Content.{Content}
 
 -- The most bytes that the entries of one bucket and one more have: 17 of 40.
 abbrev pub room : ℕ
@@ -23,25 +21,19 @@ pub record Stands (e i count r : ℕ) : Type 0 where
   pub most : e * count ≤ room
   pub whole : i < count → r + e ≤ e * count
 
--- The same of an entry that is one of them: it stands whole before the end.
-pub record Whole (e i count r : ℕ) : Type 0 where
-  pub is : r ≡ e * i
-  pub fits : r + e ≤ e * count
-  pub most : e * count ≤ room
-
 -- Value and run as one number.
 unfoldable pub content_number : Content → ℕ
 content_number c = content_from c.value c.run
 
 -- What is held, as a number.
-abbrev pub held_number : Held → Option ℕ
-held_number (Holds c) = some (content_number c)
-held_number Absent = nothing
+abbrev pub held_number : Maybe Content → Option ℕ
+held_number (Some c) = some (content_number c)
+held_number None = nothing
 
 -- Its value has 64 bits, so that it is a part of that number.
-abbrev pub Valued : Held → Type 0
-Valued (Holds c) = c.value < 2 ^ 64
-Valued Absent = Unit {0}
+abbrev pub Valued : Maybe Content → Type 0
+Valued (Some c) = c.value < 2 ^ 64
+Valued None = Unit {0}
 
 -- The place of a name: how many entries are below it.
 unfoldable pub place : Str → List Entry → ℕ
@@ -53,15 +45,18 @@ unfoldable pub values : ℕ → ℕ → List ℕ → List ℕ
 values e zero xs = []
 values e (suc n) xs = value (take 24 xs) ∷ values e n (drop e xs)
 
+-- How many there are up to the last that passes.
+unfoldable pub last_of : (ℕ → Bool) → List ℕ → ℕ
+last_of t [] = 0
+last_of t (w ∷ ws) = let r = last_of t ws in cond (ltb 0 r || t w) (suc r) 0
+
 -- How many there are up to the last that is below v.
-unfoldable pub below : ℕ → List ℕ → ℕ
-below v [] = 0
-below v (w ∷ ws) = let r = below v ws in cond (ltb 0 r || ltb w v) (suc r) 0
+abbrev pub below : ℕ → List ℕ → ℕ
+below v ws = last_of (λ w. ltb w v) ws
 
 -- How many there are up to the last that is not above v.
-unfoldable pub is_not_above : ℕ → List ℕ → ℕ
-is_not_above v [] = 0
-is_not_above v (w ∷ ws) = let r = is_not_above v ws in cond (ltb 0 r || not (ltb v w)) (suc r) 0
+abbrev pub is_not_above : ℕ → List ℕ → ℕ
+is_not_above v ws = last_of (λ w. not (ltb v w)) ws
 
 -- Of so many entries, the one at a place is there and has the name looked for.
 unfoldable pub is_at : ℕ → List ℕ → ℕ → ℕ → ℕ → Bool

@@ -43,20 +43,18 @@ module _ (y : Layout) (p : Plan) (xs : List ℕ) where
   made_none ss q = refl
 
   module _ (made : ℕ) (ys zs : List ℕ) (more : made < p.stores) (M : Made y p made xs ys) where
-    pub made_first : made + 1 ≡ 1 → zs ≡ paste ys (16 + p.first * slot_size y) (take (slot_size y) p.one) (slot_size y) → Made y p (made + 1) xs zs
+    pub made_first : made ≡ 0 → zs ≡ paste ys (16 + p.first * slot_size y) (take (slot_size y) p.one) (slot_size y) → Made y p (made + 1) xs zs
     unfolding stores_bytes
     made_first h e [] q = absurd (omega (arith, more, q))
     made_first h e (s ∷ []) q =
-        let z : made ≡ 0 = omega arith in
-        let f : ys ≡ xs = rw z at (M (s ∷ []) q) in
-        rw (z, ← f) (store_is y p.first p.one ys zs s q.1 e)
+        let f : ys ≡ xs = rw h at (M (s ∷ []) q) in
+        rw (h, ← f) (store_is y p.first p.one ys zs s q.1 e)
     made_first h e (s ∷ t ∷ []) q =
-        let z : made ≡ 0 = omega arith in
-        let f : ys ≡ xs = rw z at (M (s ∷ t ∷ []) q) in
-        rw (z, ← f) (store_is y p.first p.one ys zs s q.1 e)
+        let f : ys ≡ xs = rw h at (M (s ∷ t ∷ []) q) in
+        rw (h, ← f) (store_is y p.first p.one ys zs s q.1 e)
     made_first h e (s ∷ t ∷ u ∷ ss) q = absurd q
 
-    pub made_second : (made + 1 ≡ 1 → ⊥) → zs ≡ paste ys (16 + p.second * slot_size y) (take (slot_size y) p.two) (slot_size y) → Made y p (made + 1) xs zs
+    pub made_second : (made ≡ 0 → ⊥) → zs ≡ paste ys (16 + p.second * slot_size y) (take (slot_size y) p.two) (slot_size y) → Made y p (made + 1) xs zs
     unfolding stores_bytes
     made_second h e [] q = absurd (omega (arith, more, q))
     made_second h e (s ∷ []) q = absurd (h (omega (arith, more, q.0)))

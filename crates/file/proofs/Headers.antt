@@ -1,5 +1,6 @@
 -- The header as it is tested, byte by byte, is the header that a writer writes; and what create writes is a new file.
-use Rattle.model.proofs.Prelude.{Bool, List, Option, [], ◌%◌, ◌&&◌, ◌*◌, ◌++◌, ◌+◌, ◌-◌, ◌/◌, ◌<◌, ◌∙◌, ◌∷◌, ◌≡◌, ◌≤◌, ap, arith, drop, eq-eqb, eqb, eqb-true, false, get_or, length, length-replicate, length-take-le, nothing, refl, replicate, replicate-append-replicate, set, some, suc, suc-mul, sym, take, take_all, take-suc-set, true, zero, zero-mul, ℕ}
+use Rattle.std.specs.Prelude.{Option as Maybe, Some, None}
+use Rattle.model.proofs.Prelude.{Bool, List, Option, [], ◌%◌, ◌&&◌, ◌*◌, ◌++◌, ◌+◌, ◌-◌, ◌/◌, ◌<◌, ◌∙◌, ◌∷◌, ◌≡◌, ◌≤◌, ap, arith, drop, eq-eqb, eqb, eqb-true, false, get_or, length, length-replicate, length-take-le, nothing, refl, replicate, replicate-append-replicate, set, some, suc, suc-mul, sym, take, true, zero, zero-mul, ℕ}
 use Rattle.model.specs.Order.{none}
 use Rattle.model.specs.Files.{created, free, used}
 use Rattle.model.specs.declared.Layout.{Layout}
@@ -11,8 +12,6 @@ use Rattle.model.proofs.Format.{Headed, are_legal_sizes_sizes, headed_header_of,
 use Rattle.digits.specs.Keys.{is_all_zero}
 use Rattle.bucket.proofs.Slots.{zero_same}
 use Rattle.file.specs.declared.Size.{Size}
-use Rattle.file.specs.declared.Header.{Header}
-use Rattle.file.specs.declared.Header.TheVariants.{Right, Wrong}
 use Rattle.file.specs.Sizes.{Fitting, Saying, Sized, Told}
 
 -- A byte of the header that differs.
@@ -72,10 +71,10 @@ said xs s e z p q =
       });
     }
 
-pub told : (xs : List ℕ) (h : Header) (y : Layout) (slots : ℕ) → same_str (take 16 xs) (header_bytes (layout_of xs) (get_or xs 6 0)) ≡ true
+pub told : (xs : List ℕ) (h : Maybe Size) (y : Layout) (slots : ℕ) → same_str (take 16 xs) (header_bytes (layout_of xs) (get_or xs 6 0)) ≡ true
     → y ≡ layout_of xs → slots ≡ get_or xs 6 0 → Fitting h (length xs) y slots → Told h xs
-told xs (Right s) y slots e p q f = said xs s e f.0 (f.1 ∙ p) (f.2 ∙ q)
-told xs Wrong y slots e p q f = ill_sized xs (rw (← p, ← q) f)
+told xs (Some s) y slots e p q f = said xs s e f.0 (f.1 ∙ p) (f.2 ∙ q)
+told xs None y slots e p q f = ill_sized xs (rw (← p, ← q) f)
 
 -- What does not fit: a size that is not legal, or another length.
 pub illegal : (n : ℕ) (y : Layout) (slots : ℕ) → (Sizes y slots → n ≡ 16 + slots * slot_size y → ⊥) → (are_legal_sizes y slots && eqb n (file_size y slots)) ≡ false
@@ -86,15 +85,6 @@ illegal n y slots h = go (are_legal_sizes y slots) (eqb n (16 + slots * slot_siz
     go false u e f = refl
     go true false e f = refl
     go true true e f = absurd (h (are_legal_sizes_sizes y slots e) (eqb-true n (16 + slots * slot_size y) f))
-
--- Zeros, one more, and up to the end.
-pub zeros_next : (xs : List ℕ) (i : ℕ) → i < length xs → take i xs ≡ replicate i 0 → take (i + 1) (set xs i 0) ≡ replicate (i + 1) 0
-zeros_next xs i h e =
-    let f : i + 1 ≡ suc i = omega arith in
-    ap (λ (k : ℕ). take k (set xs i 0)) f ∙ take-suc-set xs i 0 h ∙ ap (λ (l : List ℕ). l ++ (0 ∷ [])) e ∙ replicate-append-replicate {A = ℕ} i 1 0
-
-pub zeros_all : (xs : List ℕ) (i n : ℕ) → length xs ≡ n → n ≡ i → take i xs ≡ replicate i 0 → xs ≡ replicate n 0
-zeros_all xs i n e h z = sym (take_all i xs (omega arith)) ∙ z ∙ ap (λ (k : ℕ). replicate {A = ℕ} k 0) (sym h)
 
 -- Free slots are zeros.
 frees : (y : Layout) (k : ℕ) → slots_bytes y (replicate k free) ≡ replicate (k * slot_size y) 0

@@ -1,5 +1,6 @@
 -- Laws of a file's sizes, and of lists of slot numbers.
-use Rattle.model.proofs.Prelude.{List, [], ◌*◌, ◌+◌, ◌-◌, ◌<◌, ◌∙◌, ◌∷◌, ◌≡◌, ◌≤◌, add-sub_cancel_left, ap, arith, drop, le_of_eq, length, length-drop, length-take, length-take-le, mul-le-mul, paste, refl, replicate, set, suc, suc-mul, sym, take, zero, ℕ}
+use Rattle.model.proofs.Prelude.{List, [], ◌*◌, ◌++◌, ◌+◌, ◌-◌, ◌<◌, ◌∙◌, ◌∷◌, ◌≡◌, ◌≤◌, add-sub_cancel_left, ap, arith, drop, get_or, le_of_eq, length, length-drop, length-take, length-take-le, mul-le-mul, paste, refl, replicate, set, suc, suc-mul, sym, take, zero, ℕ}
+use Rattle.std.specs.List.{copy_within}
 use Rattle.model.specs.Format.{slot_size}
 use Rattle.file.specs.declared.Size.{Size}
 use Rattle.file.specs.Sizes.{Below, Sized}
@@ -30,6 +31,33 @@ below_set (x ∷ xs) zero a n h p zero = p
 below_set (x ∷ xs) zero a n h p (suc j) = h (suc j)
 below_set (x ∷ xs) (suc i) a n h p zero = h zero
 below_set (x ∷ xs) (suc i) a n h p (suc j) = below_set xs i a n (λ m. h (suc m)) p j
+
+-- a part moved elsewhere in a list of such numbers
+below_some : (xs : List ℕ) (n : ℕ) → Below xs n → 0 < n
+below_some [] n h = h 0
+below_some (x ∷ xs) n h = below_some xs n (λ j. h (suc j))
+
+below_take : (k : ℕ) (xs : List ℕ) (n : ℕ) → Below xs n → Below (take k xs) n
+below_take zero xs n h j = below_some xs n h
+below_take (suc k) [] n h j = h j
+below_take (suc k) (x ∷ xs) n h zero = h zero
+below_take (suc k) (x ∷ xs) n h (suc j) = below_take k xs n (λ i. h (suc i)) j
+
+below_drop : (k : ℕ) (xs : List ℕ) (n : ℕ) → Below xs n → Below (drop k xs) n
+below_drop zero xs n h j = h j
+below_drop (suc k) [] n h j = h j
+below_drop (suc k) (x ∷ xs) n h j = below_drop k xs n (λ i. h (suc i)) j
+
+below_append : (xs ys : List ℕ) (n : ℕ) → Below xs n → Below ys n → Below (xs ++ ys) n
+below_append [] ys n g h j = h j
+below_append (x ∷ xs) ys n g h zero = g zero
+below_append (x ∷ xs) ys n g h (suc j) = below_append xs ys n (λ i. g (suc i)) h j
+
+pub below_moved : (xs : List ℕ) (i j k n : ℕ) → Below xs n → Below (copy_within xs i j k) n
+below_moved xs i j k n h =
+    below_append (take k xs ++ take (j - i) (drop i xs)) (drop (k + (j - i)) xs) n
+    (below_append (take k xs) (take (j - i) (drop i xs)) n (below_take k xs n h) (below_take (j - i) (drop i xs) n (below_drop i xs n h)))
+    (below_drop (k + (j - i)) xs n h)
 
 -- the part of n bytes from slot k's start, where n is m under another name
 pub part_is : (xs : List ℕ) (k n m : ℕ) → n ≡ m → take (16 + k * n + n - (16 + k * n)) (drop (16 + k * n) xs) ≡ take m (drop (16 + k * m) xs)
@@ -62,3 +90,18 @@ some_slot len s z =
     let y = s.layout in
     let h : 1 * slot_size y ≤ s.slots * slot_size y = mul-le-mul z.legal.slots_least (le_of_eq refl) in
     (z.legal.slots_least, omega (arith, h, z.whole))
+
+-- Each item of a part of bytes is a byte.
+each_taken : (n : ℕ) (xs : List ℕ) → ((i : ℕ) → get_or xs i 0 < 256) → (i : ℕ) → get_or (take n xs) i 0 < 256
+each_taken zero xs f i = omega arith
+each_taken (suc n) [] f i = omega arith
+each_taken (suc n) (x ∷ xs) f zero = f 0
+each_taken (suc n) (x ∷ xs) f (suc i) = each_taken n xs (λ (j : ℕ). f (suc j)) i
+
+each_behind : (n : ℕ) (xs : List ℕ) → ((i : ℕ) → get_or xs i 0 < 256) → (i : ℕ) → get_or (drop n xs) i 0 < 256
+each_behind zero xs f i = f i
+each_behind (suc n) [] f i = omega arith
+each_behind (suc n) (x ∷ xs) f i = each_behind n xs (λ (j : ℕ). f (suc j)) i
+
+pub each_in : (at n : ℕ) (xs : List ℕ) → ((i : ℕ) → get_or xs i 0 < 256) → (i : ℕ) → get_or (take n (drop at xs)) i 0 < 256
+each_in at n xs f = each_taken n (drop at xs) (each_behind at xs f)

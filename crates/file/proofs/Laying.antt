@@ -22,7 +22,7 @@ use Rattle.file.specs.Surveys.{check_of_slots}
 use Rattle.file.proofs.Moves.{put_back, put_front, put_here}
 use Rattle.file.proofs.Comparing.{not_stands_sorts, stands_sorts}
 use Rattle.file.proofs.Maps.{map_lt}
-use Rattle.file.proofs.Verdicts.{Mapped, Ordered, check_none, check_slots, laid_known, laid_listed}
+use Rattle.file.proofs.Verdicts.{check_none, check_slots, laid_known, laid_listed}
 
 -- The map of slots, slot by slot.
 map_next : (fs : List Slot) (k : ℕ) → k < length fs → map_of (drop k fs) ≡ 2 * map_of (drop (suc k) fs) + bit_of (slot_at fs k)
@@ -97,12 +97,6 @@ module _ {xs : List ℕ} {size : Size} {k : ℕ} {order : List ℕ} {count map :
         go nothing e = check_none size.layout size.slots xs e
         go (some fs) e = check_slots size.layout size.slots xs fs e
             ∙ check_bad size.layout.b fs (λ S. ill_slot fs e (S.well k), λ N C. ill_slot fs e (cut_well size.layout.b C k))
-
-    pub ill_order : (cs : List ℕ) (n : ℕ) → Ordered xs size cs n
-    ill_order cs n fs e S = absurd (ill_slot fs e (S.well k))
-
-    pub ill_map : (v : ℕ) → Mapped xs size v
-    ill_map v fs e S = absurd (ill_slot fs e (S.well k))
 
   -- A used slot that is well formed.
   module _ (few : count < 64) {l : Low} {u : Str} {es : List Entry} (z : is_all_zero ys ≡ false) (r : read_used_slot size.layout ys ≡ some (used l u es)) (w : is_well_formed size.layout.b (used l u es) ≡ true)

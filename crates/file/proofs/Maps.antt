@@ -1,10 +1,10 @@
 -- The map of the used slots: its ones are counted, and the zeros of its complement end at the lowest free slot.
+use Rattle.std.specs.Prelude.{Some, None}
 use Rattle.model.proofs.Prelude.{List, [], ◌%◌, ◌*◌, ◌+◌, ◌-◌, ◌/◌, ◌<◌, ◌^◌, ◌∙◌, ◌∷◌, ◌≡◌, ◌≤◌, ap, arith, le-ltb, length, lt-ltb, pow-suc, refl, suc, zero, ℕ}
 use lib.Count.{ones, ones-le, ones_step, count_trailing_zeros}
 use Rattle.std.proofs.Common.{pow_pos}
 use Rattle.model.specs.Files.{Slot, free, used}
 use Rattle.model.specs.Searches.{first, is_free}
-use Rattle.file.specs.declared.Room.TheVariants.{At, Full}
 use Rattle.file.specs.Maps.{map_of, room_of}
 
 pub map_lt : (k : ℕ) (fs : List Slot) → length fs ≤ k → map_of fs < 2 ^ k
@@ -42,11 +42,11 @@ lowest_is (suc k) (used l u es ∷ fs) h =
     let d : (2 ^ suc k - 1 - (2 * map_of fs + 1)) / 2 ≡ 2 ^ k - 1 - map_of fs = omega (arith, pow-suc 2 k, map_lt k fs (omega arith)) in
     rw (e, d) (ap suc (lowest_is k fs (omega arith)))
 
-pub room_none : (fs : List Slot) → length fs ≤ first is_free fs → Full ≡ room_of fs
+pub room_none : (fs : List Slot) → length fs ≤ first is_free fs → None ≡ room_of fs
 unfolding room_of
 room_none fs h = rw (le-ltb (first is_free fs) (length fs) h)
 
-pub room_some : (fs : List Slot) (k : ℕ) → k ≡ first is_free fs → k < length fs → At k ≡ room_of fs
+pub room_some : (fs : List Slot) (k : ℕ) → k ≡ first is_free fs → k < length fs → Some k ≡ room_of fs
 unfolding room_of
 room_some fs k e h = rw (← e, lt-ltb k (length fs) h)
 

@@ -1,4 +1,5 @@
 -- What a look at the whole file says, once it is known what was found.
+use Rattle.std.specs.Prelude.{Option as Maybe, Some, None, Result, Ok, Err}
 use Rattle.model.proofs.Prelude.{List, Option, ◌∙◌, ◌≡◌, ap, clash, length, nothing, refl, some, subst, sym, ℕ}
 use Rattle.model.specs.declared.Layout.{Layout}
 use Rattle.model.specs.Checks.{is_bad, is_sound}
@@ -6,21 +7,20 @@ use Rattle.model.specs.Format.{SoundFile, check_file, check_read, header_of, lai
 use Rattle.model.specs.Files.{Slot, Sound}
 use Rattle.model.proofs.CheckedFiles.{check_file_right}
 use Rattle.file.specs.declared.Size.{Size}
-use Rattle.file.specs.declared.survey.Kind.{Kind as Found}
+use Rattle.file.specs.declared.survey.Fault.{Fault}
+use Rattle.file.specs.declared.survey.Fault.TheVariants.{Bad, Cut}
 use Rattle.file.specs.declared.survey.Survey.{Survey}
 use Rattle.file.specs.Sizes.{Saying, Sized, Told}
-use Rattle.file.specs.Surveys.{Surveyed, check_of_slots, verdict}
-use Rattle.file.specs.declared.Header.{Header}
-use Rattle.file.specs.declared.Header.TheVariants.{Right, Wrong}
+use Rattle.file.specs.Surveys.{Sounded, Surveyed, check_of_slots, verdict}
 
 -- A header that is right says the file's sizes.
-pub right_said : {h : Header} {s : Size} {xs : List ℕ} → h ≡ Right s → Told h xs → Saying s xs
-right_said {h} {s} {xs} e t = subst (λ (x : Header). Told x xs) e t
+pub right_said : {h : Maybe Size} {s : Size} {xs : List ℕ} → h ≡ Some s → Told h xs → Saying s xs
+right_said {h} {s} {xs} e t = subst (λ (x : Maybe Size). Told x xs) e t
 
-pub wrong_said : {h : Header} (xs : List ℕ) → h ≡ Wrong → Told h xs → header_of xs ≡ nothing
-wrong_said {h} xs e t = subst (λ (x : Header). Told x xs) e t
+pub wrong_said : {h : Maybe Size} (xs : List ℕ) → h ≡ None → Told h xs → header_of xs ≡ nothing
+wrong_said {h} xs e t = subst (λ (x : Maybe Size). Told x xs) e t
 
-pub right_sized : {h : Header} {s : Size} (xs : List ℕ) → h ≡ Right s → Told h xs → Sized (length xs) s
+pub right_sized : {h : Maybe Size} {s : Size} (xs : List ℕ) → h ≡ Some s → Told h xs → Sized (length xs) s
 right_sized xs e t = (right_said e t).sized
 
 -- A file without a header that is right is bad.
@@ -33,13 +33,18 @@ pub said_read : (xs : List ℕ) (s : Size) → Saying s xs → read_file xs ≡ 
 unfolding read_file read_by
 said_read xs s h = rw h.header
 
-pub surveyed_check : {xs : List ℕ} {s : Size} (v : Survey) → Saying s xs → Surveyed v xs s → check_file xs ≡ verdict v.kind v.inner
+pub surveyed_check : {xs : List ℕ} {s : Size} (r : Result Survey Fault) → Saying s xs → Surveyed r xs s → check_file xs ≡ verdict r
 unfolding check_file check_of_slots
-surveyed_check {xs} {s} v h z = ap check_read (said_read xs s h) ∙ sym z.kind_is
+surveyed_check {xs} {s} (Ok v) h z = ap check_read (said_read xs s h) ∙ sym z.kind_is
+surveyed_check {xs} {s} (Err Bad) h z = ap check_read (said_read xs s h) ∙ sym z
+surveyed_check {xs} {s} (Err (Cut N)) h z = ap check_read (said_read xs s h) ∙ sym z.1
 
 -- What was found, once it is known which it is.
-pub surveyed_is : {xs : List ℕ} {s : Size} (v : Survey) {k : Found} → Saying s xs → Surveyed v xs s → v.kind ≡ k → check_file xs ≡ verdict k v.inner
-surveyed_is v h z e = surveyed_check v h z ∙ ap (λ (k : Found). verdict k v.inner) e
+pub surveyed_is : {xs : List ℕ} {s : Size} (r : Result Survey Fault) {q : Result Survey Fault} → Saying s xs → Surveyed r xs s → r ≡ q → check_file xs ≡ verdict q
+surveyed_is r h z e = surveyed_check r h z ∙ ap verdict e
+
+pub surveyed_sound : (xs : List ℕ) (s : Size) (r : Result Survey Fault) {v : Survey} → Surveyed r xs s → r ≡ Ok v → Sounded v xs s
+surveyed_sound xs s r z e = subst (λ (x : Result Survey Fault). Surveyed x xs s) e z
 
 -- A sound file, as it is read with its sizes.
 pub record Read (s : Size) (xs : List ℕ) : Type 0 where

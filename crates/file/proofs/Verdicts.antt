@@ -1,4 +1,5 @@
 -- What the survey says of slots that are laid out in order is what check says, and of a sound file its order and its map.
+use Rattle.std.specs.Prelude.{Option as Maybe, Some, None}
 use Rattle.model.proofs.Prelude.{Bool, List, Memᴰ, [], ◌++◌, ◌-◌, ◌<◌, ◌∙◌, ◌∷◌, ◌≡◌, ◌≤◌, ap, append_snoc, arith, dec_le, drop, drop-cons, false, get_or, get_or-take, length, length-take-le, nothing, refl, some, split_at, subst, suc, sym, take, take-suc, take-take, true, zero-add, ℕ}
 use Rattle.model.specs.declared.Layout.{Layout}
 use Rattle.model.specs.Order.{none}
@@ -11,13 +12,10 @@ use Rattle.model.proofs.Files.{order_right, used_inside}
 use Rattle.model.proofs.Checks.{check_bad, check_cut, check_sound}
 use Rattle.model.proofs.Surveys.{Apart, Before, Copy, Differ, Lists, Sorted, Twins, apart_bad, chain_follows, chain_sound, copy_cut, follows_chain, sound_sorted, twin_bad}
 use Rattle.file.specs.declared.Size.{Size}
-use Rattle.file.specs.declared.survey.Kind.{Kind as Found}
-use Rattle.file.specs.declared.survey.Survey.{Survey}
 use Rattle.bucket.specs.Copies.{CopyTold}
 use Rattle.file.specs.Maps.{map_of}
-use Rattle.file.specs.Orders.{Chained, Known, Laid, Listed, Twinned}
-use Rattle.file.specs.Sizes.{Below}
-use Rattle.file.specs.Surveys.{Surveyed, check_of_slots, verdict}
+use Rattle.file.specs.Orders.{Chained, Known, Laid, Listed, TwinTold, Twinned}
+use Rattle.file.specs.Surveys.{check_of_slots}
 use Rattle.file.proofs.Chains.{listed_mem, neighbours_places}
 use Rattle.file.proofs.Readings.{each_read_slots, used_read}
 
@@ -37,20 +35,13 @@ Ordered xs size order count =
 abbrev pub Mapped : List ℕ → Size → ℕ → Type 0
 Mapped xs size map = (fs : List Slot) → read_slots size.layout size.slots 0 xs ≡ some fs → Sound size.layout.b fs → map ≡ map_of fs
 
--- A survey made of its parts.
-pub surveyed : (s : Survey) (xs : List ℕ) (size : Size) (count : ℕ) (order : List ℕ) (inner : ℕ) (kind : Found) (map : ℕ)
-    → (s.count ≡ count) × (s.order ≡ order) × (s.inner ≡ inner) × (s.kind ≡ kind) × (s.used ≡ map)
-    → Below order size.slots → count ≤ 64 → inner < size.slots → verdict kind inner ≡ check_of_slots size.layout size.slots xs
-    → Ordered xs size order count → Mapped xs size map → Surveyed s xs size
-surveyed s xs size count order inner kind map e h p q k o m =
-    record {
-      slots_inside = subst (λ (l : List ℕ). Below l size.slots) (sym e.1) h;
-      count_most = omega (arith, e.0);
-      inner_inside = omega (arith, e.2);
-      kind_is = rw (e.2, e.3) k;
-      order_is = λ {fs} r S. rw (e.0, e.1) (o fs r S);
-      used_is = λ {fs} r S. e.4 ∙ m fs r S;
-    }
+-- Two neighbours with one upper bound that were found, and that none were.
+module _ {r : Maybe ℕ} (size : Size) (xs order : List ℕ) (count : ℕ) where
+  pub twin_some : {place : ℕ} → r ≡ Some place → TwinTold r size xs order count → TwinTold (Some place) size xs order count
+  twin_some e t = rw e at t
+
+  pub twin_none : r ≡ None → TwinTold r size xs order count → TwinTold None size xs order count
+  twin_none e t = rw e at t
 
 -- What stays in order when the slot behind place p is left out.
 abbrev leaving : List ℕ → ℕ → ℕ → ℕ → List ℕ

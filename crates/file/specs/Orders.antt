@@ -1,5 +1,5 @@
 -- The used slots as the code lists them, by upper bound and where two are equal by lower bound, while it looks at a file.
-use Rattle.std.specs.Prelude.{◌≡◌, ℕ, suc, ◌<◌, ◌≤◌, Bool, true, false, ◌&&◌, ◌||◌, ◌⊎◌, List, length, take, drop, ◌==◌, ◌≢◌, nat_lt, slice_index}
+use Rattle.std.specs.Prelude.{Option, Some, None, ◌≡◌, ℕ, suc, ◌<◌, ◌≤◌, Bool, true, false, ◌&&◌, ◌||◌, ◌⊎◌, List, length, take, drop, ◌==◌, ◌≢◌, nat_lt, slice_index}
 use Rattle.std.proofs.Math.Option.{some}
 use mathlib.Core.List.{Memᴰ}
 use Rattle.model.specs.Order.{◌≺◌, ◌⊴◌, none}
@@ -46,6 +46,12 @@ pub record Chained (r : Bool) (F : RangeTable) (Bs : List ℕ) : Type 0 where
 pub record Twinned (fs : List Slot) (order : List ℕ) (count place : ℕ) : Type 0 where
   pub apart : (j : ℕ) → suc j < place → suc j < count → upper_of (head (placed fs order j)) ≢ upper_of (head (placed fs order (suc j)))
   pub same : (j : ℕ) → suc j ≡ place → place < count → upper_of (head (placed fs order j)) ≡ upper_of (head (placed fs order place))
+
+-- Such a place is found, or there is none.
+abbrev pub TwinTold : Option ℕ → Size → List ℕ → List ℕ → ℕ → Type 0
+TwinTold (Some place) size xs order count =
+    (place < count) × (1 ≤ place) × ((fs : List Slot) → Known size.layout xs fs → Listed fs order count → Twinned fs order count place)
+TwinTold None size xs order count = (fs : List Slot) → Known size.layout xs fs → Listed fs order count → Twinned fs order count count
 
 -- The first stands before the second, or has its range.
 abbrev pub Sorts : Slot → Slot → Type 0

@@ -3,7 +3,7 @@
 // R2.1 to R2.7 of docs/RULES.md have the header and the length: 16 bytes, then the slots.
 #![tactic(auto)]
 
-ghost use Rattle.std.specs.Prelude.{◌≡◌, ◌+◌, ◌*◌, ◌<◌, ◌≤◌, [], ◌∷◌, length, take, replicate, slice_index};
+ghost use Rattle.std.specs.Prelude.{◌≡◌, ◌+◌, ◌*◌, ◌<◌, ◌≤◌, [], ◌∷◌, length, take, slice_index};
 ghost use Rattle.std.proofs.Math.Seq.{paste};
 ghost use Rattle.model.specs.declared.Layout.{Layout};
 ghost use Rattle.model.specs.Tests.{same_str};
@@ -12,36 +12,21 @@ ghost use Rattle.model.specs.Format.{bytes_at_slot, file_bytes, header_bytes, is
 ghost use Rattle.file.specs.Maps.{RoomTold};
 ghost use Rattle.file.specs.Plans.{Committed, Fits, Planned};
 ghost use Rattle.file.specs.Sizes.{Sized, Fitting, Told};
-ghost use Rattle.bucket.specs.Slots.{OfSize};
 
-use bucket::SLOT;
-use digits::{u8_of_usize, usize_of_u8, usize_of_u32};
+use bucket::{SLOT, Slot};
 use model::Layout;
 
 mod order;
 mod survey;
 
 pub use order::{holder, leave_out};
-pub use survey::{Kind, Survey, found, survey_of, with_next};
+pub use survey::{Fault, Survey, survey_of, with_next};
 
 // What a header says: the layout of the slots, and their number.
-#[derive(Clone, Copy)]
+#[derive(Clone, Copy, PartialEq, Eq)]
 pub struct Size {
     pub layout: Layout,
     pub slots: usize,
-}
-
-#[derive(Clone, Copy)]
-pub enum Header {
-    Right(Size),
-    Wrong,
-}
-
-// Where a new bucket goes.
-#[derive(Clone, Copy)]
-pub enum Room {
-    At(usize),
-    Full,
 }
 
 // R2.3: the versions that are offered.
@@ -52,28 +37,28 @@ fn is_offered(version: usize) -> bool
 }
 
 // R2.3, R2.4, R2.5 and R2.7: the version is offered, b and slots are in range, and the length fits them.
-pub fn sizes(length: usize, layout: Layout, slots: usize) -> Header
+pub fn sizes(length: usize, layout: Layout, slots: usize) -> Option<Size>
     ensures { Fitting result length layout slots }
 {
     if !is_offered(layout.version) {
-        return Header::Wrong;
+        return None;
     }
     if layout.b < 2 {
-        return Header::Wrong;
+        return None;
     }
     if 16 < layout.b {
-        return Header::Wrong;
+        return None;
     }
     if slots < 1 {
-        return Header::Wrong;
+        return None;
     }
     if 64 < slots {
-        return Header::Wrong;
+        return None;
     }
-    if length != 16 + slots * bucket::slot_size(layout) {
-        return Header::Wrong;
+    if length != 16 + slots * layout.slot_size() {
+        return None;
     }
-    Header::Right(Size { layout, slots })
+    Some(Size { layout, slots })
 }
 
 // Whether the bytes are right that say what kind of file it is, and those behind the sizes.
@@ -99,37 +84,41 @@ fn layout_of(file: &[u8]) -> Layout
     ensures { result ≡ layout_of file.now }
 {
     Layout {
-        version: usize_of_u8(file[3]) + 256 * usize_of_u8(file[4]),
-        b: usize_of_u8(file[5]),
+        version: u16::from_le_bytes([file[3], file[4]]) as usize,
+        b: file[5] as usize,
     }
 }
 
 // The sizes of a file whose length and header are right.
-pub fn header_of(file: &[u8]) -> Header
+pub fn header_of(file: &[u8]) -> Option<Size>
     ensures { Told result file.now }
 {
     if file.len() < 16 {
-        return Header::Wrong;
+        return None;
     }
     if !is_marked(file) {
-        return Header::Wrong;
+        return None;
     }
-    sizes(file.len(), layout_of(file), usize_of_u8(file[6]))
+    sizes(file.len(), layout_of(file), file[6] as usize)
 }
 
 // The bytes of slot k.
-pub fn slot_at(file: &[u8], size: Size, k: usize) -> &[u8]
+pub fn slot_at<'a>(file: &'a [u8], size: Size, k: usize) -> Slot<'a>
     requires { (Sized (length file.now) size) × (k < size.slots) }
-    ensures { (result.now ≡ bytes_at_slot size.layout k file.now) × (OfSize result.now size.layout) }
+    ensures { (result.bytes.now ≡ bytes_at_slot size.layout k file.now) × (result.layout ≡ size.layout) }
 {
-    let n = bucket::slot_size(size.layout);
+    let n = size.layout.slot_size();
     let at = 16 + k * n;
     let end = at + n;
-    &file[at..end]
+    Slot {
+        bytes: &file[at..end],
+        layout: size.layout,
+    }
 }
 
-// What a change is to store: no slot, one or two, the first one first. A plan is found before a byte is written, and without
-// the limit. `one` begins with what slot `first` is to be, `two` with what slot `second` is to be.
+// What a change is to store: one slot or two, the first one first. A plan is found before a byte is written, and without
+// the limit. `one` begins with what slot `first` is to be, `two` with what slot `second` is to be. The stores are a count and not
+// an enum or two Options, since `commit` counts them: that is what fixes their order (docs/DECISIONS.md).
 #[derive(Clone, Copy)]
 pub struct Plan {
     pub stores: u64,
@@ -137,18 +126,6 @@ pub struct Plan {
     pub one: [u8; SLOT],
     pub second: usize,
     pub two: [u8; SLOT],
-}
-
-pub fn no_store() -> Plan
-    ensures { (result.stores ≡ 0) × (result.first ≡ 0) × (result.second ≡ 0) }
-{
-    Plan {
-        stores: 0,
-        first: 0,
-        one: [0u8; SLOT],
-        second: 0,
-        two: [0u8; SLOT],
-    }
 }
 
 pub fn one_store(first: usize, slot: &[u8; SLOT]) -> Plan
@@ -190,7 +167,7 @@ fn store(file: &mut [u8], size: Size, k: usize, slot: &[u8; SLOT])
         × (file.new ≡ paste file.old (16 + k * slot_size size.layout) (take (slot_size size.layout) slot.now) (slot_size size.layout)) }
 {
     let whole = &slot[..];
-    let n = bucket::slot_size(size.layout);
+    let n = size.layout.slot_size();
     let at = 16 + k * n;
     entries::copy(file, at, &whole[0..n]);
 }
@@ -201,31 +178,17 @@ pub fn commit(file: &mut [u8], size: Size, plan: Plan, limit: u64) -> bool
     requires { (Sized (length file.old) size) × (Fits plan size) }
     ensures { Committed result file.old file.new size.layout plan limit }
 {
-    let mut made = 0;
-    while made < plan.stores {
+    for made in 0..plan.stores {
         if limit <= made {
             return true;
         }
-        made += 1;
-        if made == 1 {
-            let slot = plan.one;
-            store(file, size, plan.first, &slot);
+        if made == 0 {
+            store(file, size, plan.first, &plan.one);
         } else {
-            let other = plan.two;
-            store(file, size, plan.second, &other);
+            store(file, size, plan.second, &plan.two);
         }
     }
     false
-}
-
-fn clear(file: &mut [u8])
-    ensures { file.new ≡ replicate (length file.old) 0 }
-{
-    let mut i = 0;
-    while i < file.len() {
-        file[i] = 0;
-        i += 1;
-    }
 }
 
 // R9.1: a new file over the whole buffer.
@@ -233,27 +196,26 @@ pub fn create(file: &mut [u8], size: Size)
     requires { Sized (length file.old) size }
     ensures { file.new ≡ file_bytes size.layout (created size.slots) }
 {
-    clear(file);
+    file.fill(0);
     file[0] = b'T';
     file[1] = b'K';
     file[2] = b'F';
-    let layout = size.layout;
-    file[3] = u8_of_usize(layout.version);
-    file[5] = u8_of_usize(layout.b);
-    file[6] = u8_of_usize(size.slots);
+    file[3] = size.layout.version as u8;
+    file[5] = size.layout.b as u8;
+    file[6] = size.slots as u8;
     file[16] = 1;
 }
 
 // R7.6: the lowest free slot.
-pub fn lowest_free(used: u64, slots: usize) -> Room
+pub fn lowest_free(used: u64, slots: usize) -> Option<usize>
     ensures { RoomTold used slots result }
 {
-    if slots <= usize_of_u32(u64::count_ones(used)) {
-        return Room::Full;
+    if slots <= used.count_ones() as usize {
+        return None;
     }
-    let lowest = usize_of_u32(u64::trailing_zeros(!used));
+    let lowest = (!used).trailing_zeros() as usize;
     if slots <= lowest {
-        return Room::Full;
+        return None;
     }
-    Room::At(lowest)
+    Some(lowest)
 }

@@ -10,24 +10,25 @@ ghost use Rattle.file.specs.Orders.{Known, Listed, Placed, stands};
 ghost use Rattle.file.specs.Holders.{HolderTold};
 
 use crate::{Size, slot_at};
-use digits::{Key, usize_of_u8};
+use digits::Key;
 
-// Whether the range (low, high] stands before that of a slot. The low ends matter only where the high ends are equal.
-fn is_before(high: Key, low: Key, slot: &[u8]) -> bool
-    requires { 64 ≤ length slot.now }
-    ensures { (y : Layout) (s : Slot) → IsUsed (head s) → read_slot y slot.now ≡ some s → Well y.b s → result ≡ stands (key_value high) (key_value low) s }
+// Whether the range (low, high] stands before that of a slot. The low ends matter only where the high ends are equal. By hand,
+// since keys have no derived order (it lists slower; `Key::is_below`).
+fn is_before(high: Key, low: Key, slot: &bucket::Slot) -> bool
+    ensures { (y : Layout) (s : Slot) → IsUsed (head s) → read_slot y slot.now.bytes.now ≡ some s → Well y.b s → result ≡ stands (key_value high) (key_value low) s }
 {
-    let other = bucket::high_key(slot);
-    if digits::is_below(high, other) {
+    let other = slot.high();
+    if high.is_below(other) {
         return true;
     }
-    if !digits::is_same(high, other) {
+    if high != other {
         return false;
     }
-    digits::is_below(low, bucket::low_key(slot))
+    low.is_below(slot.low())
 }
 
-// How many of the slots in order stand before the range (low, high] or are equal to it.
+// How many of the slots in order stand before the range (low, high] or are equal to it. By halves and by hand: `partition_point`
+// asks that the order is known to be partitioned, which holds of sound files only.
 pub fn place_of(
     file: &[u8],
     size: Size,
@@ -45,8 +46,8 @@ pub fn place_of(
     let mut most = count;
     while least < most {
         let middle = least + (most - least) / 2;
-        let slot = slot_at(file, size, usize_of_u8(order[middle]));
-        if is_before(high, low, slot) {
+        let slot = slot_at(file, size, order[middle] as usize);
+        if is_before(high, low, &slot) {
             most = middle;
         } else {
             least = middle + 1;
@@ -62,11 +63,7 @@ pub fn insert(order: &mut [u8; 64], count: usize, place: usize, k: u8)
         × (length order.new ≡ 64)
         × (take (count + 1) order.new ≡ take place order.old ++ (k ∷ drop place (take count order.old))) }
 {
-    let mut j = count;
-    while place < j {
-        order[j] = order[j - 1];
-        j -= 1;
-    }
+    order.copy_within(place..count, place + 1);
     order[place] = k;
 }
 
@@ -77,14 +74,11 @@ pub fn leave_out(order: &mut [u8; 64], count: usize, place: usize)
         × (length order.new ≡ 64)
         × (take (count - 1) order.new ≡ take place order.old ++ drop (suc place) (take count order.old)) }
 {
-    let mut j = place + 1;
-    while j < count {
-        order[j - 1] = order[j];
-        j += 1;
-    }
+    order.copy_within(place + 1..count, place);
 }
 
 // The place of the bucket whose range holds the name, in a sound file: the first whose upper bound is not below it.
+// By halves and by hand, as `place_of`.
 pub fn holder(file: &[u8], size: Size, order: &[u8; 64], count: usize, name: &[u8; 24]) -> usize
     requires { (Sized (length file.now) size) × (Below order.now size.slots) × (count ≤ 64) }
     ensures { HolderTold file.now size order.now count name.now result }
@@ -96,8 +90,8 @@ pub fn holder(file: &[u8], size: Size, order: &[u8; 64], count: usize, name: &[u
     let mut most = count - 1;
     while least < most {
         let middle = least + (most - least) / 2;
-        let slot = slot_at(file, size, usize_of_u8(order[middle]));
-        let compared = digits::compared(name, bucket::upper_bound(slot));
+        let slot = slot_at(file, size, order[middle] as usize);
+        let compared = digits::compared(name, slot.upper());
         if compared.within {
             most = middle;
         } else {

@@ -2,47 +2,46 @@
 ghost use Rattle.std.specs.Prelude.{◌≡◌, ◌+◌, ◌*◌, ◌^◌, ◌<◌, ◌≤◌, List, length, take};
 ghost use Rattle.model.specs.Files.{Slot, ranges};
 ghost use Rattle.file.specs.Sizes.{Sized, Below};
-ghost use Rattle.file.specs.Surveys.{Surveyed};
-ghost use Rattle.file.specs.Orders.{Chained, Known, Laid, Listed, Twinned};
+ghost use Rattle.file.specs.Surveys.{Faulty, Surveyed, cause_of};
+ghost use Rattle.file.specs.Orders.{Chained, Known, Laid, Listed, Twinned, TwinTold};
 
 use crate::{Size, order, slot_at};
-use bucket::{Form, Vacancy};
-use digits::{u8_of_usize, usize_of_u8};
+use bucket::Vacancy;
+use digits::Key;
+use model::Cause;
 
-#[derive(Clone, Copy)]
-pub enum Kind {
-    Sound,
-    Cut,
+// What is wrong with a file: it is bad, or it is cut, with the slot to free. Named, and no Option: of a file that is not sound, None
+// would not say that it is bad.
+#[derive(Clone, Copy, PartialEq, Eq)]
+pub enum Fault {
     Bad,
+    Cut(usize),
 }
 
-// What a look at the whole file finds: the used slots as a map and in range order; of a cut file, the slot to free.
+impl From<Fault> for Cause {
+    ghost from_gives = { λ fault cause. cause ≡ cause_of fault };
+
+    fn from(fault: Fault) -> Cause {
+        match fault {
+            Fault::Bad => Cause::BadFile,
+            Fault::Cut(_) => Cause::CutFile,
+        }
+    }
+}
+
+// What a look at a whole file finds where it is sound: the used slots as a map and in range order.
 #[derive(Clone, Copy)]
 pub struct Survey {
-    pub kind: Kind,
     pub used: u64,
     pub count: usize,
     pub order: [u8; 64],
-    pub inner: usize,
-}
-
-pub fn found(kind: Kind, used: u64, count: usize, order: &[u8; 64], inner: usize) -> Survey
-    ensures { (result.count ≡ count) × (result.order ≡ order.now) × (result.inner ≡ inner) × (result.kind ≡ kind) × (result.used ≡ used) }
-{
-    Survey {
-        kind,
-        used,
-        count,
-        order: *order,
-        inner,
-    }
 }
 
 // The map with the next lower slot.
 pub fn with_next(used: u64, next: u64) -> u64
     ensures { 2 * used + next < 2 ^ 64 → result ≡ 2 * used + next }
 {
-    std::num::wrapping_add_u64(std::num::wrapping_add_u64(used, used), next)
+    used.wrapping_add(used).wrapping_add(next)
 }
 
 // R4.4 to R4.6: whether the chain of bounds is closed, from no lower limit to no upper limit.
@@ -51,113 +50,101 @@ fn is_chain(file: &[u8], size: Size, order: &[u8; 64], count: usize) -> bool
     ensures { (fs : List Slot) → Known size.layout file.now fs → Listed fs order.now count
         → Chained result (ranges fs) (take count order.now) }
 {
-    let mut end = digits::lowest_key();
-    let mut j = 0;
-    while j < count {
-        let slot = slot_at(file, size, usize_of_u8(order[j]));
-        if !digits::is_same(bucket::low_key(slot), end) {
+    let mut end = Key::lowest();
+    for j in 0..count {
+        let slot = slot_at(file, size, order[j] as usize);
+        if slot.low() != end {
             return false;
         }
-        end = bucket::high_key(slot);
-        j += 1;
+        end = slot.high();
     }
-    digits::is_same(end, digits::highest_key())
+    end == Key::highest()
 }
 
-// The first place whose slot has the upper bound of the one before it; the count where there is none.
-fn repeated_upper(file: &[u8], size: Size, order: &[u8; 64], count: usize) -> usize
+// The first place whose slot has the upper bound of the one before it.
+fn repeated_upper(file: &[u8], size: Size, order: &[u8; 64], count: usize) -> Option<usize>
     requires { (Sized (length file.now) size) × (Below order.now size.slots) × (count ≤ 64) × (length order.now ≡ 64) }
-    ensures { (result < count → 1 ≤ result)
-        × ((fs : List Slot) → Known size.layout file.now fs → Listed fs order.now count
-        → Twinned fs order.now count result) }
+    ensures { TwinTold result size file.now order.now count }
 {
-    let mut j = 1;
-    while j < count {
-        let before = slot_at(file, size, usize_of_u8(order[j - 1]));
-        let slot = slot_at(file, size, usize_of_u8(order[j]));
-        if digits::is_same(bucket::high_key(before), bucket::high_key(slot)) {
-            return j;
+    for j in 1..count {
+        let before = slot_at(file, size, order[j - 1] as usize);
+        let slot = slot_at(file, size, order[j] as usize);
+        if before.high() == slot.high() {
+            return Some(j);
         }
-        j += 1;
     }
-    count
+    None
 }
 
-// A file with two slots of one upper bound: cut, or bad.
-fn cut_of(
-    file: &[u8],
-    size: Size,
-    order: &[u8; 64],
-    count: usize,
-    place: usize,
-    used: u64,
-) -> Survey
-    requires { (Sized (length file.now) size) × (Below order.now size.slots) × (count ≤ 64) × (place < count) × (1 ≤ place)
-        × (Laid file.now size 0 order.now count used)
-        × ((fs : List Slot) → Known size.layout file.now fs → Listed fs order.now count → Twinned fs order.now count place) }
-    ensures { Surveyed result file.now size }
+// A file with two slots of one upper bound, at the place and before it: cut, or bad.
+fn cut_of(file: &[u8], size: Size, survey: &Survey, place: usize) -> Fault
+    requires { (Sized (length file.now) size) × (Below survey.now.order size.slots) × (survey.now.count ≤ 64) × (place < survey.now.count) × (1 ≤ place)
+        × (Laid file.now size 0 survey.now.order survey.now.count survey.now.used)
+        × ((fs : List Slot) → Known size.layout file.now fs → Listed fs survey.now.order survey.now.count → Twinned fs survey.now.order survey.now.count place) }
+    ensures { Faulty result file.now size }
 {
-    let inner = usize_of_u8(order[place]);
-    let outer = usize_of_u8(order[place - 1]);
-    if !bucket::is_copy_of(
-        slot_at(file, size, inner),
-        slot_at(file, size, outer),
-        size.layout,
-    ) {
-        return found(Kind::Bad, used, count, order, inner);
+    let inner = survey.order[place] as usize;
+    let outer = survey.order[place - 1] as usize;
+    let outside = slot_at(file, size, outer);
+    if !slot_at(file, size, inner).is_copy_of(&outside) {
+        return Fault::Bad;
     }
-    let mut rest = *order;
-    order::leave_out(&mut rest, count, place);
-    if !is_chain(file, size, &rest, count - 1) {
-        return found(Kind::Bad, used, count, order, inner);
+    let mut rest = survey.order;
+    order::leave_out(&mut rest, survey.count, place);
+    if !is_chain(file, size, &rest, survey.count - 1) {
+        return Fault::Bad;
     }
-    found(Kind::Cut, used, count, order, inner)
+    Fault::Cut(inner)
 }
 
 // A file whose slots are each free or well formed, and in order.
-fn kind_of(file: &[u8], size: Size, order: &[u8; 64], count: usize, used: u64) -> Survey
-    requires { (Sized (length file.now) size) × (Below order.now size.slots) × (count ≤ 64)
-        × (Laid file.now size 0 order.now count used) }
+fn judged(file: &[u8], size: Size, survey: &Survey) -> Result<Survey, Fault>
+    requires { (Sized (length file.now) size) × (Below survey.now.order size.slots) × (survey.now.count ≤ 64)
+        × (Laid file.now size 0 survey.now.order survey.now.count survey.now.used) }
     ensures { Surveyed result file.now size }
 {
-    let place = repeated_upper(file, size, order, count);
-    if place < count {
-        return cut_of(file, size, order, count, place, used);
+    if let Some(place) = repeated_upper(file, size, &survey.order, survey.count) {
+        return Err(cut_of(file, size, survey, place));
     }
-    if !is_chain(file, size, order, count) {
-        return found(Kind::Bad, used, count, order, 0);
+    if !is_chain(file, size, &survey.order, survey.count) {
+        return Err(Fault::Bad);
     }
-    found(Kind::Sound, used, count, order, 0)
+    Ok(*survey)
 }
 
 // The whole file, from its last slot to its first.
-pub fn survey_of(file: &[u8], size: Size) -> Survey
+pub fn survey_of(file: &[u8], size: Size) -> Result<Survey, Fault>
     requires { Sized (length file.now) size }
     ensures { Surveyed result file.now size }
 {
-    let mut order = [0u8; 64];
-    let mut count = 0usize;
-    let mut used = 0u64;
-    let mut k = size.slots;
-    while 0 < k {
-        k -= 1;
+    let mut survey = Survey {
+        used: 0,
+        count: 0,
+        order: [0u8; 64],
+    };
+    for k in (0..size.slots).rev() {
         let slot = slot_at(file, size, k);
-        let vacancy = bucket::vacancy_of(slot);
-        match vacancy {
+        match slot.vacancy() {
             Vacancy::Free => {
-                used = with_next(used, 0);
+                survey.used = with_next(survey.used, 0);
             }
             Vacancy::Taken => {
-                let form = bucket::form_of(slot, size.layout);
-                let Form::Well(bucket) = form else {
-                    return found(Kind::Bad, 0, 0, &[0u8; 64], 0);
+                let Some(bucket) = slot.form() else {
+                    return Err(Fault::Bad);
                 };
-                let place = order::place_of(file, size, &order, count, bucket.low, bucket.high);
-                order::insert(&mut order, count, place, u8_of_usize(k));
-                count += 1;
-                used = with_next(used, 1);
+                let place = order::place_of(
+                    file,
+                    size,
+                    &survey.order,
+                    survey.count,
+                    bucket.low,
+                    bucket.high,
+                );
+                order::insert(&mut survey.order, survey.count, place, k as u8);
+                survey.count += 1;
+                survey.used = with_next(survey.used, 1);
             }
         }
     }
-    kind_of(file, size, &order, count, used)
+    judged(file, size, &survey)
 }

@@ -205,19 +205,18 @@ begins_at : (m j : ℕ) → j < 8 → 0x20 ≤ m → (j ≡ 0 → 0x21 ≤ m) �
 begins_at m zero h k f = f refl
 begins_at m (suc j) h k f = omega (arith, blank_at 7 j (omega arith))
 
--- What all six words tell, and the sign.
-module _ (most least : List ℕ) (ascents a₁ a₂ a₃ u₁ u₂ u₃ : ℕ) (fits : ascents < 2 ^ 64) where
+-- What all six words tell; the sign is another's.
+module _ (most least : List ℕ) (ascents a₁ a₂ a₃ u₁ u₂ u₃ : ℕ) where
   abbrev all : ℕ
-  all = bit_or (bit_or (bit_or (bit_or a₁ a₂) a₃) (bit_or (bit_or u₁ u₂) u₃)) (1 - ascents / 2 ^ 63)
+  all = bit_or (bit_or (bit_or a₁ a₂) a₃) (bit_or (bit_or u₁ u₂) u₃)
 
-  pub clean : all ≡ 0
+  pub clean : 2 ^ 63 ≤ ascents → all ≡ 0
       → (a₁ ≡ 0 → (j : ℕ) → j < 8 → get_or most (0 + j) 0 ≤ 0x7D) → (a₂ ≡ 0 → (j : ℕ) → j < 8 → get_or most (8 + j) 0 ≤ 0x7D) → (a₃ ≡ 0 → (j : ℕ) → j < 8 → get_or most (16 + j) 0 ≤ 0x7D)
       → (u₁ ≡ 0 → (j : ℕ) → j < 8 → get_or begins j 0 ≤ get_or least (0 + j) 0)
       → (u₂ ≡ 0 → (j : ℕ) → j < 8 → get_or blanks j 0 ≤ get_or least (8 + j) 0) → (u₃ ≡ 0 → (j : ℕ) → j < 8 → get_or blanks j 0 ≤ get_or least (16 + j) 0)
       → Clean most least ascents
-  clean z f₁ f₂ f₃ g₁ g₂ g₃ =
-      let p = or_zero (bit_or (bit_or (bit_or a₁ a₂) a₃) (bit_or (bit_or u₁ u₂) u₃)) (1 - ascents / 2 ^ 63) z in
-      let q = or_zero (bit_or (bit_or a₁ a₂) a₃) (bit_or (bit_or u₁ u₂) u₃) p.0 in
+  clean r z f₁ f₂ f₃ g₁ g₂ g₃ =
+      let q = or_zero (bit_or (bit_or a₁ a₂) a₃) (bit_or (bit_or u₁ u₂) u₃) z in
       let a = or_zero (bit_or a₁ a₂) a₃ q.0 in
       let b = or_zero a₁ a₂ a.0 in
       let u = or_zero (bit_or u₁ u₂) u₃ q.1 in
@@ -229,7 +228,7 @@ module _ (most least : List ℕ) (ascents a₁ a₂ a₃ u₁ u₂ u₃ : ℕ) (
             (λ j h. omega (arith, blank_at 8 j h, g₂ v.1 j h))
             (λ j h. omega (arith, blank_at 8 j h, g₃ u.1 j h));
         begun = g₁ v.0 0 (omega arith);
-        rising = omega (arith, p.1);
+        rising = r;
       }
 
   pub no_faults : Clean most least ascents → ((j : ℕ) → get_or least j 0 ≤ 0x7D)
@@ -247,5 +246,4 @@ module _ (most least : List ℕ) (ascents a₁ a₂ a₃ u₁ u₂ u₃ : ℕ) (
       let y₁ = g₁ (λ j h. (begins_at (get_or least (0 + j) 0) j h (C.under (0 + j) (omega arith)) (first j), omega (arith, L (0 + j)))) in
       let y₂ = g₂ (λ j h. (omega (arith, blank_at 8 j h, C.under (8 + j) (omega arith)), omega (arith, L (8 + j)))) in
       let y₃ = g₃ (λ j h. (omega (arith, blank_at 8 j h, C.under (16 + j) (omega arith)), omega (arith, L (16 + j)))) in
-      let s : ascents / 2 ^ 63 ≡ 1 = omega (arith, C.rising) in
-      rw (x₁, x₂, x₃, y₁, y₂, y₃, s) refl
+      rw (x₁, x₂, x₃, y₁, y₂, y₃) refl

@@ -1,6 +1,5 @@
 -- One filled name by its words, and a name that is legal by the name filled.
-use Rattle.model.proofs.Prelude.{List, [], ◌&&◌, ◌++◌, ◌+◌, ◌-◌, ◌/◌, ◌<◌, ◌^◌, ◌∙◌, ◌∷◌, ◌≡◌, ◌≤◌, ap, arith, eqb, get_or, length, not, refl, replicate, sym, take_all, true, zero-add, ℕ}
-use lib.Bits.{bit_or}
+use Rattle.model.proofs.Prelude.{List, [], ◌&&◌, ◌++◌, ◌-◌, ◌<◌, ◌∙◌, ◌∷◌, ◌≡◌, ◌≤◌, ap, arith, eqb, length, not, refl, replicate, sym, take_all, true, zero-add, ℕ}
 use Rattle.model.specs.Names.{filled}
 use Rattle.model.specs.Order.{Str, first_digit, last_digit}
 use Rattle.model.specs.Tests.{are_digits, is_blank_digit, is_legal_filled, is_legal_name}
@@ -8,23 +7,12 @@ use Rattle.model.proofs.Tests.{both_true}
 use Rattle.model.proofs.Names.{are_digits_digits, blank_no, digits_are_digits, digits_front, filled_short}
 use Rattle.digits.proofs.Laws as digits
 use Rattle.gathering.specs.Names.{Clean}
-use Rattle.gathering.proofs.Bits.{begins, blanks, clean}
 use Rattle.gathering.proofs.Names.{NameAt, name_legal}
 
-clean_name : (s : List ℕ) (m : ℕ) → length s ≡ 24 → Clean s s m → is_legal_filled s ≡ true
+pub clean_name : (s : List ℕ) (m : ℕ) → length s ≡ 24 → Clean s s m → is_legal_filled s ≡ true
 clean_name s m e C =
     let N : NameAt s 0 = record { above = λ j h. rw (zero-add j) (C.above j h); under = λ j h. rw (zero-add j) (C.under j h); begun = C.begun } in
     sym (ap is_legal_filled (take_all 24 s (omega arith))) ∙ name_legal s 0 (omega arith) N
-
--- Three words without a fault.
-pub words_name : (s : List ℕ) (a₁ a₂ a₃ u₁ u₂ u₃ : ℕ) → length s ≡ 24 → bit_or (bit_or (bit_or a₁ a₂) a₃) (bit_or (bit_or u₁ u₂) u₃) ≡ 0
-    → (a₁ ≡ 0 → (j : ℕ) → j < 8 → get_or s (0 + j) 0 ≤ 0x7D) → (a₂ ≡ 0 → (j : ℕ) → j < 8 → get_or s (8 + j) 0 ≤ 0x7D) → (a₃ ≡ 0 → (j : ℕ) → j < 8 → get_or s (16 + j) 0 ≤ 0x7D)
-    → (u₁ ≡ 0 → (j : ℕ) → j < 8 → get_or begins j 0 ≤ get_or s (0 + j) 0)
-    → (u₂ ≡ 0 → (j : ℕ) → j < 8 → get_or blanks j 0 ≤ get_or s (8 + j) 0) → (u₃ ≡ 0 → (j : ℕ) → j < 8 → get_or blanks j 0 ≤ get_or s (16 + j) 0)
-    → is_legal_filled s ≡ true
-words_name s a₁ a₂ a₃ u₁ u₂ u₃ e z f₁ f₂ f₃ g₁ g₂ g₃ =
-    let h : bit_or (bit_or (bit_or (bit_or a₁ a₂) a₃) (bit_or (bit_or u₁ u₂) u₃)) (1 - 2 ^ 63 / 2 ^ 63) ≡ 0 = rw z refl in
-    clean_name s (2 ^ 63) e (clean s s (2 ^ 63) a₁ a₂ a₃ u₁ u₂ u₃ (omega arith) h f₁ f₂ f₃ g₁ g₂ g₃)
 
 first_filled : (n y : Str) → 0 < length n → first_digit (n ++ y) ≡ first_digit n
 first_filled [] y h = absurd (omega arith)

@@ -1,17 +1,25 @@
 -- What gathering keeps: one name more, and the whole row, read in both directions.
-use Rattle.model.proofs.Prelude.{List, [], ◌&&◌, ◌*◌, ◌+◌, ◌-◌, ◌/◌, ◌<◌, ◌^◌, ◌∙◌, ◌∷◌, ◌≡◌, ◌≤◌, ◌⊎◌, arith, drop, drop-cons, drop-drop, eqb, get_or, get_or-drop, get_or-replicate, get_or-set_other, get_or-set_same, get_or-take, length, not, refl, replicate, set, suc, sym, take, true, zero, ℕ, ℕ_discrete, ⊎_elim}
+use Rattle.model.proofs.Prelude.{add-one, List, [], ◌&&◌, ◌*◌, ◌+◌, ◌/◌, ◌<◌, ◌^◌, ◌∙◌, ◌∷◌, ◌≡◌, ◌≤◌, arith, drop, drop-cons, drop-drop, eqb, get_or, get_or-drop, get_or-replicate, get_or-set_other, get_or-set_same, get_or-take, length, not, refl, replicate, set, suc, sym, take, true, zero, ℕ, ℕ_discrete}
 use Rattle.model.specs.Order.{first_digit}
 use Rattle.model.specs.Tests.{are_digits, is_blank_digit, is_legal_filled}
-use Rattle.std.proofs.Common.{mul-suc}
+use Rattle.std.proofs.Math.Nat.{le-max_left, le-max_right, le-min, max-le, min-le_left, min-le_right, mul-le-mul_left, mul-suc}
+use Prim.Native.Nat.{max, min}
 use lib.Bits.{and_le_l, and_le_r, and_shr, bit_and}
 use Rattle.model.specs.Names.{Digits}
 use Rattle.model.proofs.Tests.{both_true}
 use Rattle.model.proofs.Names.{are_digits_digits, blank_no, digits_are_digits}
 use Rattle.digits.specs.declared.Key.{Key}
 use Rattle.digits.specs.Keys.{key_value, value}
-use Rattle.digits.proofs.Keys.{bytes_part, length_part, value_lt}
-use Rattle.digits.proofs.Laws.{filled_name}
-use Rattle.gathering.specs.Names.{Clean, Rising, Small, WordsAt, names}
+use Rattle.digits.proofs.Keys.{bytes_part, length_part, value_lt, value_words}
+use Rattle.digits.proofs.Laws.{filled_name, same_first, same_second}
+use Rattle.gathering.specs.Names.{Clean, Rising, Small, names}
+
+-- The key of the 24 bytes from `at` on, word by word.
+pub record WordsAt (k : Key) (at : ℕ) (xs : List ℕ) : Type 0 where
+  pub whole : key_value k ≡ value (take 24 (drop at xs))
+  pub first : k.a ≡ value (take 8 (drop at xs))
+  pub second : k.b ≡ value (take 8 (drop (at + 8) xs))
+  pub third : k.c ≡ value (take 8 (drop (at + 16) xs))
 
 -- The first i bytes from `at` on are gathered.
 pub record Grown (s : List ℕ) (at i : ℕ) (most₀ least₀ most least : List ℕ) : Type 0 where
@@ -40,23 +48,24 @@ stored P m i r l h j f = elim (ℕ_discrete j i) [
 ]
 
 pub grown_next : (s : List ℕ) (at i : ℕ) (most₀ least₀ most least : List ℕ) (p q : ℕ) → Grown s at i most₀ least₀ most least → i < length most → i < length least
-    → (get_or most i 0 ≤ p) × (get_or s (at + i) 0 ≤ p) × ((p ≡ get_or most i 0) ⊎ (p ≡ get_or s (at + i) 0))
-    → (q ≤ get_or least i 0) × (q ≤ get_or s (at + i) 0) × ((k : ℕ) → k ≤ get_or least i 0 → k ≤ get_or s (at + i) 0 → k ≤ q)
+    → p ≡ max (get_or most i 0) (get_or s (at + i) 0) → q ≡ min (get_or least i 0) (get_or s (at + i) 0)
     → Grown s at (i + 1) most₀ least₀ (set most i p) (set least i q)
-grown_next s at i most₀ least₀ most least p q G l m f g = record {
-  above_before = λ j. stored (λ n v. get_or most₀ n 0 ≤ v) most i p l (omega (arith, G.above_before i, f.0)) j (λ n. G.above_before j);
-  above_new = λ j h. stored (λ n v. n < i + 1 → get_or s (at + n) 0 ≤ v) most i p l (λ t. f.1) j (λ n t. G.above_new j (omega (arith, n))) h;
-  above_all = λ j k h t.
-      stored (λ n v. get_or most₀ n 0 ≤ k → (n < i + 1 → get_or s (at + n) 0 ≤ k) → v ≤ k) most i p l
-      (λ a b. ⊎_elim (λ e. omega (arith, e, G.above_all i k a (λ o. absurd (omega arith)))) (λ e. omega (arith, e, b (omega arith))) f.2)
-      j (λ n a b. G.above_all j k a (λ o. b (omega arith))) h t;
-  under_before = λ j. stored (λ n v. v ≤ get_or least₀ n 0) least i q m (omega (arith, G.under_before i, g.0)) j (λ n. G.under_before j);
-  under_new = λ j h. stored (λ n v. n < i + 1 → v ≤ get_or s (at + n) 0) least i q m (λ t. g.1) j (λ n t. G.under_new j (omega (arith, n))) h;
-  under_all = λ j k h t.
-      stored (λ n v. k ≤ get_or least₀ n 0 → (n < i + 1 → k ≤ get_or s (at + n) 0) → k ≤ v) least i q m
-      (λ a b. g.2 k (G.under_all i k a (λ o. absurd (omega arith))) (b (omega arith)))
-      j (λ n a b. G.under_all j k a (λ o. b (omega arith))) h t;
-}
+grown_next s at i most₀ least₀ most least p q G l m f g =
+    let v = get_or most i 0 in let w = get_or least i 0 in let x = get_or s (at + i) 0 in
+    record {
+      above_before = λ j. stored (λ n v. get_or most₀ n 0 ≤ v) most i p l (omega (arith, G.above_before i, f, le-max_left v x)) j (λ n. G.above_before j);
+      above_new = λ j h. stored (λ n v. n < i + 1 → get_or s (at + n) 0 ≤ v) most i p l (λ t. omega (arith, f, le-max_right v x)) j (λ n t. G.above_new j (omega (arith, n))) h;
+      above_all = λ j k h t.
+          stored (λ n v. get_or most₀ n 0 ≤ k → (n < i + 1 → get_or s (at + n) 0 ≤ k) → v ≤ k) most i p l
+          (λ a b. rw f (max-le (G.above_all i k a (λ o. absurd (omega arith))) (b (omega arith))))
+          j (λ n a b. G.above_all j k a (λ o. b (omega arith))) h t;
+      under_before = λ j. stored (λ n v. v ≤ get_or least₀ n 0) least i q m (omega (arith, G.under_before i, g, min-le_left w x)) j (λ n. G.under_before j);
+      under_new = λ j h. stored (λ n v. n < i + 1 → v ≤ get_or s (at + n) 0) least i q m (λ t. omega (arith, g, min-le_right w x)) j (λ n t. G.under_new j (omega (arith, n))) h;
+      under_all = λ j k h t.
+          stored (λ n v. k ≤ get_or least₀ n 0 → (n < i + 1 → k ≤ get_or s (at + n) 0) → k ≤ v) least i q m
+          (λ a b. rw g (le-min (G.under_all i k a (λ o. absurd (omega arith))) (b (omega arith))))
+          j (λ n a b. G.under_all j k a (λ o. b (omega arith))) h t;
+    }
 
 -- The 24 bytes from `at` on are a name, byte by byte.
 pub record NameAt (s : List ℕ) (at : ℕ) : Type 0 where
@@ -119,6 +128,17 @@ module _ (s : List ℕ) (at : ℕ) (room : at + 24 ≤ length s) where
           third = rw W.third (word_small 16 (omega arith) (N.above 16 (omega arith)));
         }
 
+-- What the words of a key are, where it is that of the 24 bytes from `at` on.
+pub words_at : (k : Key) (s : List ℕ) (at : ℕ) → at + 24 ≤ length s → ((i : ℕ) → get_or s i 0 < 256) → k.b < 2 ^ 64 → k.c < 2 ^ 64 → key_value k ≡ value (take 24 (drop at s)) → WordsAt k at s
+unfolding key_value
+words_at k s at room bytes kb kc e =
+    let word : (i : ℕ) → i + 8 ≤ length s → value (take 8 (drop i s)) < 2 ^ 64 = λ i h. rw (length_part s i 8 h) at (value_lt (take 8 (drop i s)) (bytes_part s 8 i bytes)) in
+    let y : Key = record { a = value (take 8 (drop at s)); b = value (take 8 (drop (at + 8) s)); c = value (take 8 (drop (at + 16) s)) } in
+    let q : key_value k ≡ key_value y = e ∙ value_words s at room in
+    let f : k.a ≡ y.a = same_first k y kc (word (at + 16) (omega arith)) q kb (word (at + 8) (omega arith)) in
+    let g : k.b ≡ y.b = same_second k y kc (word (at + 16) (omega arith)) q f in
+    record { whole = e; first = f; second = g; third = omega (arith, q, f, g) }
+
 -- Two numbers with the highest bit.
 both_high : (a b : ℕ) → a < 2 ^ 64 → b < 2 ^ 64 → 2 ^ 63 ≤ a → 2 ^ 63 ≤ b → 2 ^ 63 ≤ bit_and a b
 both_high a b f g h k =
@@ -172,19 +192,23 @@ replicate_most zero c j = omega arith
 replicate_most (suc n) c zero = omega arith
 replicate_most (suc n) c (suc j) = replicate_most n c j
 
-pub held_none : (s : List ℕ) (e count : ℕ) (most least : List ℕ) (ascents : ℕ) → Held s e count most least ascents most least ascents (record { a = 0; b = 0; c = 0 }) 0 count
+pub held_none : (s : List ℕ) (e count at left : ℕ) (most least : List ℕ) (ascents : ℕ) (lowest : Key) → at ≡ 0 → left ≡ count → key_value lowest ≡ 0
+    → Held s e count most least ascents most least ascents lowest at left
 unfolding key_value
-held_none s e count most least ascents =
-    let S : Small (record { a = 0; b = 0; c = 0 }) = record { first = omega arith; second = omega arith; third = omega arith } in
-    record {
-      sound = λ C. (C, S, λ R. R);
-      complete = λ C R. (C, S, R);
+held_none s e count at left most least ascents lowest z w o =
+    let S : Small lowest = record { first = omega (arith, o); second = omega (arith, o); third = omega (arith, o) } in
+    rw (z, w) record {
+      sound = λ C. (C, S, λ R. rw o at R);
+      complete = λ C R. (C, S, rw o R);
       under = λ j. omega arith;
     }
 
-pub left_entry : (e left : ℕ) → 0 < left → e * left ≡ e + e * (left - 1)
-left_entry e zero h = absurd (omega arith)
-left_entry e (suc n) h = let q : suc n - 1 ≡ n = omega arith in rw q (omega (arith, mul-suc e n))
+-- Where entry k of so many begins and ends.
+pub next_entry : (e k : ℕ) → e * (k + 1) ≡ e * k + e
+next_entry e k = rw add-one (mul-suc e k)
+
+pub entry_in : (e k count : ℕ) → k < count → e * k + e ≤ e * count
+entry_in e k count h = omega (arith, next_entry e k, mul-le-mul_left {m = k + 1} {n = count} e (omega arith))
 
 module _ (s : List ℕ) (e count : ℕ) (most₀ least₀ : List ℕ) (ascents₀ : ℕ) where
   pub held_all : (most least : List ℕ) (ascents : ℕ) (last : Key) (at left : ℕ) → left ≡ 0 → Held s e count most₀ least₀ ascents₀ most least ascents last at left
@@ -198,14 +222,14 @@ module _ (s : List ℕ) (e count : ℕ) (most₀ least₀ : List ℕ) (ascents�
       → Held s e count most₀ least₀ ascents₀ most₁ least₁ ascents last at left → 0 < left → at + 24 ≤ length s → ((i : ℕ) → get_or s i 0 < 256) → ascents < 2 ^ 64 → up < 2 ^ 64
       → Grown s at i most₁ least₁ most least → 24 ≤ i → WordsAt name at s
       → (Small last → Small name → (2 ^ 63 ≤ up → key_value last < key_value name) × (key_value last < key_value name → 2 ^ 63 ≤ up))
-      → Held s e count most₀ least₀ ascents₀ most least (bit_and ascents up) name (at + e) (left - 1)
+      → (at' left' : ℕ) → at' ≡ at + e → left' + 1 ≡ left → Held s e count most₀ least₀ ascents₀ most least (bit_and ascents up) name at' left'
   unfolding names
-  held_next most₁ least₁ ascents last at zero i most least name up H l room bytes fa fu G h W f = absurd (omega arith)
-  held_next most₁ least₁ ascents last at (suc n) i most least name up H l room bytes fa fu G h W f =
-      let m : suc n - 1 ≡ n = omega arith in
+  held_next most₁ least₁ ascents last at zero i most least name up H l room bytes fa fu G h W f at' left' u w = absurd (omega arith)
+  held_next most₁ least₁ ascents last at (suc n) i most least name up H l room bytes fa fu G h W f at' left' u w =
+      let m : left' ≡ n = omega arith in
       let v : value (take 24 (drop at s)) ≡ key_value name = sym W.whole in
       let d : drop (at + e) s ≡ drop e (drop at s) = sym (drop-drop e at s) in
-      rw m record {
+      rw (m, u) record {
         sound = λ C.
             let p = clean_parts most₁ least₁ most least G h ascents up C in
             let t = H.sound p.0 in

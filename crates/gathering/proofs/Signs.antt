@@ -1,5 +1,5 @@
 -- The order of two keys by the sign of their difference.
-use Rattle.model.proofs.Prelude.{◌%◌, ◌*◌, ◌+◌, ◌<◌, ◌^◌, ◌≡◌, ◌≤◌, add-zero, arith, ℕ}
+use Rattle.model.proofs.Prelude.{◌%◌, ◌*◌, ◌+◌, ◌-◌, ◌<◌, ◌^◌, ◌≡◌, ◌≤◌, add-zero, arith, ℕ}
 
 -- One borrow: t is that of c - z.
 carry : (p q c z t : ℕ) → z ≤ c + t * 2 ^ 64 → c + t * 2 ^ 64 < z + 2 ^ 64 → (p < q + t → p * 2 ^ 64 + c < q * 2 ^ 64 + z) × (p * 2 ^ 64 + c < q * 2 ^ 64 + z → p < q + t)
@@ -30,3 +30,13 @@ module _ (a x u d r : ℕ) (ha : a < 2 ^ 63) (hx : x < 2 ^ 63) (hu : u ≤ 1) (e
 
   pub below_sign : a < x + u → 2 ^ 63 ≤ r
   below_sign h = omega arith
+
+-- `x.wrapping_sub(y)`, to which y is added again.
+abbrev pub less : ℕ → ℕ → ℕ
+less x y = (x + (2 ^ 64 - y)) % 2 ^ 64
+
+pub less_more : (x y : ℕ) → x < 2 ^ 64 → y < 2 ^ 64 → (less x y + y) % 2 ^ 64 ≡ x
+less_more x y h k = omega arith
+
+pub less_lt : (x y : ℕ) → less x y < 2 ^ 64
+less_lt x y = omega arith

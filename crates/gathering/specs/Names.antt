@@ -1,9 +1,9 @@
 -- The names of a row, and what gathering tells of them.
-use Rattle.std.specs.Prelude.{◌≡◌, ℕ, zero, suc, ◌+◌, ◌^◌, ◌<◌, ◌≤◌, true, List, [], ◌∷◌, take, drop, slice_index, slice_range}
+use Rattle.std.specs.Prelude.{◌≡◌, ℕ, zero, suc, ◌^◌, ◌<◌, ◌≤◌, true, List, [], ◌∷◌, take, drop, slice_index, slice_range}
 use Rattle.model.specs.Order.{Str}
 use Rattle.model.specs.Tests.{are_digits, is_legal_filled}
 use Rattle.digits.specs.declared.Key.{Key}
-use Rattle.digits.specs.Keys.{is_all_zero, key_value, value}
+use Rattle.digits.specs.Keys.{is_all_zero, value}
 use Rattle.gathering.specs.declared.Seen.{Seen}
 
 -- The names of n entries, each of e bytes.
@@ -21,13 +21,6 @@ pub record Small (k : Key) : Type 0 where
   pub first : k.a < 2 ^ 63
   pub second : k.b < 2 ^ 63
   pub third : k.c < 2 ^ 63
-
--- The key of the 24 bytes from `at` on, word by word.
-pub record WordsAt (k : Key) (at : ℕ) (xs : List ℕ) : Type 0 where
-  pub whole : key_value k ≡ value (take 24 (drop at xs))
-  pub first : k.a ≡ value (take 8 (drop at xs))
-  pub second : k.b ≡ value (take 8 (drop (at + 8) xs))
-  pub third : k.c ≡ value (take 8 (drop (at + 16) xs))
 
 -- Nothing is wrong with what was gathered: no byte is above 0x7D, none below 0x20, no name begins with a blank, and all ascend.
 pub record Clean (most least : List ℕ) (ascents : ℕ) : Type 0 where

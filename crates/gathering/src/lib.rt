@@ -8,7 +8,7 @@ ghost use Rattle.model.specs.Format.{value_of};
 ghost use Rattle.model.specs.Order.{Str};
 ghost use Rattle.model.specs.Tests.{is_legal_bound};
 ghost use Rattle.digits.specs.Keys.{is_all_zero, key_value};
-ghost use Rattle.gathering.specs.Names.{AreLow, BoundIn, Fine, Lowest, Rising, Small, WordsAt, names};
+ghost use Rattle.gathering.specs.Names.{AreLow, BoundIn, Clean, Fine, Lowest, Rising, Small, names};
 
 use digits::Key;
 
@@ -28,42 +28,22 @@ pub struct Seen {
     pub ascents: u64,
 }
 
-fn smaller(x: u8, y: u8) -> u8
-    ensures { (result ≤ x) × (result ≤ y) × ((k : ℕ) → k ≤ x → k ≤ y → k ≤ result) }
-{
-    if y < x {
-        return y;
-    }
-    x
-}
-
 // The borrow of x - y - t.
 fn borrow(x: u64, y: u64, t: u64) -> u64
     requires { t ≤ 1 }
     ensures { (result ≤ 1) × (x < 2 ^ 63 → y < 2 ^ 63 → (y + t ≤ x + result * 2 ^ 64) × (x + result * 2 ^ 64 < y + t + 2 ^ 64)) }
 {
-    std::num::wrapping_sub_u64(std::num::wrapping_sub_u64(x, y), t) >> 63
+    x.wrapping_sub(y).wrapping_sub(t) >> 63
 }
 
-// The highest bit says whether x is below y, where all words are below 2^63: no branch, as `digits::is_below` has.
+// The highest bit says whether x is below y, where all words are below 2^63: by hand, since `Key::is_below` has branches, and a
+// check compares each name with the one before.
 fn ascent(x: Key, y: Key) -> u64
     ensures { Small x → Small y → (2 ^ 63 ≤ result → key_value x < key_value y) × (key_value x < key_value y → 2 ^ 63 ≤ result) }
 {
     let t = borrow(x.c, y.c, 0);
     let u = borrow(x.b, y.b, t);
-    std::num::wrapping_sub_u64(std::num::wrapping_sub_u64(x.a, y.a), u)
-}
-
-// As `digits::key_at`, and what its words are.
-fn name_at(s: &[u8], at: usize) -> Key
-    requires { at + 24 ≤ length s.now }
-    ensures { WordsAt result at s.now }
-{
-    Key {
-        a: digits::word(s, at),
-        b: digits::word(s, at + 8),
-        c: digits::word(s, at + 16),
-    }
+    x.a.wrapping_sub(y.a).wrapping_sub(u)
 }
 
 // Nothing is gathered yet.
@@ -87,21 +67,16 @@ pub fn with_names(seen: Seen, s: &[u8], e: usize, count: usize) -> Seen
     let mut most = seen.most;
     let mut least = seen.least;
     let mut ascents = seen.ascents;
-    let mut last = Key { a: 0, b: 0, c: 0 };
-    let mut at = 0usize;
-    let mut left = count;
-    while 0 < left {
-        let mut i = 0usize;
-        while i < 32 {
-            most[i] = digits::larger(most[i], s[at + i]);
-            least[i] = smaller(least[i], s[at + i]);
-            i += 1;
+    let mut last = Key::lowest();
+    for k in 0..count {
+        let at = e * k;
+        for i in 0..32 {
+            most[i] = most[i].max(s[at + i]);
+            least[i] = least[i].min(s[at + i]);
         }
-        let name = name_at(s, at);
-        ascents = ascents & ascent(last, name);
+        let name = Key::at(s, at);
+        ascents &= ascent(last, name);
         last = name;
-        at += e;
-        left -= 1;
     }
     Seen {
         most,
@@ -117,7 +92,7 @@ fn above_faults(s: &[u8], at: usize) -> u64
         × (((j : ℕ) → j < 8 → slice_index s.now (at + j) ≤ 0x7D) → result ≡ 0) }
 {
     let w = digits::little_endian(s, at);
-    (w & HIGH) | (std::num::wrapping_add_u64(w, 0x0202_0202_0202_0202) & HIGH)
+    (w & HIGH) | (w.wrapping_add(0x0202_0202_0202_0202) & HIGH)
 }
 
 // High bits where one of them is below that of the word `from`, else 0; of bytes below 0x80.
@@ -127,21 +102,26 @@ fn under_faults(s: &[u8], at: usize, from: u64) -> u64
         → (result ≡ 0 → (j : ℕ) → j < 8 → slice_index y j ≤ slice_index s.now (at + j))
         × (((j : ℕ) → j < 8 → (slice_index y j ≤ slice_index s.now (at + j)) × (slice_index s.now (at + j) < 0x80)) → result ≡ 0) }
 {
-    std::num::wrapping_sub_u64(digits::little_endian(s, at), from) & HIGH
+    digits::little_endian(s, at).wrapping_sub(from) & HIGH
 }
 
-// 0 where nothing is wrong with what was gathered: no byte of a name is above 0x7D, none is below 0x20 and no first one below 0x21.
+// 0 where no byte of the first 24 is above 0x7D in the one, and none is below 0x20 and the first not below 0x21 in the other.
+fn byte_faults(most: &[u8], least: &[u8]) -> u64
+    requires { (24 ≤ length most.now) × (24 ≤ length least.now) }
+    ensures { (result ≡ 0 → (m : ℕ) → 2 ^ 63 ≤ m → Clean most.now least.now m)
+        × ((m : ℕ) → Clean most.now least.now m → ((j : ℕ) → slice_index least.now j ≤ 0x7D) → result ≡ 0) }
+{
+    let above = above_faults(most, 0) | above_faults(most, 8) | above_faults(most, 16);
+    let first = under_faults(least, 0, 0x2020_2020_2020_2021);
+    let under = first | under_faults(least, 8, BLANKS) | under_faults(least, 16, BLANKS);
+    above | under
+}
+
+// 0 where nothing is wrong with what was gathered.
 pub fn faults(seen: Seen) -> u64
     ensures { (result ≡ 0 → Fine seen) × (Fine seen → Lowest seen → result ≡ 0) }
 {
-    let most = seen.most;
-    let least = seen.least;
-    let above = above_faults(&most, 0) | above_faults(&most, 8) | above_faults(&most, 16);
-    let first = under_faults(&least, 0, 0x2020_2020_2020_2021);
-    let under = first
-        | under_faults(&least, 8, 0x2020_2020_2020_2020)
-        | under_faults(&least, 16, 0x2020_2020_2020_2020);
-    above | under | (1 - (seen.ascents >> 63))
+    byte_faults(&seen.most, &seen.least) | (1 - (seen.ascents >> 63))
 }
 
 // 0 where the first k of the eight bytes from `at` on are digits and the others are zero: a part of a bound. Blanks stand in
@@ -154,11 +134,12 @@ fn part_faults(s: &[u8], at: usize, k: usize) -> u64
     let w = digits::little_endian(s, at);
     let behind = (w >> (4 * k)) >> (4 * k);
     let v = w | ((BLANKS << (4 * k)) << (4 * k));
-    let above = (v & HIGH) | (std::num::wrapping_add_u64(v, 0x0202_0202_0202_0202) & HIGH);
-    behind | above | (std::num::wrapping_sub_u64(v, BLANKS) & HIGH)
+    let above = (v & HIGH) | (v.wrapping_add(0x0202_0202_0202_0202) & HIGH);
+    behind | above | (v.wrapping_sub(BLANKS) & HIGH)
 }
 
 // Whether a bound of at most 8 digits is seen to stand in these 24 bytes, with zeros behind it; nothing is promised of a no.
+// Three functions, one for each count of words, and no loop over parts: over a loop the compiler keeps no constants, and a check is slower.
 pub fn is_short(s: &[u8], len: usize) -> bool
     requires { (length s.now ≡ 24) × (len ≤ 8) }
     ensures { result ≡ true → BoundIn len s.now }

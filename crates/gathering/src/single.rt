@@ -6,20 +6,15 @@ ghost use Rattle.model.specs.Names.{filled};
 ghost use Rattle.digits.specs.Keys.{NamingTold};
 ghost use Rattle.gathering.specs.Names.{Rising, names};
 
-use crate::{above_faults, faults, nothing_seen, under_faults, with_names};
-use digits::Naming;
+use crate::{byte_faults, faults, nothing_seen, with_names};
+use digits::Key;
 
 // Whether 24 bytes are seen to be a filled name.
 fn is_filled(name: &[u8]) -> bool
     requires { length name.now ≡ 24 }
     ensures { result ≡ true → is_legal_filled name.now ≡ true }
 {
-    let above = above_faults(name, 0) | above_faults(name, 8) | above_faults(name, 16);
-    let first = under_faults(name, 0, 0x2020_2020_2020_2021);
-    let under = first
-        | under_faults(name, 8, 0x2020_2020_2020_2020)
-        | under_faults(name, 16, 0x2020_2020_2020_2020);
-    above | under == 0
+    byte_faults(name, name) == 0
 }
 
 // Whether a name is seen to be legal. Filling adds no fault, so its digits are tested in the filled name.
@@ -40,12 +35,12 @@ fn is_legal(name: &[u8], digits: &[u8]) -> bool
 }
 
 // As `digits::naming_of`, which it asks where the name is not seen to be legal.
-pub fn naming_of(name: &[u8], digits: &[u8; 24]) -> Naming
+pub fn naming_of(name: &[u8], digits: &[u8; 24]) -> Option<Key>
     requires { digits.now ≡ filled name.now }
     ensures { NamingTold result name.now digits.now }
 {
     if is_legal(name, digits) {
-        return Naming::Legal(digits::key_at(digits, 0));
+        return Some(Key::at(digits, 0));
     }
     digits::naming_of(name, digits)
 }

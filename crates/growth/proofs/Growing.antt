@@ -1,5 +1,5 @@
 -- The code's cells are the grown trie's.
-use Rattle.model.proofs.Prelude.{Bool, List, get_or_append, [], ◌++◌, ◌+◌, ◌-◌, ◌<◌, ◌∙◌, ◌∷◌, ◌≡◌, ◌≢◌, ◌≤◌, add-one, and-false, ap, append-nil, ap₂, arith, clash, dec_le, dec_lt, drop, drop-length, eq-eqb, eqb, ext_get_or, false, get_or, get_or-append-add, get_or-set_other, get_or-set_same, get_or-take, le-leb, length, length-append, length-drop, length-replicate, length-set, lt-leb, ne_eqb, refl, replicate, set, subst, suc, sym, take, take_all, true, zero, ℕ, ℕ_discrete}
+use Rattle.model.proofs.Prelude.{List, get_or_append, [], ◌++◌, ◌+◌, ◌-◌, ◌<◌, ◌∙◌, ◌∷◌, ◌≡◌, ◌≢◌, ◌≤◌, add-one, and-false, ap, append-nil, ap₂, arith, clash, dec_le, dec_lt, drop, drop-length, eq-eqb, eqb, ext_get_or, get_or, get_or-append-add, get_or-set_other, get_or-set_same, get_or-take, le-leb, length, length-append, length-drop, length-replicate, length-set, lt-leb, ne_eqb, refl, replicate, set, subst, suc, sym, take, take_all, zero, ℕ, ℕ_discrete}
 use Rattle.model.specs.declared.Cell.{Cell}
 use Rattle.model.specs.declared.Side.{Side}
 use Rattle.model.specs.declared.Side.TheVariants.{Cell as further, Slot as slot}
@@ -16,6 +16,8 @@ use Rattle.model.proofs.GrownCells.{Turned, cells_grown, cells_turned, grow_read
 use Rattle.model.proofs.Tries.{walk}
 use Rattle.model.proofs.GrownTries.{grown_trie_is}
 use Rattle.model.proofs.Walks.{live_cells, top_side}
+use Rattle.trie.specs.declared.Hand.{Hand}
+use Rattle.trie.specs.declared.Hand.TheVariants.{Left, Right}
 use Rattle.trie.specs.declared.Walk.{Walk}
 use Rattle.trie.specs.Walks.{By}
 use Rattle.growth.specs.Grows.{Asked}
@@ -74,7 +76,7 @@ join_none : (r : Trie) (n : ℕ) (w : Walk) → n ≤ w.cell → walk_joined r n
 unfolding walk_joined
 join_none r n w h = rw (le-leb n w.cell h)
 
-join_cells : (r : Trie) (n : ℕ) (w : Walk) → w.cell < n → (walk_joined r n w).cells ≡ set r.cells w.cell (side_joined (at_cell r.cells w.cell) w.left n)
+join_cells : (r : Trie) (n : ℕ) (w : Walk) → w.cell < n → (walk_joined r n w).cells ≡ set r.cells w.cell (side_joined (at_cell r.cells w.cell) w.hand n)
 unfolding walk_joined
 join_cells r n w h = rw (lt-leb n w.cell h)
 
@@ -94,11 +96,11 @@ join_other : (r : Trie) (n : ℕ) (w : Walk) (m i : ℕ) → w.cell ≡ m → m 
 join_other r n w m i e h d =
     ap (λ (x : List Cell). at_cell x i) (join_cells r n w (omega arith)) ∙ get_or-set_other r.cells w.cell i _ zero_cell (λ q. d (q ∙ e))
 
-join_same : (r : Trie) (n : ℕ) (w : Walk) (m : ℕ) → w.cell ≡ m → m < n → m < length r.cells → at_cell (walk_joined r n w).cells m ≡ side_joined (at_cell r.cells m) w.left n
+join_same : (r : Trie) (n : ℕ) (w : Walk) (m : ℕ) → w.cell ≡ m → m < n → m < length r.cells → at_cell (walk_joined r n w).cells m ≡ side_joined (at_cell r.cells m) w.hand n
 join_same r n w m e h l =
     ap (λ (x : List Cell). at_cell x m) (join_cells r n w (omega arith))
-    ∙ subst (λ (k : ℕ). at_cell (set r.cells k (side_joined (at_cell r.cells k) w.left n)) m ≡ side_joined (at_cell r.cells m) w.left n) (sym e)
-    (get_or-set_same r.cells m (side_joined (at_cell r.cells m) w.left n) zero_cell l)
+    ∙ subst (λ (k : ℕ). at_cell (set r.cells k (side_joined (at_cell r.cells k) w.hand n)) m ≡ side_joined (at_cell r.cells m) w.hand n) (sym e)
+    (get_or-set_same r.cells m (side_joined (at_cell r.cells m) w.hand n) zero_cell l)
 
 -- What a leaf leads to, by whether its path is above s.
 turn_stays : (s : Str) (A N : ℕ) (p : Str) (B : ℕ) → p ⊑ s → turn s A N p B ≡ B
@@ -414,20 +416,20 @@ module _ {t : Trie} {places lens : List ℕ} {w : Walk} {c s : Str} {shared a : 
           ∙ ap (turn_cell (turn s a N) (here_at i h).path) (sym (grown_other i h (λ x. d (x ∙ q))))
           ∙ sym (turned_old i h)
 
-      left_joined : (i : ℕ) (h : i < n) → w.cell ≡ i → w.left ≡ true → sp K ≡ left i → sp K ≢ right i → at_cell J i ≡ at_cell Q i
+      left_joined : (i : ℕ) (h : i < n) → w.cell ≡ i → w.hand ≡ Left → sp K ≡ left i → sp K ≢ right i → at_cell J i ≡ at_cell Q i
       unfolding cell_turned side_joined
       left_joined i h e l q d =
           join_same r n w i e h (long i h)
-          ∙ ap₂ (λ (x : Cell) (b : Bool). side_joined x b n) (redirected_at (ends K).place r R i h) l
+          ∙ ap₂ (λ (x : Cell) (h : Hand). side_joined x h n) (redirected_at (ends K).place r R i h) l
           ∙ cell_same refl refl refl (right_same i h d)
           ∙ ap (turn_cell (turn s a N) (here_at i h).path) (sym (there_at i (ap cell_of q) h ∙ ap (λ (p : Spot). changed (at_cell (live_cells t) i) p (further n)) q))
           ∙ sym (turned_old i h)
 
-      right_joined : (i : ℕ) (h : i < n) → w.cell ≡ i → w.left ≡ false → sp K ≡ right i → sp K ≢ left i → at_cell J i ≡ at_cell Q i
+      right_joined : (i : ℕ) (h : i < n) → w.cell ≡ i → w.hand ≡ Right → sp K ≡ right i → sp K ≢ left i → at_cell J i ≡ at_cell Q i
       unfolding cell_turned side_joined
       right_joined i h e l q d =
           join_same r n w i e h (long i h)
-          ∙ ap₂ (λ (x : Cell) (b : Bool). side_joined x b n) (redirected_at (ends K).place r R i h) l
+          ∙ ap₂ (λ (x : Cell) (h : Hand). side_joined x h n) (redirected_at (ends K).place r R i h) l
           ∙ cell_same refl refl (left_same i h d) refl
           ∙ ap (turn_cell (turn s a N) (here_at i h).path) (sym (there_at i (ap cell_of q) h ∙ ap (λ (p : Spot). changed (at_cell (live_cells t) i) p (further n)) q))
           ∙ sym (turned_old i h)
@@ -438,13 +440,13 @@ module _ {t : Trie} {places lens : List ℕ} {w : Walk} {c s : Str} {shared a : 
           below : (j : ℕ) → j < length (os K) → get_or (os K) j 0 < n
           below j b = order_below K.placed.in_order j b
 
-          to_left : (m : ℕ) → m < n → sp K ≡ left m → (w.cell ≡ m) × (w.left ≡ true) → Dec (i ≡ m) → at_cell J i ≡ at_cell Q i
+          to_left : (m : ℕ) → m < n → sp K ≡ left m → (w.cell ≡ m) × (w.hand ≡ Left) → Dec (i ≡ m) → at_cell J i ≡ at_cell Q i
           to_left m b q y (yes e) =
               left_joined i h (y.0 ∙ sym e) y.1 (q ∙ ap (λ (k : ℕ). left k) (sym e)) (λ x. clash cc)
           to_left m b q y (no d) =
               other_same i h m y.0 b d (ap cell_of q) (λ x. let z : i ≡ m = cc in d z) (λ x. clash cc)
 
-          to_right : (m : ℕ) → m < n → sp K ≡ right m → (w.cell ≡ m) × (w.left ≡ false) → Dec (i ≡ m) → at_cell J i ≡ at_cell Q i
+          to_right : (m : ℕ) → m < n → sp K ≡ right m → (w.cell ≡ m) × (w.hand ≡ Right) → Dec (i ≡ m) → at_cell J i ≡ at_cell Q i
           to_right m b q y (yes e) =
               right_joined i h (y.0 ∙ sym e) y.1 (q ∙ ap (λ (k : ℕ). right k) (sym e)) (λ x. clash cc)
           to_right m b q y (no d) =

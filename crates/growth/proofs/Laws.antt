@@ -1,15 +1,16 @@
 -- What the code's tests say of the definitions, and how its loops go on.
-use Rattle.model.proofs.Prelude.{Bool, List, ◌*◌, ◌+◌, ◌-◌, ◌<◌, ◌∙◌, ◌≡◌, ◌≤◌, ap, arith, dec_le, dec_lt, eq-eqb, false, get_or, get_or-set_other, get_or-set_same, le-leb, le-ltb, length, length-set, lt-leb, lt-ltb, ne_eqb, refl, set, sets, subst, sym, true, ℕ, ℕ_discrete}
+use Rattle.model.proofs.Prelude.{List, ◌*◌, ◌+◌, ◌-◌, ◌<◌, ◌∙◌, ◌≡◌, ◌≤◌, ap, arith, dec_le, dec_lt, eq-eqb, get_or, get_or-set_other, get_or-set_same, le-leb, le-ltb, length, length-set, lt-leb, lt-ltb, ne_eqb, refl, set, subst, sym, ℕ, ℕ_discrete}
 use Rattle.model.specs.declared.Cell.{Cell}
 use Rattle.model.specs.declared.Side.{Side}
 use Rattle.model.specs.declared.Side.TheVariants.{Cell as further, Slot as slot}
 use Rattle.model.specs.declared.Trie.{Trie}
 use Rattle.model.specs.Order.{Str}
 use Rattle.model.specs.Tries.{at_cell, zero_cell}
+use Rattle.trie.specs.declared.Hand.{Hand}
+use Rattle.trie.specs.declared.Hand.TheVariants.{Left, Right}
 use Rattle.trie.specs.declared.Walk.{Walk}
-use Rattle.image.specs.Images.{cell_bytes, cell_from, image_length, trie_from}
-use Rattle.image.proofs.Images.{Held, cell_of}
-use Rattle.image.proofs.Imaging.{cell_put, left_held, right_held}
+use Rattle.image.specs.Images.{Held, cell_from, trie_from}
+use Rattle.image.proofs.Images.{cell_of}
 use Rattle.growth.specs.Parts.{Redirected, Written, cell_turned, new_cell, next_side, side_joined, side_turned, walk_joined}
 
 module _ {side : Side} {s : ℕ} (place last a n : ℕ) where
@@ -90,43 +91,37 @@ next_held i end a h k = go (dec_lt (i + 1) end)
     go (yes l) = rw (lt-ltb (i + 1) end l) (omega arith, omega arith)
     go (no l) = rw (le-ltb (i + 1) end (omega arith)) k
 
-joined_held : (c : Cell) (b : Bool) (to : ℕ) → 1 ≤ to → to ≤ 256 → Held c.left → Held c.right → Held (side_joined c b to).left × Held (side_joined c b to).right
+joined_held : (c : Cell) (h : Hand) (to : ℕ) → 1 ≤ to → to ≤ 256 → Held c.left → Held c.right → Held (side_joined c h to).left × Held (side_joined c h to).right
 unfolding side_joined
-joined_held c true to h k l r = ((h, omega arith), r)
-joined_held c false to h k l r = (l, (h, omega arith))
+joined_held c Left to h k l r = ((h, omega arith), r)
+joined_held c Right to h k l r = (l, (h, omega arith))
 
--- What a cell's bytes, written over an image, make of its trie.
-module _ (xs : List ℕ) {ys : List ℕ} (size : length xs ≡ image_length) (bytes : (j : ℕ) → get_or xs j 0 < 256) (i : ℕ) (x : Cell) (stored : ys ≡ sets xs (4 + 6 * i) (cell_bytes x)) (h : i < 256) where
-  put : Held x.left → Held x.right → record { cells = set (trie_from xs).cells i x; count = (trie_from xs).count; first = (trie_from xs).first } ≡ trie_from ys
-  put l r = sym (ap trie_from stored ∙ cell_put xs size bytes i x h l r)
-
+-- What a cell, written over an image, makes of its trie.
+module _ (xs ys : List ℕ) (i : ℕ) (h : i < 256) {x : Cell}
+    (stored : Held x.left → Held x.right → trie_from ys ≡ record { cells = set (trie_from xs).cells i x; count = (trie_from xs).count; first = (trie_from xs).first }) where
   pub redirect_stored : {t : Trie} {places : List ℕ} {last a n : ℕ} {c : Cell} → Redirected t places i last a n (trie_from xs) → n < 32768
-      → c ≡ cell_from xs (4 + 6 * i) → x ≡ cell_turned c (get_or places i 0) last a n → Redirected t places (i + 1) last a n (trie_from ys)
+      → c ≡ cell_from xs (4 + 6 * i) → Held c.left × Held c.right → x ≡ cell_turned c (get_or places i 0) last a n → Redirected t places (i + 1) last a n (trie_from ys)
   unfolding cell_turned
-  redirect_stored {t} {places} {last} {a} {n} {c} R k read turned =
-      let from : c ≡ at_cell (trie_from xs).cells i = read ∙ sym (cell_of xs i h) in
-      let new : x ≡ cell_turned (at_cell (trie_from xs).cells i) (get_or places i 0) last a n = turned ∙ ap (λ (d : Cell). cell_turned d (get_or places i 0) last a n) from in
+  redirect_stored {t} {places} {last} {a} {n} {c} R k read held turned =
+      let new : x ≡ cell_turned (at_cell (trie_from xs).cells i) (get_or places i 0) last a n =
+      turned ∙ ap (λ (d : Cell). cell_turned d (get_or places i 0) last a n) (read ∙ sym (cell_of xs i h)) in
       subst (λ (r : Trie). Redirected t places (i + 1) last a n r)
-      (put
-      (rw new (turned_held (at_cell (trie_from xs).cells i).left (get_or places i 0) last a n k (left_held xs size bytes i h)))
-      (rw new (turned_held (at_cell (trie_from xs).cells i).right (get_or places i 0 + 1) last a n k (right_held xs size bytes i h))))
+      (sym (stored (rw turned (turned_held c.left (get_or places i 0) last a n k held.0)) (rw turned (turned_held c.right (get_or places i 0 + 1) last a n k held.1))))
       (redirect_next R new)
 
-  pub write_stored : {t : Trie} {count : ℕ} {s : Str} {shared a n at m f : ℕ} → Written t count s shared a n i (trie_from xs) × ((trie_from xs).count ≡ m) × ((trie_from xs).first ≡ f)
+  pub write_stored : (at : ℕ) {t : Trie} {count : ℕ} {s : Str} {shared a n m f : ℕ} → Written t count s shared a n i (trie_from xs) × ((trie_from xs).count ≡ m) × ((trie_from xs).first ≡ f)
       → count ≤ i → i - count ≡ at - shared → shared ≤ at → count + (length s - shared) ≤ 256 → a < 32768 → n < 32768
       → x ≡ new_cell s at i (count + (length s - shared)) a n → Written t count s shared a n (i + 1) (trie_from ys) × ((trie_from ys).count ≡ m) × ((trie_from ys).first ≡ f)
   unfolding new_cell
-  write_stored {t} {count} {s} {shared} {a} {n} {at} {m} {f} W b same b' room k k' new =
+  write_stored at {t} {count} {s} {shared} {a} {n} {m} {f} W b same b' room k k' new =
       subst (λ (r : Trie). Written t count s shared a n (i + 1) r × (r.count ≡ m) × (r.first ≡ f))
-      (put (rw new (next_held i (count + (length s - shared)) a room k)) (rw new k')) (write_next W.0 b same b' new, W.1, W.2)
+      (sym (stored (rw new (next_held i (count + (length s - shared)) a room k)) (rw new k'))) (write_next W.0 b same b' new, W.1, W.2)
 
   pub graft_stored : {c : Cell} {count : ℕ} (w : Walk) → count ≤ 256 → i ≡ w.cell → i < count
-      → c ≡ cell_from xs (4 + 6 * i) → x ≡ side_joined c w.left count → trie_from ys ≡ walk_joined (trie_from xs) count w
+      → c ≡ cell_from xs (4 + 6 * i) → Held c.left × Held c.right → x ≡ side_joined c w.hand count → trie_from ys ≡ walk_joined (trie_from xs) count w
   unfolding walk_joined
-  graft_stored {c} {count} w few at l read new = rw (← at, lt-leb count i l) (sym (put held.0 held.1) ∙ ap (λ (d : Cell). record { cells = set (trie_from xs).cells i d; count = (trie_from xs).count; first = (trie_from xs).first }) joined)
-    where
-      joined : x ≡ side_joined (at_cell (trie_from xs).cells i) w.left count
-      joined = new ∙ ap (λ (d : Cell). side_joined d w.left count) (read ∙ sym (cell_of xs i h))
-
-      held : Held x.left × Held x.right
-      held = rw joined (joined_held (at_cell (trie_from xs).cells i) w.left count (omega arith) few (left_held xs size bytes i h) (right_held xs size bytes i h))
+  graft_stored {c} {count} w few at l read held new =
+      let k : Held x.left × Held x.right = rw new (joined_held c w.hand count (omega arith) few held.0 held.1) in
+      let joined : x ≡ side_joined (at_cell (trie_from xs).cells i) w.hand count =
+      new ∙ ap (λ (d : Cell). side_joined d w.hand count) (read ∙ sym (cell_of xs i h)) in
+      rw (← at, lt-leb count i l) (stored k.0 k.1 ∙ ap (λ (d : Cell). record { cells = set (trie_from xs).cells i d; count = (trie_from xs).count; first = (trie_from xs).first }) joined)

@@ -1,5 +1,5 @@
 -- The place up to which leaves' paths are not above s.
-use Rattle.model.proofs.Prelude.{List, Memᴰ, get_or_eq_default, [], ◌<◌, ◌∙◌, ◌≡◌, ◌≤◌, ◌⊎◌, add-one, ap, arith, dec_lt, false, get_or, get_or-take, inl, inr, length, length-take, length-take-le, lt-leb, some, subst, suc, sym, take, take_all, take-length, true, ℕ}
+use Rattle.model.proofs.Prelude.{List, Memᴰ, get_or_eq_default, [], ◌<◌, ◌∙◌, ◌≡◌, ◌≤◌, ◌⊎◌, add-one, ap, arith, dec_lt, get_or, get_or-take, inl, inr, length, length-take, length-take-le, lt-leb, some, subst, suc, sym, take, take_all, take-length, ℕ}
 use Rattle.model.specs.declared.Trie.{Trie}
 use Rattle.model.specs.Order.{Str, ◌⊑◌, diff, least, none, top}
 use Rattle.model.specs.Files.{ranges}
@@ -15,6 +15,7 @@ use Rattle.model.proofs.Agreement.{CellsAgree, agrees_cells}
 use Rattle.model.proofs.GrownCells.{diff_begin}
 use Rattle.model.proofs.Walks.{live_cells, path_at, path_cells, path_reads, spot, spot_cells, spot_reads, top_side, walk_cells, walk_reads}
 use Rattle.model.proofs.GrownTries.{agreed_walk, walk_live}
+use Rattle.trie.specs.declared.Hand.TheVariants.{Left, Right}
 use Rattle.trie.specs.declared.Walk.{Walk}
 use Rattle.trie.specs.Strung.{lengths}
 use Rattle.trie.specs.Walks.{By}
@@ -23,11 +24,11 @@ use Rattle.growth.specs.Grows.{Asked}
 use Rattle.growth.specs.Parts.{FirstPlace, leaf_place}
 use Rattle.growth.proofs.Standing.{Ends, SideBy, asc_le, asc_lt, left_of, no_cell, order_below, right_of, walk_stands}
 
-leaf_on_left : (w : Walk) (places : List ℕ) (m : ℕ) → w.cell ≡ m → w.left ≡ true → m < 256 → leaf_place w places ≡ get_or places m 0
+leaf_on_left : (w : Walk) (places : List ℕ) (m : ℕ) → w.cell ≡ m → w.hand ≡ Left → m < 256 → leaf_place w places ≡ get_or places m 0
 unfolding leaf_place
 leaf_on_left w places m e l h = rw (e, lt-leb 256 m h, l)
 
-leaf_on_right : (w : Walk) (places : List ℕ) (m : ℕ) → w.cell ≡ m → w.left ≡ false → m < 256 → leaf_place w places ≡ suc (get_or places m 0)
+leaf_on_right : (w : Walk) (places : List ℕ) (m : ℕ) → w.cell ≡ m → w.hand ≡ Right → m < 256 → leaf_place w places ≡ suc (get_or places m 0)
 unfolding leaf_place
 leaf_on_right w places m e l h = rw (e, lt-leb 256 m h, l) (add-one (get_or places m 0))
 

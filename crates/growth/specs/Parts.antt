@@ -1,16 +1,23 @@
 -- What each part of growth does to the cells, one by one.
-use Rattle.std.specs.Prelude.{◌≡◌, Bool, cond, false, true, List, ◌+◌, ◌-◌, ◌<◌, ◌≤◌, ℕ, eqb, leb, ltb, get_or, length, set}
+use Rattle.std.specs.Prelude.{◌≡◌, cond, List, ◌+◌, ◌-◌, ◌<◌, ◌≤◌, ℕ, eqb, leb, ltb, get_or, length, set}
 use Rattle.model.specs.declared.Cell.{Cell}
 use Rattle.model.specs.declared.Side.{Side}
 use Rattle.model.specs.declared.Side.TheVariants.{Cell as further, Slot as slot}
 use Rattle.model.specs.declared.Trie.{Trie}
 use Rattle.model.specs.Order.{Str}
 use Rattle.model.specs.Tries.{at_cell}
+use Rattle.trie.specs.declared.Hand.{Hand}
+use Rattle.trie.specs.declared.Hand.TheVariants.{Left, Right}
 use Rattle.trie.specs.declared.Walk.{Walk}
+
+-- Where the leaf stands that a cell with this place has on a hand.
+abbrev pub beside : Hand → ℕ → ℕ
+beside Left place = place
+beside Right place = place + 1
 
 -- Where the leaf stands at which the walk ended: just left of the string with this place.
 unfoldable pub leaf_place : Walk → List ℕ → ℕ
-leaf_place w places = cond (leb 256 w.cell) 0 (cond w.left (get_or places w.cell 0) (get_or places w.cell 0 + 1))
+leaf_place w places = cond (leb 256 w.cell) 0 (beside w.hand (get_or places w.cell 0))
 
 -- The first place, from one on, of a string with so many digits; 256 or more where there is none.
 pub record FirstPlace (lens : List ℕ) (from digits r : ℕ) : Type 0 where
@@ -42,15 +49,15 @@ pub record Redirected (t : Trie) (places : List ℕ) (count last a n : ℕ) (r :
   pub first_is : r.first ≡ t.first
 
 -- The cell with one side leading to a further cell.
-unfoldable pub side_joined : Cell → Bool → ℕ → Cell
-side_joined c true to = record { digit = c.digit; number = c.number; left = further to; right = c.right }
-side_joined c false to = record { digit = c.digit; number = c.number; left = c.left; right = further to }
+unfoldable pub side_joined : Cell → Hand → ℕ → Cell
+side_joined c Left to = record { digit = c.digit; number = c.number; left = further to; right = c.right }
+side_joined c Right to = record { digit = c.digit; number = c.number; left = c.left; right = further to }
 
 -- The side by which the walk reached its leaf leads to the first new cell.
 unfoldable pub walk_joined : Trie → ℕ → Walk → Trie
 walk_joined t count w = cond (leb count w.cell) t (
     record {
-      cells = set t.cells w.cell (side_joined (at_cell t.cells w.cell) w.left count);
+      cells = set t.cells w.cell (side_joined (at_cell t.cells w.cell) w.hand count);
       count = t.count;
       first = t.first;
     }

@@ -9,11 +9,11 @@ ghost use Rattle.std.specs.Prelude.{◌≡◌, ◌≤◌, ◌<◌, ◌+◌, leng
 ghost use Rattle.model.specs.Order.{diff};
 ghost use Rattle.growth.specs.Grows.{Grows};
 ghost use Rattle.growth.specs.Parts.{Appended, FirstPlace, Redirected, cell_turned, leaf_place, next_side, side_joined, side_turned, walk_joined};
-ghost use Rattle.image.specs.Images.{image_length, trie_from};
+ghost use Rattle.image.specs.Images.{trie_from};
 
-use digits::{u16_of_usize, usize_of_u8, usize_of_u16};
+use image::Image;
 use model::{Cell, Side};
-use trie::Walk;
+use trie::{Hand, Walk};
 
 // How many digits s shares with the path of the leaf at which the split key's walk ended: as many beginnings of s are
 // strings already, and all of them where s is a cell's string.
@@ -21,45 +21,34 @@ pub fn shared_with(walk: Walk, s: &[u8]) -> usize
     requires { walk.len ≤ 24 }
     ensures { (result ≤ length s.now) × (result ≡ diff s.now (take walk.len walk.path)) }
 {
-    let path = walk.path;
-    shared_first(s, &path, walk.len)
-}
-
-fn shared_first(s: &[u8], path: &[u8; 24], len: usize) -> usize
-    requires { len ≤ 24 }
-    ensures { (result ≤ length s.now) × (result ≡ diff s.now (take len path.now)) }
-{
-    let whole = &path[..];
-    digits::shared(s, &whole[0..len])
+    digits::shared(s, &walk.path[..walk.len])
 }
 
 // Where the leaf stands at which the walk ended: just left of the string with this place.
 fn leaf_place(walk: Walk, places: &[u16; 256]) -> usize
     ensures { result ≡ leaf_place walk places.now }
 {
-    let cell = usize_of_u16(walk.cell);
+    let cell = walk.cell as usize;
     if 256 <= cell {
         return 0;
     }
-    let place = usize_of_u16(places[cell]);
-    if walk.left {
-        return place;
+    let place = places[cell] as usize;
+    match walk.hand {
+        Hand::Left => place,
+        Hand::Right => place + 1,
     }
-    place + 1
 }
 
 // The first place, from `from` on, of a string with so many digits.
 fn place_of(lens: &[u8; 256], from: usize, digits: usize) -> usize
     ensures { FirstPlace lens.now from digits result }
 {
-    let mut i = from;
-    while i < 256 {
-        if usize_of_u8(lens[i]) == digits {
+    for i in from..256 {
+        if lens[i] as usize == digits {
             return i;
         }
-        i += 1;
     }
-    i
+    from.max(256)
 }
 
 // A side that leads to A leads to N instead where its leaf stands past s.
@@ -84,49 +73,37 @@ fn turned_cell(cell: Cell, place: usize, last: usize, a: u16, n: u16) -> Cell
     requires { place < 65536 }
     ensures { result ≡ cell_turned cell place last a n }
 {
-    let left = cell.left;
-    let right = cell.right;
     Cell {
-        digit: cell.digit,
-        number: cell.number,
-        left: turned_side(left, place, last, a, n),
-        right: turned_side(right, place + 1, last, a, n),
+        left: turned_side(cell.left, place, last, a, n),
+        right: turned_side(cell.right, place + 1, last, a, n),
+        ..cell
     }
 }
 
 // R8.5: A's leaves with a path above s, which are those past the place `last`, lead to N.
-fn redirect(image: &mut [u8], places: &[u16; 256], count: usize, last: usize, a: u16, n: u16)
-    requires { (length image.old ≡ image_length) × (count ≤ 256) × (n < 32768) }
+fn redirect(image: &mut Image, places: &[u16; 256], count: usize, last: usize, a: u16, n: u16)
+    requires { (count ≤ 256) × (n < 32768) }
     ensures { Redirected (trie_from image.old) places.now count last a n (trie_from image.new) }
 {
-    let mut i = 0;
-    while i < count {
+    for i in 0..count {
         let cell = image::cell_at(image, i);
-        let other = turned_cell(cell, usize_of_u16(places[i]), last, a, n);
-        image::write_cell(image, i, other);
-        i += 1;
+        image::write_cell(image, i, turned_cell(cell, places[i] as usize, last, a, n));
     }
 }
 
 // The cell with one side leading to a further cell.
-fn joined(cell: Cell, is_left: bool, to: u16) -> Cell
-    ensures { result ≡ side_joined cell is_left to }
+fn joined(cell: Cell, hand: Hand, to: u16) -> Cell
+    ensures { result ≡ side_joined cell hand to }
 {
-    let left = cell.left;
-    let right = cell.right;
-    if is_left {
-        return Cell {
-            digit: cell.digit,
-            number: cell.number,
+    match hand {
+        Hand::Left => Cell {
             left: Side::Cell(to),
-            right,
-        };
-    }
-    Cell {
-        digit: cell.digit,
-        number: cell.number,
-        left,
-        right: Side::Cell(to),
+            ..cell
+        },
+        Hand::Right => Cell {
+            right: Side::Cell(to),
+            ..cell
+        },
     }
 }
 
@@ -136,54 +113,49 @@ fn next_of(i: usize, end: usize, a: u16) -> Side
     ensures { result ≡ next_side i end a }
 {
     if i + 1 < end {
-        return Side::Cell(u16_of_usize(i + 1));
+        return Side::Cell((i + 1) as u16);
     }
     Side::Slot(a)
 }
 
 // R8.4: one cell for each digit of s past the shared ones, each left of the one before; the last one's left side leads
 // to A, and all right sides to N.
-fn append(image: &mut [u8], count: usize, s: &[u8], shared: usize, a: u16, n: u16)
-    requires { (length image.old ≡ image_length) × (count + length s.now ≤ 256 + shared) × (shared ≤ length s.now) × (length s.now ≤ 24)
+fn append(image: &mut Image, count: usize, s: &[u8], shared: usize, a: u16, n: u16)
+    requires { (count + length s.now ≤ 256 + shared) × (shared ≤ length s.now) × (length s.now ≤ 24)
         × (a < 32768) × (n < 32768) }
     ensures { Appended (trie_from image.old) count s.now shared a n (trie_from image.new) }
 {
     let end = count + (s.len() - shared);
-    image::write_head(image, u16_of_usize(end), 0);
-    let mut i = count;
-    let mut at = shared;
-    while at < s.len() {
-        let left = next_of(i, end, a);
+    image::write_head(image, end as u16, 0);
+    for at in shared..s.len() {
+        let i = count + (at - shared);
         let cell = Cell {
             digit: s[at],
             number: at as u8,
-            left,
+            left: next_of(i, end, a),
             right: Side::Slot(n),
         };
         image::write_cell(image, i, cell);
-        i += 1;
-        at += 1;
     }
 }
 
 // The side by which the walk reached its leaf leads to the first new cell.
-fn graft(image: &mut [u8], count: usize, walk: Walk)
-    requires { (length image.old ≡ image_length) × (count ≤ 256) }
+fn graft(image: &mut Image, count: usize, walk: Walk)
+    requires { count ≤ 256 }
     ensures { trie_from image.new ≡ walk_joined (trie_from image.old) count walk }
 {
-    let k = usize_of_u16(walk.cell);
+    let k = walk.cell as usize;
     if count <= k {
         return;
     }
     let cell = image::cell_at(image, k);
-    let other = joined(cell, walk.left, u16_of_usize(count));
-    image::write_cell(image, k, other);
+    image::write_cell(image, k, joined(cell, walk.hand, count as u16));
 }
 
 // Writes the trie after A was split at s and N took the names above s over the one before. The walk is that of the split key, and
 // `shared` is how many digits s shares with its path.
 pub fn grow(
-    image: &mut [u8],
+    image: &mut Image,
     places: &[u16; 256],
     lens: &[u8; 256],
     walk: Walk,
@@ -192,7 +164,7 @@ pub fn grow(
     a: u16,
     n: u16,
 )
-    requires { (length image.old ≡ image_length) × ((trie_from image.old).count + length s.now ≤ 256 + shared) × (shared ≤ length s.now) × (length s.now ≤ 24)
+    requires { ((trie_from image.old).count + length s.now ≤ 256 + shared) × (shared ≤ length s.now) × (length s.now ≤ 24)
         × (a < 32768) × (n < 32768) }
     ensures { Grows (trie_from image.old) places.now lens.now walk s.now shared a n (trie_from image.new) }
 {

@@ -9,7 +9,8 @@ use Rattle.model.specs.Files.{RangeTable, Slot}
 use Rattle.model.specs.Tries.{Agrees, Leads, LeafIntervals, Reads, Tree, at_cell, here, leaf_last, leaf_next, leaves, occ, root_side, there, zero_cell}
 use Rattle.model.proofs.Cells.{occ_append, one_if_equal}
 use Rattle.model.proofs.Files.{used_inside}
-use Rattle.image.proofs.Images.{Held, Imaged}
+use Rattle.image.specs.Images.{Held}
+use Rattle.image.proofs.Images.{Imaged}
 
 -- The cells met behind the first.
 abbrev behind : List ℕ → List ℕ

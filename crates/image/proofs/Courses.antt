@@ -1,4 +1,5 @@
 -- The walk over an image, step by step: what is known of the path is enough.
+use Rattle.std.specs.Prelude.{Option as Maybe, Some, None}
 use Rattle.model.proofs.Prelude.{List, Option, [], ◌+◌, ◌-◌, ◌<◌, ◌∙◌, ◌∷◌, ◌≡◌, ◌≤◌, arith, dec_le, get_or, le-leb, length, length-append, length-take-le, lt-leb, nothing, refl, some, subst, suc, sym, true, ℕ}
 use Rattle.model.specs.declared.Cell.{Cell}
 use Rattle.model.specs.declared.Side.{Side}
@@ -12,8 +13,6 @@ use Rattle.model.proofs.GrownTries.{root_further}
 use Rattle.trie.specs.declared.Place.TheVariants.{Slot as at_slot, Stale as stale}
 use Rattle.trie.specs.Walks.{place_reached}
 use Rattle.trie.proofs.Laws.{run_count, run_last, run_left, run_none, run_number, run_right, run_slot}
-use Rattle.image.specs.declared.place.Step.{Step}
-use Rattle.image.specs.declared.place.Step.TheVariants.{On, Stray}
 use Rattle.image.specs.declared.place.Turn.{Turn}
 use Rattle.image.specs.Courses.{After, Course, Steps}
 use Rattle.image.specs.Images.{side_from}
@@ -115,17 +114,17 @@ pub course_stray : {o : Option (Str × Spot × ℕ)} → o ≡ nothing → stale
 course_stray a = rw a
 
 -- A step over a cell that the walk is before.
-module _ (r : Step) {n : Str} {c : Cell} {o : Option (Str × Spot × ℕ)} {cs : List Cell} {count more i len same : ℕ} (S : Steps r n c len same) (k : 0 < more)
+module _ (r : Maybe Turn) {n : Str} {c : Cell} {o : Option (Str × Spot × ℕ)} {cs : List Cell} {count more i len same : ℕ} (S : Steps r n c len same) (k : 0 < more)
     (h : i < count) (f : at_cell cs i ≡ c) (w : Course o cs n count more (further i) len same) where
   after : After r o cs n count (more - 1)
   after =
       let e : more ≡ suc (more - 1) = omega arith in
       S o cs count (more - 1) i h f (subst (λ (x : ℕ). Course o cs n count x (further i) len same) e w)
 
-  pub step_strays : r ≡ Stray → o ≡ nothing
+  pub step_strays : r ≡ None → o ≡ nothing
   step_strays e = rw e at after
 
-  pub step_on : {t : Turn} → r ≡ On t → Course o cs n count (more - 1) (side_from t.side) t.len t.same
+  pub step_on : {t : Turn} → r ≡ Some t → Course o cs n count (more - 1) (side_from t.side) t.len t.same
   step_on {t} e = rw e at after
 
 -- Where it begins.

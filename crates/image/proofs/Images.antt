@@ -5,13 +5,8 @@ use Rattle.model.specs.declared.Side.{Side}
 use Rattle.model.specs.declared.Side.TheVariants.{Cell as further, Slot as slot}
 use Rattle.model.specs.declared.Trie.{Trie}
 use Rattle.model.specs.Tries.{at_cell, zero_cell}
-use Rattle.image.specs.Images.{cell_bytes, cell_from, cells_bytes, cells_from, head_bytes, image_length, image_of, number_of_side, pair_of, side_from, trie_from}
+use Rattle.image.specs.Images.{Held, cell_bytes, cell_from, cells_bytes, cells_from, head_bytes, image_length, image_of, number_of_side, pair_of, side_from, trie_from}
 use Rattle.image.proofs.Coding.{length-cells_from, written}
-
--- The sides that 16 bits with a sign hold: slots below 32,768, and cells from 1 to 32,768.
-abbrev pub Held : Side → Type 0
-Held (slot s) = s < 32768
-Held (further i) = (1 ≤ i) × (i ≤ 32768)
 
 -- The tries that have an image of their own.
 pub record Imaged (t : Trie) : Type 0 where

@@ -3,13 +3,13 @@ use Rattle.model.proofs.Prelude.{List, [], ◌*◌, ◌+◌, ◌<◌, ◌∙◌,
 use Rattle.model.specs.declared.Cell.{Cell}
 use Rattle.model.specs.declared.Trie.{Trie}
 use Rattle.model.specs.Tries.{at_cell, zero_cell}
-use Rattle.image.specs.Images.{cell_bytes, cells_from, image_length, pair_of, side_from, trie_from}
+use Rattle.image.specs.Images.{Held, cell_bytes, cells_from, image_length, pair_of, side_from, trie_from}
 use Rattle.image.proofs.Coding.{length-cells_from}
-use Rattle.image.proofs.Images.{Held, Imaged, cell_of, image_back, trie_back}
+use Rattle.image.proofs.Images.{Imaged, cell_of, image_back, trie_back}
 use Rattle.image.proofs.Storing.{cell_stored}
 
 -- Every number of 16 bits is a side that an image holds.
-side_held : (x : ℕ) → x < 65536 → Held (side_from x)
+pub side_held : (x : ℕ) → x < 65536 → Held (side_from x)
 unfolding side_from
 side_held x h = go (dec_lt x 32768)
   where

@@ -1,12 +1,15 @@
 -- A cell stored in an image: the image of the trie with that cell.
-use Rattle.model.proofs.Prelude.{List, [], ◌*◌, ◌++◌, ◌+◌, ◌<◌, ◌∙◌, ◌∷◌, ◌≡◌, ◌≤◌, ap, append-nil, arith, dec_lt, drop_of_length-le, get_or-set_other, get_or-set_same, length, length-append, length-set, refl, set, sets, sets-eq, suc, take_at, zero, ℕ}
+use Rattle.model.proofs.Prelude.{List, [], ◌%◌, ◌*◌, ◌++◌, ◌+◌, ◌/◌, ◌<◌, ◌∙◌, ◌∷◌, ◌≡◌, ◌≤◌, ap, append-nil, arith, dec_lt, drop, drop_of_length-le, get_or-set_other, get_or-set_same, length, length-append, length-drop, length-replicate, length-set, length-take-le, refl, replicate, replicate-append-replicate, set, sets, sets-eq, suc, sym, take_all, take_at, zero, ℕ}
 use lib.Seq.{set-append_left}
+use Rattle.std.proofs.lemmas.Slice.{take-put_mid}
+use borrow.Rule.Slice.PartMut.{mid_of, put_mid, same_len_mid}
 use Rattle.model.specs.declared.Cell.{Cell}
 use Rattle.model.specs.declared.Trie.{Trie}
 use Rattle.model.specs.Tries.{at_cell, zero_cell}
 use Rattle.model.proofs.Lists.{at_replicate}
 use Rattle.image.specs.Clearing.{cleared}
-use Rattle.image.specs.Images.{cell_bytes, cells_bytes, head_bytes, image_length, image_of}
+use Rattle.image.specs.Images.{cell_bytes, cells_bytes, head_bytes, image_length, image_of, number_of_side}
+use Rattle.image.proofs.Coding.{first_written}
 use Rattle.image.proofs.Images.{length-cells_bytes}
 
 sets_cons : (x : ℕ) (xs vs : List ℕ) (k : ℕ) → sets (x ∷ xs) (suc k) vs ≡ x ∷ sets xs k vs
@@ -60,7 +63,28 @@ cell_stored t i c l h =
     sets_four _ _ _ _ (cells_bytes 256 t.cells) (cell_bytes c) (6 * i)
     ∙ ap (λ (r : List ℕ). head_bytes t ++ r) (cells_stored 256 i t.cells c h (omega arith))
 
--- A cell of a trie whose cells are all zero.
-pub cleared_cell : (count first i : ℕ) (xs ys : List ℕ) → ys ≡ sets xs (4 + 6 * i) (cell_bytes zero_cell) → ys ≡ sets xs (4 + 6 * i) (cell_bytes (at_cell (cleared count first).cells i))
-unfolding cleared
-cleared_cell count first i xs ys e = rw (at_replicate zero_cell 256 i) e
+-- The image of a trie whose cells are all zero.
+zero_cells : (n : ℕ) → cells_bytes n (replicate 256 zero_cell) ≡ replicate (6 * n) 0
+unfolding cells_bytes number_of_side
+zero_cells zero = refl
+zero_cells (suc n) =
+    let e : 6 * suc n ≡ 6 * n + 6 = omega arith in
+    rw (zero_cells n, at_replicate zero_cell 256 n, e) (replicate-append-replicate (6 * n) 6 0)
+
+pub cleared_written : (count first : ℕ) (xs ws zs : List ℕ) → length xs ≡ image_length
+    → ws ≡ set (set (set (set xs 0 (count % 256)) 1 (count / 256)) 2 (first % 256)) 3 (first / 256)
+    → zs ≡ replicate (length (mid_of 4 1536 ws)) 0 → put_mid 4 1536 ws zs ≡ image_of (cleared count first)
+unfolding image_of cleared
+cleared_written count first xs ws zs l e z =
+    sym (take_all image_length (put_mid 4 1536 ws zs) (omega (arith, same_len_mid 4 1536 ws zs (size ∙ sym part), whole)))
+    ∙ take-put_mid 4 1536 ws zs image_length (omega (arith, size)) (omega (arith, whole))
+    ∙ rw (z, part, e, first_written xs (count % 256) (count / 256) (first % 256) (first / 256) (omega arith), zero_cells 256)
+  where
+    whole : length ws ≡ image_length
+    whole = rw e (simp length-set l)
+
+    part : length (mid_of 4 1536 ws) ≡ 1536
+    part = length-take-le 1536 (drop 4 ws) (omega (arith, length-drop 4 ws, whole))
+
+    size : length zs ≡ 1536
+    size = ap length z ∙ length-replicate {A = ℕ} (length (mid_of 4 1536 ws)) 0 ∙ part

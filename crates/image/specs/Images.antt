@@ -1,5 +1,5 @@
 -- The trie image, said by a writer and by a reader: every 1,540 bytes are some trie.
-use Rattle.std.specs.Prelude.{cond, List, [], ◌++◌, ◌∷◌, ◌%◌, ◌*◌, ◌+◌, ◌-◌, ◌/◌, suc, zero, ℕ, ltb, get_or}
+use Rattle.std.specs.Prelude.{cond, List, [], ◌++◌, ◌∷◌, ◌%◌, ◌*◌, ◌+◌, ◌-◌, ◌/◌, ◌<◌, ◌≤◌, suc, zero, ℕ, ltb, get_or}
 use Rattle.model.specs.declared.Cell.{Cell}
 use Rattle.model.specs.declared.Side.{Side}
 use Rattle.model.specs.declared.Side.TheVariants.{Cell as further, Slot as slot}
@@ -27,6 +27,11 @@ number_of_side (further (suc i)) = 65535 - i
 
 unfoldable pub side_from : ℕ → Side
 side_from x = cond (ltb x 32768) (slot x) (further (65536 - x))
+
+-- The sides that 16 bits with a sign hold: slots below 32,768, and cells from 1 to 32,768.
+abbrev pub Held : Side → Type 0
+Held (slot s) = s < 32768
+Held (further i) = (1 ≤ i) × (i ≤ 32768)
 
 -- A cell: its digit, its digit number, its left side, its right side.
 abbrev pub cell_bytes : Cell → List ℕ

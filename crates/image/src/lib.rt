@@ -5,17 +5,16 @@
 // negative.
 #![tactic(auto)]
 
-ghost use Rattle.std.specs.Prelude.{◌≡◌, ◌≤◌, ◌<◌, ◌+◌, ◌*◌, ◌%◌, ◌/◌, drop, length};
+ghost use Rattle.std.specs.Prelude.{◌≡◌, ◌≤◌, ◌<◌, ◌+◌, ◌*◌, drop, get_or, set};
 ghost use Rattle.std.proofs.lemmas.List.Edits.{sets};
 ghost use Rattle.model.specs.Agreeing.{are_zero_cells};
 ghost use Rattle.model.specs.Tries.{at_cell, walk_of};
-ghost use Rattle.trie.specs.Walks.{Walks};
+ghost use Rattle.trie.specs.Walks.{Walks, side_on};
 ghost use Rattle.image.specs.Clearing.{cleared};
-ghost use Rattle.image.specs.Images.{cell_bytes, cell_from, image_length, image_of, number_of_side, pair_of, side_from, trie_from};
+ghost use Rattle.image.specs.Images.{Held, cell_bytes, cell_from, image_of, number_of_side, pair_bytes, pair_of, side_from, trie_from};
 
-use digits::{u16_of_u8, usize_of_u8, usize_of_u16};
 use model::{Cell, Side};
-use trie::{Place, Walk};
+use trie::{Hand, Place, Walk};
 
 mod place;
 
@@ -23,11 +22,14 @@ pub use place::place_in;
 
 pub const BYTES: usize = 1540;
 
-// Two bytes, little-endian.
-fn pair(low: u8, high: u8) -> u16
-    ensures { result ≡ pair_of low high }
+pub type Image = [u8; BYTES];
+
+// The two bytes from a place on as a number.
+fn pair_at(image: &Image, at: usize) -> u16
+    requires { at + 2 ≤ 1540 }
+    ensures { result ≡ pair_of (get_or image.now at 0) (get_or image.now (at + 1) 0) }
 {
-    u16_of_u8(low) + 256 * u16_of_u8(high)
+    u16::from_le_bytes([image[at], image[at + 1]])
 }
 
 fn side_of(x: u16) -> Side
@@ -36,103 +38,89 @@ fn side_of(x: u16) -> Side
     if x < 32768 {
         return Side::Slot(x);
     }
-    Side::Cell(65535 - x + 1)
+    Side::Cell(x.wrapping_neg())
 }
 
-pub fn cell_at(image: &[u8], i: usize) -> Cell
-    requires { (i < 256) × (length image.now ≡ image_length) }
-    ensures { result ≡ cell_from image.now (4 + 6 * i) }
+// Where a cell begins; past the last one the image ends.
+fn cell_begins(i: usize) -> usize
+    requires { i ≤ 256 }
+    ensures { result ≡ 4 + 6 * i }
 {
-    let at = 4 + 6 * i;
+    4 + 6 * i
+}
+
+pub fn cell_at(image: &Image, i: usize) -> Cell
+    requires { i < 256 }
+    ensures value { result ≡ cell_from image.now (4 + 6 * i) }
+    ensures held { Held result.left × Held result.right }
+{
+    let at = cell_begins(i);
     Cell {
         digit: image[at],
         number: image[at + 1],
-        left: side_of(pair(image[at + 2], image[at + 3])),
-        right: side_of(pair(image[at + 4], image[at + 5])),
+        left: side_of(pair_at(image, at + 2)),
+        right: side_of(pair_at(image, at + 4)),
     }
 }
 
 // The walk of a filled name over the trie of an image, damaged ones too. It reads the cells that it meets, and no others.
-pub fn walk_of(image: &[u8], name: &[u8; 24]) -> Walk
-    requires { length image.now ≡ image_length }
+pub fn walk_of(image: &Image, name: &[u8; 24]) -> Walk
     ensures { (result.len ≤ 24) × Walks result (walk_of (trie_from image.now) name.now) }
 {
-    let mut walk = Walk::begin(pair(image[0], image[1]), pair(image[2], image[3]));
-    loop {
-        let place = walk.place;
-        let Place::Cell(i) = place else {
-            return walk;
-        };
-        let cell = cell_at(image, usize_of_u16(i));
-        walk = walk.step(name, i, cell);
+    let mut walk = Walk::begin(pair_at(image, 0), pair_at(image, 2));
+    // Cells lead on to cells, and no index is counted: so it stays a loop.
+    while let Place::Cell(i) = walk.place {
+        walk = walk.step(name, i, cell_at(image, i as usize));
     }
+    walk
 }
 
 // The parts of an image, each read by itself.
-pub fn count_of(image: &[u8]) -> usize
-    requires { length image.now ≡ image_length }
+pub fn count_of(image: &Image) -> usize
     ensures { result ≡ (trie_from image.now).count }
 {
-    usize_of_u16(pair(image[0], image[1]))
+    pair_at(image, 0) as usize
 }
 
-pub fn first_of(image: &[u8]) -> usize
-    requires { length image.now ≡ image_length }
+pub fn first_of(image: &Image) -> usize
     ensures { (result ≡ (trie_from image.now).first) × (result < 65536) }
 {
-    usize_of_u16(pair(image[2], image[3]))
+    pair_at(image, 2) as usize
 }
 
-pub fn digit_at(image: &[u8], i: usize) -> u8
-    requires { (i < 256) × (length image.now ≡ image_length) }
+pub fn digit_at(image: &Image, i: usize) -> u8
+    requires { i < 256 }
     ensures { result ≡ (at_cell (trie_from image.now).cells i).digit }
 {
-    image[4 + 6 * i]
+    image[cell_begins(i)]
 }
 
-pub fn number_at(image: &[u8], i: usize) -> usize
-    requires { (i < 256) × (length image.now ≡ image_length) }
+pub fn number_at(image: &Image, i: usize) -> usize
+    requires { i < 256 }
     ensures { (result ≡ (at_cell (trie_from image.now).cells i).number) × (result < 256) }
 {
-    usize_of_u8(image[4 + 6 * i + 1])
+    image[cell_begins(i) + 1] as usize
 }
 
 // A side as the number that it is written as.
-pub fn left_at(image: &[u8], i: usize) -> usize
-    requires { (i < 256) × (length image.now ≡ image_length) }
-    ensures { (side_from result ≡ (at_cell (trie_from image.now).cells i).left) × (result < 65536) }
+pub fn side_at(image: &Image, i: usize, hand: Hand) -> u16
+    requires { i < 256 }
+    ensures { side_from result ≡ side_on hand (at_cell (trie_from image.now).cells i) }
 {
-    let at = 4 + 6 * i;
-    usize_of_u16(pair(image[at + 2], image[at + 3]))
-}
-
-pub fn right_at(image: &[u8], i: usize) -> usize
-    requires { (i < 256) × (length image.now ≡ image_length) }
-    ensures { (side_from result ≡ (at_cell (trie_from image.now).cells i).right) × (result < 65536) }
-{
-    let at = 4 + 6 * i;
-    usize_of_u16(pair(image[at + 4], image[at + 5]))
+    let at = cell_begins(i);
+    match hand {
+        Hand::Left => pair_at(image, at + 2),
+        Hand::Right => pair_at(image, at + 4),
+    }
 }
 
 // R5.3, by words: whether all cells from one on are zero.
-pub fn is_clear_past(image: &[u8], count: usize) -> bool
-    requires { (count ≤ 256) × (length image.now ≡ image_length) }
+pub fn is_clear_past(image: &Image, count: usize) -> bool
+    requires { count ≤ 256 }
     ensures { result ≡ are_zero_cells (drop count (trie_from image.now).cells) }
 {
-    let from = 4 + 6 * count;
+    let from = cell_begins(count);
     digits::is_zero(&image[from..])
-}
-
-fn low(x: u16) -> u8
-    ensures { result ≡ x % 256 }
-{
-    (x % 256) as u8
-}
-
-fn high(x: u16) -> u8
-    ensures { result ≡ x / 256 }
-{
-    (x / 256) as u8
 }
 
 fn number_of(side: Side) -> u16
@@ -140,62 +128,45 @@ fn number_of(side: Side) -> u16
 {
     match side {
         Side::Slot(s) => s,
-        Side::Cell(i) => {
-            if i == 0 {
-                return 0;
-            }
-            65535 - (i - 1)
-        }
+        Side::Cell(i) => i.wrapping_neg(),
     }
+}
+
+// Writes a number over the two bytes from a place on.
+fn write_pair(image: &mut Image, at: usize, x: u16)
+    requires { at + 2 ≤ 1540 }
+    ensures { image.new ≡ sets image.old at (pair_bytes x) }
+{
+    image[at..at + 2].copy_from_slice(&x.to_le_bytes());
 }
 
 // Writes another count and first leaf over an image.
-pub fn write_head(image: &mut [u8], count: u16, first: u16)
-    requires { length image.old ≡ image_length }
+pub fn write_head(image: &mut Image, count: u16, first: u16)
     ensures { trie_from image.new ≡ record { cells = (trie_from image.old).cells; count = count; first = first } }
 {
-    image[0] = low(count);
-    image[1] = high(count);
-    image[2] = low(first);
-    image[3] = high(first);
+    write_pair(image, 0, count);
+    write_pair(image, 2, first);
 }
 
 // Writes one cell over an image.
-pub fn write_cell(image: &mut [u8], i: usize, cell: Cell)
-    requires { (i < 256) × (length image.old ≡ image_length) }
-    ensures { image.new ≡ sets image.old (4 + 6 * i) (cell_bytes cell) }
+pub fn write_cell(image: &mut Image, i: usize, cell: Cell)
+    requires { i < 256 }
+    ensures bytes { image.new ≡ sets image.old (4 + 6 * i) (cell_bytes cell) }
+    ensures cells { Held cell.left → Held cell.right → trie_from image.new
+        ≡ record { cells = set (trie_from image.old).cells i cell; count = (trie_from image.old).count; first = (trie_from image.old).first } }
 {
-    let left = cell.left;
-    let right = cell.right;
-    let l = number_of(left);
-    let r = number_of(right);
-    let at = 4 + 6 * i;
+    let at = cell_begins(i);
     image[at] = cell.digit;
     image[at + 1] = cell.number;
-    image[at + 2] = low(l);
-    image[at + 3] = high(l);
-    image[at + 4] = low(r);
-    image[at + 5] = high(r);
+    write_pair(image, at + 2, number_of(cell.left));
+    write_pair(image, at + 4, number_of(cell.right));
 }
 
 // Writes the image of a trie whose cells are all zero, whatever its count.
-pub fn write_cleared(image: &mut [u8], count: u16, first: u16)
-    requires { length image.old ≡ image_length }
+pub fn write_cleared(image: &mut Image, count: u16, first: u16)
     ensures { image.new ≡ image_of (cleared count first) }
 {
-    image[0] = low(count);
-    image[1] = high(count);
-    image[2] = low(first);
-    image[3] = high(first);
-    let cell = Cell {
-        digit: 0,
-        number: 0,
-        left: Side::Slot(0),
-        right: Side::Slot(0),
-    };
-    let mut i = 0usize;
-    while i < 256 {
-        write_cell(image, i, cell);
-        i += 1;
-    }
+    write_pair(image, 0, count);
+    write_pair(image, 2, first);
+    image[4..].fill(0);
 }

@@ -1,18 +1,7 @@
 -- Demand 1 of the C interface follows from demand 1 of the calls.
 use Rattle.model.proofs.Prelude.{List, Memᴰ, mem_cases_cons, mem_head, mem_not_nil, mem_tail, [], ◌<◌, ◌∙◌, ◌∷◌, ◌≡◌, ◌≤◌, ◌⊎◌, ap, arith, inl, inr, refl, subst, sym, ℕ}
 use Rattle.model.specs.declared.Cause.{Cause}
-use Rattle.model.specs.declared.ListAnswer.{ListAnswer}
-use Rattle.model.specs.declared.ListAnswer.TheVariants.{Listed, Refused as ListRefused}
-use Rattle.model.specs.declared.LookUpAnswer.{LookUpAnswer}
-use Rattle.model.specs.declared.LookUpAnswer.TheVariants.{Absent as NotFound, Found, Refused as LookUpRefused}
-use Rattle.model.specs.declared.PutAnswer.{PutAnswer}
-use Rattle.model.specs.declared.PutAnswer.TheVariants.{Added, Refused as PutRefused, Replaced, Stopped as PutStopped}
-use Rattle.model.specs.declared.RecoverAnswer.{RecoverAnswer}
-use Rattle.model.specs.declared.RecoverAnswer.TheVariants.{Freed, Nothing, Refused as RecoverRefused, Stopped as RecoverStopped}
-use Rattle.model.specs.declared.RemoveAnswer.{RemoveAnswer}
-use Rattle.model.specs.declared.RemoveAnswer.TheVariants.{Absent as NotHeld, Refused as RemoveRefused, Removed, Stopped as RemoveStopped}
-use Rattle.model.specs.declared.TrieAnswer.{TrieAnswer}
-use Rattle.model.specs.declared.TrieAnswer.TheVariants.{Given, Refused as TrieRefused}
+use Rattle.model.specs.Results.{Added, FoundContent, Freed, Given, ListAnswer, ListRefused, Listed, LookUpAnswer, LookUpRefused, NotFound, NotHeld, Nothing, PutAnswer, PutRefused, PutStopped, RecoverAnswer, RecoverRefused, RecoverStopped, RemoveAnswer, RemoveRefused, RemoveStopped, Removed, ReplacedContent, TrieAnswer, TrieRefused}
 use Rattle.model.specs.Sayings.{said_by_check, said_by_create, said_by_list, said_by_look_up, said_by_put, said_by_rebuild, said_by_recover, said_by_remove}
 use Rattle.model.specs.Calls.{create_of, list_of, look_up_of, new_trie, put_of, rebuild_of, recover_of, remove_of}
 use Rattle.model.specs.Checks.{Kind, is_bad, is_cut, is_sound}
@@ -145,7 +134,7 @@ module _ (xs image name out : List ℕ) (w : IsImage image) where
   )
 
   look_up_answers : (a : LookUpAnswer) → look_up_of xs (trie_from image) name ≡ a → Answers (look_up_refusal out) (100 ∷ 101 ∷ []) look_up_left (said_by_look_up a).0
-  look_up_answers (Found v run) e = first_of
+  look_up_answers (FoundContent held) e = first_of
   look_up_answers NotFound e = second_of
   look_up_answers (LookUpRefused c) e = inl (c, look_up_refuses c e)
 
@@ -169,7 +158,7 @@ module _ (xs image name : List ℕ) (v run limit : ℕ) (out : List ℕ) (w : Is
 
   put_answers : (a : PutAnswer) → (put_of xs (trie_from image) name v run limit).answer ≡ a → Answers (change_refusal xs image out) (110 ∷ 111 ∷ 112 ∷ []) put_left (said_by_put a).0
   put_answers Added e = first_of
-  put_answers (Replaced old old_run) e = second_of
+  put_answers (ReplacedContent old) e = second_of
   put_answers (PutStopped made) e = third_of
   put_answers (PutRefused c) e = inl (c, put_refuses c e)
 

@@ -1,11 +1,7 @@
 -- Demand 2 of the C interface follows from demand 2 of the calls: what is written is read back.
 use Rattle.model.proofs.Prelude.{List, ◌<◌, ◌^◌, ◌≡◌, ◌⊎◌, arith, inl, inr, length, refl, subst, ℕ, ℕ_discrete}
-use Rattle.model.specs.declared.LookUpAnswer.{LookUpAnswer}
-use Rattle.model.specs.declared.PutAnswer.{PutAnswer}
-use Rattle.model.specs.declared.PutAnswer.TheVariants.{Added, Refused as PutRefused, Replaced, Stopped as PutStopped}
+use Rattle.model.specs.Results.{Added, Given, LookUpAnswer, PutAnswer, PutRefused, PutStopped, Replaced, ReplacedContent, TrieAnswer, TrieRefused}
 use Rattle.model.specs.declared.Trie.{Trie}
-use Rattle.model.specs.declared.TrieAnswer.{TrieAnswer}
-use Rattle.model.specs.declared.TrieAnswer.TheVariants.{Given, Refused as TrieRefused}
 use Rattle.model.specs.Order.{Str}
 use Rattle.model.specs.Files.{Slot}
 use Rattle.model.specs.Format.{AreBytes}
@@ -56,7 +52,7 @@ rebuilt_leads xs image e = elim (ℕ_discrete (length image) image_length) [
 after_made : (image : List ℕ) (a : PutAnswer) (ys : List ℕ) (t : Trie) → ((old old_run : ℕ) → a ≡ Replaced old old_run → t ≡ trie_from image) → (Made a → LeadsRight ys t)
     → ((said_by_put a).0 ≡ 110) ⊎ ((said_by_put a).0 ≡ 111) → LeadsRight ys (trie_from (image_after a t image))
 after_made image Added ys t same L e = leads_written (L tt)
-after_made image (Replaced old old_run) ys t same L e = subst (λ (u : Trie). LeadsRight ys u) (same old old_run refl) (L tt)
+after_made image (ReplacedContent old) ys t same L e = subst (λ (u : Trie). LeadsRight ys u) (same old.value old.run refl) (L tt)
 after_made image (PutStopped made) ys t same L (inl e) = absurd (omega arith)
 after_made image (PutStopped made) ys t same L (inr e) = absurd (omega arith)
 after_made image (PutRefused c) ys t same L (inl e) = absurd (omega (arith, number_small c))

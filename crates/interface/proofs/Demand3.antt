@@ -1,15 +1,8 @@
 -- Demand 3 of the C interface: a history over images is a history over tries, so what holds after the one holds after the other.
 use Rattle.model.proofs.Prelude.{Bool, List, Option, [], ◌<◌, ◌∷◌, ◌≡◌, ◌≤◌, arith, cond, eqb, false, length, lt-ltb, ltb, ltb-false, ne_eqb, nothing, refl, some, subst, suc, sym, true, zero, ℕ, ℕ_discrete}
 use Rattle.model.specs.declared.Cause.{Cause}
-use Rattle.model.specs.declared.PutAnswer.{PutAnswer}
-use Rattle.model.specs.declared.PutAnswer.TheVariants.{Added, Refused as PutRefused, Replaced, Stopped as PutStopped}
-use Rattle.model.specs.declared.RecoverAnswer.{RecoverAnswer}
-use Rattle.model.specs.declared.RecoverAnswer.TheVariants.{Freed, Nothing, Refused as RecoverRefused, Stopped as RecoverStopped}
-use Rattle.model.specs.declared.RemoveAnswer.{RemoveAnswer}
-use Rattle.model.specs.declared.RemoveAnswer.TheVariants.{Absent as NotHeld, Refused as RemoveRefused, Removed, Stopped as RemoveStopped}
+use Rattle.model.specs.Results.{Added, Freed, Given, NotHeld, Nothing, PutAnswer, PutRefused, PutStopped, RecoverAnswer, RecoverRefused, RecoverStopped, RemoveAnswer, RemoveRefused, RemoveStopped, Removed, Replaced, ReplacedContent, TrieAnswer, TrieRefused}
 use Rattle.model.specs.declared.Trie.{Trie}
-use Rattle.model.specs.declared.TrieAnswer.{TrieAnswer}
-use Rattle.model.specs.declared.TrieAnswer.TheVariants.{Given, Refused as TrieRefused}
 use Rattle.model.specs.Order.{Str}
 use Rattle.model.specs.Names.{filled}
 use Rattle.model.specs.Entries.{content_from}
@@ -83,8 +76,8 @@ put_goes : (s : StateC) → Whole s → (i : List ℕ) → IsImage i → (n : St
 unfolding after_put C.after_put
 put_goes (C.running xs j m) w i z n v Added ys t same A = given_goes ys t _ A
 put_goes (C.down xs m) w i z n v Added ys t same A = given_goes ys t _ A
-put_goes (C.running xs j m) w i z n v (Replaced old old_run) ys t same A = same_goes ys t i _ z (same old old_run refl) A
-put_goes (C.down xs m) w i z n v (Replaced old old_run) ys t same A = same_goes ys t i _ z (same old old_run refl) A
+put_goes (C.running xs j m) w i z n v (ReplacedContent old) ys t same A = same_goes ys t i _ z (same old.value old.run refl) A
+put_goes (C.down xs m) w i z n v (ReplacedContent old) ys t same A = same_goes ys t i _ z (same old.value old.run refl) A
 put_goes (C.running xs j m) w i z n v (PutStopped made) ys t same A = (tt, A)
 put_goes (C.down xs m) w i z n v (PutStopped made) ys t same A = (tt, A)
 put_goes (C.running xs j m) w i z n v (PutRefused c) ys t same A =
@@ -231,7 +224,7 @@ recovers xs m limit out a ys (stopped_at_0 z) = C.stopped_at_0 z
 -- Stopped.
 put_stop : (a : PutAnswer) → (said_by_put a).0 ≡ 112 → (made : ℕ) × (a ≡ PutStopped made)
 put_stop Added e = absurd (omega arith)
-put_stop (Replaced old old_run) e = absurd (omega arith)
+put_stop (ReplacedContent old) e = absurd (omega arith)
 put_stop (PutStopped made) e = (made, refl)
 put_stop (PutRefused c) e = absurd (omega (arith, number_small c))
 

@@ -4,8 +4,7 @@ use Rattle.model.proofs.Prelude.{Bool, List, Option, [], ◌∙◌, ◌∷◌, �
 use Rattle.model.specs.declared.Cause.{Cause}
 use Rattle.model.specs.declared.Cause.TheVariants.{BadFile, IllegalName, WrongSize}
 use Rattle.model.specs.declared.Layout.{Layout}
-use Rattle.model.specs.declared.PutAnswer.TheVariants.{Refused as PutRefused, Replaced, Stopped as PutStopped}
-use Rattle.model.specs.declared.RemoveAnswer.TheVariants.{Absent as NotHeld, Refused as RemoveRefused, Removed, Stopped as RemoveStopped}
+use Rattle.model.specs.Results.{NotHeld, PutRefused, PutStopped, RemoveRefused, RemoveStopped, Removed, Replaced}
 use Rattle.model.specs.declared.Trie.{Trie}
 use Rattle.model.specs.Order.{Str}
 use Rattle.model.specs.Tests.{is_legal_name}

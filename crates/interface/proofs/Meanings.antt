@@ -1,9 +1,6 @@
 -- What the C calls mean follows from what the calls mean.
 use Rattle.model.proofs.Prelude.{List, ◌∙◌, ◌≡◌, ◌≤◌, ap, arith, length, refl, sym, ℕ, ℕ_discrete}
-use Rattle.model.specs.declared.ListAnswer.{ListAnswer}
-use Rattle.model.specs.declared.ListAnswer.TheVariants.{Listed, Refused as ListRefused}
-use Rattle.model.specs.declared.RecoverAnswer.{RecoverAnswer}
-use Rattle.model.specs.declared.RecoverAnswer.TheVariants.{Freed, Nothing, Refused as RecoverRefused, Stopped as RecoverStopped}
+use Rattle.model.specs.Results.{Freed, ListAnswer, ListRefused, Listed, Nothing, RecoverAnswer, RecoverRefused, RecoverStopped}
 use Rattle.model.specs.Sayings.{said_by_check, said_by_list, said_by_recover}
 use Rattle.model.specs.Calls.{list_of, recover_of}
 use Rattle.model.specs.Checks.{Kind, is_bad, is_cut, is_sound}

@@ -2,18 +2,7 @@
 use Rattle.model.proofs.Prelude.{List, [], ◌<◌, ◌∙◌, ◌∷◌, ◌≡◌, ap, ap₂, arith, cond, eq-eqb, eqb, get_or, length, refl, sym, ℕ, ℕ_discrete}
 use Rattle.model.specs.declared.Cause.{Cause}
 use Rattle.model.specs.declared.Cause.TheVariants.{BadFile, CutFile, IllegalName, ManyStrings, NoFreeSlot, OlderRun, ShortOutput, StaleTrie, WrongSize}
-use Rattle.model.specs.declared.ListAnswer.{ListAnswer}
-use Rattle.model.specs.declared.ListAnswer.TheVariants.{Listed, Refused as ListRefused}
-use Rattle.model.specs.declared.LookUpAnswer.{LookUpAnswer}
-use Rattle.model.specs.declared.LookUpAnswer.TheVariants.{Absent as NotFound, Found, Refused as LookUpRefused}
-use Rattle.model.specs.declared.PutAnswer.{PutAnswer}
-use Rattle.model.specs.declared.PutAnswer.TheVariants.{Added, Refused as PutRefused, Replaced, Stopped as PutStopped}
-use Rattle.model.specs.declared.RecoverAnswer.{RecoverAnswer}
-use Rattle.model.specs.declared.RecoverAnswer.TheVariants.{Freed, Nothing, Refused as RecoverRefused, Stopped as RecoverStopped}
-use Rattle.model.specs.declared.RemoveAnswer.{RemoveAnswer}
-use Rattle.model.specs.declared.RemoveAnswer.TheVariants.{Absent as NotHeld, Refused as RemoveRefused, Removed, Stopped as RemoveStopped}
-use Rattle.model.specs.declared.TrieAnswer.{TrieAnswer}
-use Rattle.model.specs.declared.TrieAnswer.TheVariants.{Given, Refused as TrieRefused}
+use Rattle.model.specs.Results.{Added, FoundContent, Freed, Given, ListAnswer, ListRefused, Listed, LookUpAnswer, LookUpRefused, NotFound, NotHeld, Nothing, PutAnswer, PutRefused, PutStopped, RecoverAnswer, RecoverRefused, RecoverStopped, RemoveAnswer, RemoveRefused, RemoveStopped, Removed, ReplacedContent, TrieAnswer, TrieRefused}
 use Rattle.model.specs.Answers.{number}
 use Rattle.model.specs.Sayings.{said_by_create, said_by_list, said_by_look_up, said_by_put, said_by_rebuild, said_by_recover, said_by_remove}
 use Rattle.model.specs.Calls.{create_of, list_of, look_up_of, put_of, rebuild_of, recover_of, remove_of}
@@ -108,13 +97,13 @@ recover_cause (RecoverRefused d) c f e = ap RecoverRefused (fresh_cause d c (λ 
 
 module _ (out : List ℕ) (h : 0 < length out) (c : Cause) where
   pub look_up_cause : (a : LookUpAnswer) → (said_by_look_up a).0 ≡ number c → out_after (said_by_look_up a) out ≡ out_refused c out → a ≡ LookUpRefused c
-  look_up_cause (Found v run) e f = absurd (omega (arith, number_small c))
+  look_up_cause (FoundContent held) e f = absurd (omega (arith, number_small c))
   look_up_cause NotFound e f = absurd (omega (arith, number_small c))
   look_up_cause (LookUpRefused d) e f = ap LookUpRefused (one_cause out h d c e f)
 
   pub put_cause : (a : PutAnswer) → (said_by_put a).0 ≡ number c → out_after (said_by_put a) out ≡ out_refused c out → a ≡ PutRefused c
   put_cause Added e f = absurd (omega (arith, number_small c))
-  put_cause (Replaced old run) e f = absurd (omega (arith, number_small c))
+  put_cause (ReplacedContent old) e f = absurd (omega (arith, number_small c))
   put_cause (PutStopped made) e f = absurd (omega (arith, number_small c))
   put_cause (PutRefused d) e f = ap PutRefused (one_cause out h d c e f)
 

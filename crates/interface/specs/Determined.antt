@@ -1,7 +1,7 @@
 -- Each statement of the C interface determines its outcome: any two outcomes that it allows are equal. With `Determined` of
 -- `promises` this is every function that a program can call for its own sake: the eight calls, the C calls, and look up from a walk.
 use Rattle.std.specs.Prelude.{◌≡◌, List, ℕ}
-use Rattle.model.specs.declared.LookUpAnswer.{LookUpAnswer}
+use Rattle.model.specs.Results.{LookUpAnswer}
 use Rattle.promises.specs.Determined.{Determines}
 use Rattle.trie.specs.declared.Place.{Place}
 use Rattle.reading.specs.Walked.{looked_up_from}

@@ -7,7 +7,9 @@ use Rattle.model.specs.Files.{In, Slot, Sound, entries_of, free, head, slot_at, 
 use Rattle.model.specs.Searches.{first, is_free, is_in_range, string_count}
 use Rattle.model.specs.Changes.{Denied, Lowest, Request, Result, Store, call, halves, no_room, put, put_in, refuse, removal, remove, remove_in, stored, stores, stores_if, too_many}
 use Rattle.model.proofs.Files.{bucket, first_before, first_passes, found_in, free_is_free, is_free_free, one_range}
+use Rattle.model.specs.declared.Content.{Content}
 use Rattle.model.specs.declared.Layout.{Layout}
+use Rattle.model.specs.Results.{FoundContent, ReplacedContent}
 use Rattle.model.specs.Places.{place_of}
 use Rattle.model.specs.Calls.{held, put_takes}
 use Rattle.model.proofs.Tests.{never_both}
@@ -139,3 +141,10 @@ older_held run (some w) e = (w, refl, ltb-true run (run_of_content w) e)
 pub held_older : (run : ℕ) {o : Option ℕ} (w : ℕ) → o ≡ some w → run < run_of_content w → is_older run o ≡ true
 unfolding is_older
 held_older run w q h = rw (q, lt-ltb run (run_of_content w) h)
+
+-- Equal answers carry equal contents.
+pub found_one : {c d : Content} → FoundContent c ≡ FoundContent d → c ≡ d
+found_one e = cc
+
+pub replaced_one : {c d : Content} → ReplacedContent c ≡ ReplacedContent d → c ≡ d
+replaced_one e = cc

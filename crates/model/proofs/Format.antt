@@ -6,17 +6,11 @@ use Rattle.model.specs.Tests.{same_str}
 use Rattle.model.specs.Names.{BoundLow, Digits, Legal, filled, limit, unlimited}
 use Rattle.model.specs.Entries.{Entry, Row, content_from, entry, find, no_entries, run_of_content, value_of_content}
 use Rattle.model.specs.Files.{Slot, Well, entries_of, free, slot_at, used, well_used}
-use Rattle.model.specs.Format.{AreBytes, Sizes, are_legal_sizes, bytes_at_slot, bytes_of_entries, bytes_of_entry, bytes_of_slot, digits_of_low, entry_length, file_bytes, file_size, header_bytes, header_of, is_offered, is_right_header, joined, kept_run, laid_out, layout_of, little_endian, low_of, padded, read_by, read_entries, read_file, read_slot, read_slots, read_used_slot, slot_size, slots_bytes, store_bytes, used_of, value_of}
+use Rattle.model.specs.Format.{AreBytes, EntrySize, Sizes, are_legal_sizes, bytes_at_slot, bytes_of_entries, bytes_of_entry, bytes_of_slot, digits_of_low, entry_length, file_bytes, file_size, header_bytes, header_of, is_offered, is_right_header, joined, kept_run, laid_out, layout_of, little_endian, low_of, padded, read_by, read_entries, read_file, read_slot, read_slots, read_used_slot, slot_size, slots_bytes, store_bytes, used_of, value_of}
 use Rattle.model.proofs.Deciding.{str?}
 use Rattle.model.proofs.Tests.{both_true, equal_same_str, same_str_equal, same_str_other, same_str_self}
 use Rattle.model.proofs.Lists.{at_taken, drop_past, drop-take, length_made, made_short, take_past}
 use Rattle.model.proofs.Names.{legal_length}
-
--- What laws ask of the number of an entry's bytes: it is 32 or 40.
-pub record EntrySize (e : ℕ) : Type 0 where
-  pub least : 32 ≤ e
-  pub most : e ≤ 40
-  pub eights : e % 8 ≡ 0
 
 pub entry_size : (y : Layout) → EntrySize (entry_length y)
 unfolding entry_length

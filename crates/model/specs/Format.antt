@@ -21,6 +21,12 @@ entry_length y = cond (eqb y.version 3) 40 32
 unfoldable pub kept_run : Layout → ℕ → ℕ
 kept_run y r = cond (eqb y.version 3) r 0
 
+-- What laws ask of the number of an entry's bytes: it is 32 or 40.
+pub record EntrySize (e : ℕ) : Type 0 where
+  pub least : 32 ≤ e
+  pub most : e ≤ 40
+  pub eights : e % 8 ≡ 0
+
 -- R2.7: the length of a file.
 unfoldable pub slot_size : Layout → ℕ
 slot_size y = 64 + entry_length y * y.b

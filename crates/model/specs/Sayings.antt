@@ -2,18 +2,7 @@
 use Rattle.std.specs.Prelude.{List, [], ◌∷◌, ℕ}
 use Rattle.model.specs.declared.Cause.{Cause}
 use Rattle.model.specs.declared.Cause.TheVariants.{BadFile, CutFile, IllegalName, ManyStrings, NoFreeSlot, OlderRun, ShortOutput, StaleTrie, WrongSize}
-use Rattle.model.specs.declared.ListAnswer.{ListAnswer}
-use Rattle.model.specs.declared.ListAnswer.TheVariants.{Listed, Refused as ListRefused}
-use Rattle.model.specs.declared.LookUpAnswer.{LookUpAnswer}
-use Rattle.model.specs.declared.LookUpAnswer.TheVariants.{Absent as NotFound, Found, Refused as LookUpRefused}
-use Rattle.model.specs.declared.PutAnswer.{PutAnswer}
-use Rattle.model.specs.declared.PutAnswer.TheVariants.{Added, Refused as PutRefused, Replaced, Stopped as PutStopped}
-use Rattle.model.specs.declared.RecoverAnswer.{RecoverAnswer}
-use Rattle.model.specs.declared.RecoverAnswer.TheVariants.{Freed, Nothing, Refused as RecoverRefused, Stopped as RecoverStopped}
-use Rattle.model.specs.declared.RemoveAnswer.{RemoveAnswer}
-use Rattle.model.specs.declared.RemoveAnswer.TheVariants.{Absent as NotHeld, Refused as RemoveRefused, Removed, Stopped as RemoveStopped}
-use Rattle.model.specs.declared.TrieAnswer.{TrieAnswer}
-use Rattle.model.specs.declared.TrieAnswer.TheVariants.{Given, Refused as TrieRefused}
+use Rattle.model.specs.Results.{Added, FoundContent, Freed, Given, ListAnswer, ListRefused, Listed, LookUpAnswer, LookUpRefused, NotFound, NotHeld, Nothing, PutAnswer, PutRefused, PutStopped, RecoverAnswer, RecoverRefused, RecoverStopped, RemoveAnswer, RemoveRefused, RemoveStopped, Removed, ReplacedContent, TrieAnswer, TrieRefused}
 use Rattle.model.specs.Checks.{Kind, is_bad, is_cut, is_sound}
 use Rattle.model.specs.Answers.{number}
 
@@ -38,14 +27,14 @@ refused_with c = (number c, carried c)
 
 -- R11.11: found with value and run, or absent.
 abbrev pub said_by_look_up : LookUpAnswer → Saying
-said_by_look_up (Found v r) = (100, v ∷ r ∷ [])
+said_by_look_up (FoundContent c) = (100, c.value ∷ c.run ∷ [])
 said_by_look_up NotFound = (101, [])
 said_by_look_up (LookUpRefused c) = refused_with c
 
 -- R7.2 and R7.8: added; R7.9: replaced, with the old value and run; R7.12: stopped, with the number of stores made.
 abbrev pub said_by_put : PutAnswer → Saying
 said_by_put Added = (110, [])
-said_by_put (Replaced v r) = (111, v ∷ r ∷ [])
+said_by_put (ReplacedContent c) = (111, c.value ∷ c.run ∷ [])
 said_by_put (PutStopped n) = (112, n ∷ [])
 said_by_put (PutRefused c) = refused_with c
 

@@ -4,13 +4,7 @@ use Rattle.model.specs.declared.Trie.{Trie}
 use Rattle.model.specs.declared.Layout.{Layout}
 use Rattle.model.specs.declared.Cause.{Cause}
 use Rattle.model.specs.declared.Cause.TheVariants.{BadFile as bad_file, CutFile as cut_file, IllegalName as illegal_name, ManyStrings as many_strings, NoFreeSlot as no_free_slot, OlderRun as older_run, ShortOutput as short_output, StaleTrie, WrongSize as wrong_size}
-use Rattle.model.specs.declared.ListAnswer.TheVariants.{Listed, Refused as ListRefused}
-use Rattle.model.specs.declared.LookUpAnswer.{LookUpAnswer}
-use Rattle.model.specs.declared.LookUpAnswer.TheVariants.{Refused as LookUpRefused}
-use Rattle.model.specs.declared.PutAnswer.TheVariants.{Refused as PutRefused, Stopped as PutStopped}
-use Rattle.model.specs.declared.RecoverAnswer.TheVariants.{Freed, Refused as RecoverRefused, Stopped as RecoverStopped}
-use Rattle.model.specs.declared.RemoveAnswer.TheVariants.{Refused as RemoveRefused, Stopped as RemoveStopped}
-use Rattle.model.specs.declared.TrieAnswer.TheVariants.{Given, Refused as TrieRefused}
+use Rattle.model.specs.Results.{Freed, Given, ListRefused, Listed, LookUpAnswer, LookUpRefused, PutRefused, PutStopped, RecoverRefused, RecoverStopped, RemoveRefused, RemoveStopped, TrieRefused}
 use Rattle.model.proofs.Files.{one_range}
 use Rattle.model.specs.Order.{Str, first_digit, last_digit}
 use Rattle.model.specs.Tests.{are_digits, is_above, is_at_most, is_blank_digit, is_legal_name, same_str}

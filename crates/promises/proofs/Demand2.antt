@@ -3,7 +3,7 @@ use Rattle.model.proofs.Prelude.{Bool, List, Option, ◌&&◌, ◌<◌, ◌≡�
 use Rattle.model.specs.declared.Trie.{Trie}
 use Rattle.model.specs.declared.Layout.{Layout}
 use Rattle.model.specs.declared.Cause.TheVariants.{StaleTrie}
-use Rattle.model.specs.declared.LookUpAnswer.TheVariants.{Refused}
+use Rattle.model.specs.Results.{LookUpRefused as Refused}
 use Rattle.model.specs.Order.{Str}
 use Rattle.model.specs.Tests.{is_above, is_at_most, is_legal_name}
 use Rattle.model.specs.Names.{broken, filled}

@@ -3,11 +3,7 @@ use Rattle.model.proofs.Prelude.{Bool, List, Option, [], ◌&&◌, ◌<◌, ◌^
 use Rattle.model.specs.declared.Trie.{Trie}
 use Rattle.model.specs.declared.Layout.{Layout}
 use Rattle.model.specs.declared.Cause.TheVariants.{IllegalName, WrongSize}
-use Rattle.model.specs.declared.PutAnswer.TheVariants.{Refused as PutRefused, Stopped as PutStopped}
-use Rattle.model.specs.declared.RecoverAnswer.{RecoverAnswer}
-use Rattle.model.specs.declared.RecoverAnswer.TheVariants.{Freed, Nothing, Stopped as RecoverStopped}
-use Rattle.model.specs.declared.RemoveAnswer.TheVariants.{Refused as RemoveRefused, Stopped as RemoveStopped}
-use Rattle.model.specs.declared.TrieAnswer.TheVariants.{Given, Refused as TrieRefused}
+use Rattle.model.specs.Results.{Freed, Given, Nothing, PutRefused, PutStopped, RecoverAnswer, RecoverStopped, RemoveRefused, RemoveStopped, TrieRefused}
 use Rattle.model.specs.Order.{Str}
 use Rattle.model.specs.Tests.{is_legal_name}
 use Rattle.model.specs.Names.{Legal, filled}

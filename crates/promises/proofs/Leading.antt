@@ -3,8 +3,7 @@ use Rattle.model.proofs.Prelude.{Bool, List, Option, ◌&&◌, ◌<◌, ◌^◌,
 use Rattle.model.specs.declared.Trie.{Trie}
 use Rattle.model.specs.declared.Layout.{Layout}
 use Rattle.model.specs.declared.Cause.TheVariants.{IllegalName, ManyStrings, WrongSize}
-use Rattle.model.specs.declared.PutAnswer.TheVariants.{Refused as PutRefused, Stopped as PutStopped}
-use Rattle.model.specs.declared.TrieAnswer.TheVariants.{Given, Refused as TrieRefused}
+use Rattle.model.specs.Results.{Given, PutRefused, PutStopped, TrieRefused}
 use Rattle.model.specs.Order.{Str}
 use Rattle.model.specs.Tests.{is_legal_name}
 use Rattle.model.specs.Names.{Legal, filled}

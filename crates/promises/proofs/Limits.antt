@@ -1,8 +1,7 @@
 -- The stores of a call do not depend on its limit.
 use Rattle.model.proofs.Prelude.{Bool, List, Option, [], ◌∙◌, ◌∷◌, ◌≡◌, ◌≤◌, ap, arith, clash, cond, false, le-ltb, length, ltb, ltb-false, nothing, refl, some, suc, sym, take, take_all, take-nil, true, zero, ℕ}
 use Rattle.model.specs.declared.Layout.{Layout}
-use Rattle.model.specs.declared.PutAnswer.TheVariants.{Added, Stopped as PutStopped}
-use Rattle.model.specs.declared.RemoveAnswer.TheVariants.{Absent as NotHeld, Stopped as RemoveStopped}
+use Rattle.model.specs.Results.{Added, NotHeld, PutStopped, RemoveStopped}
 use Rattle.model.specs.declared.Trie.{Trie}
 use Rattle.model.specs.Entries.{content_from}
 use Rattle.model.specs.Order.{Str}

@@ -2,8 +2,7 @@
 use Rattle.model.proofs.Prelude.{Bool, List, Memᴰ, mem_cases_cons, mem_head, mem_not_nil, mem_tail, [], ◌&&◌, ◌*◌, ◌++◌, ◌<◌, ◌∙◌, ◌∷◌, ◌≡◌, ◌≤◌, ◌⊎◌, ap, arith, clash, cond, dec_lt, drop, false, inl, inr, length, length-replicate, ltb, ltb-false, ltb-true, refl, replicate, set, some, suc, sym, take, take_all, true, ℕ}
 use Rattle.model.specs.declared.Cause.TheVariants.{BadFile as is_a_bad_file, IllegalName, ShortOutput, WrongSize}
 use Rattle.model.specs.declared.Layout.{Layout}
-use Rattle.model.specs.declared.ListAnswer.TheVariants.{Listed, Refused as ListRefused}
-use Rattle.model.specs.declared.RecoverAnswer.TheVariants.{Freed, Nothing, Refused as RecoverRefused, Stopped as RecoverStopped}
+use Rattle.model.specs.Results.{Freed, ListRefused, Listed, Nothing, RecoverRefused, RecoverStopped}
 use Rattle.model.specs.declared.Trie.{Trie}
 use Rattle.model.specs.Order.{Low, Str}
 use Rattle.model.specs.Tests.{is_legal_name}

@@ -3,10 +3,8 @@ use Rattle.model.proofs.Prelude.{Bool, List, Option, [], ◌<◌, ◌∙◌, ◌
 use Rattle.model.specs.declared.Cause.{Cause}
 use Rattle.model.specs.declared.Cause.TheVariants.{BadFile, IllegalName}
 use Rattle.model.specs.declared.Layout.{Layout}
-use Rattle.model.specs.declared.RecoverAnswer.TheVariants.{Freed}
-use Rattle.model.specs.declared.RemoveAnswer.TheVariants.{Absent as NotHeld, Refused as RemoveRefused, Removed, Stopped as RemoveStopped}
+use Rattle.model.specs.Results.{Freed, Given, NotHeld, RemoveRefused, RemoveStopped, Removed}
 use Rattle.model.specs.declared.Trie.{Trie}
-use Rattle.model.specs.declared.TrieAnswer.TheVariants.{Given}
 use Rattle.model.specs.Order.{Low, Str, ◌⊑◌, ◌◁◌}
 use Rattle.model.specs.Tests.{is_legal_name}
 use Rattle.model.specs.Names.{filled}

@@ -2,15 +2,9 @@
 use Rattle.model.proofs.Prelude.{Bool, List, Option, [], ◌&&◌, ◌++◌, ◌-◌, ◌/◌, ◌<◌, ◌^◌, ◌∙◌, ◌∷◌, ◌≡◌, ◌≤◌, ◌⊎◌, ap, arith, clash, cond, dec_lt, eqb, false, inl, inr, le-leb, le-ltb, leb, leb-true, length, length-set, ltb, not, nothing, refl, replicate, set, some, suc, sym, take, take-length, true, zero, ℕ, ℕ_discrete}
 use Rattle.model.specs.declared.Cause.TheVariants.{BadFile as bad_file, IllegalName, StaleTrie, WrongSize}
 use Rattle.model.specs.declared.Layout.{Layout}
-use Rattle.model.specs.declared.ListAnswer.TheVariants.{Refused as ListRefused}
-use Rattle.model.specs.declared.LookUpAnswer.{LookUpAnswer}
-use Rattle.model.specs.declared.LookUpAnswer.TheVariants.{Refused as LookUpRefused}
-use Rattle.model.specs.declared.PutAnswer.TheVariants.{Refused as PutRefused, Stopped as PutStopped}
-use Rattle.model.specs.declared.RecoverAnswer.TheVariants.{Freed, Refused as RecoverRefused, Stopped as RecoverStopped}
-use Rattle.model.specs.declared.RemoveAnswer.TheVariants.{Refused as RemoveRefused, Stopped as RemoveStopped}
+use Rattle.model.specs.Results.{Freed, Given, ListRefused, LookUpAnswer, LookUpRefused, PutRefused, PutStopped, RecoverRefused, RecoverStopped, RemoveRefused, RemoveStopped, TrieRefused}
 use Rattle.model.specs.declared.Side.{Side}
 use Rattle.model.specs.declared.Trie.{Trie}
-use Rattle.model.specs.declared.TrieAnswer.TheVariants.{Given, Refused as TrieRefused}
 use Rattle.model.specs.Order.{Low, Str, ◌⊑◌, ◌◁◌, at}
 use Rattle.model.specs.Tests.{is_above, is_at_most, is_legal_name, same_str}
 use Rattle.model.specs.Names.{broken, filled}

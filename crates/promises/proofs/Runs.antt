@@ -1,12 +1,9 @@
 -- Which run wrote it: what files of version 3 keep and refuse, and that files of versions 1 and 2 stay as they were.
 use Rattle.model.proofs.Prelude.{Bool, List, Option, ◌&&◌, ◌<◌, ◌∙◌, ◌≡◌, ◌≢◌, ◌≤◌, ap, ap₂, arith, clash, cond, false, inl, inr, le-ltb, length, ltb, ne_eqb, not, nothing, refl, some, subst, sym, take, true, ℕ}
 use Rattle.model.specs.declared.Cause.TheVariants.{BadFile as bad_file, IllegalName, OlderRun, StaleTrie, WrongSize}
+use Rattle.model.specs.declared.Content.{Content}
 use Rattle.model.specs.declared.Layout.{Layout}
-use Rattle.model.specs.declared.LookUpAnswer.{LookUpAnswer}
-use Rattle.model.specs.declared.LookUpAnswer.TheVariants.{Found, Refused as LookUpRefused}
-use Rattle.model.specs.declared.PutAnswer.{PutAnswer}
-use Rattle.model.specs.declared.PutAnswer.TheVariants.{Refused as PutRefused, Replaced, Stopped as PutStopped}
-use Rattle.model.specs.declared.RemoveAnswer.TheVariants.{Refused as RemoveRefused, Removed, Stopped as RemoveStopped}
+use Rattle.model.specs.Results.{Found, LookUpAnswer, LookUpRefused, PutAnswer, PutRefused, PutStopped, RemoveRefused, RemoveStopped, Removed, Replaced}
 use Rattle.model.specs.declared.Trie.{Trie}
 use Rattle.model.specs.Order.{Low, Str, ◌⊑◌, ◌◁◌}
 use Rattle.model.specs.Tests.{is_above, is_at_most, is_legal_name, same_str}
@@ -28,7 +25,7 @@ use Rattle.model.proofs.Agreement.{agrees_few, agrees_walk}
 use Rattle.model.proofs.LookUps.{lookup_agrees}
 use Rattle.model.proofs.Places.{place_lt}
 use Rattle.model.proofs.Changes.{Fine, change_made, fits, splits}
-use Rattle.model.proofs.Calls.{Answered, in_range, is_denied, is_made, older_held, put_right, put_taken, remove_right}
+use Rattle.model.proofs.Calls.{Answered, found_one, in_range, is_denied, is_made, older_held, put_right, put_taken, remove_right, replaced_one}
 use Rattle.model.proofs.CheckedFiles.{sound_not_cut}
 use Rattle.model.proofs.Stores.{read_stored}
 use Rattle.model.proofs.Format.{Contents, bytes_bytes_at_slot, contents_find, contents_read_file, contents_read_slot, file_bytes-read_file, headed_layout, no_run, read_file_read, run_part, value_part}
@@ -154,8 +151,8 @@ module _ (xs : List ℕ) (t : Trie) (name : List ℕ) (limit : ℕ) (R : Reached
           → Says (Replaced old (kept_run (layout_of xs) run)) (put_takes y fs n content (kept_run y run))
       go nothing h q = clash cc
       go (some w) h q =
-          let a : value_of_content w ≡ old = cc in
-          let b : run_of_content w ≡ kept_run (layout_of xs) run = cc in
+          let a : value_of_content w ≡ old = ap (λ (c : Content). c.value) (found_one q) in
+          let b : run_of_content w ≡ kept_run (layout_of xs) run = ap (λ (c : Content). c.run) (found_one q) in
           let d : run_of_content w ≡ kept_run y run = b ∙ ap (λ (z : Layout). kept_run z run) layout_is in
           put_taken (Says (put_answer (held fs n))) y fs n content (kept_run y run)
           (λ e.
@@ -191,8 +188,7 @@ module _ (xs : List ℕ) (t : Trie) (name : List ℕ) (v run : ℕ) (bytes : Are
       go true false o f q = clash cc
       go true true nothing f q = clash cc
       go true true (some c) f q =
-          let z : run_of_content c ≡ run = cc in
-          sym z ∙ none_kept ys older m es c (contents_read_slot ys (bytes_at_slot ys k xs) (bytes_bytes_at_slot ys k xs bytes) e) f
+          ap (λ (c : Content). c.run) (found_one (sym q)) ∙ none_kept ys older m es c (contents_read_slot ys (bytes_at_slot ys k xs) (bytes_bytes_at_slot ys k xs bytes) e) f
 
   pub found_0 : Zero (look_up_of xs t name)
   unfolding look_up_of headed_answer header_of arrived_answer
@@ -224,8 +220,7 @@ module _ (xs : List ℕ) (t : Trie) (name : List ℕ) (v run : ℕ) (bytes : Are
         go true o h q = clash cc
         go false nothing h q = clash cc
         go false (some w) h q =
-            let z : run_of_content w ≡ old_run = cc in
-            sym z ∙ none_kept y newer m (entries_of (slot_at fs (first (is_in_range m) fs))) w (contents_read_file xs bytes p.is (first (is_in_range m) fs)) h
+            ap (λ (c : Content). c.run) (replaced_one (sym q)) ∙ none_kept y newer m (entries_of (slot_at fs (first (is_in_range m) fs))) w (contents_read_file xs bytes p.is (first (is_in_range m) fs)) h
 
     looked_0 : (l : Looked) → looked_of xs t ≡ l → Without (put_on_looked xs t m v run limit l)
     unfolding put_on_looked

@@ -2,9 +2,7 @@
 use Rattle.model.proofs.Prelude.{Bool, List, Option, [], ◌*◌, ◌++◌, ◌+◌, ◌/◌, ◌<◌, ◌∙◌, ◌∷◌, ◌≡◌, ◌≢◌, ◌≤◌, ◌⊎◌, ap, arith, clash, cond, false, get_or, get_or-set_same, inl, inr, length, length-set, ltb, ltb-true, mul-le-mul_right, nothing, refl, set, some, suc, suc-mul, sym, take, true, zero, ℕ, ℕ_discrete}
 use Rattle.model.specs.declared.Cause.TheVariants.{IllegalName, WrongSize}
 use Rattle.model.specs.declared.Layout.{Layout}
-use Rattle.model.specs.declared.PutAnswer.TheVariants.{Refused as PutRefused, Stopped as PutStopped}
-use Rattle.model.specs.declared.RecoverAnswer.TheVariants.{Freed, Refused as RecoverRefused, Stopped as RecoverStopped}
-use Rattle.model.specs.declared.RemoveAnswer.TheVariants.{Refused as RemoveRefused, Stopped as RemoveStopped}
+use Rattle.model.specs.Results.{Freed, PutRefused, PutStopped, RecoverRefused, RecoverStopped, RemoveRefused, RemoveStopped}
 use Rattle.model.specs.declared.Trie.{Trie}
 use Rattle.model.specs.Order.{Low, Str, ◌⊑◌, ◌◁◌, at}
 use Rattle.model.specs.Tests.{is_legal_name}

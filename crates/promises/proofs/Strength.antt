@@ -6,20 +6,13 @@ use Rattle.model.specs.declared.Layout.{Layout}
 use Prim.Native.String.{String}
 use Rattle.model.specs.declared.Cause.{Cause}
 use Rattle.model.specs.declared.Cause.TheVariants.{BadFile, CutFile, IllegalName, StaleTrie, WrongSize}
-use Rattle.model.specs.declared.TrieAnswer.TheVariants.{Given, Refused as TrieRefused}
-use Rattle.model.specs.declared.ListAnswer.TheVariants.{Listed, Refused as ListRefused}
-use Rattle.model.specs.declared.LookUpAnswer.{LookUpAnswer}
-use Rattle.model.specs.declared.RecoverAnswer.{RecoverAnswer}
+use Rattle.model.specs.Results.{Added, Found, Freed, Given, ListRefused, Listed, LookUpAnswer, LookUpRefused, NotFound, NotHeld, Nothing, PutRefused, PutStopped, RecoverAnswer, RecoverRefused, RemoveRefused, RemoveStopped, Removed, TrieRefused}
 use Rattle.model.specs.Tries.{walk_of, walk_run, walk_trie}
 use Rattle.model.proofs.Agreeing.{agrees_is_agreeing, is_agreeing_agrees}
 use Rattle.model.proofs.Checks.{is_sound_file_sound}
 use Rattle.model.proofs.Created.{created_left}
 use Rattle.model.proofs.Names.{is_legal_name_legal}
 use Rattle.model.proofs.Format.{are_legal_sizes_sizes}
-use Rattle.model.specs.declared.LookUpAnswer.TheVariants.{Absent as NotFound, Found, Refused as LookUpRefused}
-use Rattle.model.specs.declared.PutAnswer.TheVariants.{Added, Refused as PutRefused, Stopped as PutStopped}
-use Rattle.model.specs.declared.RecoverAnswer.TheVariants.{Freed, Nothing, Refused as RecoverRefused}
-use Rattle.model.specs.declared.RemoveAnswer.TheVariants.{Absent as NotHeld, Refused as RemoveRefused, Removed, Stopped as RemoveStopped}
 use Rattle.model.specs.Order.{Str, at}
 use Rattle.model.specs.Tests.{are_digits, is_above, is_at_most, is_legal_bound, is_legal_filled, is_legal_low, is_legal_name, same_low, same_str}
 use Rattle.model.specs.Names.{filled, not_greater, split_beginning, split_tried, within}

@@ -1,7 +1,7 @@
 -- The eight calls as one value, so that a demand can be put to any calls, right or wrong; the layouts of the versions.
 use Rattle.std.specs.Prelude.{List, ℕ}
 use Rattle.model.specs.declared.Layout.{Layout}
-use Rattle.model.specs.declared.LookUpAnswer.{LookUpAnswer}
+use Rattle.model.specs.Results.{LookUpAnswer}
 use Rattle.model.specs.declared.Trie.{Trie}
 use Rattle.model.specs.Checks.{Kind}
 use Rattle.model.specs.Format.{check_file}

@@ -6,15 +6,10 @@ use mathlib.Core.List.{List, Memᴰ, [], ◌∷◌}
 use Rattle.model.specs.declared.Cause.{Cause}
 use Rattle.model.specs.declared.Cause.TheVariants.{BadFile as bad_file, CutFile as cut_file, IllegalName as illegal_name, ManyStrings as many_strings, NoFreeSlot as no_free_slot, OlderRun as older_run, ShortOutput as short_output, StaleTrie, WrongSize as wrong_size}
 use Rattle.model.specs.declared.Layout.{Layout}
-use Rattle.model.specs.declared.ListAnswer.TheVariants.{Refused as ListRefused}
-use Rattle.model.specs.declared.LookUpAnswer.TheVariants.{Refused as LookUpRefused}
-use Rattle.model.specs.declared.PutAnswer.TheVariants.{Refused as PutRefused}
-use Rattle.model.specs.declared.RecoverAnswer.TheVariants.{Refused as RecoverRefused}
-use Rattle.model.specs.declared.RemoveAnswer.TheVariants.{Refused as RemoveRefused}
+use Rattle.model.specs.Results.{ListRefused, LookUpRefused, PutRefused, RecoverRefused, RemoveRefused, TrieRefused}
 use Rattle.model.specs.declared.Side.{Side}
 use Rattle.model.specs.declared.Side.TheVariants.{Cell as further, Slot as slot}
 use Rattle.model.specs.declared.Trie.{Trie}
-use Rattle.model.specs.declared.TrieAnswer.TheVariants.{Refused as TrieRefused}
 use Rattle.model.specs.Order.{Low, Str, ◌≺◌, ◌⊑◌, at, first_digit, last_digit, none}
 use Rattle.model.specs.Names.{Digits, filled, within}
 use Rattle.model.specs.Entries.{Entry, Row, content_from, find, run_of_content}

@@ -2,12 +2,8 @@
 use Rattle.std.specs.Prelude.{◌≡◌, List, ◌<◌, ◌^◌, ℕ}
 use Rattle.std.proofs.Math.Option.{none as nothing, some}
 use Rattle.model.specs.declared.Cause.TheVariants.{StaleTrie}
-use Rattle.model.specs.declared.LookUpAnswer.{LookUpAnswer}
-use Rattle.model.specs.declared.LookUpAnswer.TheVariants.{Absent, Found, Refused}
-use Rattle.model.specs.declared.PutAnswer.{PutAnswer}
-use Rattle.model.specs.declared.PutAnswer.TheVariants.{Added, Refused as PutRefused, Replaced, Stopped}
+use Rattle.model.specs.Results.{Added, Found, Given, LookUpAnswer, LookUpRefused as Refused, NotFound as Absent, PutAnswer, PutRefused, PutStopped as Stopped, ReplacedContent}
 use Rattle.model.specs.declared.Trie.{Trie}
-use Rattle.model.specs.declared.TrieAnswer.TheVariants.{Given}
 use Rattle.model.specs.Order.{Str}
 use Rattle.model.specs.Names.{filled}
 use Rattle.model.specs.Entries.{find, run_of_content, value_of_content}
@@ -31,7 +27,7 @@ pub data Tells (fs : List Slot) (n : Str) : LookUpAnswer → Type 0 where
 -- A put that was made: added or replaced.
 abbrev pub Made : PutAnswer → Type 0
 Made Added = Unit {0}
-Made (Replaced old old_run) = Unit {0}
+Made (ReplacedContent old) = Unit {0}
 Made (Stopped n) = ⊥
 Made (PutRefused c) = ⊥
 

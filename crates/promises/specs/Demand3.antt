@@ -3,15 +3,8 @@ use Rattle.std.specs.Prelude.{◌≡◌, cond, List, [], ◌∷◌, ◌+◌, ◌
 use Rattle.std.proofs.Math.Option.{none as nothing}
 use Rattle.model.specs.declared.Cause.{Cause}
 use Rattle.model.specs.declared.Layout.{Layout}
-use Rattle.model.specs.declared.PutAnswer.{PutAnswer}
-use Rattle.model.specs.declared.PutAnswer.TheVariants.{Added, Refused as PutRefused, Replaced, Stopped as PutStopped}
-use Rattle.model.specs.declared.RecoverAnswer.{RecoverAnswer}
-use Rattle.model.specs.declared.RecoverAnswer.TheVariants.{Freed, Nothing, Refused as RecoverRefused, Stopped as RecoverStopped}
-use Rattle.model.specs.declared.RemoveAnswer.{RemoveAnswer}
-use Rattle.model.specs.declared.RemoveAnswer.TheVariants.{Absent, Refused as RemoveRefused, Removed, Stopped as RemoveStopped}
+use Rattle.model.specs.Results.{Added, Freed, Given, NotHeld as Absent, Nothing, PutAnswer, PutRefused, PutStopped, RecoverAnswer, RecoverRefused, RecoverStopped, RemoveAnswer, RemoveRefused, RemoveStopped, Removed, ReplacedContent, TrieAnswer, TrieRefused}
 use Rattle.model.specs.declared.Trie.{Trie}
-use Rattle.model.specs.declared.TrieAnswer.{TrieAnswer}
-use Rattle.model.specs.declared.TrieAnswer.TheVariants.{Given, Refused as TrieRefused}
 use Rattle.model.specs.Order.{Str}
 use Rattle.model.specs.Tests.{same_str}
 use Rattle.model.specs.Names.{filled}
@@ -59,7 +52,7 @@ now ys (down xs m) = down ys m
 -- is always the one that the call leaves; the trie in hand after a call that was not stopped is the one that it gave.
 unfoldable pub after_put : State → Str → ℕ → PutAnswer → List ℕ → Trie → State
 after_put s n v Added xs t = running xs t (meant (to_put n v) (said s))
-after_put s n v (Replaced old old_run) xs t = running xs t (meant (to_put n v) (said s))
+after_put s n v (ReplacedContent old) xs t = running xs t (meant (to_put n v) (said s))
 after_put s n v (PutStopped made) xs t = down xs (said s)
 after_put s n v (PutRefused c) xs t = now xs s
 

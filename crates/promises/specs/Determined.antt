@@ -1,6 +1,6 @@
 -- Each public statement determines its outcome: any two outcomes that it allows are equal.
 use Rattle.std.specs.Prelude.{◌≡◌, List, ℕ}
-use Rattle.model.specs.declared.LookUpAnswer.{LookUpAnswer}
+use Rattle.model.specs.Results.{LookUpAnswer}
 use Rattle.model.specs.declared.Trie.{Trie}
 use Rattle.model.specs.Checks.{Kind}
 use Rattle.model.specs.Format.{check_file}

@@ -1,8 +1,7 @@
 -- What a call leaves at each limit: the first of its stores, which do not depend on the limit.
 use Rattle.std.specs.Prelude.{◌≡◌, List, ◌<◌, ◌≤◌, suc, ℕ, take}
 use Rattle.model.specs.declared.Layout.{Layout}
-use Rattle.model.specs.declared.PutAnswer.TheVariants.{Stopped as PutStopped}
-use Rattle.model.specs.declared.RemoveAnswer.TheVariants.{Stopped as RemoveStopped}
+use Rattle.model.specs.Results.{PutStopped, RemoveStopped}
 use Rattle.model.specs.declared.Trie.{Trie}
 use Rattle.model.specs.Files.{Slot}
 use Rattle.model.specs.Changes.{Store}

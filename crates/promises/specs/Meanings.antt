@@ -4,8 +4,7 @@ use Rattle.std.specs.Prelude.{◌≡◌, ◌↔◌, ◌⊎◌, Bool, false, true
 use Rattle.std.proofs.Math.Option.{some}
 use mathlib.Core.List.{List, Memᴰ, [], ◌++◌, ◌∷◌}
 use Rattle.model.specs.declared.Layout.{Layout}
-use Rattle.model.specs.declared.ListAnswer.TheVariants.{Listed}
-use Rattle.model.specs.declared.RecoverAnswer.TheVariants.{Freed, Nothing}
+use Rattle.model.specs.Results.{Freed, Listed, Nothing}
 use Rattle.model.specs.declared.Trie.{Trie}
 use Rattle.model.specs.Order.{Low, Str, ◌≺◌, ◌⊑◌, ◌◁◌, none}
 use Rattle.model.specs.Tests.{is_above, is_at_most, is_legal_filled, is_legal_name, same_str}

@@ -1,10 +1,8 @@
 -- Request 03: which stores a removal takes, what they leave, and what a stop between them leaves.
 use Rattle.std.specs.Prelude.{◌≡◌, List, [], ◌++◌, ◌∷◌, ◌+◌, ◌/◌, ◌<◌, ◌≤◌, suc, ℕ, length, take}
 use Rattle.model.specs.declared.Layout.{Layout}
-use Rattle.model.specs.declared.RecoverAnswer.TheVariants.{Freed}
-use Rattle.model.specs.declared.RemoveAnswer.TheVariants.{Removed, Stopped as RemoveStopped}
+use Rattle.model.specs.Results.{Freed, Given, RemoveStopped, Removed}
 use Rattle.model.specs.declared.Trie.{Trie}
-use Rattle.model.specs.declared.TrieAnswer.TheVariants.{Given}
 use Rattle.std.proofs.Math.Option.{some}
 use Rattle.model.specs.Order.{Low, Str}
 use Rattle.model.specs.Names.{filled}

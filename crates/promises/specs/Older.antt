@@ -5,12 +5,7 @@ use Rattle.std.proofs.Math.Option.{Option, some}
 use mathlib.Core.List.{List, Memᴰ, [], ◌∷◌}
 use Rattle.model.specs.declared.Cause.TheVariants.{BadFile as bad_file}
 use Rattle.model.specs.declared.Layout.{Layout}
-use Rattle.model.specs.declared.ListAnswer.TheVariants.{Refused as ListRefused}
-use Rattle.model.specs.declared.LookUpAnswer.{LookUpAnswer}
-use Rattle.model.specs.declared.LookUpAnswer.TheVariants.{Refused as LookUpRefused}
-use Rattle.model.specs.declared.PutAnswer.TheVariants.{Refused as PutRefused}
-use Rattle.model.specs.declared.RecoverAnswer.TheVariants.{Refused as RecoverRefused}
-use Rattle.model.specs.declared.RemoveAnswer.TheVariants.{Refused as RemoveRefused}
+use Rattle.model.specs.Results.{ListRefused, LookUpAnswer, LookUpRefused, PutRefused, RecoverRefused, RemoveRefused}
 use Rattle.model.specs.declared.Trie.{Trie}
 use Rattle.model.specs.Order.{Low, Str}
 use Rattle.model.specs.Tests.{are_digits}

@@ -2,9 +2,7 @@
 use Rattle.std.specs.Prelude.{◌↔◌, ◌≢◌, ◌≡◌, List, ◌<◌, ◌^◌, ◌≤◌, ℕ}
 use Rattle.std.proofs.Math.Option.{some}
 use Rattle.model.specs.declared.Cause.TheVariants.{OlderRun}
-use Rattle.model.specs.declared.LookUpAnswer.TheVariants.{Found}
-use Rattle.model.specs.declared.PutAnswer.TheVariants.{Refused as PutRefused, Replaced}
-use Rattle.model.specs.declared.RemoveAnswer.TheVariants.{Removed}
+use Rattle.model.specs.Results.{Found, PutRefused, Removed, Replaced}
 use Rattle.model.specs.declared.Trie.{Trie}
 use Rattle.model.specs.Entries.{content_from}
 use Rattle.model.specs.Tries.{Agrees}

@@ -4,7 +4,7 @@ use Rattle.std.proofs.Math.Option.{Option, none as nothing, some}
 use Prim.Native.String.{String}
 use Rattle.model.specs.declared.Cause.TheVariants.{StaleTrie}
 use Rattle.model.specs.declared.Cell.{Cell}
-use Rattle.model.specs.declared.LookUpAnswer.TheVariants.{Absent as NotFound, Refused as LookUpRefused}
+use Rattle.model.specs.Results.{LookUpRefused, NotFound}
 use Rattle.model.specs.declared.Side.{Side}
 use Rattle.model.specs.declared.Side.TheVariants.{Cell as further, Slot as slot}
 use Rattle.model.specs.declared.Trie.{Trie}

@@ -3,10 +3,7 @@ use Rattle.std.specs.Prelude.{◌≡◌, List, [], ◌∷◌, ◌+◌, ◌/◌, 
 use Rattle.std.proofs.Math.Option.{some}
 use Rattle.model.specs.declared.Cause.TheVariants.{CutFile, StaleTrie}
 use Rattle.model.specs.declared.Layout.{Layout}
-use Rattle.model.specs.declared.LookUpAnswer.TheVariants.{Refused as LookUpRefused}
-use Rattle.model.specs.declared.PutAnswer.TheVariants.{Added, Refused as PutRefused, Stopped as PutStopped}
-use Rattle.model.specs.declared.RecoverAnswer.TheVariants.{Freed}
-use Rattle.model.specs.declared.RemoveAnswer.TheVariants.{Removed}
+use Rattle.model.specs.Results.{Added, Freed, LookUpRefused, PutRefused, PutStopped, Removed}
 use Rattle.model.specs.declared.Side.TheVariants.{Cell as further, Slot as slot}
 use Rattle.model.specs.declared.Trie.{Trie}
 use Rattle.model.specs.Order.{at, none}

@@ -1,13 +1,8 @@
 -- Where a name left the range (R10.13): which digit number a refusal 4 carries, and of which bound.
 use Rattle.std.specs.Prelude.{◌≡◌, ◌↔◌, ◌⊎◌, List, ◌<◌, ◌≤◌, ℕ}
 use Rattle.model.specs.declared.Cause.TheVariants.{StaleTrie}
-use Rattle.model.specs.declared.ListAnswer.TheVariants.{Refused as ListRefused}
-use Rattle.model.specs.declared.LookUpAnswer.TheVariants.{Refused as LookUpRefused}
-use Rattle.model.specs.declared.PutAnswer.TheVariants.{Refused as PutRefused}
-use Rattle.model.specs.declared.RecoverAnswer.TheVariants.{Refused as RecoverRefused}
-use Rattle.model.specs.declared.RemoveAnswer.TheVariants.{Refused as RemoveRefused}
+use Rattle.model.specs.Results.{ListRefused, LookUpRefused, PutRefused, RecoverRefused, RemoveRefused, TrieRefused}
 use Rattle.model.specs.declared.Trie.{Trie}
-use Rattle.model.specs.declared.TrieAnswer.TheVariants.{Refused as TrieRefused}
 use Rattle.model.specs.Order.{Str, ◌⊑◌, at}
 use Rattle.model.specs.Names.{filled}
 use Rattle.model.specs.Entries.{Entry}

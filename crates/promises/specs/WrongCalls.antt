@@ -4,15 +4,8 @@ use Rattle.std.proofs.Math.Option.{Option, none as nothing, some}
 use Rattle.model.specs.declared.Cause.{Cause}
 use Rattle.model.specs.declared.Cause.TheVariants.{IllegalName, WrongSize}
 use Rattle.model.specs.declared.Layout.{Layout}
-use Rattle.model.specs.declared.ListAnswer.TheVariants.{Refused as ListRefused}
-use Rattle.model.specs.declared.LookUpAnswer.TheVariants.{Refused as LookUpRefused}
-use Rattle.model.specs.declared.PutAnswer.TheVariants.{Refused as PutRefused, Stopped as PutStopped}
-use Rattle.model.specs.declared.RecoverAnswer.{RecoverAnswer}
-use Rattle.model.specs.declared.RecoverAnswer.TheVariants.{Freed, Nothing, Refused as RecoverRefused, Stopped as RecoverStopped}
-use Rattle.model.specs.declared.RemoveAnswer.{RemoveAnswer}
-use Rattle.model.specs.declared.RemoveAnswer.TheVariants.{Absent as NotHeld, Refused as RemoveRefused, Removed, Stopped as RemoveStopped}
+use Rattle.model.specs.Results.{Freed, ListRefused, LookUpRefused, NotHeld, Nothing, PutRefused, PutStopped, RecoverAnswer, RecoverRefused, RecoverStopped, RemoveAnswer, RemoveRefused, RemoveStopped, Removed, TrieRefused}
 use Rattle.model.specs.declared.Trie.{Trie}
-use Rattle.model.specs.declared.TrieAnswer.TheVariants.{Refused as TrieRefused}
 use Rattle.model.specs.Order.{Low, Str}
 use Rattle.model.specs.Tests.{is_legal_name}
 use Rattle.model.specs.Names.{filled}

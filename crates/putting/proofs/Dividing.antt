@@ -1,15 +1,16 @@
 -- Put into a full bucket: what refuses the split, and its two stores.
-use Rattle.model.proofs.Prelude.{Bool, List, Option, [], ◌+◌, ◌-◌, ◌<◌, ◌∙◌, ◌≡◌, ◌≤◌, ap, ap₂, arith, clash, cond, dec_lt, false, get_or, le-leb, le-ltb, leb, length, lt-leb, lt-ltb, ltb, nothing, some, subst, suc, sym, take, true, ℕ}
+use Rattle.model.proofs.Prelude.{Bool, List, Option, [], ◌+◌, ◌-◌, ◌<◌, ◌∙◌, ◌≡◌, ◌≤◌, ap, ap₂, arith, clash, cond, dec_lt, false, le-leb, le-ltb, leb, length, lt-leb, lt-ltb, ltb, nothing, refl, some, subst, suc, sym, take, true, ℕ}
+use Rattle.std.specs.Prelude.{IsSome, Option as Maybe, None, Some}
 use Rattle.model.specs.declared.Cause.TheVariants.{ManyStrings, NoFreeSlot}
 use Rattle.model.specs.declared.Layout.{Layout}
-use Rattle.model.specs.declared.PutAnswer.TheVariants.{Added, Refused, Stopped}
+use Rattle.model.specs.Results.{Added, PutRefused as Refused, PutStopped as Stopped}
 use Rattle.model.specs.declared.Trie.{Trie}
 use Rattle.model.specs.Order.{Low, Str, ◌⊑◌, ◌◁◌, diff, none}
 use Rattle.model.specs.Names.{Legal}
 use Rattle.model.specs.Entries.{Entry, Row, insert, name_at}
 use Rattle.model.specs.Files.{In, Slot, Sound, head, slot_at}
 use Rattle.model.specs.Tries.{Agrees, root, walk_trie}
-use Rattle.model.specs.Agreeing.{slots_between}
+use Rattle.model.specs.Agreeing.{is_agreeing, slots_between}
 use Rattle.model.specs.Growth.{grown_trie}
 use Rattle.model.specs.Changes.{Lowest, Store, call, halves, put as asked, put_in, refuse, split_of, stored, stores}
 use Rattle.model.specs.Format.{bytes_at_slot, header_of, laid_out, read_file, read_slots}
@@ -27,11 +28,8 @@ use Rattle.model.specs.Searches.{first, is_free, string_count, strings_of}
 use Rattle.entries.proofs.Parts.{length_new}
 use Rattle.bucket.specs.Forms.{ReadAs}
 use Rattle.slots.specs.Halves.{LowerTold, UpperTold}
-use Rattle.image.specs.Images.{image_length, trie_from}
-use Rattle.image.proofs.Images.{image_back}
+use Rattle.image.specs.Images.{image_of, trie_from}
 use Rattle.file.specs.declared.Plan.{Plan}
-use Rattle.file.specs.declared.Room.{Room}
-use Rattle.file.specs.declared.Room.TheVariants.{At, Full as NoRoom}
 use Rattle.file.specs.declared.Size.{Size}
 use Rattle.file.specs.Plans.{Committed, Planned}
 use Rattle.file.specs.Maps.{RoomTold, map_of, room_of}
@@ -39,16 +37,14 @@ use Rattle.file.specs.Sizes.{Inside as RoomInside, Saying, Sized}
 use Rattle.file.proofs.Surveying.{said_read}
 use Rattle.trie.specs.declared.Strings.{Strings}
 use Rattle.trie.specs.Places.{Placed}
-use Rattle.trie.specs.Strung.{Strung, lengths}
+use Rattle.trie.specs.Strung.{Holds, Strung, lengths}
 use Rattle.trie.specs.Walks.{Ended}
 use Rattle.strings.specs.Arrays.{Listed}
-use Rattle.agreement.specs.declared.Agreement.{Agreement}
-use Rattle.agreement.specs.Decides.{Decides}
-use Rattle.agreement.proofs.Laws.{agreed_count}
+use Rattle.agreement.specs.Decides.{Decided, Decides}
 use Rattle.growth.specs.Grows.{Grows}
 use Rattle.growth.proofs.Asking.{asked as grown_asked}
 use Rattle.checking.specs.declared.Checked.{Checked}
-use Rattle.checking.specs.Ready.{Agreed}
+use Rattle.checking.specs.Ready.{Agreed, Ready}
 use Rattle.checking.proofs.Plans.{TwoStores}
 use Rattle.checking.proofs.Ready.{ready_count, ready_order, slot_read}
 use Rattle.splitting.specs.declared.Split.{Split}
@@ -61,8 +57,8 @@ use Rattle.putting.specs.Full.{DivideTold, Full, SplitTold, StandingTold}
 use Rattle.putting.proofs.Putting.{stores_made, stores_stopped}
 
 -- A free slot that was found is one of the file's.
-pub room_inside : {r : Room} {k n : ℕ} → r ≡ At k → RoomInside r n → k < n
-room_inside {r} {k} {n} e t = subst (λ (x : Room). RoomInside x n) e t
+pub room_inside : {r : Maybe ℕ} {k n : ℕ} → r ≡ Some k → RoomInside r n → k < n
+room_inside {r} {k} {n} e t = subst (λ (x : Maybe ℕ). RoomInside x n) e t
 
 -- What the checks found, said of the slots that are read.
 record Known (c : Checked) (xs : List ℕ) (t : Trie) (fs : List Slot) : Type 0 where
@@ -180,20 +176,20 @@ module _ (y : Layout) (two : 2 ≤ y.b) (few : y.b ≤ 16) (xs : List ℕ) {fs :
   both_made h k = call_split ∙ rw (lt-ltb N (length fs) h, le-leb (string_count (stored both fs)) 256 k)
 
 -- The room that was found.
-room_full : (fs : List Slot) → room_of fs ≡ NoRoom → length fs ≤ first is_free fs
+room_full : (fs : List Slot) → room_of fs ≡ None → length fs ≤ first is_free fs
 unfolding room_of
 room_full fs e = elim (dec_lt (first is_free fs) (length fs)) [
   | no h ↦ omega arith
-  | yes h ↦ let q : ◌≡◌ {A = Room} (At (first is_free fs)) NoRoom = rw (lt-ltb (first is_free fs) (length fs) h) at e in
+  | yes h ↦ let q : ◌≡◌ {A = Maybe ℕ} (Some (first is_free fs)) None = rw (lt-ltb (first is_free fs) (length fs) h) at e in
       clash cc
 ]
 
-room_at : (fs : List Slot) (k : ℕ) → room_of fs ≡ At k → (k ≡ first is_free fs) × (first is_free fs < length fs)
+room_at : (fs : List Slot) (k : ℕ) → room_of fs ≡ Some k → (k ≡ first is_free fs) × (first is_free fs < length fs)
 unfolding room_of
 room_at fs k e = elim (dec_lt (first is_free fs) (length fs)) [
-  | yes h ↦ let q : ◌≡◌ {A = Room} (At (first is_free fs)) (At k) = rw (lt-ltb (first is_free fs) (length fs) h) at e in
+  | yes h ↦ let q : ◌≡◌ {A = Maybe ℕ} (Some (first is_free fs)) (Some k) = rw (lt-ltb (first is_free fs) (length fs) h) at e in
       let p : k ≡ first is_free fs = cc in (p, h)
-  | no h ↦ let q : ◌≡◌ {A = Room} NoRoom (At k) = rw (le-ltb (first is_free fs) (length fs) (omega arith)) at e in
+  | no h ↦ let q : ◌≡◌ {A = Maybe ℕ} None (Some k) = rw (le-ltb (first is_free fs) (length fs) (omega arith)) at e in
       clash cc
 ]
 
@@ -205,7 +201,7 @@ module _ {c : Checked} {xs : List ℕ} {t : Trie} (G : Agreed c xs t) where
   few_entries : c.size.layout.b ≤ 16
   few_entries = G.ready.said.sized.legal.b_most
 
-  lowest : {room : Room} → RoomTold c.survey.used c.size.slots room → {fs : List Slot} → read_file xs ≡ some (c.size.layout, fs) → room ≡ room_of fs
+  lowest : {room : Maybe ℕ} → RoomTold c.survey.used c.size.slots room → {fs : List Slot} → read_file xs ≡ some (c.size.layout, fs) → room ≡ room_of fs
   lowest R {fs} e = R.lowest fs (slots_are xs e G.ready.said.header) G.ready.said.sized.legal.slots_most (known G e).map_is
 
 -- The two stores of a split.
@@ -215,17 +211,37 @@ pub divide_told : (xs : List ℕ) (size : Size) → Sized (length xs) size → (
 divide_told xs size Z A row {p} {N} {s} {slot} {new} {old} here new_is old_is q fs e S n v l u es F t D =
     both_planned size.layout Z.legal.b_least Z.legal.b_most xs e S t F D N p slot new old here new_is old_is q
 
--- Where the cells stand, and how long the strings are.
-pub standing_told : {c : Checked} {xs : List ℕ} {t : Trie} (G : Agreed c xs t) {g : Strings} {a : Agreement} → Listed g xs c.size c.survey.order c.survey.count → Decides t g a
-    → StandingTold (record { places = a.places; lens = g.lens }) c xs t
-standing_told {c} {xs} {t} G {g} L D fs e =
-    let K = known G e in
-    let b = c.size.layout.b in
-    let strung : Strung g (strings_of fs) (slots_between fs none (strings_of fs)) =
-    L.strung fs (listed_slots xs c.size G.ready.said e) K.sound (ready_count G.ready e) (ready_order G.ready e) in
-    let z = D b fs K.sound strung in
-    let few : length (strings_of fs) ≤ 256 = omega (arith, agreed_count b K.sound t K.agrees, K.agrees.few) in
-    (z.placed (z.agrees_is ∙ agrees_is_agreeing b K.sound K.agrees), (strung.holds few).lens_are)
+-- The strings of a file that passed the checks are given: they are 256 or fewer.
+module _ {c : Checked} {xs : List ℕ} (R : Ready c xs) {g : Maybe Strings} (L : Listed g xs c.size c.survey.order c.survey.count) where
+  abbrev ss : List Str
+  ss = strings_of R.slots
+
+  pub strings_there : IsSome g
+  strings_there = go g (L.strung R.slots (listed_slots xs c.size R.said R.is) R.sound R.count_is R.order_is)
+    where
+      go : (h : Maybe Strings) → Strung h ss (slots_between R.slots none ss) → IsSome h
+      go None many = absurd (omega (arith, many, R.few))
+      go (Some s) given = refl
+
+-- And a trie that agrees with it is seen to: where the cells stand, and how long the strings are.
+module _ {c : Checked} {xs : List ℕ} {t : Trie} (G : Agreed c xs t) {s : Strings} (L : Listed (Some s) xs c.size c.survey.order c.survey.count) where
+  held_are : {fs : List Slot} → read_file xs ≡ some (c.size.layout, fs) → Holds s (strings_of fs) (slots_between fs none (strings_of fs))
+  held_are {fs} e = L.strung fs (listed_slots xs c.size G.ready.said e) (known G e).sound (ready_count G.ready e) (ready_order G.ready e)
+
+  pub places_there : (r : Maybe (List ℕ)) → Decides t (Some s) r → IsSome r
+  places_there r D = go r (D c.size.layout.b G.ready.slots G.ready.sound (held_are G.ready.is))
+    where
+      agree : is_agreeing G.ready.slots t ≡ true
+      agree = agrees_is_agreeing c.size.layout.b G.ready.sound G.agrees
+
+      go : (o : Maybe (List ℕ)) → Decided G.ready.slots t o → IsSome o
+      go None apart = let z : ◌≡◌ {A = Bool} true false = sym agree ∙ apart in clash cc
+      go (Some places) placed = refl
+
+  pub standing_told : {r : Maybe (List ℕ)} {places : List ℕ} → Decides t (Some s) r → r ≡ Some places → StandingTold (record { places = places; lens = s.lens }) c xs t
+  standing_told {r} {places} D q fs e =
+      let d : Decided fs t (Some places) = subst (Decided fs t) q (D c.size.layout.b fs (known G e).sound (held_are e)) in
+      (d.1, (held_are e).lens_are)
 
 module _ (image : List ℕ) {c : Checked} {xs : List ℕ} (G : Agreed c xs (trie_from image)) (A : ℕ) (row : List ℕ) (limit : ℕ) where
   abbrev y : Layout
@@ -235,12 +251,12 @@ module _ (image : List ℕ) {c : Checked} {xs : List ℕ} (G : Agreed c xs (trie
   t = trie_from image
 
   -- The room for the new slot.
-  module _ {room : Room} (R : RoomTold c.survey.used c.size.slots room) where
-    pub full_told : room ≡ NoRoom → SplitTold (Refused NoFreeSlot, xs, image) xs image c.size A row limit
+  module _ {room : Maybe ℕ} (R : RoomTold c.survey.used c.size.slots room) where
+    pub full_told : room ≡ None → SplitTold (Refused NoFreeSlot, xs, image) xs image c.size A row limit
     unfolding put_by_stores refusal_of
     full_told q fs e n v l u es F = rw (no_room y (two G) (few_entries G) xs e (known G e).sound t F (room_full fs (sym (lowest G R e) ∙ q)))
 
-    module _ {N : ℕ} (q : room ≡ At N) {s : Split} (m : Parted s y.b) (f : Found s y t row) where
+    module _ {N : ℕ} (q : room ≡ Some N) {s : Split} (m : Parted s y.b) (f : Found s y t row) where
       -- What the split is of, and how many strings there are then.
       module _ {fs : List Slot} (e : read_file xs ≡ some (y, fs)) {n : Str} {v : ℕ} {l : Low} {u : Str} {es : List Entry}
           (F : Full y fs A n v l u es row) where
@@ -276,8 +292,8 @@ module _ (image : List ℕ) {c : Checked} {xs : List ℕ} (G : Agreed c xs (trie
 
         -- The bytes that the grown trie is read from are its image.
         pub split_made : {k : Standing} {w : List ℕ} → StandingTold k c xs t → Grows t k.places k.lens s.walk (take s.len s.string) s.shared A N (trie_from w)
-            → length w ≡ image_length → ((i : ℕ) → get_or w i 0 < 256) → d ≡ false → SplitTold (Added, ys, w) xs image c.size A row limit
-        split_made {k} {w} told g size bytes made fs e n v l u es F =
+            → w ≡ image_of (trie_from w) → d ≡ false → SplitTold (Added, ys, w) xs image c.size A row limit
+        split_made {k} {w} told g back made fs e n v l u es F =
             let P = D fs e (known G e).sound n v l u es F t (divides e F) in
             let place = told fs e in
             let is = grown_is y (two G) (few_entries G) xs e (known G e).sound t F (known G e).agrees (divides e F) place.0 place.1 N (trie_from w) g in
@@ -287,5 +303,5 @@ module _ (image : List ℕ) {c : Checked} {xs : List ℕ} (G : Agreed c xs (trie
               both_said y (two G) (few_entries G) xs e (known G e).sound t F,
               both_grown y (two G) (few_entries G) xs e (known G e).sound t F N,
               ← is,
-              image_back w size bytes,
+              ← back,
             )

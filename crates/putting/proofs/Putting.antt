@@ -1,31 +1,32 @@
 -- Put, put together from the home of the name.
-use Rattle.model.proofs.Prelude.{Bool, List, Option, [], ◌<◌, ◌∙◌, ◌∷◌, ◌≡◌, ◌≤◌, arith, clash, false, get_or, le-leb, le-ltb, length, lt-ltb, ltb, ltb-false, nothing, refl, some, subst, sym, take_all, take-nil, true, ℕ}
+use Rattle.model.proofs.Prelude.{Bool, List, Option, [], ◌<◌, ◌∙◌, ◌∷◌, ◌≡◌, ◌≤◌, arith, false, get_or, le-leb, le-ltb, length, lt-ltb, ltb, ltb-false, nothing, refl, some, subst, sym, take_all, true, ℕ}
+use Rattle.std.specs.Prelude.{Result, Ok, Err}
 use Rattle.model.specs.declared.Cause.{Cause}
+use Rattle.model.specs.declared.Put.{Put}
 use Rattle.model.specs.declared.Cause.TheVariants.{IllegalName, OlderRun, WrongSize}
 use Rattle.model.specs.declared.Layout.{Layout}
-use Rattle.model.specs.declared.PutAnswer.{PutAnswer}
-use Rattle.model.specs.declared.PutAnswer.TheVariants.{Added, Refused, Replaced, Stopped}
+use Rattle.model.specs.Results.{Added, PutAnswer, PutRefused as Refused, PutStopped as Stopped, ReplacedContent}
 use Rattle.model.specs.declared.Trie.{Trie}
 use Rattle.model.specs.Order.{Low, Str}
 use Rattle.model.specs.Tests.{is_legal_name}
 use Rattle.model.specs.Names.{filled}
 use Rattle.model.specs.Entries.{Entry, content_from, find, insert, run_of_content}
 use Rattle.model.specs.Files.{Slot, used}
-use Rattle.model.specs.Changes.{Result, Store, call, put as asked, put_in, refuse, stores}
-use Rattle.model.specs.Calls.{PutDone, fine, held, looked_of, put_answer, put_by_stores, put_of, put_on_looked, put_takes, refusal_of, refusing, stores_bytes, trie_after_put}
-use Rattle.model.specs.Format.{kept_run}
+use Rattle.model.specs.Changes.{Result as Asked, Store, call, put as asked, put_in, refuse, stores}
+use Rattle.model.specs.Calls.{PutDone, fine, held, looked_of, put_answer, put_by_stores, put_of, put_on_looked, put_takes, refusal_of, refusing, trie_after_put}
+use Rattle.model.specs.Format.{Sizes, kept_run}
 use Rattle.model.specs.Places.{place_of}
 use Rattle.slots.specs.Spots.{Begins}
 use Rattle.image.specs.Images.{image_length, trie_from}
 use Rattle.image.proofs.Images.{image_back}
 use Rattle.file.specs.declared.Plan.{Plan}
 use Rattle.file.specs.declared.Size.{Size}
-use Rattle.file.specs.Plans.{Committed, Planned}
+use Rattle.file.specs.Plans.{Committed, Fits, Planned}
 use Rattle.checking.specs.Homes.{Home}
-use Rattle.checking.proofs.Plans.{NoStore, OneStore}
+use Rattle.checking.proofs.Plans.{OneStore}
 use Rattle.putting.specs.declared.PutPlan.{PutPlan}
 use Rattle.putting.specs.Outcomes.{image_after, put_left}
-use Rattle.putting.specs.Plans.{PutAsked, PutPlanned, PutTaken, PutTold}
+use Rattle.putting.specs.Plans.{Of, PutAsked, PutPlanned, PutTaken, PutTold}
 use Rattle.putting.proofs.Homes.{takes_new, takes_older}
 
 -- One store: of a held name, or of a new one that fits.
@@ -35,20 +36,23 @@ module _ (y : Layout) {fs : List Slot} {A : ℕ} {n : Str} (c : ℕ) {l : Low} {
   unfolding call put_in
   call_put = rw (← H.slot_is, H.is) (rw (le-leb (length (insert n c es)) y.b k))
 
-  pub put_one : (r : PutPlan) (p : Plan) (bytes : List ℕ) {o : Option ℕ} → find n es ≡ o → Begins bytes y (used l u (insert n c es)) → OneStore p A bytes
-      → (r.plan ≡ p) × (r.answer ≡ put_answer o) → PutAsked r y fs n c
-  put_one r p bytes f z q g =
-      let a : r.answer ≡ put_answer (held fs n) = rw (← H.slot_is, H.is, f) g.1 in
-      subst (PutPlanned r y fs n) (sym call_put) (rw g.0 (q.0, (q.1, rw q.2 z)), a, refl)
+  pub put_one : (p : Plan) (d : Put) (bytes : List ℕ) {o : Option ℕ} → find n es ≡ o → Begins bytes y (used l u (insert n c es)) → OneStore p A bytes
+      → Ok d ≡ put_answer o → PutAsked (Ok (record { plan = p; done = d })) y fs n c
+  put_one p d bytes f z q g =
+      let a : Ok d ≡ put_answer (held fs n) = rw (← H.slot_is, H.is, f) g in
+      subst (PutPlanned (Ok (record { plan = p; done = d })) y fs n) (sym call_put) ((q.0, (q.1, rw q.2 z)), a, refl)
+
+pub fits_of : (p : Plan) {k : ℕ} (size : Size) → Of p k → k < size.slots → Sizes size.layout size.slots → Fits p size
+fits_of p size q h l = rw (q.0, q.1) (h, l.slots_least)
 
 -- None: what is held has a higher run.
-pub put_older : (y : Layout) {fs : List Slot} {A : ℕ} {n : Str} {l : Low} {u : Str} {es : List Entry} → Home A fs n l u es → (c run : ℕ) (r : PutPlan) (p : Plan) (w : ℕ)
-    → find n es ≡ some w → run < run_of_content w → NoStore p → (r.plan ≡ p) × (r.answer ≡ Refused OlderRun) → PutTaken r y fs n c run
+pub put_older : (y : Layout) {fs : List Slot} {A : ℕ} {n : Str} {l : Low} {u : Str} {es : List Entry} → Home A fs n l u es → (c run w : ℕ)
+    → find n es ≡ some w → run < run_of_content w → PutTaken (Err OlderRun) y fs n c run
 unfolding refusal_of
-put_older y {fs} {n = n} H c run r p w f k q g = subst (PutPlanned r y fs n) (sym (takes_older y H c run w f k)) (rw g.0 q.0, g.1)
+put_older y {fs} {n = n} H c run w f k = subst (PutPlanned (Err OlderRun) y fs n) (sym (takes_older y H c run w f k)) refl
 
 -- Of a name that is not held the runs say nothing.
-pub put_new : (y : Layout) {fs : List Slot} {A : ℕ} {n : Str} {l : Low} {u : Str} {es : List Entry} → Home A fs n l u es → (c run : ℕ) (r : PutPlan)
+pub put_new : (y : Layout) {fs : List Slot} {A : ℕ} {n : Str} {l : Low} {u : Str} {es : List Entry} → Home A fs n l u es → (c run : ℕ) (r : Result PutPlan Cause)
     → find n es ≡ nothing → PutAsked r y fs n c → PutTaken r y fs n c run
 put_new y {fs} {n = n} H c run r f = subst (PutPlanned r y fs n) (sym (takes_new y H c run f))
 
@@ -78,16 +82,19 @@ one_stays y fs n v [] t e = refl
 one_stays y fs n v (x ∷ []) t e = refl
 one_stays y fs n v (x ∷ z ∷ ss) t e = absurd (omega arith)
 
+pub one_refused : (xs : List ℕ) (t : Trie) (y : Layout) (fs : List Slot) (n : Str) (v limit : ℕ) {e : Cause} (a : Asked) → PutPlanned (Err e) y fs n a
+    → put_by_stores xs t y fs n v limit a ≡ record { answer = Refused e; file = xs; trie = t }
+unfolding put_by_stores
+one_refused xs t y fs n v limit (refuse c) q = rw q
+one_refused xs t y fs n v limit (stores ss) q = absurd q
+
 module _ (xs ys : List ℕ) (t : Trie) (y : Layout) (fs : List Slot) (n : Str) (v limit : ℕ) (p : PutPlan) (d : Bool) (C : Committed d xs ys y p.plan limit) where
-  pub one_stopped : (a : Result) → PutPlanned p y fs n a → d ≡ true → put_by_stores xs t y fs n v limit a ≡ record { answer = Stopped limit; file = ys; trie = t }
-  one_stopped (refuse c) q e =
-      let z : true ≡ ltb limit 0 = sym e ∙ (C [] q.0).1 in let w : ltb limit 0 ≡ false = le-ltb limit 0 (omega arith) in
-      let x : ◌≡◌ {A = Bool} true false = z ∙ w in clash cc
+  pub one_stopped : (a : Asked) → PutPlanned (Ok p) y fs n a → d ≡ true → put_by_stores xs t y fs n v limit a ≡ record { answer = Stopped limit; file = ys; trie = t }
+  one_stopped (refuse c) q e = absurd q
   one_stopped (stores ss) q e = stores_stopped xs ys t y fs n v limit p.plan d C ss q.0 e
 
-  pub one_made : (a : Result) → PutPlanned p y fs n a → d ≡ false → put_by_stores xs t y fs n v limit a ≡ record { answer = p.answer; file = ys; trie = t }
-  unfolding put_by_stores stores_bytes
-  one_made (refuse c) q e = rw ((C [] q.0).0, take-nil limit, q.1)
+  pub one_made : (a : Asked) → PutPlanned (Ok p) y fs n a → d ≡ false → put_by_stores xs t y fs n v limit a ≡ record { answer = Ok p.done; file = ys; trie = t }
+  one_made (refuse c) q e = absurd q
   one_made (stores ss) q e =
       stores_made xs ys t y fs n v limit p.plan d C ss q.0 e ∙ rw (q.1, one_stays y fs n v ss t q.2)
 
@@ -100,7 +107,7 @@ trie_left r ys image e w {d} f =
   where
     same : (a : PutAnswer) → image_after a (trie_from image) image ≡ image
     same Added = image_back image e w
-    same (Replaced v u) = refl
+    same (ReplacedContent c) = refl
     same (Stopped k) = refl
     same (Refused c) = refl
 

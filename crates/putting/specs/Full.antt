@@ -2,7 +2,7 @@
 use Rattle.std.specs.Prelude.{◌≡◌, List, ℕ, length, take}
 use Rattle.std.proofs.Math.Option.{none as nothing, some}
 use Rattle.model.specs.declared.Layout.{Layout}
-use Rattle.model.specs.declared.PutAnswer.{PutAnswer}
+use Rattle.model.specs.Results.{PutAnswer}
 use Rattle.model.specs.declared.Trie.{Trie}
 use Rattle.model.specs.Order.{Low, Str}
 use Rattle.model.specs.Names.{Legal}

@@ -1,7 +1,6 @@
 -- What a put leaves: its answer, the file, and the image in place of the trie.
 use Rattle.std.specs.Prelude.{List, ℕ}
-use Rattle.model.specs.declared.PutAnswer.{PutAnswer}
-use Rattle.model.specs.declared.PutAnswer.TheVariants.{Added, Refused as PutRefused, Replaced, Stopped as PutStopped}
+use Rattle.model.specs.Results.{Added, PutAnswer, PutRefused, PutStopped, ReplacedContent}
 use Rattle.model.specs.declared.Trie.{Trie}
 use Rattle.model.specs.Calls.{PutDone}
 use Rattle.image.specs.Images.{image_of}
@@ -9,7 +8,7 @@ use Rattle.image.specs.Images.{image_of}
 -- A refused or stopped call leaves every byte of the image; a replaced value leaves the trie.
 abbrev pub image_after : PutAnswer → Trie → List ℕ → List ℕ
 image_after Added t image = image_of t
-image_after (Replaced v r) t image = image
+image_after (ReplacedContent c) t image = image
 image_after (PutStopped n) t image = image
 image_after (PutRefused c) t image = image
 

@@ -3,8 +3,7 @@ use Rattle.model.proofs.Prelude.{Bool, List, [], ◌&&◌, ◌*◌, ◌++◌, �
 use native.Mathlib.Nat.{mul-div_cancel_left, mul-zero}
 use Rattle.model.specs.declared.Cause.{Cause}
 use Rattle.model.specs.declared.Cause.TheVariants.{IllegalName, ShortOutput}
-use Rattle.model.specs.declared.ListAnswer.{ListAnswer}
-use Rattle.model.specs.declared.ListAnswer.TheVariants.{Listed, Refused}
+use Rattle.model.specs.Results.{ListAnswer, ListRefused as Refused, Listed}
 use Rattle.model.specs.declared.Trie.{Trie}
 use Rattle.model.specs.Order.{Low, Str, ◌⊑◌}
 use Rattle.model.specs.Names.{Legal, filled}
@@ -23,10 +22,9 @@ use Rattle.model.proofs.Names.{legal_length}
 use Rattle.model.proofs.Entries.{row_at}
 use Rattle.model.proofs.Files.{slot_row, used_inside}
 use Rattle.model.proofs.Removals.{entries_in_append}
-use Rattle.digits.specs.Keys.{value}
-use Rattle.slots.specs.Parts.{all_of, part_of}
+use Rattle.digits.specs.Keys.{key_value, value}
+use Rattle.slots.specs.Parts.{all_of, part_of as searched}
 use Rattle.slots.proofs.Spots.{all_listed, part_listed}
-use Rattle.file.specs.declared.Size.{Size}
 use Rattle.file.specs.Holders.{Holder, Ordered, placed, upper_at}
 use Rattle.file.proofs.Holding.{place_number, place_used, places_apart}
 use Rattle.file.proofs.Readings.{used_read}
@@ -34,7 +32,8 @@ use Rattle.bucket.specs.Forms.{ReadAs}
 use Rattle.bucket.specs.Slots.{OfSize}
 use Rattle.bucket.proofs.Slots.{read_written}
 use Rattle.reading.specs.Outcomes.{listed}
-use Rattle.reading.specs.Listings.{Written, all_parts, part_at, parts}
+use Rattle.reading.specs.declared.span.Span.{Span}
+use Rattle.reading.specs.Listings.{Written, bytes_of, part_of, parts}
 
 -- What lies between two names, of entries put together.
 between_append : (n m : Str) (es fs : List Entry) → between n m (es ++ fs) ≡ between n m es ++ between n m fs
@@ -87,9 +86,15 @@ in_none n m fs [] f = refl
 in_none n m fs (B ∷ Bs) f =
     between_append n m (entries_of (slot_at fs B)) (entries_in fs Bs) ∙ ap₂ (λ (x y : List Entry). x ++ y) (f 0 (omega arith)) (in_none n m fs Bs (λ i h. f (suc i) (omega arith)))
 
-module _ {xs : List ℕ} {s : Size} {order : List ℕ} {count : ℕ} {fs : List Slot} (O : Ordered xs s order count fs) where
+module _ (s : Span) {count : ℕ} {fs : List Slot} (O : Ordered s.file.now s.size s.order.now count fs) where
+  abbrev xs : List ℕ
+  xs = s.file.now
+
+  abbrev order : List ℕ
+  order = s.order.now
+
   abbrev y : Layout
-  y = s.layout
+  y = s.size.layout
 
   abbrev z : ℕ
   z = entry_length y
@@ -135,7 +140,13 @@ module _ {xs : List ℕ} {s : Size} {order : List ℕ} {count : ℕ} {fs : List 
         rw (e, entries_append z es ds, length-append (bytes_of_entries z es) (bytes_of_entries z ds), length-append es ds) (omega (arith, between_length z least n m (place_row j (omega arith)), parts_length k (suc j) (omega arith)))
 
     -- The buckets before the first name's have names below it, those behind the second name's names above it.
-    module _ (from to : ℕ) (P : Holder fs n from) (Q : Holder fs m to) where
+    module _ (P : Holder fs n s.from) (Q : Holder fs m s.to) where
+      abbrev from : ℕ
+      from = s.from
+
+      abbrev to : ℕ
+      to = s.to
+
       before_none : (i : ℕ) → i < from → between n m (entries_of (placed fs i)) ≡ []
       before_none i h =
           between_none n m (entries_of (placed fs i))
@@ -154,35 +165,35 @@ module _ {xs : List ℕ} {s : Size} {order : List ℕ} {count : ℕ} {fs : List 
           let e = row_at (place_row i r) k j in
           (le_trans P.range.2 (lt_le (over (low_lower (places_apart O from i h r) e.1))), le_trans e.2 (lt_le (Q.before i d))))
 
-      -- So the bytes of the slot at a place are those of its entries between the names.
-      part_entries : (v w : ℕ) → v ≡ value n → w ≡ value m → (j : ℕ) → j < count
-          → part_at xs y order v w from to j ≡ bytes_of_entries z (between n m (entries_of (placed fs j)))
-      unfolding part_at
-      part_entries v w p q j h = go (ltb from j && ltb j to) refl
-        where
-          ys : List ℕ
-          ys = slot_bytes j
+      module _ (p : key_value s.low ≡ value n) (q : key_value s.high ≡ value m) where
+        -- So the bytes of the slot at a place are those of its entries between the names.
+        part_entries : (j : ℕ) → j < count → part_of s j ≡ bytes_of_entries z (between n m (entries_of (placed fs j)))
+        unfolding part_of
+        part_entries j h = go (ltb from j && ltb j to) refl
+          where
+            ys : List ℕ
+            ys = slot_bytes j
 
-          b : AreBytes ys
-          b = bytes_bytes_at_slot y (get_or order j 0) xs bytes
+            b : AreBytes ys
+            b = bytes_bytes_at_slot y (get_or order j 0) xs bytes
 
-          go : (t : Bool) → (ltb from j && ltb j to) ≡ t → cond t (all_of y ys) (part_of y ys v w) ≡ bytes_of_entries z (between n m (entries_of (placed fs j)))
-          go true e =
-              let c = both_true (ltb from j) (ltb j to) e in
-              all_listed y ys (place_size j h) b (place_read j h) ∙ ap (bytes_of_entries z) (sym (inside_all j (ltb-true from j c.0) (ltb-true j to c.1)))
-          go false e = part_listed y ys (place_size j h) b (place_read j h) n m v w f g p q
+            go : (t : Bool) → (ltb from j && ltb j to) ≡ t
+                → cond t (all_of y ys) (searched y ys (key_value s.low) (key_value s.high)) ≡ bytes_of_entries z (between n m (entries_of (placed fs j)))
+            go true e =
+                let c = both_true (ltb from j) (ltb j to) e in
+                all_listed y ys (place_size j h) b (place_read j h) ∙ ap (bytes_of_entries z) (sym (inside_all j (ltb-true from j c.0) (ltb-true j to c.1)))
+            go false e = part_listed y ys (place_size j h) b (place_read j h) n m (key_value s.low) (key_value s.high) f g p q
 
-      -- And those of the slots at places one after another are the entries there.
-      parts_entries : (v w : ℕ) → v ≡ value n → w ≡ value m → (k j : ℕ) → j + k ≤ count
-          → parts k xs y order v w from to j ≡ bytes_of_entries z (between n m (entries_in fs (take k (drop j (order_of fs)))))
-      unfolding parts entries_in bytes_of_entries between
-      parts_entries v w p q zero j h = refl
-      parts_entries v w p q (suc k) j h =
-          let es = entries_of (placed fs j) in
-          let Cs = take k (drop (suc j) (order_of fs)) in
-          let c : take (suc k) (drop j (order_of fs)) ≡ get_or (order_of fs) j 0 ∷ Cs = ap (take (suc k)) (drop-cons (order_of fs) j 0 (omega (arith, O.count_is))) in
-          ap₂ (λ (x y : List ℕ). x ++ y) (part_entries v w p q j (omega arith)) (parts_entries v w p q k (suc j) (omega arith))
-          ∙ sym (ap (λ (x : List ℕ). bytes_of_entries z (between n m (entries_in fs x))) c ∙ ap (bytes_of_entries z) (between_append n m es (entries_in fs Cs)) ∙ entries_append z (between n m es) (between n m (entries_in fs Cs)))
+        -- And those of the slots at places one after another are the entries there.
+        parts_entries : (k j : ℕ) → j + k ≤ count → parts s k j ≡ bytes_of_entries z (between n m (entries_in fs (take k (drop j (order_of fs)))))
+        unfolding parts entries_in bytes_of_entries between
+        parts_entries zero j h = refl
+        parts_entries (suc k) j h =
+            let es = entries_of (placed fs j) in
+            let Cs = take k (drop (suc j) (order_of fs)) in
+            let c : take (suc k) (drop j (order_of fs)) ≡ get_or (order_of fs) j 0 ∷ Cs = ap (take (suc k)) (drop-cons (order_of fs) j 0 (omega (arith, O.count_is))) in
+            ap₂ (λ (x y : List ℕ). x ++ y) (part_entries j (omega arith)) (parts_entries k (suc j) (omega arith))
+            ∙ sym (ap (λ (x : List ℕ). bytes_of_entries z (between n m (entries_in fs x))) c ∙ ap (bytes_of_entries z) (between_append n m es (entries_in fs Cs)) ∙ entries_append z (between n m es) (between n m (entries_in fs Cs)))
 
       abbrev listing : ℕ → List Entry
       listing k = between n m (entries_in fs (take k (drop from (order_of fs))))
@@ -216,34 +227,37 @@ module _ {xs : List ℕ} {s : Size} {order : List ℕ} {count : ℕ} {fs : List 
         | yes h ↦ within_none h (entries_in fs (take (to + 1 - from) (drop from (order_of fs)))) ∙ sym (within_none h (entries_in fs (order_of fs)))
       ]
 
-      pub parts_are : (v w : ℕ) → v ≡ value n → w ≡ value m → all_parts xs y order v w from to ≡ bytes_of_entries z (between n m (entries_in fs (order_of fs)))
-      parts_are v w p q = parts_entries v w p q (to + 1 - from) from (omega (arith, P.inside, Q.inside, O.count_is)) ∙ ap (bytes_of_entries z) all_between
+      pub bytes_are : key_value s.low ≡ value n → key_value s.high ≡ value m → bytes_of s ≡ bytes_of_entries z (between n m (entries_in fs (order_of fs)))
+      bytes_are p q = parts_entries p q (to + 1 - from) from (omega (arith, P.inside, Q.inside, O.count_is)) ∙ ap (bytes_of_entries z) all_between
 
       pub all_length : length (bytes_of_entries z (between n m (entries_in fs (order_of fs)))) ≡ z * length (between n m (entries_in fs (order_of fs)))
       all_length = rw all_between at (parts_length (to + 1 - from) from (omega (arith, P.inside, Q.inside, O.count_is)))
 
 -- R10.7; else the entries are written over the beginning of the output, and their number is given (R9.8).
-module _ {xs : List ℕ} {s : Size} {order : List ℕ} {count : ℕ} {fs : List Slot} (O : Ordered xs s order count fs) (given : AreBytes xs) (n m : Str) (f : Legal n) (g : Legal m)
-    {from to : ℕ} (P : Holder fs n from) (Q : Holder fs m to) {v w : ℕ} (p : v ≡ value n) (q : w ≡ value m) (out : List ℕ) {bytes : ℕ}
-    (e : bytes ≡ length (all_parts xs s.layout order v w from to)) where
+module _ (s : Span) {len : ℕ} (l : (len ≤ 40960) × (len ≡ length (bytes_of s))) {count : ℕ} {fs : List Slot} (O : Ordered s.file.now s.size s.order.now count fs)
+    (given : AreBytes s.file.now) (n m : Str) (f : Legal n) (g : Legal m) (P : Holder fs n s.from) (Q : Holder fs m s.to)
+    (p : key_value s.low ≡ value n) (q : key_value s.high ≡ value m) (out : List ℕ) where
   abbrev all : List Entry
   all = between n m (entries_in fs (order_of fs))
 
-  bytes_are : bytes ≡ entry_length s.layout * length all
-  bytes_are = e ∙ ap length (parts_are O given n m f g from to P Q v w p q) ∙ all_length O given n m f g from to P Q
+  written : bytes_of s ≡ bytes_of_entries (entry_length s.size.layout) all
+  written = bytes_are s O given n m f g P Q p q
 
-  pub list_short : length out < bytes → listed (Refused ShortOutput) out ≡ list_entries (entry_length s.layout) all out
-  unfolding list_entries
-  list_short h = rw (lt-ltb (length out) (entry_length s.layout * length all) (omega (arith, bytes_are)))
+  length_is : len ≡ entry_length s.size.layout * length all
+  length_is = l.1 ∙ ap length written ∙ all_length s O given n m f g P Q
 
-  pub list_all : (left : List ℕ) → bytes ≤ length out → Written (all_parts xs s.layout order v w from to) out left → {k : ℕ} → k ≡ bytes / entry_length s.layout
-      → listed (Listed k) left ≡ list_entries (entry_length s.layout) all out
+  pub list_short : length out < len → listed (Refused ShortOutput) out ≡ list_entries (entry_length s.size.layout) all out
   unfolding list_entries
-  list_all left h u {k} r =
-      let i : k ≡ length all = r ∙ ap (λ (n : ℕ). n / entry_length s.layout) bytes_are ∙ mul-div_cancel_left (length all) (omega (arith, (entry_size s.layout).least)) in
-      let a : left ≡ bytes_of_entries (entry_length s.layout) all ++ drop (entry_length s.layout * length all) out =
-      u ∙ ap₂ (λ (x : List ℕ) (n : ℕ). x ++ drop n out) (parts_are O given n m f g from to P Q v w p q) (sym e ∙ bytes_are) in
-      rw (le-ltb (length out) (entry_length s.layout * length all) (omega (arith, bytes_are)), a, i)
+  list_short h = rw (lt-ltb (length out) (entry_length s.size.layout * length all) (omega (arith, length_is)))
+
+  pub list_all : {left : List ℕ} → len ≤ length out → Written (bytes_of s) out left → {k : ℕ} → k ≡ len / entry_length s.size.layout
+      → listed (Listed k) left ≡ list_entries (entry_length s.size.layout) all out
+  unfolding list_entries
+  list_all {left} h u {k} r =
+      let i : k ≡ length all = r ∙ ap (λ (n : ℕ). n / entry_length s.size.layout) length_is ∙ mul-div_cancel_left (length all) (omega (arith, (entry_size s.size.layout).least)) in
+      let a : left ≡ bytes_of_entries (entry_length s.size.layout) all ++ drop (entry_length s.size.layout * length all) out =
+      u ∙ ap₂ (λ (x : List ℕ) (n : ℕ). x ++ drop n out) written (sym l.1 ∙ length_is) in
+      rw (le-ltb (length out) (entry_length s.size.layout * length all) (omega (arith, length_is)), a, i)
 
 -- List, in the order 1, 2, 3, 4, 7 (R10.9).
 module _ (xs : List ℕ) (t : Trie) (low high out : List ℕ) where

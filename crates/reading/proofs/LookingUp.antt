@@ -1,9 +1,9 @@
 -- Look up, put together from its stages: each refusal, and what one slot answers to a name.
-use Rattle.model.proofs.Prelude.{Bool, List, Option, ◌&&◌, ◌<◌, ◌^◌, ◌∙◌, ◌≡◌, ◌≤◌, ◌⊎◌, ap, arith, clash, cond, false, inl, inr, le-leb, le-ltb, length, lt-ltb, nothing, refl, some, subst, sym, true, ℕ}
+use Rattle.model.proofs.Prelude.{Bool, List, Option, ◌&&◌, ◌<◌, ◌∙◌, ◌≡◌, ◌≤◌, arith, clash, cond, false, le-leb, le-ltb, length, lt-ltb, nothing, refl, some, sym, true, ℕ}
+use Rattle.std.specs.Prelude.{Option as Maybe, Some, None, Result, Ok, Err}
 use Rattle.model.specs.declared.Cause.TheVariants.{BadFile, IllegalName, StaleTrie}
 use Rattle.model.specs.declared.Layout.{Layout}
-use Rattle.model.specs.declared.LookUpAnswer.{LookUpAnswer}
-use Rattle.model.specs.declared.LookUpAnswer.TheVariants.{Absent as NotFound, Found, Refused}
+use Rattle.model.specs.Results.{LookUpAnswer, LookUpRefused as Refused}
 use Rattle.model.specs.declared.Trie.{Trie}
 use Rattle.model.specs.Order.{Str}
 use Rattle.model.specs.Tests.{is_above, is_at_most, is_legal_name}
@@ -18,12 +18,7 @@ use Rattle.model.proofs.Deciding.{over}
 use Rattle.digits.specs.Keys.{continued, is_all_zero, key_value, low_value, value}
 use Rattle.digits.proofs.Bounds.{name_high, name_low}
 use Rattle.bucket.specs.declared.Bucket.{Bucket}
-use Rattle.bucket.specs.declared.Form.{Form}
-use Rattle.bucket.specs.declared.Form.TheVariants.{Ill, Well}
-use Rattle.entries.specs.declared.Held.{Held}
-use Rattle.entries.specs.declared.Held.TheVariants.{Absent, Holds}
-use Rattle.entries.specs.declared.Content.{Content}
-use Rattle.bucket.specs.declared.Range.TheVariants.{Holds as InRange, Lacks}
+use Rattle.model.specs.declared.Content.{Content}
 use Rattle.bucket.specs.Forms.{Formed, WellRead, ranged}
 use Rattle.bucket.specs.Slots.{lower_bytes, upper_bytes}
 use Rattle.entries.specs.Rows.{Valued, held_number}
@@ -38,26 +33,22 @@ use Rattle.trie.specs.declared.Place.TheVariants.{Cell as before_cell, Slot as a
 use Rattle.trie.specs.Walks.{place_reached}
 use Rattle.reading.specs.Walked.{headed_from, looked_up_from, slot_of}
 
+abbrev Ranged : Type 0
+Ranged = Result (Unit {0}) ℕ
+
 -- What the range test says, by the answer that it gave.
-in_told : (c : Bool) (d : ℕ) → InRange ≡ cond c InRange (Lacks d) → c ≡ true
+in_told : (c : Bool) (d : ℕ) → ◌≡◌ {A = Ranged} (Ok tt) (cond c (Ok tt) (Err d)) → c ≡ true
 in_told true d e = refl
 in_told false d e = clash cc
 
-lacks_told : (c : Bool) (d k : ℕ) → Lacks k ≡ cond c InRange (Lacks d) → (c ≡ false) × (k ≡ d)
+lacks_told : (c : Bool) (d k : ℕ) → ◌≡◌ {A = Ranged} (Err k) (cond c (Ok tt) (Err d)) → (c ≡ false) × (k ≡ d)
 lacks_told true d k e = clash cc
 lacks_told false d k e = (refl, cc)
 
--- A slot that is well formed is read, and one that is not is none that is.
-pub well_formed : {f : Form} {k : Bucket} (y : Layout) (xs : List ℕ) → f ≡ Well k → Formed y xs f → WellRead y xs k
-well_formed {f} {k} y xs e t = subst (λ (x : Form). Formed y xs x) e t
-
-pub ill_formed : {f : Form} (y : Layout) (xs : List ℕ) → f ≡ Ill → Formed y xs f → Formed y xs Ill
-ill_formed {f} y xs e t = subst (λ (x : Form). Formed y xs x) e t
-
--- Of a place's three cases, the second is neither of the others.
-pub no_slot : ◌≡◌ {A = ℕ} 1 0 ⊎ ◌≡◌ {A = ℕ} 1 2 → ⊥
-no_slot (inl e) = absurd (omega arith)
-no_slot (inr e) = absurd (omega arith)
+-- What is held, from its number.
+held_is : (h : Maybe Content) → Valued h → held_answer (held_number h) ≡ Ok h
+held_is None v = refl
+held_is (Some c) v = rw (value_is c v, run_is c v)
 
 -- R11.8 to R11.11, in this order.
 module _ (y : Layout) (xs : List ℕ) (n : Str) where
@@ -65,7 +56,7 @@ module _ (y : Layout) (xs : List ℕ) (n : Str) where
   unfolding slot_answer
   answer_free h e = rw (zero_free y xs h e)
 
-  pub answer_ill : length xs ≡ slot_size y → is_all_zero xs ≡ false → Formed y xs Ill → Refused BadFile ≡ slot_answer y.b n (read_slot y xs)
+  pub answer_ill : length xs ≡ slot_size y → is_all_zero xs ≡ false → Formed y xs None → Refused BadFile ≡ slot_answer y.b n (read_slot y xs)
   unfolding slot_answer
   answer_ill h e f = go (read_slot y xs) refl
     where
@@ -80,13 +71,13 @@ module _ (y : Layout) (xs : List ℕ) (n : Str) where
     abbrev inside : Bool
     inside = is_above W.lower n && is_at_most n W.upper
 
-    pub answer_lacks : {d : ℕ} → Lacks d ≡ ranged (lower_bytes xs) (upper_bytes xs) n → Refused (StaleTrie d) ≡ slot_answer y.b n (read_slot y xs)
+    pub answer_lacks : {d : ℕ} → ◌≡◌ {A = Ranged} (Err d) (ranged (lower_bytes xs) (upper_bytes xs) n) → Refused (StaleTrie d) ≡ slot_answer y.b n (read_slot y xs)
     unfolding slot_answer
     answer_lacks {d} q =
         let p = lacks_told inside (broken W.lower W.upper n) d (q ∙ range_told W n (legal_length g)) in
         rw (read_used y xs W.is, W.well, p.0, p.1)
 
-    pub by_digits : InRange ≡ ranged (lower_bytes xs) (upper_bytes xs) n → inside ≡ true
+    pub by_digits : ◌≡◌ {A = Ranged} (Ok tt) (ranged (lower_bytes xs) (upper_bytes xs) n) → inside ≡ true
     by_digits q = in_told inside (broken W.lower W.upper n) (q ∙ range_told W n (legal_length g))
 
     -- The same by keys.
@@ -98,19 +89,13 @@ module _ (y : Layout) (xs : List ℕ) (n : Str) where
         let below : is_at_most n W.upper ≡ true = sym (name_high n W.upper f R.high) ∙ le-leb (value n) (value (continued W.upper)) (rw (← W.high_is) under) in
         rw (above, below)
 
-    module _ (in_range : inside ≡ true) (name : Key) (e : key_value name ≡ value n) (h : Held) (H : HeldTold h y xs name) where
-      found_is : held_number h ≡ find n W.entries
-      found_is = H W.lower W.upper W.entries (W.is, is_well_formed_well y.b (used W.lower W.upper W.entries) W.well) n g e
-
-      answer_is : slot_answer y.b n (read_slot y xs) ≡ held_answer (held_number h)
-      unfolding slot_answer
-      answer_is = rw (read_used y xs W.is, W.well, in_range) (ap held_answer (sym found_is))
-
-      pub answer_absent : h ≡ Absent → NotFound ≡ slot_answer y.b n (read_slot y xs)
-      answer_absent q = sym (answer_is ∙ rw q)
-
-      pub answer_found : {c : Content} → Valued h → h ≡ Holds c → Found c.value c.run ≡ slot_answer y.b n (read_slot y xs)
-      answer_found {c} valued q = let small : c.value < 2 ^ 64 = rw q at valued in sym (answer_is ∙ rw (q, value_is c small, run_is c small))
+    pub answer_held : inside ≡ true → (name : Key) → key_value name ≡ value n → {h : Maybe Content} → HeldTold h y xs name → Valued h
+        → Ok h ≡ slot_answer y.b n (read_slot y xs)
+    unfolding slot_answer
+    answer_held in_range name e {h} told valued =
+        let is : held_number h ≡ find n W.entries =
+        told W.lower W.upper W.entries (W.is, is_well_formed_well y.b (used W.lower W.upper W.entries) W.well) n g e in
+        rw (read_used y xs W.is, W.well, in_range, ← is) (sym (held_is h valued))
 
 -- R11.1 to R11.7: then what the slot answers.
 module _ (xs : List ℕ) (p : Place) (name : List ℕ) where

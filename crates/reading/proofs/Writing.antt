@@ -1,46 +1,40 @@
 -- The parts that list counts and writes, one after another.
-use Rattle.model.proofs.Prelude.{List, [], ◌&&◌, ◌++◌, ◌+◌, ◌-◌, ◌<◌, ◌∙◌, ◌≡◌, ◌≤◌, ap, append_assoc, arith, drop, drop-append_seam, drop_at, drop-drop, false, get_or, length, length-append, length-drop, length-take, ltb, paste, refl, sub-zero, suc, sym, take, take-add, take-append_seam, take_at, take-length, true, zero-add, ℕ}
-use Rattle.model.specs.declared.Layout.{Layout}
+use Rattle.model.proofs.Prelude.{List, [], ◌&&◌, ◌++◌, ◌+◌, ◌-◌, ◌<◌, ◌∙◌, ◌≡◌, ◌≤◌, ap, append_assoc, arith, drop, drop-append_seam, drop_at, drop-drop, false, get_or, length, length-append, length-drop, length-take, ltb, paste, refl, suc, sym, take, take-add, take-append_seam, take_at, take-length, true, ℕ}
 use Rattle.model.specs.Format.{bytes_at_slot}
-use Rattle.slots.specs.Parts.{all_of, part_of}
-use Rattle.reading.specs.Listings.{Written, part_at, parts}
+use Rattle.digits.specs.Keys.{key_value}
+use Rattle.slots.specs.Parts.{all_of, part_of as searched}
+use Rattle.reading.specs.declared.span.Span.{Span}
+use Rattle.reading.specs.Listings.{Written, part_of, parts}
 
-module _ (xs : List ℕ) (y : Layout) (order : List ℕ) (v w from to : ℕ) where
+module _ (s : Span) where
   -- A slot between the first place and the last, and one that is not.
-  pub part_inside : (j k : ℕ) (ys p : List ℕ) → (ltb from j && ltb j to) ≡ true → k ≡ get_or order j 0 → ys ≡ bytes_at_slot y k xs
-      → p ≡ all_of y ys → p ≡ part_at xs y order v w from to j
-  unfolding part_at
-  part_inside j k ys p t e f g = g ∙ rw (f, e, t)
+  pub part_inside : (j : ℕ) {xs p : List ℕ} → (ltb s.from j && ltb j s.to) ≡ true → xs ≡ bytes_at_slot s.size.layout (get_or s.order.now j 0) s.file.now
+      → p ≡ all_of s.size.layout xs → p ≡ part_of s j
+  unfolding part_of
+  part_inside j t f g = g ∙ rw (f, t)
 
-  pub part_searched : (j k : ℕ) (ys p : List ℕ) → (ltb from j && ltb j to) ≡ false → k ≡ get_or order j 0 → ys ≡ bytes_at_slot y k xs
-      → p ≡ part_of y ys v w → p ≡ part_at xs y order v w from to j
-  unfolding part_at
-  part_searched j k ys p t e f g = g ∙ rw (f, e, t)
+  pub part_searched : (j : ℕ) {xs p : List ℕ} → (ltb s.from j && ltb j s.to) ≡ false → xs ≡ bytes_at_slot s.size.layout (get_or s.order.now j 0) s.file.now
+      → p ≡ searched s.size.layout xs (key_value s.low) (key_value s.high) → p ≡ part_of s j
+  unfolding part_of
+  part_searched j t f g = g ∙ rw (f, t)
 
   -- The slots from place j to the last.
   abbrev pub rest : ℕ → List ℕ
-  rest j = parts (to + 1 - j) xs y order v w from to j
+  rest j = parts s (s.to + 1 - j) j
 
-  pub rest_none : (j : ℕ) → to < j → rest j ≡ []
+  pub rest_none : (j : ℕ) → s.to < j → rest j ≡ []
   unfolding parts
-  rest_none j h = let e : to + 1 - j ≡ 0 = omega arith in rw e
+  rest_none j h = let e : s.to + 1 - j ≡ 0 = omega arith in rw e
 
-  pub rest_step : (j : ℕ) (p : List ℕ) → j ≤ to → p ≡ part_at xs y order v w from to j → rest j ≡ p ++ rest (j + 1)
+  pub rest_step : (j : ℕ) {p : List ℕ} → j ≤ s.to → p ≡ part_of s j → rest j ≡ p ++ rest (j + 1)
   unfolding parts
-  rest_step j p h e =
-      let i : to + 1 - j ≡ suc (to + 1 - (j + 1)) = omega arith in
+  rest_step j h e =
+      let i : s.to + 1 - j ≡ suc (s.to + 1 - (j + 1)) = omega arith in
       let n : j + 1 ≡ suc j = omega arith in
       rw (i, n, e)
 
-  pub rest_length : (j : ℕ) (p : List ℕ) → j ≤ to → p ≡ part_at xs y order v w from to j → length (rest j) ≡ length p + length (rest (j + 1))
-  rest_length j p h e = ap length (rest_step j p h e) ∙ length-append p (rest (j + 1))
-
--- A part put over the output by way of an array: what is read back from the array is the part.
-pub moved_over : (out s d moved left : List ℕ) (at : ℕ) → moved ≡ paste d 0 s (length s) → left ≡ paste out at (take (length s - 0) moved) (length (take (length s - 0) moved))
-    → left ≡ paste out at s (length s)
-moved_over out s d moved left at e f =
-    let g : take (length s - 0) moved ≡ s = rw (sub-zero (length s), e, take-length s, zero-add (length s)) (take-append_seam s (drop (length s) d)) in
-    f ∙ ap (λ (x : List ℕ). paste out at x (length x)) g
+  pub rest_length : (j : ℕ) {p : List ℕ} → j ≤ s.to → p ≡ part_of s j → length (rest j) ≡ length p + length (rest (j + 1))
+  rest_length j {p} h e = ap length (rest_step j h e) ∙ length-append p (rest (j + 1))
 
 -- The output with the first of all bytes written, and what is still to be written.
 pub record Writing (all rest out left : List ℕ) (done : ℕ) : Type 0 where

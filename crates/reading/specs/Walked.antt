@@ -3,8 +3,7 @@ use Rattle.std.specs.Prelude.{cond, List, ℕ, ltb}
 use Rattle.std.proofs.Math.Option.{Option, none as nothing, some}
 use Rattle.model.specs.declared.Cause.TheVariants.{BadFile, IllegalName}
 use Rattle.model.specs.declared.Layout.{Layout}
-use Rattle.model.specs.declared.LookUpAnswer.{LookUpAnswer}
-use Rattle.model.specs.declared.LookUpAnswer.TheVariants.{Refused}
+use Rattle.model.specs.Results.{LookUpAnswer, LookUpRefused as Refused}
 use Rattle.model.specs.Order.{Str}
 use Rattle.model.specs.Tests.{is_legal_name}
 use Rattle.model.specs.Names.{filled}

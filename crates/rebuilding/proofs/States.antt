@@ -1,5 +1,5 @@
 -- The loop of rebuild: what holds before each cell is written, at the start, from one cell to the next, and at the end.
-use Rattle.model.proofs.Prelude.{List, [], ◌*◌, ◌++◌, ◌+◌, ◌-◌, ◌<◌, ◌∙◌, ◌∷◌, ◌≡◌, ◌≤◌, add-one, ap, append_assoc, append-nil, arith, cond, get_or, get_or-set_same, length, length-replicate, length-set, lt-ltb, ltb, refl, replicate, set, sets, sets-eq, sub-zero, subst, suc, sym, zero, zero-add, ℕ}
+use Rattle.model.proofs.Prelude.{List, [], ◌*◌, ◌++◌, ◌+◌, ◌-◌, ◌<◌, ◌∙◌, ◌∷◌, ◌≡◌, ◌≤◌, add-one, add-zero, ap, append_assoc, append-nil, arith, cond, get_or, get_or-set_same, le-ltb, length, length-replicate, length-set, lt-ltb, ltb, refl, replicate, set, sets, sets-eq, sub-zero, subst, suc, sym, zero, zero-add, ℕ}
 use Rattle.model.specs.declared.Cell.{Cell}
 use Rattle.model.specs.declared.Side.TheVariants.{Cell as further}
 use Rattle.model.specs.declared.Trie.{Trie}
@@ -8,8 +8,8 @@ use Rattle.model.specs.Rebuilding.{lay, side_of}
 use Rattle.model.proofs.Lists.{drop-replicate}
 use Rattle.model.proofs.Cells.{length_lay}
 use Rattle.image.specs.Clearing.{cleared}
-use Rattle.image.specs.Images.{cell_bytes, image_length, image_of}
-use Rattle.image.proofs.Storing.{cell_stored, image_size}
+use Rattle.image.specs.Images.{cell_bytes, image_of}
+use Rattle.image.proofs.Storing.{cell_stored}
 use Rattle.rebuilding.specs.declared.Run.{Run}
 use Rattle.rebuilding.specs.Roots.{middle, run}
 use Rattle.rebuilding.specs.Runs.{cell_at, rebuilt_of, run_tree, side_at}
@@ -29,6 +29,13 @@ none_left (x ∷ xs) e = absurd (omega arith)
 module _ (lens digits slots : List ℕ) (n : ℕ) where
   abbrev whole : List Cell
   whole = lay 0 (run_tree n lens digits slots 0 n)
+
+-- A run written on top is kept where it is not empty.
+pub kept : (t a b : ℕ) → a < b → t + 1 ≡ t + cond (ltb a b) 1 0
+kept t a b h = rw (lt-ltb a b h)
+
+pub not_kept : (t a b : ℕ) → b ≤ a → t ≡ t + cond (ltb a b) 1 0
+not_kept t a b h = rw (le-ltb a b h, add-zero t)
 
 -- i cells are written; the stack has the runs of the others; all that is left to write makes the whole.
 pub record State (lens digits slots : List ℕ) (n : ℕ) (cells : List Cell) (runs : List Run) (top i : ℕ) : Type 0 where
@@ -154,7 +161,7 @@ module _ (lens digits slots : List ℕ) (n : ℕ) where
       next_at cells runs (top - 1) i m (subst (λ (x : ℕ). State lens digits slots n cells runs x i) k s) h e
 
   -- The same, of numbers and values that are known by equations.
-  stepped : {cells : List Cell} {runs : List Run} {top i : ℕ} {from to root right left kr kl : ℕ} {cell : Cell}
+  stepped : {cells : List Cell} {runs : List Run} {top i : ℕ} {from to root right left mid new : ℕ} {cell : Cell}
       → State lens digits slots n cells runs top i → i < n
       → from ≡ (at_run runs (top - 1)).from
       → to ≡ (at_run runs (top - 1)).to
@@ -162,13 +169,13 @@ module _ (lens digits slots : List ℕ) (n : ℕ) where
       → cell ≡ cell_at (get_or lens root 0) (get_or digits root 0) slots from root to i
       → right ≡ root + 1
       → left ≡ root
-      → kr ≡ cond (ltb (root + 1) to) 1 0
-      → kl ≡ cond (ltb from root) 1 0
+      → mid ≡ top - 1 + cond (ltb (root + 1) to) 1 0
+      → new ≡ mid + cond (ltb from root) 1 0
       → State lens digits slots n (set cells i cell)
-      (set (set runs (top - 1) (record { from = right; to = (at_run runs (top - 1)).to })) (top - 1 + kr) (record { from = (at_run runs (top - 1)).from; to = left }))
-      (top - 1 + kr + kl) (i + 1)
-  stepped {cells} {runs} {top} {i} {root = root} s h ef et em ec er el ekr ekl =
-      rw (ekr, ekl, ec, er, el, ef, et) (next cells runs top i root s h (rw (ef, et) at em))
+      (set (set runs (top - 1) (record { from = right; to = (at_run runs (top - 1)).to })) mid (record { from = (at_run runs (top - 1)).from; to = left }))
+      new (i + 1)
+  stepped {cells} {runs} {top} {i} {root = root} s h ef et em ec er el emid enew =
+      rw (enew, emid, ec, er, el, ef, et) (next cells runs top i root s h (rw (ef, et) at em))
 
   ended : (cells : List Cell) (runs : List Run) (top i : ℕ) → State lens digits slots n cells runs top i → n ≤ i → 0 < n
       → ◌≡◌ {A = Trie} (record { cells = cells; count = n; first = 0 }) (rebuilt_of lens digits slots n)
@@ -200,11 +207,8 @@ module _ (lens digits slots : List ℕ) (n : ℕ) where
   unfolding cleared
   written_first image runs r f h e p q = record { cells = blank; whole = length-replicate 256 zero_cell; image_is = f; state = started lens digits slots n runs r h e p q }
 
-  pub written_size : {image : List ℕ} {runs : List Run} {top i : ℕ} → Written lens digits slots n image runs top i → length image ≡ image_length
-  written_size w = ap length w.image_is ∙ image_size _
-
   -- One more cell, of numbers and values that are known by equations.
-  pub written_next : {image : List ℕ} {runs : List Run} {top i : ℕ} {from to root right left kr kl : ℕ} {cell : Cell} (ys : List ℕ)
+  pub written_next : {image : List ℕ} {runs : List Run} {top i : ℕ} {from to root right left mid new : ℕ} {cell : Cell} (ys : List ℕ)
       → Written lens digits slots n image runs top i → i < n
       → from ≡ (at_run runs (top - 1)).from
       → to ≡ (at_run runs (top - 1)).to
@@ -213,16 +217,16 @@ module _ (lens digits slots : List ℕ) (n : ℕ) where
       → ys ≡ sets image (4 + 6 * i) (cell_bytes cell)
       → right ≡ root + 1
       → left ≡ root
-      → kr ≡ cond (ltb (root + 1) to) 1 0
-      → kl ≡ cond (ltb from root) 1 0
+      → mid ≡ top - 1 + cond (ltb (root + 1) to) 1 0
+      → new ≡ mid + cond (ltb from root) 1 0
       → Written lens digits slots n ys
-      (set (set runs (top - 1) (record { from = right; to = (at_run runs (top - 1)).to })) (top - 1 + kr) (record { from = (at_run runs (top - 1)).from; to = left }))
-      (top - 1 + kr + kl) (i + 1)
-  written_next {i = i} {cell = cell} ys w h ef et em ec ey er el ekr ekl = record {
+      (set (set runs (top - 1) (record { from = right; to = (at_run runs (top - 1)).to })) mid (record { from = (at_run runs (top - 1)).from; to = left }))
+      new (i + 1)
+  written_next {i = i} {cell = cell} ys w h ef et em ec ey er el emid enew = record {
     cells = set w.cells i cell;
     whole = length-set w.cells i cell ∙ w.whole;
     image_is = ey ∙ ap (λ (xs : List ℕ). sets xs (4 + 6 * i) (cell_bytes cell)) w.image_is ∙ cell_stored _ i cell w.whole (omega (arith, w.state.few));
-    state = stepped lens digits slots n w.state h ef et em ec er el ekr ekl;
+    state = stepped lens digits slots n w.state h ef et em ec er el emid enew;
   }
 
   pub written_all : (image : List ℕ) (runs : List Run) (top i : ℕ) → Written lens digits slots n image runs top i → n ≤ i → 0 < n

@@ -4,14 +4,14 @@
 // written, and no cell is written twice.
 #![tactic(auto)]
 
-ghost use Rattle.std.specs.Prelude.{◌≡◌, ◌≤◌, ◌<◌, ◌+◌, ◌-◌, cond, ltb, length};
+ghost use Rattle.std.specs.Prelude.{◌≡◌, ◌≤◌, ◌<◌, ◌+◌, ◌-◌};
 ghost use Rattle.image.specs.Clearing.{cleared};
-ghost use Rattle.image.specs.Images.{image_length, image_of};
+ghost use Rattle.image.specs.Images.{image_of};
 ghost use Rattle.rebuilding.specs.Roots.{run, middle};
 ghost use Rattle.rebuilding.specs.Runs.{cell_at, rebuilt_of, side_at};
 ghost use Rattle.rebuilding.specs.Starts.{Found, Start, Starts};
 
-use digits::{u8_of_usize, u16_of_u8, u16_of_usize, usize_of_u8, usize_of_u16};
+use image::Image;
 use model::{Cell, Side};
 use trie::Strings;
 
@@ -30,12 +30,13 @@ fn start_of(lens: &[u8; 256], starts: &[u8; 256], i: usize) -> usize
 {
     let len = lens[i];
     let mut start = i;
+    // From start to start, and no index is counted: so it stays a loop.
     while 0 < start {
         let before = start - 1;
         if lens[before] <= len {
             return start;
         }
-        start = usize_of_u8(starts[before]);
+        start = starts[before] as usize;
     }
     start
 }
@@ -45,10 +46,8 @@ fn starts_of(lens: &[u8; 256], count: usize) -> [u8; 256]
     ensures { Starts lens.now result count }
 {
     let mut starts = [0u8; 256];
-    let mut i = 0usize;
-    while i < count {
-        starts[i] = u8_of_usize(start_of(lens, &starts, i));
-        i += 1;
+    for i in 0..count {
+        starts[i] = start_of(lens, &starts, i) as u8;
     }
     starts
 }
@@ -66,16 +65,17 @@ fn shortest_of(lens: &[u8; 256], starts: &[u8; 256], from: usize, to: usize) -> 
     ensures { Found lens.now from to result.last result.count }
 {
     let mut first = to - 1;
-    let mut len = usize_of_u8(lens[first]);
+    let mut len = lens[first] as usize;
     let mut last = first;
     let mut count = 1usize;
+    // From start to start, too.
     loop {
-        let start = usize_of_u8(starts[first]);
+        let start = starts[first] as usize;
         if start <= from {
             return Shortest { last, count };
         }
         first = start - 1;
-        let next = usize_of_u8(lens[first]);
+        let next = lens[first] as usize;
         if next < len {
             last = first;
             count = 1;
@@ -93,10 +93,9 @@ fn root_of(lens: &[u8; 256], starts: &[u8; 256], from: usize, to: usize) -> usiz
 {
     let shortest = shortest_of(lens, starts, from, to);
     let mut root = shortest.last;
-    let mut left = shortest.count / 2;
-    while 0 < left {
-        root = usize_of_u8(starts[root]) - 1;
-        left -= 1;
+    let steps = shortest.count / 2;
+    for _ in 0..steps {
+        root = starts[root] as usize - 1;
     }
     root
 }
@@ -107,18 +106,9 @@ fn side_of(slots: &[u8; 257], from: usize, to: usize, cell: usize) -> Side
     ensures { result ≡ side_at slots.now from to cell }
 {
     if from < to {
-        return Side::Cell(u16_of_usize(cell));
+        return Side::Cell(cell as u16);
     }
-    Side::Slot(u16_of_u8(slots[from]))
-}
-
-fn one_less(len: u8) -> u8
-    ensures { result ≡ len - 1 }
-{
-    if len == 0 {
-        return 0;
-    }
-    len - 1
+    Side::Slot(slots[from] as u16)
 }
 
 // The cell, at number i, of a run with its root.
@@ -134,84 +124,70 @@ fn cell_of(
     requires { (from ≤ root) × (root < to) × (to ≤ 256) × (i + to ≤ 256 + from) }
     ensures { result ≡ cell_at len digit slots.now from root to i }
 {
-    let left = side_of(slots, from, root, i + 1);
-    let right = side_of(slots, root + 1, to, i + 1 + (root - from));
     Cell {
         digit,
-        number: one_less(len),
-        left,
-        right,
+        number: len.saturating_sub(1),
+        left: side_of(slots, from, root, i + 1),
+        right: side_of(slots, root + 1, to, i + 1 + (root - from)),
     }
-}
-
-// 1 where the run is not empty. An empty run is written to the stack too, and not kept.
-fn kept(from: usize, to: usize) -> usize
-    ensures { (result ≤ 1) × (result ≡ cond (ltb from to) 1 0) }
-{
-    if from < to {
-        return 1;
-    }
-    0
 }
 
 // Writes the cells of the strings over an image whose cells are all zero.
-fn write_cells(
-    image: &mut [u8],
-    lens: &[u8; 256],
-    digits: &[u8; 256],
-    slots: &[u8; 257],
-    count: usize,
-)
-    requires { (0 < count) × (count ≤ 256) × (image.old ≡ image_of (cleared count 0)) }
-    ensures { image.new ≡ image_of (rebuilt_of lens.now digits.now slots.now count) }
+fn write_cells(image: &mut Image, strings: &Strings)
+    requires { (0 < strings.now.count) × (image.old ≡ image_of (cleared strings.now.count 0)) }
+    ensures { image.new ≡ image_of (rebuilt_of strings.now.lens strings.now.digits strings.now.slots strings.now.count) }
 {
-    let starts = starts_of(lens, count);
+    let starts = starts_of(&strings.lens, strings.count);
     let mut runs = [Run { from: 0, to: 0 }; 512];
-    let whole = Run {
+    runs[0] = Run {
         from: 0,
-        to: u16_of_usize(count),
+        to: strings.count as u16,
     };
-    runs[0] = whole;
+    // The runs that are still to be written lie on a stack. An empty run is written to it too, and not kept.
+    // An array and a top, no ArrayVec: the stack of one loop, whose depth the invariant speaks of (no plainer).
     let mut top = 1usize;
-    let mut i = 0usize;
-    while i < count {
+    for i in 0..strings.count {
         top -= 1;
         let run = runs[top];
-        let from = usize_of_u16(run.from);
-        let to = usize_of_u16(run.to);
-        let root = root_of(lens, &starts, from, to);
-        let cell = cell_of(lens[root], digits[root], slots, from, root, to, i);
+        let from = run.from as usize;
+        let to = run.to as usize;
+        let root = root_of(&strings.lens, &starts, from, to);
+        let cell = cell_of(
+            strings.lens[root],
+            strings.digits[root],
+            &strings.slots,
+            from,
+            root,
+            to,
+            i,
+        );
         image::write_cell(image, i, cell);
-        i += 1;
         let after = root + 1;
-        let right = Run {
-            from: u16_of_usize(after),
+        runs[top] = Run {
+            from: after as u16,
             to: run.to,
         };
-        let left = Run {
+        if after < to {
+            top += 1;
+        }
+        runs[top] = Run {
             from: run.from,
-            to: u16_of_usize(root),
+            to: root as u16,
         };
-        runs[top] = right;
-        top = top + kept(after, to);
-        runs[top] = left;
-        top = top + kept(from, root);
+        if from < root {
+            top += 1;
+        }
     }
 }
 
 // Writes the image of the trie of the strings.
-pub fn rebuild(image: &mut [u8], strings: Strings)
-    requires { (length image.old ≡ image_length) × (strings.count ≤ 256) }
-    ensures { image.new ≡ image_of (rebuilt_of strings.lens strings.digits strings.slots strings.count) }
+pub fn rebuild(image: &mut Image, strings: &Strings)
+    ensures { image.new ≡ image_of (rebuilt_of strings.now.lens strings.now.digits strings.now.slots strings.now.count) }
 {
-    let lens = strings.lens;
-    let digits = strings.digits;
-    let slots = strings.slots;
-    let count = strings.count;
-    if count == 0 {
-        image::write_cleared(image, 0, u16_of_u8(slots[0]));
+    if strings.count == 0 {
+        image::write_cleared(image, 0, strings.slots[0] as u16);
         return;
     }
-    image::write_cleared(image, u16_of_usize(count), 0);
-    write_cells(image, &lens, &digits, &slots, count);
+    image::write_cleared(image, strings.count as u16, 0);
+    write_cells(image, strings);
 }

@@ -1,5 +1,6 @@
 -- The buckets in range order about a place: how many entries they have, what a merge of two of them leaves, and which removal merges.
-use Rattle.model.proofs.Prelude.{List, [], ◌++◌, ◌+◌, ◌-◌, ◌/◌, ◌<◌, ◌∙◌, ◌∷◌, ◌≡◌, ◌≤◌, add-one, ap, append_assoc, arith, drop, drop-cons, drop-length, get_or, length, replicate, some, split_at, subst, suc, sym, take, take-suc, ℕ}
+use Rattle.model.proofs.Prelude.{List, [], ◌++◌, ◌+◌, ◌-◌, ◌/◌, ◌<◌, ◌∙◌, ◌∷◌, ◌≡◌, ◌≤◌, add-one, ap, append_assoc, arith, drop, drop-cons, drop-length, get_or, length, refl, replicate, some, split_at, subst, suc, sym, take, take-suc, ℕ}
+use Rattle.std.specs.Prelude.{None, Some}
 use Rattle.model.specs.declared.Layout.{Layout}
 use Rattle.model.specs.Order.{Low, Str, ◌⊑◌, ◌◁◌, at}
 use Rattle.model.specs.Entries.{Entry, find, without}
@@ -25,7 +26,7 @@ use Rattle.file.proofs.Holding.{place_number, place_reads}
 use Rattle.checking.specs.declared.Checked.{Checked}
 use Rattle.checking.specs.Ready.{Ready}
 use Rattle.removing.specs.declared.RemovePlan.{RemovePlan}
-use Rattle.removing.specs.Merges.{Beside, CountTold, Joined, LeftTold, MergeTold, RemovePlanned, RightTold, having, lacking}
+use Rattle.removing.specs.Merges.{CountTold, Joined, MergeTold, RemovePlanned}
 use Rattle.checking.proofs.Plans.{OneStore, TwoStores}
 use Rattle.checking.proofs.Ready.{ready_count, ready_ordered, ready_sound, slot_read}
 
@@ -70,20 +71,12 @@ module _ {c : Checked} {xs : List ℕ} (R : Ready c xs) where
       → {l : Low} {u : Str} {es : List Entry} → placed fs p ≡ used l u es → ReadAs y ys l u es
   place_read {fs} e p k ys h i f is = rw f (slot_read xs e (ready_sound R e) k (ap (slot_at fs) (i ∙ place_number (ready_ordered R e) p h) ∙ is))
 
-  pub small : {There : Type 0} {r p : ℕ} → Beside r c xs There p → r ≤ 17
-  small (lacking e n) = omega (arith, e)
-  small (having t l k) = omega (arith, l, R.said.sized.legal.b_most)
-
-  pub there : {There : Type 0} {r p : ℕ} → Beside r c xs There p → r ≤ 16 → There × (r ≤ y.b) × CountTold r c xs p
-  there (lacking e n) h = absurd (omega (arith, e))
-  there (having t l k) h = (t, l, k)
-
   -- The two stores of a merge.
-  pub merge_told : (r : RemovePlan) (q : Plan) (right m n i L K : ℕ) (wide zeros left_bytes right_bytes : List ℕ) → right < c.survey.count
+  pub merge_told : (q : Plan) (right m n i L K : ℕ) (wide zeros left_bytes right_bytes : List ℕ) → right < c.survey.count
       → L ≡ get_or order (right - 1) 0 → K ≡ get_or order right 0 → left_bytes ≡ bytes_at_slot y L xs → right_bytes ≡ bytes_at_slot y K xs
-      → WidenedTold wide y left_bytes m right_bytes n i → TwoStores q L wide K zeros → zeros ≡ replicate 704 0 → (r.plan ≡ q) × (r.right ≡ right)
-      → MergeTold r c xs right m n i
-  merge_told r q right m n i L K wide zeros left_bytes right_bytes h l_at k_at l_bytes r_bytes W T z g fs e p t l s u es gs l_is r_is hm hn k lo up few w f j =
+      → WidenedTold wide y left_bytes m right_bytes n i → TwoStores q L wide K zeros → zeros ≡ replicate 704 0
+      → MergeTold (record { plan = q; right = Some right }) c xs right m n i
+  merge_told q right m n i L K wide zeros left_bytes right_bytes h l_at k_at l_bytes r_bytes W T z fs e p t l s u es gs l_is r_is hm hn k lo up few w f j =
       let O = ready_ordered R e in
       let S = ready_sound R e in
       let before : right - 1 ≡ p = omega arith in
@@ -93,10 +86,9 @@ module _ {c : Checked} {xs : List ℕ} (R : Ready c xs) where
       let ra : slot_at fs K ≡ used (at s) u gs = ap (slot_at fs) d ∙ r_is in
       let rl = slot_read xs e S L la in
       let rr = slot_read xs e S K ra in
-      let x : Begins wide y (used l u (without k (es ++ gs))) = W l s u es gs (rw l_bytes rl) (rw r_bytes rr) hm hn k w f j in
-      let o : r.right ≡ suc p = g.1 ∙ sym t in (
-        rw g.0 (T.0, (T.1 ∙ a, ap (take (slot_size y)) T.2 ∙ x), (T.3 ∙ d, ap (take (slot_size y)) (T.4 ∙ z) ∙ free_begins y R.said.sized.legal.b_most)),
-        (λ two. rw o (merge_joins y.b S p (omega (arith, ready_count R e)) l_is r_is k lo up few)),
+      let x : Begins wide y (used l u (without k (es ++ gs))) = W l s u es gs (rw l_bytes rl) (rw r_bytes rr) hm hn k w f j in (
+        (T.0, (T.1 ∙ a, ap (take (slot_size y)) T.2 ∙ x), (T.3 ∙ d, ap (take (slot_size y)) (T.4 ∙ z) ∙ free_begins y R.said.sized.legal.b_most)),
+        (refl, subst (Joined y.b fs (merged k (get_or (order_of fs) p 0) (get_or (order_of fs) (suc p) 0) l u es gs)) t (merge_joins y.b S p (omega (arith, ready_count R e)) l_is r_is k lo up few)),
       )
 
   -- The removal of n, which the bucket at a place holds at a spot.
@@ -128,26 +120,28 @@ module _ {c : Checked} {xs : List ℕ} (R : Ready c xs) where
       right_count : (k : ℕ) → CountTold k c xs (P + 1) → k ≡ length right.1
       right_count k t = t fs e ∙ ap (λ (j : ℕ). length (entries_of (placed fs j))) (add-one P) ∙ ap (λ (x : Slot). length (entries_of x)) right.2
 
-    pub removal_right : (r : RemovePlan) (k : ℕ) → RightTold k c xs P → s.count - 1 + k ≤ b / 2 → MergeTold r c xs (P + 1) s.count k s.place
+    pub removal_right : (r : RemovePlan) (k : ℕ) → P + 1 < c.survey.count → CountTold k c xs (P + 1) → s.count - 1 + k ≤ b / 2 → MergeTold r c xs (P + 1) s.count k s.place
         → RemovePlanned r y fs (stores (removal b fs n A l u es))
-    removal_right r k t few told =
-        let T = there t (omega (arith, R.said.sized.legal.b_most)) in
-        let h : suc P < length Bs = omega (arith, T.0, counted) in
+    removal_right r k t counts few told =
+        let h : suc P < length Bs = omega (arith, t, counted) in
         let N = right h in
         let v = N.0 in let gs = N.1 in
-        let q : k ≡ length gs = right_count h k T.2 in
+        let q : k ≡ length gs = right_count h k counts in
         let up' : n ⊑ v = le_trans up (lt_le (over (well_r b fs S A (get_or Bs (suc P) 0) l u v es gs is N.2).2)) in
         let z = size_right b fs S A (get_or Bs (suc P) 0) l u v es gs is N.2 n lo up' f in
         rw (by_right b S A l u es is n lo up f (take P Bs) (get_or Bs (suc P) 0) (drop (suc (suc P)) Bs) (about Bs P h) N.2 (omega (arith, I.counted)))
         (told fs e P (sym (add-one P)) l u v es gs is N.2 I.counted q n lo up' (omega (arith, I.counted)) w (find_held es gs n f) (I.placed ∙ sym (place_left n es gs f)))
 
-    pub not_to_right : (k : ℕ) → RightTold k c xs P → b / 2 < s.count - 1 + k → ¬ ToRight b fs n A l u es
-    not_to_right k (lacking q gone) many =
+    -- None is there, or it has too many entries.
+    pub last_apart : c.survey.count ≤ P + 1 → ¬ ToRight b fs n A l u es
+    last_apart gone =
         let z : length Bs ≡ suc P = omega (arith, counted, inside, gone) in
         last_not_right b S A l u es is n lo up f (take P Bs) (up_to Bs P z)
-    not_to_right k (having t m told) many =
+
+    pub right_apart : (k : ℕ) → P + 1 < c.survey.count → CountTold k c xs (P + 1) → b / 2 < s.count - 1 + k → ¬ ToRight b fs n A l u es
+    right_apart k t counts many =
         let h : suc P < length Bs = omega (arith, t, counted) in
-        let q : k ≡ length (right h).1 = right_count h k told in
+        let q : k ≡ length (right h).1 = right_count h k counts in
         not_right b S A l u es is n lo up f (take P Bs) (get_or Bs (suc P) 0) (drop (suc (suc P)) Bs) (about Bs P h) (right h).2 (omega (arith, I.counted, some_entry))
 
     -- With the left neighbour.
@@ -167,38 +161,37 @@ module _ {c : Checked} {xs : List ℕ} (R : Ready c xs) where
       left_count : (k : ℕ) → CountTold k c xs (P - 1) → k ≡ length left.2
       left_count k t = t fs e ∙ ap (λ (x : Slot). length (entries_of x)) left.3
 
-    pub removal_left : (r : RemovePlan) (k m : ℕ) → RightTold m c xs P → b / 2 < s.count - 1 + m → LeftTold k c xs P → k + (s.count - 1) ≤ b / 2
+    pub removal_left : (r : RemovePlan) (k : ℕ) → ¬ ToRight b fs n A l u es → 0 < P → CountTold k c xs (P - 1) → k + (s.count - 1) ≤ b / 2
         → MergeTold r c xs P k s.count (k + s.place) → RemovePlanned r y fs (stores (removal b fs n A l u es))
-    removal_left r k m o many t few told =
-        let T = there t (omega (arith, R.said.sized.legal.b_most)) in
-        let N = left T.0 in
+    removal_left r k apart t counts few told =
+        let N = left t in
         let v = N.0 in let d = N.1 in let ds = N.2 in
         let L = get_or Bs (P - 1) 0 in
-        let q : k ≡ length ds = left_count T.0 k T.2 in
+        let q : k ≡ length ds = left_count t k counts in
         let r_is : slot_at fs A ≡ used (at d) u es = is ∙ ap (λ x. used x u es) N.4 in
         let above : at d ◁ n = rw N.4 at lo in
         let lo' : v ◁ n = low_lower (low_at (well_l b fs S L A v d u ds es N.3 r_is).2) above in
         let z = size_left b fs S L A v d u ds es N.3 r_is n lo' up (over above) f in
         let row = (well_l b fs S L A v d u ds es N.3 r_is).3 in
         let one = some_entry in
-        rw (by_left b S A l u es is n lo up f (take (P - 1) Bs) L (drop (suc (suc (P - 1))) Bs) (left_about T.0) N.3 (not_to_right m o many) (omega (arith, I.counted, z)))
-        (subst (λ (j : ℕ). RemovePlanned r y fs (stores (merged n L (get_or Bs j 0) v u ds es))) (next T.0)
-        (told fs e (P - 1) (next T.0) v d u ds es N.3 (ap (placed fs) (next T.0) ∙ r_is) q I.counted n lo' up (omega (arith, I.counted, z)) w
+        rw (by_left b S A l u es is n lo up f (take (P - 1) Bs) L (drop (suc (suc (P - 1))) Bs) (left_about t) N.3 apart (omega (arith, I.counted, z)))
+        (subst (λ (j : ℕ). RemovePlanned r y fs (stores (merged n L (get_or Bs j 0) v u ds es))) (next t)
+        (told fs e (P - 1) (next t) v d u ds es N.3 (ap (placed fs) (next t) ∙ r_is) q I.counted n lo' up (omega (arith, I.counted, z)) w
         (find_right row es n (over above) ∙ f) (ap (λ (j : ℕ). k + j) I.placed ∙ ap (λ (j : ℕ). j + place n es) q ∙ sym (place_right n es row (over above)))))
 
-    not_to_left : (k : ℕ) → LeftTold k c xs P → b / 2 < k + (s.count - 1) → ¬ ToLeft b fs n A l u es
-    not_to_left k (lacking q gone) many =
+    pub first_apart : P ≤ 0 → ¬ ToLeft b fs n A l u es
+    first_apart gone =
         let z : P ≡ 0 = omega (arith, gone) in
         first_not_left b S A l u es is n lo up f (drop (suc P) Bs) (rw z (split_at Bs 0 0 (omega (arith, counted, inside))))
-    not_to_left k (having t m told) many =
-        let q : k ≡ length (left t).2 = left_count t k told in
+
+    pub left_apart : (k : ℕ) → 0 < P → CountTold k c xs (P - 1) → b / 2 < k + (s.count - 1) → ¬ ToLeft b fs n A l u es
+    left_apart k t counts many =
+        let q : k ≡ length (left t).2 = left_count t k counts in
         not_left b S A l u es is n lo up f (take (P - 1) Bs) (get_or Bs (P - 1) 0) (drop (suc (suc (P - 1))) Bs) (left_about t) (left t).3 (omega (arith, I.counted, some_entry))
 
     -- With neither: one store.
-    pub removal_one : (r : RemovePlan) (q : Plan) (bytes : List ℕ) (k m K : ℕ) → RightTold m c xs P → b / 2 < s.count - 1 + m → LeftTold k c xs P
-        → b / 2 < k + (s.count - 1) → K ≡ get_or order P 0 → Begins bytes y (used l u (without n es)) → OneStore q K bytes → r.plan ≡ q
-        → RemovePlanned r y fs (stores (removal b fs n A l u es))
-    removal_one r q bytes k m K o many t less i z T g =
+    pub removal_one : (q : Plan) (bytes : List ℕ) (K : ℕ) → ¬ ToRight b fs n A l u es → ¬ ToLeft b fs n A l u es → K ≡ get_or order P 0
+        → Begins bytes y (used l u (without n es)) → OneStore q K bytes → RemovePlanned (record { plan = q; right = None }) y fs (stores (removal b fs n A l u es))
+    removal_one q bytes K right_not left_not i z T =
         let a : K ≡ A = i ∙ place_number (ready_ordered R e) P inside in
-        rw (removal_alone b fs n A l u es (not_to_right m o many) (not_to_left k t less))
-        (rw g (T.0, (T.1 ∙ a, ap (take (slot_size y)) T.2 ∙ z)), (λ two. absurd (omega arith)))
+        rw (removal_alone b fs n A l u es right_not left_not) ((T.0, (T.1 ∙ a, ap (take (slot_size y)) T.2 ∙ z)), refl)

@@ -1,7 +1,6 @@
 -- What a remove leaves: its answer, the file, and the image in place of the trie.
 use Rattle.std.specs.Prelude.{cond, List, ℕ, ltb}
-use Rattle.model.specs.declared.RemoveAnswer.{RemoveAnswer}
-use Rattle.model.specs.declared.RemoveAnswer.TheVariants.{Absent as NotHeld, Refused as RemoveRefused, Removed, Stopped as RemoveStopped}
+use Rattle.model.specs.Results.{NotHeld, RemoveAnswer, RemoveRefused, RemoveStopped, Removed}
 use Rattle.model.specs.declared.Trie.{Trie}
 use Rattle.model.specs.Calls.{RemoveDone}
 use Rattle.image.specs.Images.{image_of}

@@ -13,16 +13,16 @@ use Rattle.model.proofs.Format.{entry_size}
 use Rattle.model.proofs.Names.{bound_is_legal_bound}
 use Rattle.digits.proofs.Bounds.{name_over}
 use Rattle.digits.specs.Keys.{continued, value}
-use Rattle.entries.specs.Rows.{entries_from, is_not_above, values}
+use Rattle.entries.specs.Rows.{entries_from, is_not_above, last_of, values}
 use Rattle.entries.proofs.Copies.{moved}
-use Rattle.entries.proofs.Lists.{drop-read_entries, name_there, part_list, take-read_entries, values_are}
+use Rattle.entries.proofs.Lists.{name_there, part_list, values_are}
 use Rattle.entries.proofs.Padding.{copied, zeros_padded}
 use Rattle.entries.proofs.Places.{numbers}
 use Rattle.slots.specs.Spots.{RowOf}
 
 -- A last entry that is above is not counted.
 is_not_above_front : (v k : ℕ) (es : List Entry) → length es ≡ suc k → ltb v (value (name_at es k)) ≡ true → is_not_above v (numbers (take k es)) ≡ is_not_above v (numbers es)
-unfolding is_not_above
+unfolding last_of
 is_not_above_front v k [] h t = absurd (omega arith)
 is_not_above_front v zero (x ∷ []) h t = rw t
 is_not_above_front v zero (x ∷ y ∷ es) h t = absurd (omega arith)
@@ -31,7 +31,7 @@ is_not_above_front v (suc k) (x ∷ es) h t = rw (is_not_above_front v k es (ome
 -- Those between the first, which is not above, and the last, which is, and the first: as many as stay.
 middle_counted : (v b : ℕ) (ws : List Entry) → length ws ≡ b + 1 → 1 ≤ b → ltb v (value (name_at ws 0)) ≡ false → ltb v (value (name_at ws b)) ≡ true
     → 1 + is_not_above v (numbers (take (b - 1) (drop 1 ws))) ≡ is_not_above v (numbers ws)
-unfolding is_not_above
+unfolding last_of
 middle_counted v b [] k h f t = absurd (omega arith)
 middle_counted v zero (x ∷ ws) k h f t = absurd (omega arith)
 middle_counted v (suc b) (x ∷ ws) k h f t =
@@ -80,19 +80,16 @@ module _ (y : Layout) (row : List ℕ) (ws : List Entry) (r : RowOf y row ws) (n
         ∙ part_list e (y.b + 1) 0 k row least fits (omega arith) (omega arith) ∙ ap₂ take z row_is
 
   -- As the code counts them, without the first and the last.
-  pub stay_counted : {l : Low} {u : Str} (s : Str) (v : ℕ) → 1 ≤ y.b → Row l ws u → Bound s → v ≡ value (continued s) → name_at ws 0 ⊑ s → s ≺ name_at ws y.b
-      → 1 + is_not_above v (values e (y.b - 1) (drop e row)) ≡ length (stay s ws)
-  stay_counted s v h R b q f g =
+  pub stay_counted : {l : Low} {u : Str} (s : Str) (v : ℕ) → 1 ≤ y.b → e * (y.b + 1) ≤ length row → Row l ws u → Bound s → v ≡ value (continued s)
+      → name_at ws 0 ⊑ s → s ≺ name_at ws y.b → 1 + is_not_above v (values e (y.b - 1) (entries_from e 1 y.b row)) ≡ length (stay s ws)
+  unfolding entries_from
+  stay_counted s v h fits R b q f g =
       let legal = bound_is_legal_bound b in
       let k = y.b in
-      let o : e * 1 ≡ e = omega arith in
-      let d : drop (e * 1) row ≡ drop e row = ap (λ (m : ℕ). drop m row) o in
-      let m : k + 1 - 1 ≡ k = omega arith in
-      let c : read_entries e (k - 1) (drop e row) ≡ take (k - 1) (drop 1 ws) =
-      sym (take-read_entries e (k - 1) k (drop e row) (omega arith))
-      ∙ ap (take (k - 1)) (ap₂ (read_entries e) (sym m) (sym d) ∙ sym (drop-read_entries e 1 (k + 1) row (omega arith)) ∙ ap (drop 1) row_is) in
+      let c : read_entries e (k - 1) (entries_from e 1 k row) ≡ take (k - 1) (drop 1 ws) =
+      part_list e (k + 1) 1 k row (omega (arith, (entry_size y).least)) fits h (omega arith) ∙ ap (λ (x : List Entry). take (k - 1) (drop 1 x)) row_is in
       let low : ltb v (value (name_at ws 0)) ≡ false = ap (λ (x : ℕ). ltb x (value (name_at ws 0))) q ∙ name_over s (name_at ws 0) legal (row_at R 0 (omega arith)).0 ∙ ap not (le_is_at_most (name_at ws 0) s f) in
       let high : ltb v (value (name_at ws k)) ≡ true = ap (λ (x : ℕ). ltb x (value (name_at ws k))) q ∙ name_over s (name_at ws k) legal (row_at R k (omega arith)).0 ∙ ap not (lt_is_at_most (name_at ws k) s g) in
-      ap (λ (x : List ℕ). 1 + is_not_above v x) (values_are e (k - 1) (drop e row) ∙ ap numbers c)
+      ap (λ (x : List ℕ). 1 + is_not_above v x) (values_are e (k - 1) (entries_from e 1 k row) ∙ ap numbers c)
       ∙ middle_counted v k ws n h low high
       ∙ omega (arith, ap (λ (x : ℕ). is_not_above x (numbers ws)) q, (moved s legal R).1, keep_parts (λ x. is_at_most x s) ws)

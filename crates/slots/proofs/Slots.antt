@@ -18,16 +18,15 @@ use Rattle.slots.specs.Spots.{Begins}
 use Rattle.slots.specs.Written.{entries_room, written_bytes}
 use Rattle.entries.proofs.Padding.{copied, padded_append, padded_padded, padded_zeros, take_padded}
 
-pub written_copies : (lower upper entries m₁ m₂ m₃ : List ℕ) (count a b c : ℕ)
+pub written_copies : (lower upper entries m₁ m₂ m₃ : List ℕ) (count : ℕ)
     → length lower ≤ 24 → length upper ≤ 24 → length entries ≤ entries_room
-    → a ≡ count → b ≡ length lower → c ≡ length upper
-    → m₁ ≡ paste (set (set (set (set (replicate 704 0) 0 1) 1 a) 2 b) 3 c) 8 lower (length lower)
+    → m₁ ≡ paste (set (set (set (set (replicate 704 0) 0 1) 1 count) 2 (length lower)) 3 (length upper)) 8 lower (length lower)
     → m₂ ≡ paste m₁ 32 upper (length upper)
     → m₃ ≡ paste m₂ 64 entries (length entries)
     → m₃ ≡ written_bytes lower upper count entries
 unfolding written_bytes
-written_copies lower upper entries m₁ m₂ m₃ count a b c hl hu he i j k q₁ q₂ q₃ =
-    let p₀ : List ℕ = 1 ∷ a ∷ b ∷ c ∷ [] in
+written_copies lower upper entries m₁ m₂ m₃ count hl hu he q₁ q₂ q₃ =
+    let p₀ : List ℕ = 1 ∷ count ∷ length lower ∷ length upper ∷ [] in
     let p₁ : List ℕ = p₀ ++ replicate 4 0 in
     let p₂ = p₁ ++ padded 24 lower in
     let p₃ = p₂ ++ padded 24 upper in
@@ -39,7 +38,7 @@ written_copies lower upper entries m₁ m₂ m₃ count a b c hl hu he i j k q�
     let e₁ : m₁ ≡ padded 704 p₂ = copied 8 p₁ lower lower e₀ refl refl (omega arith) q₁ ∙ sym (padded_padded 704 24 p₁ lower hl) in
     let e₂ : m₂ ≡ padded 704 p₄ = copied 32 p₂ upper upper e₁ l₂ refl (omega arith) q₂ ∙ sym (padded_zeros 704 8 p₃ ∙ padded_padded 704 24 p₂ upper hu) in
     let e₃ : m₃ ≡ padded 704 (p₄ ++ entries) = copied 64 p₄ entries entries e₂ l₄ refl (omega arith) q₃ in
-    e₃ ∙ padded_append 704 entries_room p₄ entries (omega arith) ∙ joined p₁ (padded 24 lower) (padded 24 upper) (replicate 8 0) (padded entries_room entries) ∙ rw (i, j, k)
+    e₃ ∙ padded_append 704 entries_room p₄ entries (omega arith) ∙ joined p₁ (padded 24 lower) (padded 24 upper) (replicate 8 0) (padded entries_room entries)
   where
     joined : (u x y z w : List ℕ) → u ++ x ++ y ++ z ++ w ≡ u ++ (x ++ (y ++ (z ++ w)))
     joined u x y z w = simp append_assoc
@@ -94,10 +93,3 @@ module _ (y : Layout) (xs : List ℕ) {l : Low} {u : Str} {es : List Entry} (R :
 
   pub upper_is : upper_bytes xs ≡ u
   upper_is = ap upper_bytes R.is ∙ upper_bytes_slot y l u es (is_legal_bound_bound u R.high).fits
-
--- The same with the bounds of a slot that is read, and other entries.
-pub slot_rewritten : (y : Layout) (xs : List ℕ) {l : Low} {u : Str} {es : List Entry} (ws : List Entry) (row : List ℕ) (count end : ℕ) (r : List ℕ) → y.b ≤ 16
-    → Reads y xs l u es → end ≡ entry_length y * count → end ≤ length row → AreBytes (take (end - 0) row) → read_entries (entry_length y) count row ≡ ws
-    → r ≡ written_bytes (lower_bytes xs) (upper_bytes xs) count (take (end - 0) row) → Begins r y (used l u ws)
-slot_rewritten y xs {l} {u} ws row count end r h R q k g i j =
-    slot_cut y l u ws (lower_bytes xs) (upper_bytes xs) row count end r h (lower_is y xs R) (upper_is y xs R) q k g i j

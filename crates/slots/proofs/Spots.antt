@@ -22,7 +22,7 @@ use Rattle.bucket.specs.Slots.{OfSize, count_at}
 use Rattle.bucket.proofs.Slots.{Reads, count_is, entries_fit, read_used, reads, row_read}
 use Rattle.slots.specs.Parts.{all_of, part_of}
 use Rattle.slots.specs.Spots.{RowOf, SpotIn, is_some_value}
-use Rattle.slots.specs.declared.Spot.{Spot}
+use Rattle.slots.specs.declared.spot.Spot.{Spot}
 
 -- A name that is held at a place is one of the entries.
 pub held_inside : (e : ℕ) (xs : List ℕ) (count i v : ℕ) → is_at e xs count i v ≡ true → i < count

@@ -1,5 +1,5 @@
 -- Where in a slot a name is or would be, and the slot with the name put in, given another content, or taken out.
-use Rattle.std.specs.Prelude.{Bool, false, true, List, ◌++◌, ◌≡◌, ◌+◌, ◌-◌, ◌<◌, ◌^◌, ◌≤◌, ℕ, length, take}
+use Rattle.std.specs.Prelude.{Option as Maybe, Bool, false, true, List, ◌++◌, ◌≡◌, ◌+◌, ◌-◌, ◌<◌, ◌^◌, ℕ, length, take}
 use Rattle.std.proofs.Math.Option.{Option, none as nothing, some}
 use Rattle.model.specs.declared.Layout.{Layout}
 use Rattle.model.specs.Order.{Low, Str, at}
@@ -9,17 +9,10 @@ use Rattle.model.specs.Files.{Slot, used}
 use Rattle.model.specs.Format.{bytes_of_slot, entry_length, read_entries, slot_size}
 use Rattle.digits.specs.declared.Key.{Key}
 use Rattle.digits.specs.Keys.{key_value, value}
-use Rattle.entries.specs.declared.Content.{Content}
-use Rattle.entries.specs.declared.Held.{Held}
+use Rattle.model.specs.declared.Content.{Content}
 use Rattle.entries.specs.Rows.{content_number, held_number, place}
 use Rattle.bucket.specs.Forms.{ReadAs}
-use Rattle.slots.specs.declared.Spot.{Spot}
-
--- A place among as many entries as a slot may have; a name that is held is one of them.
-pub record Spotted (s : Spot) (y : Layout) : Type 0 where
-  pub count_most : s.count ≤ y.b
-  pub place_most : s.place ≤ s.count
-  pub held_there : s.held ≡ true → s.place < s.count
+use Rattle.slots.specs.declared.spot.Spot.{Spot}
 
 unfoldable pub is_some_value : Option ℕ → Bool
 is_some_value nothing = false
@@ -35,7 +28,7 @@ abbrev pub SpotTold : Spot → Layout → List ℕ → Key → Type 0
 SpotTold r y xs name =
     (l : Low) (u : Str) (es : List Entry) → ReadAs y xs l u es → (n : Str) → Legal n → key_value name ≡ value n → SpotIn r n es
 
-abbrev pub HeldTold : Held → Layout → List ℕ → Key → Type 0
+abbrev pub HeldTold : Maybe Content → Layout → List ℕ → Key → Type 0
 HeldTold r y xs name =
     (l : Low) (u : Str) (es : List Entry) → ReadAs y xs l u es → (n : Str) → Legal n → key_value name ≡ value n → held_number r ≡ find n es
 
@@ -66,6 +59,11 @@ abbrev pub LessenedTold : List ℕ → Layout → List ℕ → Spot → Type 0
 LessenedTold r y xs s =
     (l : Low) (u : Str) (es : List Entry) → ReadAs y xs l u es → (n : Str) → Legal n → SpotIn s n es → (w : ℕ) → find n es ≡ some w
     → Begins r y (used l u (without n es))
+
+-- The slot with the first entries of a row, so many.
+abbrev pub RewrittenTold : List ℕ → Layout → List ℕ → List ℕ → ℕ → Type 0
+RewrittenTold r y xs row n =
+    (l : Low) (u : Str) (es ws : List Entry) → ReadAs y xs l u es → read_entries (entry_length y) n row ≡ ws → Begins r y (used l u ws)
 
 -- Two neighbours as one, without a name that one of them holds: m and n are their counts, i the name's place in both rows.
 abbrev pub WidenedTold : List ℕ → Layout → List ℕ → ℕ → List ℕ → ℕ → ℕ → Type 0

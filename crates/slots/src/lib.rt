@@ -3,187 +3,131 @@
 #![tactic(auto)]
 
 ghost use Rattle.std.specs.Prelude.{◌≡◌, ◌*◌, ◌+◌, ◌/◌, ◌<◌, ◌^◌, ◌≤◌, drop, length, take};
-ghost use Rattle.model.specs.Format.{AreBytes, entry_length};
+ghost use Rattle.model.specs.Format.{AreBytes, EntrySize, entry_length};
 ghost use Rattle.digits.specs.Keys.{key_value};
 ghost use Rattle.entries.specs.Rows.{Valued};
-ghost use Rattle.bucket.specs.Slots.{OfSize, lower_bytes, upper_bytes};
 ghost use Rattle.slots.specs.Parts.{all_of, part_of};
 ghost use Rattle.slots.specs.Halves.{LowerTold, NameTold, StayTold, UpperTold};
-ghost use Rattle.slots.specs.Spots.{AddedTold, ContentTold, HeldTold, LessenedTold, OverfullTold, ReplacedTold, SpotTold, Spotted, WidenedTold};
+ghost use Rattle.slots.specs.Spots.{AddedTold, ContentTold, HeldTold, LessenedTold, OverfullTold, ReplacedTold, RewrittenTold, SpotTold, WidenedTold};
 ghost use Rattle.slots.specs.Written.{entries_room, written_bytes};
 
-use bucket::SLOT;
-use digits::{Key, u8_of_usize};
-use entries::{Content, Held, ROOM, copy};
-use model::Layout;
+use bucket::{SLOT, Slot};
+use digits::Key;
+use entries::{ROOM, Row, copy};
+use model::{Content, Layout};
 
-// Where in a slot a name is or would be: how many entries the slot has, how many of them are below the name, and whether the next is the
-// name's own.
-#[derive(Clone, Copy)]
-pub struct Spot {
-    pub count: usize,
-    pub place: usize,
-    pub held: bool,
-}
+mod spot;
 
-pub fn spot_in(slot: &[u8], layout: Layout, name: Key) -> Spot
-    requires { OfSize slot.now layout }
-    ensures { (Spotted result layout) × (SpotTold result layout slot.now name) }
+pub use spot::Spot;
+
+// The spot of a name in a slot.
+pub fn spot_in<'a>(slot: &Slot<'a>, name: Key) -> Spot<'a>
+    ensures { (result.slot ≡ slot.now) × (SpotTold result slot.now.layout slot.now.bytes.now name) }
 {
-    let e = bucket::entry_size(layout);
-    let entries = bucket::entries_of(slot, layout);
-    let count = bucket::count_of(slot, layout.b);
-    let place = entries::rank(entries, e, count, name);
+    let row = slot.row();
+    let place = row.rank(name);
     Spot {
-        count,
+        slot: *slot,
+        count: row.count,
         place,
-        held: entries::is_at(entries, e, count, place, name),
+        held: row.is_at(place, name),
     }
 }
 
 // What a slot holds under a name.
-pub fn held_in(slot: &[u8], layout: Layout, name: Key) -> Held
-    requires { OfSize slot.now layout }
-    ensures { (HeldTold result layout slot.now name) × (Valued result) }
+pub fn held_in(slot: &Slot, name: Key) -> Option<Content>
+    ensures { (HeldTold result slot.now.layout slot.now.bytes.now name) × (Valued result) }
 {
-    entries::held_under(
-        bucket::entries_of(slot, layout),
-        bucket::entry_size(layout),
-        bucket::count_of(slot, layout.b),
-        name,
-    )
-}
-
-// The content at the spot of a name that is held.
-pub fn content_of(slot: &[u8], layout: Layout, spot: Spot) -> Content
-    requires { (OfSize slot.now layout) × (Spotted spot layout) × (spot.place < spot.count) }
-    ensures { (ContentTold result layout slot.now spot) × (result.value < 2 ^ 64) }
-{
-    entries::content_at(
-        bucket::entries_of(slot, layout),
-        bucket::entry_size(layout),
-        spot.place,
-        spot.count,
-    )
+    slot.row().held_under(name)
 }
 
 // The name of entry i, filled.
-pub fn name_in(slot: &[u8], layout: Layout, i: usize) -> &[u8]
-    requires { (OfSize slot.now layout) × (i < layout.b) }
-    ensures { (length result.now ≡ 24) × (result.now ≡ take 24 (drop (entry_length layout * i) (drop 64 slot.now))) }
+pub fn name_in<'a>(slot: &Slot<'a>, i: usize) -> &'a [u8]
+    requires { i < slot.now.layout.b }
+    ensures { (length result.now ≡ 24) × (result.now ≡ take 24 (drop (entry_length slot.now.layout * i) (drop 64 slot.now.bytes.now))) }
 {
-    let entries = bucket::entries_of(slot, layout);
-    let at = entries::whole_at(bucket::entry_size(layout), i, layout.b);
-    let end = at + 24;
-    &entries[at..end]
+    let row = slot.first(slot.layout.b);
+    let at = entries::entry_at(row.e, i, row.count);
+    &row.bytes[at..at + 24]
 }
 
-// R7.9: the slot with another content under a name that it holds.
-pub fn replaced(
-    slot: &[u8],
-    layout: Layout,
-    spot: Spot,
-    name: &[u8; 24],
-    content: Content,
-) -> [u8; SLOT]
-    requires { (OfSize slot.now layout) × (Spotted spot layout) × (spot.place < spot.count) }
-    ensures { ReplacedTold result layout slot.now spot name.now content }
-{
-    let e = bucket::entry_size(layout);
-    let count = spot.count;
-    let row = entries::with_entry(
-        bucket::entries_of(slot, layout),
-        e,
-        count,
-        spot.place,
-        1,
-        name,
-        content,
-    );
-    let end = entries::entry_at(e, count, layout.b);
-    rewritten(slot, count, &row[0..end])
-}
+impl<'a> Spot<'a> {
+    // The entries of its slot.
+    fn row(&self) -> Row<'a>
+        ensures { (result.bytes.now ≡ drop 64 self.now.slot.bytes.now) × (result.e ≡ entry_length self.now.slot.layout) × (result.count ≡ self.now.count)
+            × EntrySize result.e }
+    {
+        self.slot.first(self.count)
+    }
 
-// The entries of a slot with one more, which may be more than it has room for.
-pub fn overfull(
-    slot: &[u8],
-    layout: Layout,
-    spot: Spot,
-    name: &[u8; 24],
-    content: Content,
-) -> [u8; ROOM]
-    requires { (OfSize slot.now layout) × (Spotted spot layout) }
-    ensures { OverfullTold result layout slot.now spot name.now content }
-{
-    entries::with_entry(
-        bucket::entries_of(slot, layout),
-        bucket::entry_size(layout),
-        spot.count,
-        spot.place,
-        0,
-        name,
-        content,
-    )
-}
+    // The content of a name that is held.
+    pub fn content(&self) -> Content
+        requires { self.now.place < self.now.count }
+        ensures { (ContentTold result self.now.slot.layout self.now.slot.bytes.now self.now) × (result.value < 2 ^ 64) }
+    {
+        self.row().content_at(self.place)
+    }
 
-// R7.2: the slot with a name more, where it has room for it.
-pub fn added(
-    slot: &[u8],
-    layout: Layout,
-    spot: Spot,
-    name: &[u8; 24],
-    content: Content,
-) -> [u8; SLOT]
-    requires { (OfSize slot.now layout) × (Spotted spot layout) × (spot.count < layout.b) }
-    ensures { AddedTold result layout slot.now spot name.now content }
-{
-    let row = overfull(slot, layout, spot, name, content);
-    let count = spot.count + 1;
-    let end = entries::entry_at(bucket::entry_size(layout), count, layout.b);
-    rewritten(slot, count, &row[0..end])
-}
+    // R7.9: the slot with another content under a name that it holds.
+    pub fn replaced(&self, name: &[u8; 24], content: Content) -> [u8; SLOT]
+        requires { self.now.place < self.now.count }
+        ensures { ReplacedTold result self.now.slot.layout self.now.slot.bytes.now self.now name.now content }
+    {
+        let row = self.row().with_entry(self.place, 1, name, content);
+        self.rewritten(&row, self.count)
+    }
 
-// R7.10: the slot without a name that it holds.
-pub fn lessened(slot: &[u8], layout: Layout, spot: Spot) -> [u8; SLOT]
-    requires { (OfSize slot.now layout) × (Spotted spot layout) × (spot.place < spot.count) }
-    ensures { LessenedTold result layout slot.now spot }
-{
-    let e = bucket::entry_size(layout);
-    let row = entries::without_entry(bucket::entries_of(slot, layout), e, spot.count, spot.place);
-    let count = spot.count - 1;
-    let end = entries::entry_at(e, count, layout.b);
-    rewritten(slot, count, &row[0..end])
+    // The entries of the slot with one more, which may be more than it has room for.
+    pub fn overfull(&self, name: &[u8; 24], content: Content) -> [u8; ROOM]
+        ensures { OverfullTold result self.now.slot.layout self.now.slot.bytes.now self.now name.now content }
+    {
+        self.row().with_entry(self.place, 0, name, content)
+    }
+
+    // R7.2: the slot with a name more, where it has room for it.
+    pub fn added(&self, name: &[u8; 24], content: Content) -> [u8; SLOT]
+        requires { self.now.count < self.now.slot.layout.b }
+        ensures { AddedTold result self.now.slot.layout self.now.slot.bytes.now self.now name.now content }
+    {
+        let row = self.overfull(name, content);
+        self.rewritten(&row, self.count + 1)
+    }
+
+    // R7.10: the slot without a name that it holds.
+    pub fn lessened(&self) -> [u8; SLOT]
+        requires { self.now.place < self.now.count }
+        ensures { LessenedTold result self.now.slot.layout self.now.slot.bytes.now self.now }
+    {
+        let row = self.row().without_entry(self.place);
+        self.rewritten(&row, self.count - 1)
+    }
+
+    // The slot with the same bounds and the first entries of a row, so many.
+    fn rewritten(&self, row: &[u8; ROOM], count: usize) -> [u8; SLOT]
+        requires { count ≤ self.now.slot.layout.b }
+        ensures { RewrittenTold result self.now.slot.layout self.now.slot.bytes.now row.now count }
+    {
+        let end = entries::entry_at(self.slot.layout.entry_size(), count, self.slot.layout.b);
+        written(self.slot.lower(), self.slot.upper(), count, &row[0..end])
+    }
 }
 
 // Two neighbours as one slot, without the entry at place i of both their rows: the left one has m entries, the right one n.
-pub fn widened(
-    left: &[u8],
-    m: usize,
-    right: &[u8],
-    n: usize,
-    layout: Layout,
-    i: usize,
-) -> [u8; SLOT]
-    requires { (OfSize left.now layout) × (OfSize right.now layout) × (m ≤ layout.b) × (n ≤ layout.b) × (m + n ≤ 16) × (i < m + n) }
-    ensures { WidenedTold result layout left.now m right.now n i }
+pub fn widened(left: &Slot, m: usize, right: &Slot, n: usize, i: usize) -> [u8; SLOT]
+    requires { (right.now.layout ≡ left.now.layout) × (m ≤ left.now.layout.b) × (n ≤ left.now.layout.b) × (m + n ≤ 16) × (i < m + n) }
+    ensures { WidenedTold result left.now.layout left.now.bytes.now m right.now.bytes.now n i }
 {
-    let e = bucket::entry_size(layout);
-    let all = entries::joined(
-        bucket::entries_of(left, layout),
-        m,
-        bucket::entries_of(right, layout),
-        n,
-        e,
-    );
-    let row = entries::without_entry(&all, e, m + n, i);
+    let first = left.first(m);
+    let both = first.joined(&right.first(n));
+    let all = Row {
+        bytes: &both,
+        e: first.e,
+        count: m + n,
+    };
+    let row = all.without_entry(i);
     let count = m + n - 1;
-    let end = entries::entry_at(e, count, m + n);
-    written(
-        bucket::lower_bound(left),
-        bucket::upper_bound(right),
-        count,
-        &row[0..end],
-    )
+    let end = entries::entry_at(all.e, count, all.count);
+    written(left.lower(), right.upper(), count, &row[0..end])
 }
 
 // The name of entry i in a row of b + 1.
@@ -191,12 +135,22 @@ pub fn name_of(row: &[u8; ROOM], layout: Layout, i: usize) -> [u8; 24]
     requires { (layout.b ≤ 16) × (i ≤ layout.b) }
     ensures { NameTold result layout row.now i }
 {
-    let at = entries::whole_at(bucket::entry_size(layout), i, layout.b + 1);
-    let end = at + 24;
-    let whole = &row[..];
+    let at = entries::entry_at(layout.entry_size(), i, layout.b + 1);
     let mut name = [0u8; 24];
-    copy(&mut name, 0, &whole[at..end]);
+    copy(&mut name, 0, &row[at..at + 24]);
     name
+}
+
+// A row of b + 1 entries.
+fn whole(row: &[u8; ROOM], layout: Layout) -> Row
+    requires { layout.b ≤ 16 }
+    ensures { (result.bytes.now ≡ row.now) × (result.e ≡ entry_length layout) × (result.count ≡ layout.b + 1) }
+{
+    Row {
+        bytes: row,
+        e: layout.entry_size(),
+        count: layout.b + 1,
+    }
 }
 
 // How many entries of a row of b + 1 stay at a split: those not above the string. The first always does and the last never.
@@ -204,53 +158,27 @@ pub fn stay_in(row: &[u8; ROOM], layout: Layout, string: Key) -> usize
     requires { (2 ≤ layout.b) × (layout.b ≤ 16) }
     ensures { StayTold result layout row.now string }
 {
-    let e = bucket::entry_size(layout);
-    let whole = &row[..];
-    1 + entries::not_above(&whole[e..], e, layout.b - 1, string)
+    let inner = whole(row, layout).part(1, layout.b);
+    1 + inner.not_above(string)
 }
 
 // The slot N of a split: from the string to the slot's upper bound, with the entries that move.
-pub fn upper_half(
-    slot: &[u8],
-    layout: Layout,
-    row: &[u8; ROOM],
-    string: &[u8],
-    stay: usize,
-) -> [u8; SLOT]
-    requires { (OfSize slot.now layout) × (length string.now ≤ 24) × (1 ≤ stay) × (stay ≤ layout.b) }
-    ensures { UpperTold result layout slot.now row.now string.now stay }
+pub fn upper_half(slot: &Slot, row: &[u8; ROOM], string: &[u8], stay: usize) -> [u8; SLOT]
+    requires { (length string.now ≤ 24) × (1 ≤ stay) × (stay ≤ slot.now.layout.b) }
+    ensures { UpperTold result slot.now.layout slot.now.bytes.now row.now string.now stay }
 {
-    let b = layout.b;
-    let part = entries::part(row, bucket::entry_size(layout), b + 1, stay, b + 1);
-    written(string, bucket::upper_bound(slot), b + 1 - stay, part)
+    let all = whole(row, slot.layout);
+    let part = all.part(stay, all.count);
+    written(string, slot.upper(), part.count, part.bytes)
 }
 
 // The slot A of a split, cut down: its upper bound is now the string, and the others' entries are gone.
-pub fn lower_half(
-    slot: &[u8],
-    layout: Layout,
-    row: &[u8; ROOM],
-    string: &[u8],
-    stay: usize,
-) -> [u8; SLOT]
-    requires { (OfSize slot.now layout) × (length string.now ≤ 24) × (1 ≤ stay) × (stay ≤ layout.b) }
-    ensures { LowerTold result layout slot.now row.now string.now stay }
+pub fn lower_half(slot: &Slot, row: &[u8; ROOM], string: &[u8], stay: usize) -> [u8; SLOT]
+    requires { (length string.now ≤ 24) × (1 ≤ stay) × (stay ≤ slot.now.layout.b) }
+    ensures { LowerTold result slot.now.layout slot.now.bytes.now row.now string.now stay }
 {
-    let part = entries::part(row, bucket::entry_size(layout), layout.b + 1, 0, stay);
-    written(bucket::lower_bound(slot), string, stay, part)
-}
-
-// The slot with the same bounds and other entries, so many.
-fn rewritten(slot: &[u8], count: usize, entries: &[u8]) -> [u8; SLOT]
-    requires { (64 ≤ length slot.now) × (count ≤ 16) × (length entries.now ≤ entries_room) }
-    ensures { (result ≡ written_bytes (lower_bytes slot.now) (upper_bytes slot.now) count entries.now) × AreBytes entries.now }
-{
-    written(
-        bucket::lower_bound(slot),
-        bucket::upper_bound(slot),
-        count,
-        entries,
-    )
+    let part = whole(row, slot.layout).part(0, stay);
+    written(slot.lower(), string, stay, part.bytes)
 }
 
 // A used slot written whole: its bounds and its entries, and zero elsewhere.
@@ -260,9 +188,9 @@ fn written(lower: &[u8], upper: &[u8], count: usize, entries: &[u8]) -> [u8; SLO
 {
     let mut slot = [0u8; SLOT];
     slot[0] = 1;
-    slot[1] = u8_of_usize(count);
-    slot[2] = u8_of_usize(lower.len());
-    slot[3] = u8_of_usize(upper.len());
+    slot[1] = count as u8;
+    slot[2] = lower.len() as u8;
+    slot[3] = upper.len() as u8;
     copy(&mut slot, 8, lower);
     copy(&mut slot, 32, upper);
     copy(&mut slot, 64, entries);
@@ -270,37 +198,23 @@ fn written(lower: &[u8], upper: &[u8], count: usize, entries: &[u8]) -> [u8; SLO
 }
 
 // The bytes of the entries from the first name to the second, both included (R9.8).
-pub fn part_between(slot: &[u8], layout: Layout, first: Key, second: Key) -> &[u8]
-    requires { OfSize slot.now layout }
-    ensures { (length result.now ≤ entries_room) × (result.now ≡ part_of layout slot.now (key_value first) (key_value second)) }
+pub fn part_between<'a>(slot: &Slot<'a>, first: Key, second: Key) -> &'a [u8]
+    ensures { (length result.now ≤ entries_room) × (result.now ≡ part_of slot.now.layout slot.now.bytes.now (key_value first) (key_value second)) }
 {
-    entries::part_between(
-        bucket::entries_of(slot, layout),
-        bucket::entry_size(layout),
-        bucket::count_of(slot, layout.b),
-        first,
-        second,
-    )
+    slot.row().part_between(first, second)
 }
 
 // The bytes of all entries.
-pub fn all_of(slot: &[u8], layout: Layout) -> &[u8]
-    requires { OfSize slot.now layout }
-    ensures { (length result.now ≤ entries_room) × (result.now ≡ all_of layout slot.now) }
+pub fn all_of<'a>(slot: &Slot<'a>) -> &'a [u8]
+    ensures { (length result.now ≤ entries_room) × (result.now ≡ all_of slot.now.layout slot.now.bytes.now) }
 {
-    let count = bucket::count_of(slot, layout.b);
-    entries::part(
-        bucket::entries_of(slot, layout),
-        bucket::entry_size(layout),
-        count,
-        0,
-        count,
-    )
+    let row = slot.row();
+    row.part(0, row.count).bytes
 }
 
 // How many entries so many bytes are.
 pub fn entries_in(bytes: usize, layout: Layout) -> usize
     ensures { result ≡ bytes / entry_length layout }
 {
-    bytes / bucket::entry_size(layout)
+    bytes / layout.entry_size()
 }

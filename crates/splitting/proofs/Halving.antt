@@ -1,5 +1,5 @@
 -- The halves of b + 1 entries as the code finds them: the split string, what stays and what moves.
-use Rattle.model.proofs.Prelude.{Bool, List, [], ◌+◌, ◌-◌, ◌<◌, ◌∙◌, ◌∷◌, ◌≡◌, ◌≤◌, ap, ap₂, arith, cond, drop, drop_at, eqb, false, length, length-replicate, length-take, not, paste, refl, replicate, subst, suc, sym, take, take_all, true, zero, ℕ}
+use Rattle.model.proofs.Prelude.{Bool, List, [], ◌+◌, ◌++◌, ◌-◌, ◌<◌, ◌∙◌, ◌∷◌, ◌≡◌, ◌≤◌, ap, ap₂, arith, cond, drop, drop_at, eqb, false, length, length-replicate, length-take-le, not, refl, replicate, subst, suc, sym, take, take_all, true, zero, ℕ}
 use Rattle.model.specs.declared.Layout.{Layout}
 use Rattle.model.specs.declared.Trie.{Trie}
 use Rattle.model.specs.Order.{Low, Str, ◌≺◌, ◌⊑◌, at, diff}
@@ -16,13 +16,14 @@ use Rattle.model.proofs.Entries.{keep_all, keep_parts, row_at, row_lt, split_bou
 use Rattle.model.proofs.Format.{padded_short}
 use Rattle.model.proofs.Order.{diff_lt_left, le_refl, le_trans, lt_le}
 use Rattle.model.proofs.Tests.{le_is_at_most, lt_is_at_most}
+use Rattle.model.proofs.Lists.{drop-replicate}
 use Rattle.model.proofs.Names.{bound_is_legal_bound, legal_length}
 use Rattle.model.proofs.Places.{place_lt, split_digits}
 use Rattle.digits.specs.declared.Key.{Key}
 use Rattle.digits.specs.Keys.{continued, is_all_zero, key_value, value}
 use Rattle.entries.specs.Rows.{is_not_above}
 use Rattle.entries.proofs.Copies.{moved}
-use Rattle.entries.proofs.Padding.{copied, take_padded_whole, zeros_padded}
+use Rattle.entries.proofs.Padding.{take_padded_whole}
 use Rattle.entries.proofs.Places.{numbers}
 use Rattle.bucket.specs.Forms.{ReadAs}
 use Rattle.bucket.proofs.Reading.{are_zeros}
@@ -33,14 +34,12 @@ use Rattle.trie.specs.Walks.{Walks}
 use Rattle.splitting.specs.Divides.{Divides}
 use Rattle.splitting.specs.declared.Split.{Split}
 
-pub front : (k : ℕ) (xs : List ℕ) → take (k - 0) (drop 0 xs) ≡ take k xs
-front k xs = let e : k - 0 ≡ k = omega arith in rw e
-
 -- The first digits, copied to the front of zeros.
-pub string_copied : (len : ℕ) (xs r : List ℕ) → len ≤ 24
-    → r ≡ paste (replicate 24 0) 0 (take (len - 0) (drop 0 xs)) (length (take (len - 0) (drop 0 xs))) → r ≡ padded 24 (take len xs)
-string_copied len xs r h q =
-    copied {k = 24} 0 [] (take (len - 0) (drop 0 xs)) (take len xs) (zeros_padded 24) refl (front len xs) (omega (arith, length-take len xs)) q
+pub string_copied : (len : ℕ) (xs r : List ℕ) → len ≤ 24 → len ≤ length xs → r ≡ take len xs → r ++ drop len (replicate 24 0) ≡ padded 24 (take len xs)
+string_copied len xs r h k e =
+    let n : length (take len xs) ≡ len = length-take-le len xs k in
+    let m : 24 - length (take len xs) ≡ 24 - len = omega (arith, n) in
+    rw (e, drop-replicate) (sym (padded_short 24 (take len xs) (omega (arith, n)) ∙ ap (λ (i : ℕ). take len xs ++ replicate i 0) m))
 
 -- Digits behind those that are looked at do not matter.
 diff_take : (k : ℕ) (c z : Str) → diff c z ≤ k → diff (take k c) z ≡ diff c z
@@ -177,7 +176,7 @@ module _ {l : Low} {u : Str} {ws : List Entry} (R : Row l ws u) (y : Layout) (tw
       → len ≡ length string_of_split → string ≡ padded 24 (take len key)
       → (len ≤ 24 → is_all_zero (take (24 - len) (drop (0 + len) string)) ≡ true → key_value k ≡ value (continued (take len (drop 0 string))))
       → StayTold st y row k
-      → Walks w (walk_of t key) → shared ≡ diff (take (len - 0) (drop 0 string)) (take w.len w.path)
+      → Walks w (walk_of t key) → shared ≡ diff (take len string) (take w.len w.path)
       → Divides (record { string = string; len = len; stay = st; walk = w; shared = shared }) y t ws
   divides t w k row {key} {string} {len} {st} r p len_is m f S g h =
       let string_is : string ≡ padded 24 string_of_split = string_found R b i i_lt size p len_is m in
@@ -187,7 +186,7 @@ module _ {l : Low} {u : Str} {ws : List Entry} (R : Row l ws u) (y : Layout) (tw
         len_is = len_is;
         stay_is = stay_found R b i i_lt size y refl row k st (key_found R b i i_lt size k len_is string_is f) S r;
         walked = subst (λ (x : Str). Walks w (walk_of t x)) p g;
-        shares = h ∙ ap (λ (x : Str). diff x (take w.len w.path)) (front len string ∙ o);
+        shares = h ∙ ap (λ (x : Str). diff x (take w.len w.path)) o;
       }
 
   -- What a split tells: its string, the entries that stay and those that move.

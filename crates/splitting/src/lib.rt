@@ -7,13 +7,14 @@ ghost use Rattle.model.specs.Order.{diff};
 ghost use Rattle.model.specs.Format.{padded};
 ghost use Rattle.slots.specs.Halves.{LowerTold, UpperTold};
 ghost use Rattle.growth.specs.Grows.{Grows};
-ghost use Rattle.image.specs.Images.{image_length, trie_from};
+ghost use Rattle.image.specs.Images.{trie_from};
 ghost use Rattle.splitting.specs.Divides.{Found, LengthTold, PlaceTold};
 ghost use Rattle.splitting.specs.Parts.{Parted};
-ghost use Rattle.bucket.specs.Slots.{OfSize};
 
-use bucket::SLOT;
+use bucket::{SLOT, Slot};
+use digits::Key;
 use entries::ROOM;
+use image::Image;
 use model::Layout;
 use trie::Walk;
 
@@ -33,8 +34,7 @@ pub struct Split {
 fn string_length(key: &[u8; 24], last: &[u8; 24]) -> usize
     ensures { (1 ≤ result) × (result ≤ 24) × (result ≡ diff (take 23 key.now) last.now + 1) }
 {
-    let whole = &key[..];
-    digits::shared(&whole[0..23], last) + 1
+    digits::shared(&key[..23], last) + 1
 }
 
 // The first digits, and zero behind them.
@@ -42,9 +42,8 @@ fn beginning(name: &[u8; 24], len: usize) -> [u8; 24]
     requires { len ≤ 24 }
     ensures { result ≡ padded 24 (take len name.now) }
 {
-    let whole = &name[..];
     let mut string = [0u8; 24];
-    entries::copy(&mut string, 0, &whole[0..len]);
+    string[..len].copy_from_slice(&name[..len]);
     string
 }
 
@@ -76,17 +75,17 @@ fn place_of(row: &[u8; ROOM], layout: Layout) -> usize
 }
 
 // R7.3 and R7.4: the split of b + 1 entries, sorted.
-pub fn split_of(row: &[u8; ROOM], layout: Layout, image: &[u8]) -> Split
-    requires { (2 ≤ layout.b) × (layout.b ≤ 16) × (length image.now ≡ image_length) }
+pub fn split_of(row: &[u8; ROOM], layout: Layout, image: &Image) -> Split
+    requires { (2 ≤ layout.b) × (layout.b ≤ 16) }
     ensures { (Parted result layout.b) × (Found result layout (trie_from image.now) row.now) }
 {
     let place = place_of(row, layout);
     let key = slots::name_of(row, layout, place);
     let len = length_at(row, layout, place);
     let string = beginning(&key, len);
-    let stay = slots::stay_in(row, layout, digits::bound_key_at(&string, 0, len));
+    let stay = slots::stay_in(row, layout, Key::of_bound(&string, 0, len));
     let walk = image::walk_of(image, &key);
-    let shared = growth::shared_with(walk, &string[0..len]);
+    let shared = growth::shared_with(walk, &string[..len]);
     Split {
         string,
         len,
@@ -97,48 +96,40 @@ pub fn split_of(row: &[u8; ROOM], layout: Layout, image: &[u8]) -> Split
 }
 
 // The slot N of a split.
-pub fn new_slot(slot: &[u8], layout: Layout, row: &[u8; ROOM], split: Split) -> [u8; SLOT]
-    requires { (OfSize slot.now layout) × (Parted split layout.b) }
-    ensures { UpperTold result layout slot.now row.now (take split.len split.string) split.stay }
+pub fn new_slot(slot: &Slot, row: &[u8; ROOM], split: &Split) -> [u8; SLOT]
+    requires { Parted split.now slot.now.layout.b }
+    ensures { UpperTold result slot.now.layout slot.now.bytes.now row.now (take split.now.len split.now.string) split.now.stay }
 {
-    let string = split.string;
-    let len = split.len;
-    slots::upper_half(slot, layout, row, &string[0..len], split.stay)
+    slots::upper_half(slot, row, &split.string[..split.len], split.stay)
 }
 
 // The slot A of a split, cut down.
-pub fn old_slot(slot: &[u8], layout: Layout, row: &[u8; ROOM], split: Split) -> [u8; SLOT]
-    requires { (OfSize slot.now layout) × (Parted split layout.b) }
-    ensures { LowerTold result layout slot.now row.now (take split.len split.string) split.stay }
+pub fn old_slot(slot: &Slot, row: &[u8; ROOM], split: &Split) -> [u8; SLOT]
+    requires { Parted split.now slot.now.layout.b }
+    ensures { LowerTold result slot.now.layout slot.now.bytes.now row.now (take split.now.len split.now.string) split.now.stay }
 {
-    let string = split.string;
-    let len = split.len;
-    slots::lower_half(slot, layout, row, &string[0..len], split.stay)
+    slots::lower_half(slot, row, &split.string[..split.len], split.stay)
 }
 
 // Writes the trie after a split over the one before.
 pub fn grow_at(
-    image: &mut [u8],
+    image: &mut Image,
     places: &[u16; 256],
     lens: &[u8; 256],
-    split: Split,
-    string: &[u8; 24],
-    len: usize,
+    split: &Split,
     a: u16,
     n: u16,
 )
-    requires { (length image.old ≡ image_length) × ((trie_from image.old).count + len ≤ 256 + split.shared) × (split.shared ≤ len) × (len ≤ 24)
-        × (a < 32768) × (n < 32768) }
-    ensures { Grows (trie_from image.old) places.now lens.now split.walk (take len string.now) split.shared a n (trie_from image.new) }
+    requires { ((trie_from image.old).count + split.now.len ≤ 256 + split.now.shared)
+        × (split.now.shared ≤ split.now.len) × (split.now.len ≤ 24) × (a < 32768) × (n < 32768) }
+    ensures { Grows (trie_from image.old) places.now lens.now split.now.walk (take split.now.len split.now.string) split.now.shared a n (trie_from image.new) }
 {
-    let walk = split.walk;
-    let whole = &string[..];
     growth::grow(
         image,
         places,
         lens,
-        walk,
-        &whole[0..len],
+        split.walk,
+        &split.string[..split.len],
         split.shared,
         a,
         n,

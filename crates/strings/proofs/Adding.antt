@@ -2,6 +2,7 @@
 use Rattle.model.proofs.Prelude.{List, [], ◌++◌, ◌+◌, ◌-◌, ◌<◌, ◌∙◌, ◌∷◌, ◌≡◌, ◌≤◌, add-one, ap, append_assoc, append-nil, arith, drop, drop-cons, drop-length, get_or, get_or-take, length, length-append, length-drop, length-set, length-take-le, refl, set, suc, sym, take, take-suc, take-suc-set, zero, ℕ}
 use Rattle.model.specs.Order.{Str, last_digit}
 use Rattle.model.specs.Searches.{longer}
+use Rattle.trie.specs.declared.Strings.{Strings}
 use Rattle.trie.specs.Strung.{last_digits, lengths}
 use Rattle.strings.specs.Arrays.{Added, Whole, beyond, lefts}
 
@@ -58,14 +59,13 @@ module _ (x : Str) where
       → take (n + 1) (set xs n a) ≡ take count ys ++ (ns ++ (a ∷ []))
   more xs ys n count a ns h e = rw (add-one n, take-suc-set xs n a h, e) (append_assoc (take count ys) ns (a ∷ []))
 
-  module _ (slot next count : ℕ) where
-    pub added_start : (lens digits slots : List ℕ) → Whole lens digits slots
-        → Added (beyond (length x) x) slot next count count lens lens digits digits slots slots
-    added_start lens digits slots W = rw beyond_all record {
+  module _ (slot next : ℕ) where
+    pub added_start : (o : Strings) → Whole o → Added (beyond (length x) x) slot next o o
+    added_start o W = rw beyond_all record {
       count_is = omega arith;
-      lens_are = sym (append-nil (take count lens));
-      digits_are = sym (append-nil (take count digits));
-      slots_are = sym (append-nil (take count slots));
+      lens_are = sym (append-nil (take o.count o.lens));
+      digits_are = sym (append-nil (take o.count o.digits));
+      slots_are = sym (append-nil (take o.count o.slots));
       whole = W;
     }
 
@@ -75,26 +75,27 @@ module _ (x : Str) where
     pub left_step : (len : ℕ) → 0 < len → len ≤ length x → next ≡ left_after slot next (beyond (len - 1) x)
     left_step len h k = rw (beyond_less len h k) (sym (left_snoc slot next (beyond len x) (take len x)))
 
-    pub added_step : (len n m left : ℕ) (lens₀ lens digits₀ digits slots₀ slots : List ℕ) → m ≡ len → 0 < len → len ≤ length x → n < 256
-        → left ≡ left_after slot next (beyond len x) → Added (beyond len x) slot next count n lens₀ lens digits₀ digits slots₀ slots
-        → Added (beyond (len - 1) x) slot next count (n + 1) lens₀ (set lens n m) digits₀ (set digits n (get_or x (len - 1) 0)) slots₀ (set slots n left)
-    added_step len n m left lens₀ lens digits₀ digits slots₀ slots i h k j l A = rw (beyond_less len h k) record {
-      count_is = omega (arith, A.count_is, length-append ss (s ∷ []));
-      lens_are = rw (lengths_append ss (s ∷ []), length-take-le len x k, i) (more lens lens₀ n count len (lengths ss) (omega (arith, W.lens_whole)) A.lens_are);
-      digits_are = rw (last_digits_append ss (s ∷ []), last_taken len h k) (more digits digits₀ n count (get_or x (len - 1) 0) (last_digits ss) (omega (arith, W.digits_whole)) A.digits_are);
-      slots_are = rw (lefts_snoc slot next ss s, l) (more slots slots₀ n count (left_after slot next ss) (lefts slot next ss) (omega (arith, W.slots_whole)) A.slots_are);
+    pub added_step : (len m left : ℕ) (o s t : Strings) → m ≡ len → 0 < len → len ≤ length x → s.count < 256
+        → left ≡ left_after slot next (beyond len x) → Added (beyond len x) slot next o s
+        → (t.count ≡ s.count + 1) × (t.lens ≡ set s.lens s.count m) × (t.digits ≡ set s.digits s.count (get_or x (len - 1) 0)) × (t.slots ≡ set s.slots s.count left)
+        → Added (beyond (len - 1) x) slot next o t
+    added_step len m left o s t i h k j l A e = rw (beyond_less len h k) record {
+      count_is = omega (arith, e.0, A.count_is, length-append ss (z ∷ []));
+      lens_are = rw (e.0, e.1, lengths_append ss (z ∷ []), length-take-le len x k, i) (more s.lens o.lens s.count o.count len (lengths ss) (omega (arith, W.lens_whole)) A.lens_are);
+      digits_are = rw (e.0, e.2, last_digits_append ss (z ∷ []), last_taken len h k) (more s.digits o.digits s.count o.count (get_or x (len - 1) 0) (last_digits ss) (omega (arith, W.digits_whole)) A.digits_are);
+      slots_are = rw (e.0, e.3, lefts_snoc slot next ss z, l) (more s.slots o.slots s.count o.count (left_after slot next ss) (lefts slot next ss) (omega (arith, W.slots_whole)) A.slots_are);
       whole = record {
-        lens_whole = length-set lens n m ∙ W.lens_whole;
-        digits_whole = length-set digits n (get_or x (len - 1) 0) ∙ W.digits_whole;
-        slots_whole = length-set slots n left ∙ W.slots_whole;
+        lens_whole = ap length e.1 ∙ length-set s.lens s.count m ∙ W.lens_whole;
+        digits_whole = ap length e.2 ∙ length-set s.digits s.count (get_or x (len - 1) 0) ∙ W.digits_whole;
+        slots_whole = ap length e.3 ∙ length-set s.slots s.count left ∙ W.slots_whole;
       };
     }
       where
-        W : Whole lens digits slots
+        W : Whole s
         W = A.whole
 
         ss : List Str
         ss = beyond len x
 
-        s : Str
-        s = take len x
+        z : Str
+        z = take len x

@@ -1,5 +1,6 @@
 -- The strings of a sound file, bound after bound in range order, and the slots of the leaves left of them.
-use Rattle.model.proofs.Prelude.{List, [], ◌++◌, ◌+◌, ◌-◌, ◌<◌, ◌∙◌, ◌∷◌, ◌≡◌, ◌≤◌, add-one, ap, append_assoc, append-nil, arith, drop, drop-cons, drop_of_length-le, false, get_or, le-leb, length, length-append, lt-leb, refl, set, some, suc, sym, take, take-suc-set, true, zero-add, ℕ}
+use Rattle.std.specs.Prelude.{Option, Some, None}
+use Rattle.model.proofs.Prelude.{List, [], ◌++◌, ◌+◌, ◌-◌, ◌<◌, ◌∙◌, ◌∷◌, ◌≡◌, ◌≤◌, add-one, ap, append_assoc, append-nil, arith, drop, drop-cons, drop_of_length-le, get_or, length, length-append, refl, set, some, suc, sym, take, take-suc-set, zero-add, ℕ}
 use Rattle.model.specs.declared.Layout.{Layout}
 use Rattle.model.specs.Order.{Low, Str, ◌≺◌, at, diff, none}
 use Rattle.model.specs.Files.{Chain, IsUsed, RangeTable, Slot, Sound, Well, free, head, last, next, ranges, slot_at, upper_of, used, well_used}
@@ -121,18 +122,17 @@ module _ (fs : List Slot) where
   abbrev Upper : ℕ → Str
   Upper i = (ranges fs).upper (get_or (order_of fs) i 0)
 
-  pub going_step : (lens lens' digits digits' slots slots' : List ℕ) (n r j B C k : ℕ) (x y : Str) → 1 ≤ j → j < length (order_of fs)
+  pub going_step : (s t : Strings) (j B C k : ℕ) (x y : Str) → 1 ≤ j → j < length (order_of fs)
       → B ≡ get_or (order_of fs) (j - 1) 0 → C ≡ get_or (order_of fs) j 0 → x ≡ Upper (j - 1) → y ≡ Upper j → k ≡ diff x y
-      → Going fs lens digits slots n j → Added (beyond k x) B C n r lens lens' digits digits' slots slots'
-      → Going fs lens' digits' slots' r (j + 1)
-  going_step lens lens' digits digits' slots slots' n r j B C k x y p q eB eC ex ey ek G A = record {
+      → Going fs s.lens s.digits s.slots s.count j → Added (beyond k x) B C s t → Going fs t.lens t.digits t.slots t.count (j + 1)
+  going_step s t j B C k x y p q eB eC ex ey ek G A = record {
     done = G.done ++ ss;
     inside = omega arith;
     count_is = omega (arith, A.count_is, G.count_is, length-append G.done ss);
     strings_are = rw (place, add-one j) (append_assoc G.done ss (rest F D Ds) ∙ rw fresh_is (rw comes at G.strings_are));
     lens_are = A.lens_are ∙ rw G.lens_are (sym (lengths_append G.done ss));
     digits_are = A.digits_are ∙ rw G.digits_are (sym (last_digits_append G.done ss));
-    slots_are = rw (place, add-one j, A.slots_are) (append_assoc (take n slots) (lefts B C ss) (leaves_from F D Ds) ∙ rw (fresh_is, eB, eC) (rw comes at G.slots_are));
+    slots_are = rw (place, add-one j, A.slots_are) (append_assoc (take s.count s.slots) (lefts B C ss) (leaves_from F D Ds) ∙ rw (fresh_is, eB, eC) (rw comes at G.slots_are));
   }
     where
       F : RangeTable
@@ -171,14 +171,15 @@ module _ (fs : List Slot) where
       omega (arith, h, count, ap length more, length-append G.done (ss ++ rest (ranges fs) D Ds), length-append ss (rest (ranges fs) D Ds), G.count_is)
 
   -- Behind the last bound the leaf of the last bucket is left.
-  pub going_end : (lens digits slots : List ℕ) (n j v : ℕ) → length (order_of fs) ≤ j → v ≡ get_or (order_of fs) (length (order_of fs) - 1) 0
-      → n < length slots → Going fs lens digits slots n j → (s : Strings) → (s.count ≡ n) × (s.lens ≡ lens) × (s.digits ≡ digits) × (s.slots ≡ set slots n v)
+  pub going_end : (o : Strings) (j v : ℕ) → length (order_of fs) ≤ j → v ≡ get_or (order_of fs) (length (order_of fs) - 1) 0
+      → o.count < length o.slots → Going fs o.lens o.digits o.slots o.count j
+      → (s : Strings) → (s.count ≡ o.count) × (s.lens ≡ o.lens) × (s.digits ≡ o.digits) × (s.slots ≡ set o.slots o.count v)
       → Holds s (strings_of fs) (slots_between fs none (strings_of fs))
-  going_end lens digits slots n j v h ev k G s e = record {
+  going_end o j v h ev k G s e = record {
     count_is = e.0 ∙ count;
     lens_are = rw (e.1, ← count) (G.lens_are ∙ ap lengths whole);
     digits_are = rw (e.2, ← count) (G.digits_are ∙ ap last_digits whole);
-    slots_are = rw (e.3, ← count) (take-suc-set slots n v k ∙ rw (ev, ← last_place) (rw none_left at G.slots_are));
+    slots_are = rw (e.3, ← count) (take-suc-set o.slots o.count v k ∙ rw (ev, ← last_place) (rw none_left at G.slots_are));
   }
     where
       last_place : j ≡ length (order_of fs)
@@ -190,7 +191,7 @@ module _ (fs : List Slot) where
       whole : G.done ≡ strings_of fs
       whole = sym (append-nil G.done) ∙ rw none_left at G.strings_are
 
-      count : n ≡ length (strings_of fs)
+      count : o.count ≡ length (strings_of fs)
       count = G.count_is ∙ ap length whole
 
 -- The same of any file that the bytes may be, in the order that is given.
@@ -199,8 +200,8 @@ module _ (file order : List ℕ) (size : Size) (count : ℕ) where
   Given fs =
       (read_slots size.layout size.slots 0 file ≡ some fs) × Sound size.layout.b fs × (count ≡ length (order_of fs)) × (take count order ≡ order_of fs)
 
-  abbrev pub Goes : (lens digits slots : List ℕ) (n j : ℕ) → Type 0
-  Goes lens digits slots n j = (fs : List Slot) → Given fs → Going fs lens digits slots n j
+  abbrev pub Goes : Strings → ℕ → Type 0
+  Goes s j = (fs : List Slot) → Given fs → Going fs s.lens s.digits s.slots s.count j
 
   -- The upper that stands in the bytes of slot B.
   abbrev pub upper_in : ℕ → Str
@@ -219,42 +220,37 @@ module _ (file order : List ℕ) (size : Size) (count : ℕ) where
       → x ≡ (ranges fs).upper (get_or (order_of fs) i 0)
   upper_is fs g i B x h e k q = q ∙ uppered_bytes (uppered_at fs g i B h e k)
 
-  pub goes_start : (lens digits slots : List ℕ) → Goes lens digits slots 0 1
+  pub goes_start : (lens digits slots : List ℕ) (fs : List Slot) → Given fs → Going fs lens digits slots 0 1
   goes_start lens digits slots fs g = going_start g.1 lens digits slots
 
-  module _ (below : Below order size.slots) (n j B C k : ℕ) (x y : Str) (first : 1 ≤ j) (more : j < count)
+  module _ (below : Below order size.slots) (j B C k : ℕ) (x y : Str) (first : 1 ≤ j) (more : j < count)
       (b_is : B ≡ get_or order (j - 1) 0) (c_is : C ≡ get_or order j 0) (x_is : x ≡ upper_in B) (y_is : y ≡ upper_in C) (k_is : k ≡ diff x y)
-      (lens digits slots : List ℕ) (goes : Goes lens digits slots n j) where
+      (s : Strings) (goes : Goes s j) where
     x_upper : (fs : List Slot) → Given fs → x ≡ Upper fs (j - 1)
     x_upper fs g = upper_is fs g (j - 1) B x (omega arith) b_is (rw b_is (below (j - 1))) x_is
 
     y_upper : (fs : List Slot) → Given fs → y ≡ Upper fs j
     y_upper fs g = upper_is fs g j C y more c_is (rw c_is (below j)) y_is
 
-    pub goes_step : (lens' digits' slots' : List ℕ) (r : ℕ) → Added (beyond k x) B C n r lens lens' digits digits' slots slots'
-        → Goes lens' digits' slots' r (j + 1)
-    goes_step lens' digits' slots' r A fs g =
-        going_step fs lens lens' digits digits' slots slots' n r j B C k x y first (omega (arith, g.2))
+    pub goes_step : (t : Strings) → Added (beyond k x) B C s t → Goes t (j + 1)
+    goes_step t A fs g =
+        going_step fs s t j B C k x y first (omega (arith, g.2))
         (b_is ∙ order_at fs g (j - 1) (omega arith)) (c_is ∙ order_at fs g j more) (x_upper fs g) (y_upper fs g) k_is (goes fs g) A
 
-    pub goes_many : (s : Strings) → s.few ≡ false → s.count ≡ 0 → 256 + k < n + length x → Listed s file size order count
-    goes_many s f z h = record {
-      count_most = omega arith;
+    pub goes_many : 256 + k < s.count + length x → Listed None file size order count
+    goes_many h = record {
       strung = λ fs e S c o. let g : Given fs = (e, S, c, o) in
-          let m : 256 < length (strings_of fs) = going_many fs lens digits slots n j k x y (omega arith) (x_upper fs g) (y_upper fs g) k_is (goes fs g) h in
-          record { few_is = f ∙ sym (lt-leb (length (strings_of fs)) 256 m); holds = λ l. absurd (omega arith) };
+          going_many fs s.lens s.digits s.slots s.count j k x y (omega arith) (x_upper fs g) (y_upper fs g) k_is (goes fs g) h;
     }
 
-  pub goes_end : (lens digits slots : List ℕ) (n j v : ℕ) → n ≤ 256 → length slots ≡ 257 → count ≤ j → 0 < count → v ≡ get_or order (count - 1) 0 → Goes lens digits slots n j
-      → (s : Strings) → (s.few ≡ true) × (s.count ≡ n) × (s.lens ≡ lens) × (s.digits ≡ digits) × (s.slots ≡ set slots n v)
-      → Listed s file size order count
-  goes_end lens digits slots n j v few w h p ev goes s e = record {
-    count_most = omega (arith, e.1);
-    strung = λ fs r S c o. let g : Given fs = (r, S, c, o) in
-        let H = going_end fs lens digits slots n j v (omega arith) (ev ∙ order_at fs g (count - 1) (omega arith) ∙ ap (λ (i : ℕ). get_or (order_of fs) (i - 1) 0) c) (omega arith) (goes fs g) s (e.1, e.2, e.3, e.4) in
-        record { few_is = e.0 ∙ sym (le-leb (length (strings_of fs)) 256 (omega (arith, H.count_is, e.1))); holds = λ l. H };
+  pub goes_end : (o : Strings) (j v : ℕ) → o.count ≤ 256 → length o.slots ≡ 257 → count ≤ j → 0 < count → v ≡ get_or order (count - 1) 0 → Goes o j
+      → (s : Strings) → (s.count ≡ o.count) × (s.lens ≡ o.lens) × (s.digits ≡ o.digits) × (s.slots ≡ set o.slots o.count v)
+      → Listed (Some s) file size order count
+  goes_end o j v few w h p ev goes s e = record {
+    strung = λ fs r S c q. let g : Given fs = (r, S, c, q) in
+        going_end fs o j v (omega arith) (ev ∙ order_at fs g (count - 1) (omega arith) ∙ ap (λ (i : ℕ). get_or (order_of fs) (i - 1) 0) c) (omega arith) (goes fs g) s e;
   }
 
   -- Each sound file has a bucket.
-  pub goes_none : (s : Strings) → s.count ≤ 256 → count ≤ 0 → Listed s file size order count
-  goes_none s few h = record { count_most = few; strung = λ fs r S c o. absurd (omega (arith, chain_length (ranges fs) (chain_right size.layout.b S))) }
+  pub goes_none : (r : Option Strings) → count ≤ 0 → Listed r file size order count
+  goes_none r h = record { strung = λ fs e S c o. absurd (omega (arith, chain_length (ranges fs) (chain_right size.layout.b S))) }

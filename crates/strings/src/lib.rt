@@ -5,81 +5,64 @@
 // is what a cell holds of it, with the slot of the leaf just left of it.
 #![tactic(auto)]
 
-ghost use Rattle.std.specs.Prelude.{◌≤◌, ◌<◌, ◌+◌, length};
+ghost use Rattle.std.specs.Prelude.{◌≡◌, ◌≤◌, ◌<◌, ◌+◌, length};
+ghost use Rattle.std.proofs.Math.ListN.{set};
 ghost use Rattle.file.specs.Sizes.{Sized, Below};
 ghost use Rattle.strings.specs.Arrays.{Added, Listed, Whole, beyond};
 
-use digits::{u8_of_usize, usize_of_u8};
 use file::Size;
 use trie::Strings;
 
 // Adds the beginnings of x that are longer than `shared` digits, the longest first. Left of x itself stands the bucket
 // that x ends, left of the others the next one.
-fn add(
-    lens: &mut [u8; 256],
-    digits: &mut [u8; 256],
-    slots: &mut [u8; 257],
-    count: usize,
-    x: &[u8],
-    shared: usize,
-    slot: u8,
-    next: u8,
-) -> usize
-    requires { (count + length x.now ≤ 256 + shared) × (shared ≤ length x.now) × (length x.now ≤ 24)
-        × Whole lens.old digits.old slots.old }
-    ensures { Added (beyond shared x.now) slot next count result lens.old lens.new
-        digits.old digits.new slots.old slots.new }
+fn add(strings: &mut Strings, x: &[u8], shared: usize, slot: u8, next: u8)
+    requires { (strings.old.count + length x.now ≤ 256 + shared) × (shared ≤ length x.now) × (length x.now ≤ 24)
+        × Whole strings.old }
+    ensures { Added (beyond shared x.now) slot next strings.old strings.new }
 {
-    let mut n = count;
-    let mut len = x.len();
     let mut left = slot;
-    while shared < len {
-        lens[n] = u8_of_usize(len);
-        digits[n] = x[len - 1];
-        slots[n] = left;
+    for len in (shared..x.len()).rev() {
+        strings.lens[strings.count] = len as u8 + 1;
+        strings.digits[strings.count] = x[len];
+        strings.slots[strings.count] = left;
         left = next;
-        n += 1;
-        len -= 1;
+        strings.count += 1;
     }
-    n
 }
 
-// The strings of a sound file, whose buckets stand in range order.
-pub fn strings_of(file: &[u8], size: Size, order: &[u8; 64], count: usize) -> Strings
+// Behind the last string stands the leaf of the last bucket.
+fn end_with(strings: &mut Strings, slot: u8)
+    requires { Whole strings.old }
+    ensures { (strings.new.count ≡ strings.old.count) × (strings.new.lens ≡ strings.old.lens) × (strings.new.digits ≡ strings.old.digits)
+        × (strings.new.slots ≡ set strings.old.slots strings.old.count slot) }
+{
+    strings.slots[strings.count] = slot;
+}
+
+// The strings of a sound file, whose buckets stand in range order; none where there are more than 256.
+pub fn strings_of(file: &[u8], size: Size, order: &[u8; 64], count: usize) -> Option<Strings>
     requires { (Sized (length file.now) size) × (Below order.now size.slots) × (count ≤ 64) }
     ensures { Listed result file.now size order.now count }
 {
-    let mut lens = [0u8; 256];
-    let mut digits = [0u8; 256];
-    let mut slots = [0u8; 257];
-    let mut n = 0usize;
-    let mut j = 1usize;
-    while j < count {
+    let mut strings = Strings {
+        count: 0,
+        lens: [0u8; 256],
+        digits: [0u8; 256],
+        slots: [0u8; 257],
+    };
+    for j in 1..count {
         let slot = order[j - 1];
         let next = order[j];
-        let x = bucket::upper_bound(file::slot_at(file, size, usize_of_u8(slot)));
-        let y = bucket::upper_bound(file::slot_at(file, size, usize_of_u8(next)));
+        let x = file::slot_at(file, size, slot as usize).upper();
+        let y = file::slot_at(file, size, next as usize).upper();
         let shared = digits::shared(x, y);
-        if 256 + shared < n + x.len() {
-            return Strings {
-                few: false,
-                count: 0,
-                lens,
-                digits,
-                slots,
-            };
+        if 256 + shared < strings.count + x.len() {
+            return None;
         }
-        n = add(&mut lens, &mut digits, &mut slots, n, x, shared, slot, next);
-        j += 1;
+        add(&mut strings, x, shared, slot, next);
     }
     if 0 < count {
-        slots[n] = order[count - 1];
+        end_with(&mut strings, order[count - 1]);
     }
-    Strings {
-        few: true,
-        count: n,
-        lens,
-        digits,
-        slots,
-    }
+    Some(strings)
 }

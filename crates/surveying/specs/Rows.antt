@@ -1,5 +1,5 @@
 -- Slots in a guessed order, and all slots: what the two passes tell.
-use Rattle.std.specs.Prelude.{◌≡◌, ◌+◌, ◌-◌, ◌<◌, suc, zero, ℕ, drop, get_or, length, take}
+use Rattle.std.specs.Prelude.{Option, Some, None, ◌≡◌, ◌+◌, ◌-◌, ◌<◌, suc, zero, ℕ, drop, get_or, length, take}
 use Rattle.std.proofs.Math.Option.{some}
 use mathlib.Core.List.{List, Memᴰ, []}
 use Rattle.model.specs.Order.{at, none}
@@ -10,8 +10,6 @@ use Rattle.gathering.specs.Names.{Rising, names}
 use Rattle.bucket.specs.Forms.{Framed, Standing}
 use Rattle.bucket.specs.Slots.{OfSize, count_at, high_in, low_in}
 use Rattle.file.specs.declared.Size.{Size}
-use Rattle.surveying.specs.declared.Tally.{Tally}
-use Rattle.surveying.specs.declared.Tally.TheVariants.{Ill, Well as AllWell}
 use Rattle.file.specs.Maps.{map_of}
 
 -- The bytes of the slot at place j of an order.
@@ -64,6 +62,6 @@ pub record Tallied (xs : List ℕ) (size : Size) (order : List ℕ) (count k map
   pub map_is : map ≡ map_of slots
 
 -- All slots, where those in the order are read as used and well formed.
-abbrev pub TallyTold : Tally → List ℕ → Size → List ℕ → ℕ → Type 0
-TallyTold (AllWell map) xs size order count = ((j : ℕ) → j < count → Standing size.layout (placed xs size order j)) → Tallied xs size order count 0 map
-TallyTold Ill xs size order count = Unit
+abbrev pub TallyTold : Option ℕ → List ℕ → Size → List ℕ → ℕ → Type 0
+TallyTold (Some map) xs size order count = ((j : ℕ) → j < count → Standing size.layout (placed xs size order j)) → Tallied xs size order count 0 map
+TallyTold None xs size order count = Unit

@@ -10,56 +10,53 @@ ghost use Rattle.file.specs.Surveys.{Surveyed};
 ghost use Rattle.surveying.specs.Rows.{TallyTold};
 
 use bucket::Vacancy;
-use file::{Kind, Size, Survey};
+use file::{Fault, Size, Survey};
 
 mod row;
 
-// The used slots as a map, where each slot is free or stands in the order.
-#[derive(Clone, Copy)]
-pub enum Tally {
-    Well(u64),
-    Ill,
-}
-
-// Each slot, from the last to the first.
-fn tally_of(file: &[u8], size: Size, order: &[u8; 64], count: usize, places: &[u8; 64]) -> Tally
+// The used slots as a map, where each slot is free or stands in the order. From the last slot to the first.
+fn tally_of(
+    file: &[u8],
+    size: Size,
+    order: &[u8; 64],
+    count: usize,
+    places: &[u8; 64],
+) -> Option<u64>
     requires { (Sized (length file.now) size) × (count ≤ 64) × (length order.now ≡ 64) }
     ensures { TallyTold result file.now size order.now count }
 {
     let mut used = 0u64;
-    let mut k = size.slots;
-    while 0 < k {
-        k -= 1;
-        let slot = file::slot_at(file, size, k);
-        let vacancy = bucket::vacancy_of(slot);
-        match vacancy {
+    for k in (0..size.slots).rev() {
+        match file::slot_at(file, size, k).vacancy() {
             Vacancy::Free => {
                 used = file::with_next(used, 0);
             }
             Vacancy::Taken => {
                 if !row::is_placed(order, count, places, k) {
-                    return Tally::Ill;
+                    return None;
                 }
                 used = file::with_next(used, 1);
             }
         }
     }
-    Tally::Well(used)
+    Some(used)
 }
 
 // The whole file.
-pub fn survey_of(file: &[u8], size: Size) -> Survey
+pub fn survey_of(file: &[u8], size: Size) -> Result<Survey, Fault>
     requires { Sized (length file.now) size }
     ensures { Surveyed result file.now size }
 {
     let guess = row::guessed(file, size);
-    let order = guess.order;
-    let places = guess.places;
-    if !row::is_row(file, size, &order, guess.count) {
+    if !row::is_row(file, size, &guess.order, guess.count) {
         return file::survey_of(file, size);
     }
-    let Tally::Well(used) = tally_of(file, size, &order, guess.count, &places) else {
+    let Some(used) = tally_of(file, size, &guess.order, guess.count, &guess.places) else {
         return file::survey_of(file, size);
     };
-    file::found(Kind::Sound, used, guess.count, &order, 0)
+    Ok(Survey {
+        used,
+        count: guess.count,
+        order: guess.order,
+    })
 }

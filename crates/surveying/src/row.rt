@@ -3,10 +3,11 @@ ghost use Rattle.std.specs.Prelude.{true, ◌≡◌, ℕ, ◌≤◌, ◌<◌, ge
 ghost use Rattle.file.specs.Sizes.{Sized, Below};
 ghost use Rattle.surveying.specs.Rows.{AllFramed, AllNamed, Rowed};
 
-use digits::{u8_of_usize, usize_of_u8};
+use bucket::Slot;
+use digits::Key;
 use file::{Size, slot_at};
 
-// Where no slot stands in a table.
+// Where no slot stands in a table. A byte: an Option would double the table.
 const NONE: u8 = 255;
 
 // The used slots, each at the mark of its upper bound or behind it, and how many they are.
@@ -29,27 +30,12 @@ fn free_spot(table: &[u8; 320], mark: usize) -> usize
     requires { mark < 256 }
     ensures { result < 320 }
 {
-    let mut spot = mark;
-    while spot < 319 {
+    for spot in mark..319 {
         if table[spot] == NONE {
             return spot;
         }
-        spot += 1;
     }
-    spot
-}
-
-// Enters slot k, if it is used, at the mark of its upper bound or behind it. 1 where it is used, else 0.
-fn enter(table: &mut [u8; 320], slot: &[u8], k: u8) -> usize
-    requires { 64 ≤ length slot.now }
-    ensures { result ≤ 1 }
-{
-    if !bucket::is_used(slot) {
-        return 0;
-    }
-    let spot = free_spot(table, bucket::upper_mark(slot));
-    table[spot] = k;
-    1
+    319
 }
 
 // The used slots by their upper bounds.
@@ -59,10 +45,13 @@ fn by_upper(file: &[u8], size: Size) -> Uppers
 {
     let mut table = [NONE; 320];
     let mut count = 0;
-    let mut k = 0;
-    while k < size.slots {
-        count += enter(&mut table, slot_at(file, size, k), u8_of_usize(k));
-        k += 1;
+    for k in 0..size.slots {
+        let slot = slot_at(file, size, k);
+        if slot.is_used() {
+            let spot = free_spot(&table, slot.upper_mark());
+            table[spot] = k as u8;
+            count += 1;
+        }
     }
     Uppers { table, count }
 }
@@ -72,35 +61,31 @@ fn highest(file: &[u8], size: Size, table: &[u8; 320]) -> u8
     requires { Sized (length file.now) size }
     ensures { result < size.slots }
 {
-    let mut spot = 0;
-    while spot < 320 {
+    for spot in 0..320 {
         let k = table[spot];
-        if size.slots <= usize_of_u8(k) {
+        if size.slots <= k as usize {
             return 0;
         }
-        if bucket::is_highest(slot_at(file, size, usize_of_u8(k))) {
+        if slot_at(file, size, k as usize).is_highest() {
             return k;
         }
-        spot += 1;
     }
     0
 }
 
 // The slot on which a slot follows.
-fn under(file: &[u8], size: Size, table: &[u8; 320], slot: &[u8]) -> u8
-    requires { (Sized (length file.now) size) × (64 ≤ length slot.now) }
+fn under(file: &[u8], size: Size, table: &[u8; 320], slot: &Slot) -> u8
+    requires { Sized (length file.now) size }
     ensures { result < size.slots }
 {
-    let mut spot = bucket::lower_mark(slot);
-    while spot < 320 {
+    for spot in slot.lower_mark()..320 {
         let k = table[spot];
-        if size.slots <= usize_of_u8(k) {
+        if size.slots <= k as usize {
             return 0;
         }
-        if bucket::follows(slot, slot_at(file, size, usize_of_u8(k))) {
+        if slot.follows(slot_at(file, size, k as usize).bytes) {
             return k;
         }
-        spot += 1;
     }
     0
 }
@@ -111,21 +96,17 @@ pub fn guessed(file: &[u8], size: Size) -> Guess
     ensures { (Below result.order size.slots) × (length result.order ≡ 64) × (result.count ≤ 64) }
 {
     let uppers = by_upper(file, size);
-    let table = uppers.table;
-    let count = uppers.count;
     let mut order = [0u8; 64];
     let mut places = [0u8; 64];
-    let mut k = highest(file, size, &table);
-    let mut place = count;
-    while 0 < place {
-        place -= 1;
+    let mut k = highest(file, size, &uppers.table);
+    for place in (0..uppers.count).rev() {
         order[place] = k;
-        places[usize_of_u8(k)] = u8_of_usize(place);
-        k = under(file, size, &table, slot_at(file, size, usize_of_u8(k)));
+        places[k as usize] = place as u8;
+        k = under(file, size, &uppers.table, &slot_at(file, size, k as usize));
     }
     Guess {
         order,
-        count,
+        count: uppers.count,
         places,
     }
 }
@@ -136,22 +117,20 @@ fn are_framed(file: &[u8], size: Size, order: &[u8; 64], count: usize) -> bool
     requires { (Sized (length file.now) size) × (Below order.now size.slots) × (count ≤ 64) × (length order.now ≡ 64) × (0 < count) }
     ensures { result ≡ true → AllFramed file.now size order.now count }
 {
-    let mut before = usize_of_u8(order[count - 1]);
-    if !bucket::is_highest(slot_at(file, size, before)) {
+    let mut before = order[count - 1] as usize;
+    if !slot_at(file, size, before).is_highest() {
         return false;
     }
-    let mut low = digits::lowest_key();
-    let mut j = 0;
-    while j < count {
-        let k = usize_of_u8(order[j]);
+    let mut low = Key::lowest();
+    for j in 0..count {
+        let k = order[j] as usize;
         let slot = slot_at(file, size, k);
-        let high = bucket::high_key(slot);
-        if !bucket::is_framed(slot, size.layout, slot_at(file, size, before), low, high) {
+        let high = slot.high();
+        if !slot.is_framed(slot_at(file, size, before).bytes, low, high) {
             return false;
         }
         low = high;
         before = k;
-        j += 1;
     }
     true
 }
@@ -162,11 +141,9 @@ fn are_named(file: &[u8], size: Size, order: &[u8; 64], count: usize) -> bool
     ensures { result ≡ true → AllNamed file.now size order.now count }
 {
     let mut seen = gathering::nothing_seen();
-    let mut place = 0;
-    while place < count {
-        let slot = slot_at(file, size, usize_of_u8(order[place]));
-        seen = bucket::with_names(seen, slot, size.layout);
-        place += 1;
+    for place in 0..count {
+        let slot = slot_at(file, size, order[place] as usize);
+        seen = slot.with_names(seen);
     }
     gathering::faults(seen) == 0
 }
@@ -190,9 +167,9 @@ pub fn is_placed(order: &[u8; 64], count: usize, places: &[u8; 64], k: usize) ->
     requires { (count ≤ 64) × (length order.now ≡ 64) × (k < 64) }
     ensures { result ≡ true → (p : ℕ) × (p < count) × (get_or order.now p 0 ≡ k) }
 {
-    let place = usize_of_u8(places[k]);
+    let place = places[k] as usize;
     if count <= place {
         return false;
     }
-    usize_of_u8(order[place]) == k
+    order[place] as usize == k
 }

@@ -9,6 +9,7 @@ use Rattle.model.specs.Tests.{is_at_most}
 use Rattle.model.specs.Tries.{Spot, at_cell, cell, left, right, root, root_side, walk_of, walk_run}
 use Rattle.model.proofs.GrownTries.{root_further}
 use Rattle.trie.specs.declared.Walk.{Walk}
+use Rattle.trie.specs.declared.Hand.TheVariants.{Left, Right}
 use Rattle.trie.specs.declared.Place.{Place}
 use Rattle.trie.specs.declared.Place.TheVariants.{Cell as before_cell, Slot as at_slot, Stale as stale}
 use Rattle.trie.specs.Walks.{Ahead, Strayed, Underway, Walks, place_ahead}
@@ -151,7 +152,7 @@ module _ (n : Str) (w : Walk) (i : ℕ) (c : Cell) (o : Option (Str × Spot × �
     last = rw (f, ← number_is) s
 
     pub goes_left : {a : Place} → is_at_most n (take (k + 1) (set w.path k c.digit)) ≡ true → a ≡ place_ahead c.left w.count (w.more - 1)
-        → Underway o cs n (record { path = set w.path k c.digit; len = k + 1; place = a; cell = i; left = true; count = w.count; more = w.more - 1 })
+        → Underway o cs n (record { path = set w.path k c.digit; len = k + 1; place = a; cell = i; hand = Left; count = w.count; more = w.more - 1 })
     goes_left {a} g at =
         record {
           short = omega arith;
@@ -162,7 +163,7 @@ module _ (n : Str) (w : Walk) (i : ℕ) (c : Cell) (o : Option (Str × Spot × �
         }
       where
         r : Walk
-        r = record { path = set w.path k c.digit; len = k + 1; place = a; cell = i; left = true; count = w.count; more = w.more - 1 }
+        r = record { path = set w.path k c.digit; len = k + 1; place = a; cell = i; hand = Left; count = w.count; more = w.more - 1 }
 
         v : is_at_most n string ≡ true
         v = rw string_is at g
@@ -171,7 +172,7 @@ module _ (n : Str) (w : Walk) (i : ℕ) (c : Cell) (o : Option (Str × Spot × �
         rest = rw (string_is, ← f) (run_is ∙ run_left w.count cs n p u.spot (w.more - 1) i here.1 fits last v)
 
     pub goes_right : {a : Place} → is_at_most n (take (k + 1) (set w.path k c.digit)) ≡ false → a ≡ place_ahead c.right w.count (w.more - 1)
-        → Underway o cs n (record { path = w.path; len = w.len; place = a; cell = i; left = false; count = w.count; more = w.more - 1 })
+        → Underway o cs n (record { path = w.path; len = w.len; place = a; cell = i; hand = Right; count = w.count; more = w.more - 1 })
     goes_right {a} g at =
         record {
           short = u.short;
@@ -182,7 +183,7 @@ module _ (n : Str) (w : Walk) (i : ℕ) (c : Cell) (o : Option (Str × Spot × �
         }
       where
         r : Walk
-        r = record { path = w.path; len = w.len; place = a; cell = i; left = false; count = w.count; more = w.more - 1 }
+        r = record { path = w.path; len = w.len; place = a; cell = i; hand = Right; count = w.count; more = w.more - 1 }
 
         v : is_at_most n string ≡ false
         v = rw string_is at g

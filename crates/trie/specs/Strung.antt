@@ -1,5 +1,5 @@
 -- The strings of a file, as the arrays hold them.
-use Rattle.std.specs.Prelude.{◌≡◌, List, [], ◌∷◌, ◌≤◌, suc, ℕ, leb, length, take}
+use Rattle.std.specs.Prelude.{◌≡◌, List, [], ◌∷◌, ◌<◌, Option, Some, None, suc, ℕ, length, take}
 use Rattle.model.specs.Order.{Str, last_digit}
 use Rattle.trie.specs.declared.Strings.{Strings}
 
@@ -19,7 +19,7 @@ pub record Holds (s : Strings) (ss : List Str) (Bs : List ℕ) : Type 0 where
   pub digits_are : take (length ss) s.digits ≡ last_digits ss
   pub slots_are : take (suc (length ss)) s.slots ≡ Bs
 
--- They hold them where they are 256 or fewer, and say whether they are.
-pub record Strung (s : Strings) (ss : List Str) (Bs : List ℕ) : Type 0 where
-  pub few_is : s.few ≡ leb (length ss) 256
-  pub holds : length ss ≤ 256 → Holds s ss Bs
+-- They do where the strings are 256 or fewer; else no arrays are given.
+abbrev pub Strung : Option Strings → List Str → List ℕ → Type 0
+Strung (Some s) ss Bs = Holds s ss Bs
+Strung None ss Bs = 256 < length ss

@@ -1,11 +1,13 @@
 -- The walk on its way over any trie, damaged ones too, and where it ends.
-use Rattle.std.specs.Prelude.{◌≡◌, cond, false, true, List, ◌<◌, ◌≤◌, ℕ, eqb, leb, length, take}
+use Rattle.std.specs.Prelude.{◌≡◌, cond, List, ◌<◌, ◌≤◌, ℕ, eqb, leb, length, take}
 use Rattle.std.proofs.Math.Option.{Option, none as nothing, some}
 use Rattle.model.specs.declared.Cell.{Cell}
 use Rattle.model.specs.declared.Side.{Side}
 use Rattle.model.specs.declared.Side.TheVariants.{Cell as further, Slot as slot}
 use Rattle.model.specs.Order.{Str}
 use Rattle.model.specs.Tries.{Spot, at_cell, left, right, root, walk_run}
+use Rattle.trie.specs.declared.Hand.{Hand}
+use Rattle.trie.specs.declared.Hand.TheVariants.{Left, Right}
 use Rattle.trie.specs.declared.Place.{Place}
 use Rattle.trie.specs.declared.Place.TheVariants.{Cell as before_cell, Slot as at_slot, Stale as stale}
 use Rattle.trie.specs.declared.Walk.{Walk}
@@ -15,11 +17,16 @@ unfoldable pub place_ahead : Side → ℕ → ℕ → Place
 place_ahead (slot s) count more = at_slot s
 place_ahead (further i) count more = cond (eqb more 0) stale (cond (leb count i) stale (before_cell i))
 
+-- The side of a cell on this hand.
+abbrev pub side_on : Hand → Cell → Side
+side_on Left c = c.left
+side_on Right c = c.right
+
 -- The walk came by this side. At the root there was none.
 abbrev pub By : Spot → Walk → Type 0
 By root w = Unit {0}
-By (left m) w = (w.cell ≡ m) × (w.left ≡ true)
-By (right m) w = (w.cell ≡ m) × (w.left ≡ false)
+By (left m) w = (w.cell ≡ m) × (w.hand ≡ Left)
+By (right m) w = (w.cell ≡ m) × (w.hand ≡ Right)
 
 -- What is ahead of a walk at a place, to which it came by the side k: it will end as `o`.
 abbrev pub Ahead : Place → Option (Str × Spot × ℕ) → List Cell → Str → Walk → Spot → Type 0

@@ -7,23 +7,29 @@ ghost use Rattle.model.specs.Order.{Str};
 ghost use Rattle.model.specs.Tries.{root_side, walk_of};
 ghost use Rattle.trie.specs.Walks.{Steps, Strayed, Underway, place_ahead};
 
-use digits::usize_of_u8;
 use model::{Cell, Side, Trie};
 
 // The strings of a file in ascending order, each as its length and its last digit, which is what a cell holds of it; and
-// the slots of the leaves between them, one more than strings. `few` says that the strings are 256 or fewer; the other
-// parts hold them only then.
+// the slots of the leaves between them, one more than strings.
+// Arrays side by side and no array of structs: rebuilding and growth take the lengths alone, and of slots there is one more.
 #[derive(Clone, Copy)]
 pub struct Strings {
-    pub few: bool,
     pub count: usize,
     pub lens: [u8; 256],
     pub digits: [u8; 256],
     pub slots: [u8; 257],
+    pub ghost few: { count ≤ 256 },
+}
+
+// The two sides of a cell.
+#[derive(Clone, Copy, PartialEq, Eq)]
+pub enum Hand {
+    Left,
+    Right,
 }
 
 // Where a walk stands: at a cell that it has yet to meet, at a slot, where it ends, or at what no agreeing trie has.
-#[derive(Clone, Copy)]
+#[derive(Clone, Copy, PartialEq, Eq)]
 pub enum Place {
     Cell(u16),
     Slot(u16),
@@ -38,7 +44,7 @@ pub struct Walk {
     pub len: usize,
     pub place: Place,
     pub cell: u16,
-    pub left: bool,
+    pub hand: Hand,
     pub count: u16,
     pub more: u16,
 }
@@ -48,9 +54,7 @@ fn goes_left(name: &[u8; 24], string: &[u8; 24], len: usize) -> bool
     requires { len ≤ 24 }
     ensures { result ≡ tests.is_at_most name.now (take len string.now) }
 {
-    let whole = &string[..];
-    let compared = digits::compared(name, &whole[0..len]);
-    compared.within
+    digits::compared(name, &string[0..len]).within
 }
 
 // A side leads on to a cell below the count while cells may be met.
@@ -93,7 +97,7 @@ fn strayed() -> Walk
         len: 0,
         place: Place::Stale,
         cell: 0,
-        left: false,
+        hand: Hand::Right,
         count: 0,
         more: 0,
     }
@@ -109,7 +113,7 @@ impl Walk {
             len: 0,
             place: root(count, first),
             cell: 0,
-            left: false,
+            hand: Hand::Right,
             count,
             more: count,
         }
@@ -120,7 +124,7 @@ impl Walk {
         requires { (self.len ≤ 24) × (0 < self.more) }
         ensures { (result.more < self.more) × Steps name.now self i cell result }
     {
-        let at = usize_of_u8(cell.number);
+        let at = cell.number as usize;
         if self.len < at {
             return strayed();
         }
@@ -132,27 +136,20 @@ impl Walk {
         string[at] = cell.digit;
         self.more -= 1;
         if goes_left(name, &string, end) {
-            let left = cell.left;
             return Walk {
                 path: string,
                 len: end,
-                place: place_of(left, self.count, self.more),
+                place: place_of(cell.left, self.count, self.more),
                 cell: i,
-                left: true,
-                count: self.count,
-                more: self.more,
+                hand: Hand::Left,
+                ..self
             };
         }
-        let right = cell.right;
-        let path = self.path;
         Walk {
-            path,
-            len: self.len,
-            place: place_of(right, self.count, self.more),
+            place: place_of(cell.right, self.count, self.more),
             cell: i,
-            left: false,
-            count: self.count,
-            more: self.more,
+            hand: Hand::Right,
+            ..self
         }
     }
 }

@@ -1,14 +1,13 @@
 -- Create, put together from the sizes that it takes.
+use Rattle.std.specs.Prelude.{None, Option as Maybe, Some}
 use Rattle.model.proofs.Prelude.{Bool, List, ◌&&◌, ◌<◌, ◌∙◌, ◌≡◌, ap₂, arith, dec_le, eq-eqb, eqb, false, length, refl, subst, true, ℕ}
 use Rattle.model.specs.declared.Cause.TheVariants.{WrongSize}
 use Rattle.model.specs.declared.Layout.{Layout}
-use Rattle.model.specs.declared.TrieAnswer.TheVariants.{Given, Refused as TrieRefused}
+use Rattle.model.specs.Results.{Given, TrieRefused}
 use Rattle.model.specs.Files.{created as new_file}
 use Rattle.model.specs.Format.{Sizes, are_legal_sizes, file_bytes, file_size}
 use Rattle.model.specs.Calls.{create_of, new_trie}
 use Rattle.model.proofs.Format.{are_legal_sizes_sizes, offered_small, sizes_are_legal_sizes}
-use Rattle.file.specs.declared.Header.{Header}
-use Rattle.file.specs.declared.Header.TheVariants.{Right, Wrong}
 use Rattle.file.specs.declared.Size.{Size}
 use Rattle.file.specs.Sizes.{Fitting, Sized}
 use Rattle.image.specs.Images.{image_of}
@@ -16,11 +15,11 @@ use Rattle.whole.specs.Outcomes.{Creates}
 use Rattle.whole.specs.Small.{Small}
 
 -- Sizes that fit a length, and sizes that do not.
-pub fitting_right : {h : Header} {s : Size} {n : ℕ} {y : Layout} {slots : ℕ} → h ≡ Right s → Fitting h n y slots → Sized n s × (s.layout ≡ y) × (s.slots ≡ slots)
-fitting_right {h} {s} {n} {y} {slots} e t = subst (λ (x : Header). Fitting x n y slots) e t
+pub fitting_right : {h : Maybe Size} {s : Size} {n : ℕ} {y : Layout} {slots : ℕ} → h ≡ Some s → Fitting h n y slots → Sized n s × (s.layout ≡ y) × (s.slots ≡ slots)
+fitting_right {h} {s} {n} {y} {slots} e t = subst (λ (x : Maybe Size). Fitting x n y slots) e t
 
-pub fitting_wrong : {h : Header} (n : ℕ) (y : Layout) (slots : ℕ) → h ≡ Wrong → Fitting h n y slots → (are_legal_sizes y slots && eqb n (file_size y slots)) ≡ false
-fitting_wrong {h} n y slots e t = subst (λ (x : Header). Fitting x n y slots) e t
+pub fitting_wrong : {h : Maybe Size} (n : ℕ) (y : Layout) (slots : ℕ) → h ≡ None → Fitting h n y slots → (are_legal_sizes y slots && eqb n (file_size y slots)) ≡ false
+fitting_wrong {h} n y slots e t = subst (λ (x : Maybe Size). Fitting x n y slots) e t
 
 -- A version, a capacity and slots as they are asked for and as they are taken. Numbers above 255 are no sizes.
 module _ (xs : List ℕ) (v b slots : ℕ) {w c n : ℕ} (p : Small w v) (q : Small c b) (u : Small n slots) where

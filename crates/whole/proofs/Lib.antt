@@ -1,3 +1,4 @@
+pub mod Handing
 pub mod Creating
 pub mod Recovering
 pub mod Rebuilding

@@ -1,8 +1,9 @@
 -- Check, and recover by its order of refusals, from a look at the whole file.
-use Rattle.model.proofs.Prelude.{Bool, List, [], ◌<◌, ◌∙◌, ◌∷◌, ◌≡◌, ◌≤◌, ap, arith, false, le-ltb, lt-ltb, ltb-false, ltb-true, nothing, refl, sym, take_all, true, ℕ}
+use Rattle.std.specs.Prelude.{Err, Ok}
+use Rattle.model.proofs.Prelude.{Bool, List, [], ◌<◌, ◌∙◌, ◌∷◌, ◌≡◌, ◌≤◌, ap, arith, false, le-ltb, lt-ltb, ltb-false, ltb-true, nothing, sym, take_all, true, ℕ}
 use Rattle.model.specs.declared.Cause.TheVariants.{BadFile, WrongSize}
 use Rattle.model.specs.declared.Layout.{Layout}
-use Rattle.model.specs.declared.RecoverAnswer.TheVariants.{Freed, Nothing, Refused as RecoverRefused, Stopped as RecoverStopped}
+use Rattle.model.specs.Results.{Freed, Nothing, RecoverRefused, RecoverStopped}
 use Rattle.model.specs.Checks.{is_bad, is_cut, is_sound}
 use Rattle.model.specs.Format.{check_file, header_of, layout_of}
 use Rattle.model.specs.Files.{free}
@@ -11,25 +12,23 @@ use Rattle.model.specs.Calls.{recover_by, recover_of, stores_bytes}
 use Rattle.model.proofs.Format.{headed_layout, header_of_headed}
 use Rattle.file.specs.declared.Plan.{Plan}
 use Rattle.file.specs.declared.Size.{Size}
-use Rattle.file.specs.declared.survey.Kind.{Kind as Found}
-use Rattle.file.specs.declared.survey.Kind.TheVariants.{Bad, Cut, Sound}
-use Rattle.file.specs.declared.survey.Survey.{Survey}
-use Rattle.file.specs.Plans.{Committed, Fits, Planned}
+use Rattle.file.specs.declared.survey.Fault.{Fault}
+use Rattle.file.specs.declared.survey.Fault.TheVariants.{Bad, Cut}
+use Rattle.file.specs.Plans.{Committed, Planned}
 use Rattle.file.specs.Sizes.{Saying}
-use Rattle.file.specs.Surveys.{Surveyed, verdict}
+use Rattle.file.specs.Surveys.{verdict}
 use Rattle.whole.specs.Outcomes.{found, recovered}
-use Rattle.file.proofs.Surveying.{no_header_bad, surveyed_check}
+use Rattle.file.proofs.Surveying.{no_header_bad}
 
--- The survey's kind is what check finds.
-verdict_found : (k : Found) (N : ℕ) → k ≡ found (verdict k N)
-verdict_found Sound N = refl
-verdict_found Cut N = refl
-verdict_found Bad N = refl
+-- The survey finds what check finds.
+pub sound_found : (xs : List ℕ) → check_file xs ≡ is_sound → Ok tt ≡ found (check_file xs)
+sound_found xs e = sym (ap found e)
 
-pub surveyed_found : {xs : List ℕ} {s : Size} (v : Survey) → Saying s xs → Surveyed v xs s → v.kind ≡ found (check_file xs)
-surveyed_found {xs} v h z = verdict_found v.kind v.inner ∙ ap found (sym (surveyed_check v h z))
+pub fault_found : (xs : List ℕ) (f : Fault) → check_file xs ≡ verdict (Err f) → Err f ≡ found (check_file xs)
+fault_found xs Bad e = sym (ap found e)
+fault_found xs (Cut N) e = sym (ap found e)
 
-pub bad_found : (xs : List ℕ) → header_of xs ≡ nothing → Bad ≡ found (check_file xs)
+pub bad_found : (xs : List ℕ) → header_of xs ≡ nothing → Err Bad ≡ found (check_file xs)
 bad_found xs e = sym (ap found (no_header_bad xs e))
 
 -- Recover, by its order of refusals.
@@ -56,9 +55,6 @@ module _ (xs : List ℕ) (limit : ℕ) (s : Size) {N : ℕ} (e : check_file xs �
 
   held : Planned p y freeing
   held = planned.2 y h.sized.legal.b_most
-
-  pub recover_fits : N < s.slots → Fits p s
-  recover_fits i = rw (planned.0, planned.1) (i, h.sized.legal.slots_least)
 
   module _ (ys : List ℕ) (d : Bool) (C : Committed d xs ys y p limit) where
     pub recover_stopped : d ≡ true → recovered (RecoverStopped limit) ys ≡ recover_of xs limit

@@ -1,11 +1,10 @@
 -- A call's outcome put together from what the code gives: the answer, and the bytes lent as they are left.
-use Rattle.std.specs.Prelude.{◌≡◌, List, ℕ}
-use Rattle.model.specs.declared.RecoverAnswer.{RecoverAnswer}
-use Rattle.model.specs.declared.TrieAnswer.{TrieAnswer}
+use Rattle.std.specs.Prelude.{Err, Ok, Result, ◌≡◌, List, ℕ}
+use Rattle.model.specs.Results.{RecoverAnswer, TrieAnswer}
 use Rattle.model.specs.Calls.{CreateDone, RecoverDone, rebuild_of}
 use Rattle.model.specs.Checks.{Kind, is_bad, is_cut, is_sound}
-use Rattle.file.specs.declared.survey.Kind.{Kind as Found}
-use Rattle.file.specs.declared.survey.Kind.TheVariants.{Bad, Cut, Sound}
+use Rattle.file.specs.declared.survey.Fault.{Fault}
+use Rattle.file.specs.declared.survey.Fault.TheVariants.{Bad, Cut}
 use Rattle.image.specs.Images.{image_of}
 
 -- The answer, the file, and the image of the trie.
@@ -13,10 +12,10 @@ abbrev pub Creates : TrieAnswer → List ℕ → List ℕ → CreateDone → Typ
 Creates r file image o = (r ≡ o.answer) × (file ≡ o.file) × (image ≡ image_of o.trie)
 
 -- R9.2: sound, cut or bad.
-abbrev pub found : Kind → Found
-found is_sound = Sound
-found (is_cut N) = Cut
-found is_bad = Bad
+abbrev pub found : Kind → Result (Unit {0}) Fault
+found is_sound = Ok tt
+found (is_cut N) = Err (Cut N)
+found is_bad = Err Bad
 
 abbrev pub recovered : RecoverAnswer → List ℕ → RecoverDone
 recovered r xs = record { answer = r; file = xs }

@@ -2,29 +2,27 @@
 // order of refusals R10.9.
 #![tactic(auto)]
 
-ghost use Rattle.std.specs.Prelude.{◌≡◌, ◌<◌, length};
-ghost use Rattle.model.specs.Calls.{create_of, new_trie, recover_of};
+ghost use Rattle.std.specs.Prelude.{◌≡◌};
+ghost use Rattle.model.specs.Calls.{create_of, recover_of};
 ghost use Rattle.model.specs.Format.{check_file};
-ghost use Rattle.image.specs.Images.{image_length, image_of};
+ghost use Rattle.whole.specs.Gathering.{Gathered};
 ghost use Rattle.whole.specs.Outcomes.{Creates, Rebuilds, found, recovered};
 ghost use Rattle.whole.specs.Small.{Small};
 
-use file::{Header, Kind};
-use model::{Cause, Layout, RecoverAnswer, TrieAnswer};
+use file::Fault;
+use image::Image;
+use model::{Cause, Layout, RecoverAnswer, Recovery, TrieAnswer};
+use trie::Strings;
 
 // A number that is no size of a file stays none.
 fn small(x: u64) -> usize
     ensures { Small result x }
 {
-    if 255 < x {
-        return 255;
-    }
-    x as usize
+    x.min(255) as usize
 }
 
 // Writes the whole buffer: a file with one empty bucket without limits, in slot 0. Refused or not, it gives the trie without cells.
-pub fn create(file: &mut [u8], image: &mut [u8], version: u64, b: u64, slots: u64) -> TrieAnswer
-    requires { length image.old ≡ image_length }
+pub fn create(file: &mut [u8], image: &mut Image, version: u64, b: u64, slots: u64) -> TrieAnswer
     ensures { Creates result file.new image.new (create_of file.old version b slots) }
 {
     image::write_cleared(image, 0, 0);
@@ -32,23 +30,18 @@ pub fn create(file: &mut [u8], image: &mut [u8], version: u64, b: u64, slots: u6
         version: small(version),
         b: small(b),
     };
-    let Header::Right(size) = file::sizes(file.len(), layout, small(slots)) else {
-        return TrieAnswer::Refused(Cause::WrongSize);
-    };
+    let size = file::sizes(file.len(), layout, small(slots)).ok_or(Cause::WrongSize)?;
     file::create(file, size);
-    TrieAnswer::Given
+    Ok(())
 }
 
-// Whether a file is sound, cut or bad.
-pub fn check(file: &[u8]) -> Kind
+// Whether a file is sound, or what it lacks.
+pub fn check(file: &[u8]) -> Result<(), Fault>
     ensures { result ≡ found (check_file file.now) }
 {
-    let Header::Right(size) = file::header_of(file) else {
-        return Kind::Bad;
-    };
-    let survey = surveying::survey_of(file, size);
-    let kind = survey.kind;
-    kind
+    let size = file::header_of(file).ok_or(Fault::Bad)?;
+    surveying::survey_of(file, size)?;
+    Ok(())
 }
 
 // R9.3: frees N in one store, and names it.
@@ -56,56 +49,42 @@ pub fn recover(file: &mut [u8], limit: u64) -> RecoverAnswer
     ensures { recovered result file.new ≡ recover_of file.old limit }
 {
     if 2 < limit {
-        return RecoverAnswer::Refused(Cause::WrongSize);
+        return Err(Cause::WrongSize);
     }
-    let Header::Right(size) = file::header_of(file) else {
-        return RecoverAnswer::Refused(Cause::BadFile);
-    };
-    let survey = surveying::survey_of(file, size);
-    let kind = survey.kind;
-    match kind {
-        Kind::Bad => RecoverAnswer::Refused(Cause::BadFile),
-        Kind::Sound => RecoverAnswer::Nothing,
-        Kind::Cut => {
-            let plan = file::freeing(survey.inner);
-            if file::commit(file, size, plan, limit) {
-                return RecoverAnswer::Stopped(limit);
+    let size = file::header_of(file).ok_or(Cause::BadFile)?;
+    match surveying::survey_of(file, size) {
+        Ok(_) => Ok(Recovery::Nothing),
+        Err(Fault::Bad) => Err(Cause::BadFile),
+        Err(Fault::Cut(inner)) => {
+            if file::commit(file, size, file::freeing(inner), limit) {
+                return Ok(Recovery::Stopped(limit));
             }
-            RecoverAnswer::Freed(survey.inner)
+            Ok(Recovery::Freed(inner))
         }
     }
 }
 
-// Refused, a rebuild gives the trie without cells.
-fn not_rebuilt(image: &mut [u8], cause: Cause) -> TrieAnswer
-    requires { length image.old ≡ image_length }
-    ensures { (result ≡ TrieAnswer.Refused cause) × (image.new ≡ image_of new_trie) }
+// The strings of the bucket headers of a file that can be rebuilt from.
+fn strings_of(file: &[u8]) -> Result<Strings, Cause>
+    ensures { Gathered result file.now }
 {
-    image::write_cleared(image, 0, 0);
-    TrieAnswer::Refused(cause)
+    let size = file::header_of(file).ok_or(Cause::BadFile)?;
+    let survey = surveying::survey_of(file, size)?;
+    strings::strings_of(file, size, &survey.order, survey.count).ok_or(Cause::ManyStrings)
 }
 
-// Writes the image of the trie of the bucket headers alone.
-pub fn rebuild(file: &[u8], image: &mut [u8]) -> TrieAnswer
-    requires { length image.old ≡ image_length }
+// Writes the image of the trie of the bucket headers alone. Refused, it gives the trie without cells.
+pub fn rebuild(file: &[u8], image: &mut Image) -> TrieAnswer
     ensures { Rebuilds result image.new file.now }
 {
-    let Header::Right(size) = file::header_of(file) else {
-        return not_rebuilt(image, Cause::BadFile);
-    };
-    let survey = surveying::survey_of(file, size);
-    let kind = survey.kind;
-    match kind {
-        Kind::Bad => not_rebuilt(image, Cause::BadFile),
-        Kind::Cut => not_rebuilt(image, Cause::CutFile),
-        Kind::Sound => {
-            let order = survey.order;
-            let strings = strings::strings_of(file, size, &order, survey.count);
-            if !strings.few {
-                return not_rebuilt(image, Cause::ManyStrings);
-            }
-            rebuilding::rebuild(image, strings);
-            TrieAnswer::Given
+    match strings_of(file) {
+        Ok(strings) => {
+            rebuilding::rebuild(image, &strings);
+            Ok(())
+        }
+        Err(cause) => {
+            image::write_cleared(image, 0, 0);
+            Err(cause)
         }
     }
 }

@@ -7,5 +7,6 @@ returns-then-matches c = c.matches.ensures c.if-matches.true
 
 pub returns : goal.returns
 returns c =
-    let l = c.strings_of-strings in let a = c.args in
-    listed_told a.file.now a.size a.order.now a.count c.requires.0 l.result c.agreement_of-agreement.result l.ensures c.agreement_of-agreement.ensures
+    let a = c.args in
+    rw c.is_some.ensures (listed_told a.file.now a.size a.order.now a.count c.requires.0 c.strings_of-strings.result c.agreement_of.result _
+    c.strings_of-strings.ensures (rw c.as_ref.ensures.value at c.agreement_of.ensures))

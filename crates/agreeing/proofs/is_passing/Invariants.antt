@@ -8,6 +8,3 @@ use Rattle.agreeing.proofs.is_passing.Given as goal
 abbrev pub invariant-loop-j : goal.invariant-loop-j
 invariant-loop-j l = (1 ≤ l.j) × (l.met ≤ 24 * l.j) × (l.slot ≡ get_or l.order (l.j - 1) 0) × Roomy l.marks l.stack l.spot
     × Reaches l.file l.order l.size l.count (trie_from l.image).cells l.cells (side_from l.side) (standing l.marks l.stack l.spot) l.met l.j
-
-abbrev pub decreases-loop-j : goal.decreases-loop-j
-decreases-loop-j l = l.count - l.j

@@ -8,4 +8,4 @@ pub returns-then-shared-lt8 : goal.returns-then-shared-lt8
 returns-then-shared-lt8 c = λ u v U W. let w = c.shared_word-shared.ensures in w ∙ shared_by_word U W (omega (arith, w, c.if-shared-lt8.true))
 
 pub returns : goal.returns
-returns c = λ u v U W. c.shared.ensures.2 ∙ ap₂ diff c.upper_bound.ensures.0 c.upper_bound-2.ensures.0 ∙ shared_by_digits U W
+returns c = λ u v U W. c.shared.ensures.2 ∙ ap₂ diff c.bound_at.ensures.0 c.bound_at-2.ensures.0 ∙ shared_by_digits U W

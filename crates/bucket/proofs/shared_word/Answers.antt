@@ -11,5 +11,5 @@ returns c =
     let one = c.args.one.now in let two = c.args.two.now in
     let v = word_part one 32 (omega arith) (λ i. omega (arith, c.type_inv.one i)) in
     let w = word_part two 32 (omega arith) (λ i. omega (arith, c.type_inv.two i)) in
-    ap (λ (n : ℕ). n / 8) (c.usize_of_u32.ensures ∙ ap₂ (λ (m n : ℕ). count_trailing_zeros 64 (bit_xor m n)) c.little_endian.ensures c.little_endian-2.ensures)
+    ap (λ (n : ℕ). n / 8) (ap₂ (λ (m n : ℕ). count_trailing_zeros 64 (bit_xor m n)) c.little_endian.ensures c.little_endian-2.ensures)
     ∙ words_diff (take 8 (drop 32 one)) (take 8 (drop 32 two)) 8 v.bytes w.bytes v.eight w.eight

@@ -3,17 +3,17 @@ use Rattle.model.proofs.Prelude.{refl}
 use Rattle.capi.proofs.Doors.{create_malformed, create_said}
 use Rattle.capi.proofs.pal_create.Goals as goal
 
-pub returns-then-trie-ne-BYTES : goal.returns-then-trie-ne-BYTES
-returns-then-trie-ne-BYTES c =
+pub returns-in_default : goal.returns-in_default
+returns-in_default c =
     let a = c.args in
-    create_malformed a.trie.now c.if-trie-ne-BYTES.true a.file.now a.version a.b a.slots
+    create_malformed a.trie.now c.in_default.ensures.cases a.file.now a.version a.b a.slots
 
-pub returns-in-Given : goal.returns-in-Given
-returns-in-Given c =
+pub returns-in-Ok : goal.returns-in-Ok
+returns-in-Ok c =
     let a = c.args in
-    create_said a.trie.now c.if-trie-ne-BYTES.false a.file.now a.version a.b a.slots c.in-Given.is c.create-answer.ensures refl
+    create_said a.trie.now c.in-Some.ensures.cases a.file.now a.version a.b a.slots c.in-Ok.is c.create.ensures refl
 
-pub returns-in-Refused : goal.returns-in-Refused
-returns-in-Refused c =
+pub returns-in-Err : goal.returns-in-Err
+returns-in-Err c =
     let a = c.args in
-    create_said a.trie.now c.if-trie-ne-BYTES.false a.file.now a.version a.b a.slots c.in-Refused.is c.create-answer.ensures c.cause_number.ensures
+    create_said a.trie.now c.in-Some.ensures.cases a.file.now a.version a.b a.slots c.in-Err.is c.create.ensures c.from.ensures

@@ -3,17 +3,17 @@ use Rattle.model.proofs.Prelude.{refl}
 use Rattle.capi.proofs.Doors.{list_malformed, list_said}
 use Rattle.capi.proofs.pal_list.Goals as goal
 
-pub returns-then-trie-ne-BYTES : goal.returns-then-trie-ne-BYTES
-returns-then-trie-ne-BYTES c =
+pub returns-in_default : goal.returns-in_default
+returns-in_default c =
     let a = c.args in
-    list_malformed a.trie.now c.if-trie-ne-BYTES.true a.file.now a.first.now a.second.now a.output.now a.out.now
+    list_malformed a.trie.now c.in_default.ensures.cases a.file.now a.first.now a.second.now a.output.now a.out.now
 
-pub returns-in-Listed : goal.returns-in-Listed
-returns-in-Listed c =
+pub returns-in-Ok : goal.returns-in-Ok
+returns-in-Ok c =
     let a = c.args in
-    list_said a.trie.now c.if-trie-ne-BYTES.false a.file.now a.first.now a.second.now a.output.now a.out.now c.in-Listed.is c.list-answer.ensures refl refl
+    list_said a.trie.now c.in-Some.ensures.cases a.file.now a.first.now a.second.now a.output.now a.out.now c.in-Ok.is c.list.ensures refl refl
 
-pub returns-in-Refused : goal.returns-in-Refused
-returns-in-Refused c =
+pub returns-in-Err : goal.returns-in-Err
+returns-in-Err c =
     let a = c.args in
-    list_said a.trie.now c.if-trie-ne-BYTES.false a.file.now a.first.now a.second.now a.output.now a.out.now c.in-Refused.is c.list-answer.ensures c.refused.ensures.0 c.refused.ensures.1
+    list_said a.trie.now c.in-Some.ensures.cases a.file.now a.first.now a.second.now a.output.now a.out.now c.in-Err.is c.list.ensures c.refused.ensures.0 c.refused.ensures.1

@@ -1,29 +1,29 @@
 -- `pal_put` meets its contract.
 use Rattle.model.proofs.Prelude.{refl}
-use Rattle.capi.proofs.Doors.{put_malformed, put_said}
+use Rattle.capi.proofs.Doors.{done, put_malformed, put_said}
 use Rattle.capi.proofs.pal_put.Goals as goal
 
-pub returns-then-trie-ne-BYTES : goal.returns-then-trie-ne-BYTES
-returns-then-trie-ne-BYTES c =
+pub returns-in_default : goal.returns-in_default
+returns-in_default c =
     let a = c.args in
-    put_malformed a.trie.now c.if-trie-ne-BYTES.true a.file.now a.name.now a.value a.run a.limit a.out.now
+    put_malformed a.trie.now c.in_default.ensures.cases a.file.now a.name.now a.value a.run a.limit a.out.now
 
-pub returns-in-Added : goal.returns-in-Added
-returns-in-Added c =
+pub returns-in-Ok-Added : goal.returns-in-Ok-Added
+returns-in-Ok-Added c =
     let a = c.args in
-    put_said a.trie.now c.if-trie-ne-BYTES.false a.file.now a.name.now a.value a.run a.limit a.out.now c.in-Added.is c.put-answer.ensures refl refl
+    put_said a.trie.now c.in-Some.ensures.cases a.file.now a.name.now a.value a.run a.limit a.out.now (done c.in-Ok-Added.is c.in-Ok-Added.field-0-is) c.put.ensures refl refl
 
-pub returns-in-Replaced : goal.returns-in-Replaced
-returns-in-Replaced c =
+pub returns-in-Ok-Replaced : goal.returns-in-Ok-Replaced
+returns-in-Ok-Replaced c =
     let a = c.args in
-    put_said a.trie.now c.if-trie-ne-BYTES.false a.file.now a.name.now a.value a.run a.limit a.out.now c.in-Replaced.is c.put-answer.ensures refl refl
+    put_said a.trie.now c.in-Some.ensures.cases a.file.now a.name.now a.value a.run a.limit a.out.now (done c.in-Ok-Replaced.is c.in-Ok-Replaced.field-0-is) c.put.ensures refl refl
 
-pub returns-in-Stopped : goal.returns-in-Stopped
-returns-in-Stopped c =
+pub returns-in-Ok-Stopped : goal.returns-in-Ok-Stopped
+returns-in-Ok-Stopped c =
     let a = c.args in
-    put_said a.trie.now c.if-trie-ne-BYTES.false a.file.now a.name.now a.value a.run a.limit a.out.now c.in-Stopped.is c.put-answer.ensures refl refl
+    put_said a.trie.now c.in-Some.ensures.cases a.file.now a.name.now a.value a.run a.limit a.out.now (done c.in-Ok-Stopped.is c.in-Ok-Stopped.field-0-is) c.put.ensures refl refl
 
-pub returns-in-Refused : goal.returns-in-Refused
-returns-in-Refused c =
+pub returns-in-Err : goal.returns-in-Err
+returns-in-Err c =
     let a = c.args in
-    put_said a.trie.now c.if-trie-ne-BYTES.false a.file.now a.name.now a.value a.run a.limit a.out.now c.in-Refused.is c.put-answer.ensures c.refused.ensures.0 c.refused.ensures.1
+    put_said a.trie.now c.in-Some.ensures.cases a.file.now a.name.now a.value a.run a.limit a.out.now c.in-Err.is c.put.ensures c.refused.ensures.0 c.refused.ensures.1

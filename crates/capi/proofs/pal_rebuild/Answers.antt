@@ -3,17 +3,17 @@ use Rattle.model.proofs.Prelude.{refl}
 use Rattle.capi.proofs.Doors.{rebuild_malformed, rebuild_said}
 use Rattle.capi.proofs.pal_rebuild.Goals as goal
 
-pub returns-then-trie-ne-BYTES : goal.returns-then-trie-ne-BYTES
-returns-then-trie-ne-BYTES c =
+pub returns-in_default : goal.returns-in_default
+returns-in_default c =
     let a = c.args in
-    rebuild_malformed a.trie.now c.if-trie-ne-BYTES.true a.file.now
+    rebuild_malformed a.trie.now c.in_default.ensures.cases a.file.now
 
-pub returns-in-Given : goal.returns-in-Given
-returns-in-Given c =
+pub returns-in-Ok : goal.returns-in-Ok
+returns-in-Ok c =
     let a = c.args in
-    rebuild_said a.trie.now c.if-trie-ne-BYTES.false a.file.now c.in-Given.is c.rebuild-answer.ensures refl
+    rebuild_said a.trie.now c.in-Some.ensures.cases a.file.now c.in-Ok.is c.rebuild.ensures refl
 
-pub returns-in-Refused : goal.returns-in-Refused
-returns-in-Refused c =
+pub returns-in-Err : goal.returns-in-Err
+returns-in-Err c =
     let a = c.args in
-    rebuild_said a.trie.now c.if-trie-ne-BYTES.false a.file.now c.in-Refused.is c.rebuild-answer.ensures c.cause_number.ensures
+    rebuild_said a.trie.now c.in-Some.ensures.cases a.file.now c.in-Err.is c.rebuild.ensures c.from.ensures

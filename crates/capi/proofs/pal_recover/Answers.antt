@@ -1,20 +1,20 @@
 -- `pal_recover` meets its contract.
 use Rattle.model.proofs.Prelude.{refl}
-use Rattle.capi.proofs.Doors.{recover_said}
+use Rattle.capi.proofs.Doors.{done, recover_said}
 use Rattle.capi.proofs.pal_recover.Goals as goal
 
-pub returns-in-Freed : goal.returns-in-Freed
-returns-in-Freed c =
-    recover_said _ _ _ c.in-Freed.is c.recover-answer.ensures refl (rw c.u64_of_usize.ensures)
+pub returns-in-Ok-Freed : goal.returns-in-Ok-Freed
+returns-in-Ok-Freed c =
+    recover_said _ _ _ (done c.in-Ok-Freed.is c.in-Ok-Freed.field-0-is) c.recover.ensures refl refl
 
-pub returns-in-Nothing : goal.returns-in-Nothing
-returns-in-Nothing c =
-    recover_said _ _ _ c.in-Nothing.is c.recover-answer.ensures refl refl
+pub returns-in-Ok-Nothing : goal.returns-in-Ok-Nothing
+returns-in-Ok-Nothing c =
+    recover_said _ _ _ (done c.in-Ok-Nothing.is c.in-Ok-Nothing.field-0-is) c.recover.ensures refl refl
 
-pub returns-in-Stopped : goal.returns-in-Stopped
-returns-in-Stopped c =
-    recover_said _ _ _ c.in-Stopped.is c.recover-answer.ensures refl refl
+pub returns-in-Ok-Stopped : goal.returns-in-Ok-Stopped
+returns-in-Ok-Stopped c =
+    recover_said _ _ _ (done c.in-Ok-Stopped.is c.in-Ok-Stopped.field-0-is) c.recover.ensures refl refl
 
-pub returns-in-Refused : goal.returns-in-Refused
-returns-in-Refused c =
-    recover_said _ _ _ c.in-Refused.is c.recover-answer.ensures c.refused.ensures.0 c.refused.ensures.1
+pub returns-in-Err : goal.returns-in-Err
+returns-in-Err c =
+    recover_said _ _ _ c.in-Err.is c.recover.ensures c.refused.ensures.0 c.refused.ensures.1

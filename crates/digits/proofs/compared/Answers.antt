@@ -1,17 +1,12 @@
 -- `digits::compared` meets its contract.
-use Rattle.model.proofs.Prelude.{arith}
+use Rattle.model.proofs.Prelude.{arith, ⊎_elim}
 use Rattle.digits.proofs.Laws.{within_all, within_none, within_there}
 use Rattle.digits.proofs.compared.Goals as goal
 
 pub returns-then-p-first : goal.returns-then-p-first
 returns-then-p-first c =
     let s = c.shared-first in let a = c.args in
-    (within_all a.name.now a.p.now s.result s.ensures.2 (omega arith), s.ensures.2)
-
-pub returns-then-name-first : goal.returns-then-name-first
-returns-then-name-first c =
-    let s = c.shared-first in let a = c.args in
-    (within_none a.name.now a.p.now s.result s.ensures.2 (omega arith), s.ensures.2)
+    (⊎_elim (λ h. within_all a.name.now a.p.now s.result s.ensures.2 h) (λ h. within_none a.name.now a.p.now s.result s.ensures.2 h.1) c.then-p-first.either, s.ensures.2)
 
 pub returns : goal.returns
 returns c =

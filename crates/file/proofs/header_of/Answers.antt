@@ -1,5 +1,5 @@
 -- `header_of` meets its contract: the length, the mark and the sizes are those of the header that is right.
-use Rattle.model.proofs.Prelude.{◌∙◌, arith, sym}
+use Rattle.model.proofs.Prelude.{◌∙◌, arith, refl, sym}
 use Rattle.file.proofs.Headers.{ill_marked, told, too_short}
 use Rattle.file.proofs.header_of.Goals as goal
 
@@ -14,4 +14,4 @@ pub returns : goal.returns
 returns c =
     told c.args.file.now c.sizes.result _ _
     (sym c.is_marked.ensures ∙ c.if-not-is_marked.false)
-    c.layout_of.ensures c.usize_of_u8.ensures.0 c.sizes.ensures
+    c.layout_of.ensures refl c.sizes.ensures

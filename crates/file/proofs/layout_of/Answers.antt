@@ -1,8 +1,11 @@
 -- `layout_of` meets its contract.
+use Rattle.model.proofs.Prelude.{◌≡◌, ◌*◌, ◌+◌, arith, get_or}
 use Rattle.model.specs.Format.{layout_of}
 use Rattle.file.proofs.layout_of.Goals as goal
 
 pub returns : goal.returns
 unfolding layout_of
 returns c =
-    rw (c.usize_of_u8.ensures.0, c.usize_of_u8-2.ensures.0, c.usize_of_u8-3.ensures.0)
+    let xs = c.args.file.now in
+    let e : c.from_le_bytes.result ≡ get_or xs 3 0 + 256 * get_or xs 4 0 = omega (arith, c.from_le_bytes.ensures) in
+    rw e

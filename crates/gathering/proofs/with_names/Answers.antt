@@ -1,59 +1,55 @@
 -- `gathering::with_names` meets its contract.
-use Rattle.model.proofs.Prelude.{◌∙◌, ◌≡◌, arith, length, length-set, rules}
-use lib.Bits.{and_le_l}
-use Rattle.gathering.proofs.Names.{grown_next, grown_none, held_all, held_next, held_none, left_entry}
+use Rattle.model.proofs.Prelude.{◌*◌, ◌+◌, ◌-◌, ◌∙◌, ◌≡◌, arith, length, length-set, rules}
+use Rattle.std.proofs.Common.{mul-zero}
+use Rattle.gathering.proofs.Names.{entry_in, grown_next, grown_none, held_all, held_next, held_none, next_entry, words_at}
 use Rattle.gathering.proofs.with_names.Goals as goal
 
-pub loop-left-init : goal.loop-left-init
-loop-left-init c =
+pub loop-k-init : goal.loop-k-init
+loop-k-init c =
     let g = c.args in
     let most-full : length g.seen.most ≡ 32 = search rules in
     let least-full : length g.seen.least ≡ 32 = search rules in
-    (omega arith, most-full, least-full, omega arith, held_none g.s.now g.e g.count g.seen.most g.seen.least g.seen.ascents)
+    (most-full, least-full, held_none g.s.now g.e g.count (g.e * 0) (g.count - 0) g.seen.most g.seen.least g.seen.ascents c.lowest-last.result (mul-zero g.e) (omega arith) c.lowest-last.ensures)
 
 pub loop-i-init : goal.loop-i-init
 loop-i-init c =
-    let l = c.loop-left in let g = c.args in
-    (omega arith, omega (arith, left_entry g.e l.left (omega arith)), l.invariant.1, l.invariant.2, grown_none g.s.now l.at l.most l.least)
+    let l = c.loop-k in let g = c.args in
+    (l.invariant.0, l.invariant.1, grown_none g.s.now (g.e * l.k) l.most l.least)
 
 pub loop-i-preserved : goal.loop-i-preserved
 loop-i-preserved c =
-    let i = c.loop-i in
-    let l = c.loop-left in let g = c.args in
-    let p = c.larger in let q = c.smaller in (
-      omega arith,
-      i.invariant.1,
-      length-set i.most i.i p.result ∙ i.invariant.2,
-      length-set i.least i.i q.result ∙ i.invariant.3,
-      grown_next g.s.now l.at i.i l.most l.least i.most i.least p.result q.result i.invariant.4 (omega arith) (omega arith) p.ensures q.ensures,
+    let i = c.loop-i in let l = c.loop-k in let g = c.args in
+    let p = c.max in let q = c.min in (
+      length-set i.most i.i p.result ∙ i.invariant.0,
+      length-set i.least i.i q.result ∙ i.invariant.1,
+      grown_next g.s.now (g.e * l.k) i.i l.most l.least i.most i.least p.result q.result i.invariant.2 (omega arith) (omega arith) p.ensures q.ensures,
     )
 
-pub overflow_add-at-in-loop-left : goal.overflow_add-at-in-loop-left
-overflow_add-at-in-loop-left c =
-    omega (arith, left_entry c.args.e c.loop-left.left (omega arith))
-
-pub loop-left-preserved : goal.loop-left-preserved
-loop-left-preserved c =
-    let i = c.loop-i in
-    let l = c.loop-left in let g = c.args in (
-      omega (arith, left_entry g.e l.left (omega arith)),
-      i.invariant.2,
-      i.invariant.3,
-      omega (arith, and_le_l l.ascents c.ascent-ascents.result, l.invariant.3),
-      held_next g.s.now g.e g.count g.seen.most g.seen.least g.seen.ascents l.most l.least l.ascents l.last l.at l.left i.i i.most i.least c.name_at-name.result c.ascent-ascents.result
-          l.invariant.4
+pub loop-k-preserved : goal.loop-k-preserved
+loop-k-preserved c =
+    let i = c.loop-i in let l = c.loop-k in let g = c.args in
+    let n = c.at-name in let a = c.ascent-ascents in
+    let room = entry_in g.e l.k g.count (omega arith) in (
+      i.invariant.0,
+      i.invariant.1,
+      held_next g.s.now g.e g.count g.seen.most g.seen.least g.seen.ascents l.most l.least l.ascents l.last (g.e * l.k) (g.count - l.k) i.i i.most i.least n.result a.result
+          l.invariant.2
           (omega arith)
-          (omega arith)
+          (omega (arith, room))
           (λ k. omega (arith, c.type_inv.s k))
-          l.invariant.3
           (omega arith)
-          i.invariant.4
           (omega arith)
-          c.name_at-name.ensures
-          c.ascent-ascents.ensures,
+          i.invariant.2
+          (omega arith)
+          (words_at n.result g.s.now (g.e * l.k) (omega (arith, room)) (λ k. omega (arith, c.type_inv.s k)) (omega arith) (omega arith) n.ensures)
+          a.ensures
+          (g.e * (l.k + 1))
+          (g.count - (l.k + 1))
+          (next_entry g.e l.k)
+          (omega arith),
     )
 
 pub returns : goal.returns
 returns c =
-    let l = c.loop-left in let g = c.args in
-    held_all g.s.now g.e g.count g.seen.most g.seen.least g.seen.ascents l.most l.least l.ascents l.last l.at l.left (omega arith) l.invariant.4
+    let l = c.loop-k in let g = c.args in
+    held_all g.s.now g.e g.count g.seen.most g.seen.least g.seen.ascents l.most l.least l.ascents l.last (g.e * l.k) (g.count - l.k) (omega arith) l.invariant.2

@@ -11,4 +11,4 @@ returns-then-shared-s c =
 pub returns : goal.returns
 returns c =
     λ k K.
-    grown_new K c.args.n (omega (arith, c.if-shared-s.false, c.requires.2)) c.requires.1 c.count_of-count.ensures c.leaf_place-place.ensures c.redirect-2.ensures c.graft.ensures c.append.ensures
+    grown_new K c.args.n (omega (arith, c.if-shared-s.false, c.requires.1)) c.requires.0 c.count_of-count.ensures c.leaf_place-place.ensures c.redirect-2.ensures c.graft.ensures c.append.ensures

@@ -2,10 +2,10 @@
 use Rattle.growth.specs.Parts.{side_joined}
 use Rattle.growth.proofs.joined.Goals as goal
 
-pub returns-then-is_left : goal.returns-then-is_left
+pub returns-in-Left : goal.returns-in-Left
 unfolding side_joined
-returns-then-is_left c = rw c.if-is_left.true
+returns-in-Left c = rw c.in-Left.is
 
-pub returns : goal.returns
+pub returns-in-Right : goal.returns-in-Right
 unfolding side_joined
-returns c = rw c.if-is_left.false
+returns-in-Right c = rw c.in-Right.is

@@ -5,12 +5,12 @@ use Rattle.growth.proofs.leaf_place.Goals as goal
 
 pub returns-then-cell-ge256 : goal.returns-then-cell-ge256
 unfolding leaf_place
-returns-then-cell-ge256 c = let n = c.usize_of_u16-cell.ensures.0 in rw (le-leb 256 _ (rw n at c.if-cell-ge256.true))
+returns-then-cell-ge256 c = rw (le-leb 256 _ c.if-cell-ge256.true)
 
-pub returns-then-walk : goal.returns-then-walk
+pub returns-in-Left : goal.returns-in-Left
 unfolding leaf_place
-returns-then-walk c = let n = c.usize_of_u16-cell.ensures.0 in rw (lt-leb 256 _ (rw n at c.if-cell-ge256.false), c.if-walk.true, ← n) c.usize_of_u16-place.ensures.0
+returns-in-Left c = rw (lt-leb 256 _ c.if-cell-ge256.false, c.in-Left.is)
 
-pub returns : goal.returns
+pub returns-in-Right : goal.returns-in-Right
 unfolding leaf_place
-returns c = let n = c.usize_of_u16-cell.ensures.0 in rw (lt-leb 256 _ (rw n at c.if-cell-ge256.false), c.if-walk.false, ← n, c.usize_of_u16-place.ensures.0)
+returns-in-Right c = rw (lt-leb 256 _ c.if-cell-ge256.false, c.in-Right.is)

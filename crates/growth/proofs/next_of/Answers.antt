@@ -5,7 +5,7 @@ use Rattle.growth.proofs.next_of.Goals as goal
 
 pub returns-then-i-end : goal.returns-then-i-end
 unfolding next_side
-returns-then-i-end c = rw (lt-ltb _ _ c.if-i-end.true, c.u16_of_usize.ensures)
+returns-then-i-end c = rw (lt-ltb _ _ c.if-i-end.true)
 
 pub returns : goal.returns
 unfolding next_side

@@ -1,9 +1,6 @@
 -- `place_of` meets its contract: none before has so many digits.
-use Rattle.model.proofs.Prelude.{◌-◌, ◌<◌, ◌≡◌, ◌≤◌, get_or, ℕ}
+use Rattle.model.proofs.Prelude.{◌<◌, ◌≡◌, ◌≤◌, get_or, ℕ}
 use Rattle.growth.proofs.place_of.Given as goal
 
 abbrev pub invariant-loop-i : goal.invariant-loop-i
-invariant-loop-i l = (l.from ≤ l.i) × ((j : ℕ) → j < l.i → l.from ≤ j → get_or l.lens j 0 ≡ l.digits → ⊥)
-
-abbrev pub decreases-loop-i : goal.decreases-loop-i
-decreases-loop-i l = 256 - l.i
+invariant-loop-i l = (j : ℕ) → j < l.i → l.from ≤ j → get_or l.lens j 0 ≡ l.digits → ⊥

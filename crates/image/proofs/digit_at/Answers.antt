@@ -5,4 +5,4 @@ use Rattle.image.proofs.Images.{cell_of}
 use Rattle.image.proofs.digit_at.Goals as goal
 
 pub returns : goal.returns
-returns c = let a = c.args in sym (ap (λ (x : Cell). x.digit) (cell_of a.image.now a.i (search rules)))
+returns c = let a = c.args in rw c.cell_begins.ensures (sym (ap (λ (x : Cell). x.digit) (cell_of a.image.now a.i (search rules))))

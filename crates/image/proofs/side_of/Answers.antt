@@ -7,4 +7,4 @@ pub returns-then-x-lt32768 : goal.returns-then-x-lt32768
 returns-then-x-lt32768 c = side_slot c.args.x (omega arith)
 
 pub returns : goal.returns
-returns c = side_cell _ (omega arith) (omega arith)
+returns c = side_cell _ _ (omega arith) (omega arith)

@@ -4,8 +4,8 @@ use Rattle.trie.specs.Walks.{Underway}
 use Rattle.image.specs.Images.{trie_from}
 use Rattle.image.proofs.walk_of.Given as goal
 
-abbrev pub invariant-loop-i : goal.invariant-loop-i
-invariant-loop-i l = Underway (walk_of (trie_from l.image) l.name) (trie_from l.image).cells l.name l.walk
+abbrev pub invariant-loop-walk : goal.invariant-loop-walk
+invariant-loop-walk l = Underway (walk_of (trie_from l.image) l.name) (trie_from l.image).cells l.name l.walk
 
-abbrev pub decreases-loop-i : goal.decreases-loop-i
-decreases-loop-i l = l.walk.more
+abbrev pub decreases-loop-walk : goal.decreases-loop-walk
+decreases-loop-walk l = l.walk.more

@@ -1,23 +1,16 @@
--- `write_cell` makes the six stores of a cell.
-use Rattle.model.proofs.Prelude.{◌*◌, ◌+◌, arith, length-set}
+-- `write_cell` makes the stores of a cell: its digit, its number, and its two sides.
+use Rattle.model.proofs.Prelude.{◌+◌, ◌∙◌, ap, List, sets, ℕ}
+use Rattle.image.specs.Images.{pair_bytes, trie_from}
 use Rattle.image.proofs.Coding.{cell_written}
+use Rattle.image.proofs.Imaging.{cell_put}
 use Rattle.image.proofs.write_cell.Goals as goal
-
-pub bounds-image-at-2 : goal.bounds-image-at-2
-bounds-image-at-2 c = simp length-set (omega arith)
-
-pub bounds-image-at-3 : goal.bounds-image-at-3
-bounds-image-at-3 c = simp length-set (omega arith)
-
-pub bounds-image-at-4 : goal.bounds-image-at-4
-bounds-image-at-4 c = simp length-set (omega arith)
-
-pub bounds-image-at-5 : goal.bounds-image-at-5
-bounds-image-at-5 c = simp length-set (omega arith)
-
-pub bounds-image-at-6 : goal.bounds-image-at-6
-bounds-image-at-6 c = simp length-set (omega arith)
 
 pub returns : goal.returns
 returns c =
-    cell_written c.args.image.now (4 + 6 * c.args.i) c.args.cell c.number_of-l.ensures c.number_of-r.ensures c.low.ensures c.high.ensures c.low-2.ensures c.high-2.ensures
+    let a = c.args in let at = c.cell_begins-at.result in
+    let made =
+    c.write_pair-2.ensures
+    ∙ ap (λ (xs : List ℕ). sets xs (at + 4) (pair_bytes c.number_of-2.result)) c.write_pair.ensures
+    ∙ cell_written a.image.now at a.cell c.number_of.ensures c.number_of-2.ensures in
+    let stored = rw c.cell_begins-at.ensures at made in
+    record { bytes = stored; cells = λ l r. ap trie_from stored ∙ cell_put a.image.now c.told-image c.fits-image a.i a.cell c.requires l r }

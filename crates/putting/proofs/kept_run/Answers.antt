@@ -1,12 +1,12 @@
 -- `kept_run` meets its contract.
-use Rattle.model.proofs.Prelude.{eq-eqb, ne_eqb}
+use Rattle.model.proofs.Prelude.{sym}
 use Rattle.model.specs.Format.{kept_run}
 use Rattle.putting.proofs.kept_run.Goals as goal
 
-pub returns-then-layout-eq3 : goal.returns-then-layout-eq3
+pub returns-then-keeps_runs : goal.returns-then-keeps_runs
 unfolding kept_run
-returns-then-layout-eq3 c = rw (eq-eqb c.args.layout.version 3 c.if-layout-eq3.true)
+returns-then-keeps_runs c = rw (sym c.if-keeps_runs.ensures)
 
-pub returns : goal.returns
+pub returns-else-keeps_runs : goal.returns-else-keeps_runs
 unfolding kept_run
-returns c = rw (ne_eqb c.args.layout.version 3 c.if-layout-eq3.false)
+returns-else-keeps_runs c = rw (sym c.if-keeps_runs.ensures)

@@ -1,43 +1,59 @@
--- `put_checked` meets its contract: a bucket that is full is split, else there is at most one store.
-use Rattle.model.proofs.Prelude.{List, ◌≡◌, arith, length, rules, refl, subst, sym, ℕ}
+-- `put_checked` meets its contract: at most one store, or a split of a bucket that is full.
+use Rattle.model.proofs.Prelude.{refl, rules}
 use Rattle.model.specs.Format.{kept_run}
-use Rattle.bucket.specs.Forms.{ReadAs}
-use Rattle.entries.specs.declared.Content.{Content}
-use Rattle.slots.proofs.Spots.{spot_lost}
+use Rattle.model.specs.declared.Content.{Content}
 use Rattle.image.specs.Images.{trie_from}
-use Rattle.checking.proofs.Ready.{ready_sound, slot_read}
-use Rattle.putting.proofs.Homes.{put_content}
+use Rattle.checking.proofs.Laws.{error_is}
+use Rattle.checking.proofs.Ready.{ready_sound}
+use Rattle.putting.proofs.Homes.{fits_there, put_content, row_there, stands}
 use Rattle.putting.proofs.Putting.{one_taken, split_taken, trie_left}
 use Rattle.putting.proofs.put_checked.Goals as goal
 
-pub returns-then-is_full : goal.returns-then-is_full
-returns-then-is_full c fs e =
-    let a = c.args in let kept = c.kept_run in let home = c.home_of-k in let slot = c.slot_at-slot in let spot = c.spot_in-spot in
-    let n = a.name.now in let y = a.checked.size.layout in let content : Content = record { value = a.value; run = kept.result } in
-    let S = ready_sound c.requires.1.ready e in
-    let H = home.ensures.right fs e in
-    let R = subst (λ (z : List ℕ). ReadAs y z H.0 H.1 H.2) (sym slot.ensures.0) (slot_read a.file.now e S home.result H.3.is) in
-    let P = spot.ensures.1 H.0 H.1 H.2 R n c.requires.2 c.requires.3 in
-    let k = put_content y content a.value a.run refl kept.ensures (search rules) (search rules) in
-    let full = c.is_full.ensures.0 c.if-is_full.true in let row = c.overfull-row in
-    let f = spot_lost P full.0 in
-    let d : length H.2 ≡ y.b = omega (arith, P.counted, spot.ensures.0.count_most, full.1) in
-    split_taken a.file.now a.image.now y H.3 k.1 (kept_run y a.run) a.limit f
-    (c.split.ensures fs e n _ H.0 H.1 H.2 (record { legal = c.requires.2; home = H.3; new = f; counted = d; row_is = (row.ensures H.0 H.1 H.2 R c.requires.2 P f k.0).0 }))
+pub put_in-requires : goal.put_in-requires
+put_in-requires c = (c.requires.0.ready.said.sized, c.home_of-k.ensures.inside, c.requires.1, c.requires.2)
 
-pub put_one-requires : goal.put_one-requires
-put_one-requires c =
-    (c.requires.1.ready.said.sized, c.home_of-k.ensures.inside, c.spot_in-spot.ensures.0, c.is_full.ensures.1 c.if-is_full.false)
+pub returns-in_err-done : goal.returns-in_err-done
+returns-in_err-done c fs e =
+    let a = c.args in let kept = c.kept_run in let H = c.home_of-k.ensures.right fs e in let y = a.checked.now.size.layout in let t = trie_from a.image.now in
+    let content : Content = record { value = a.value; run = kept.result } in
+    let k = put_content y content a.value a.run refl kept.ensures (search rules) (search rules) in
+    rw (error_is c.from_residual.result c.from_residual.ensures.1)
+    (trie_left _ _ a.image.now c.told-image c.fits-image
+    (one_taken a.file.now t y fs a.name.now a.limit k.1 kept.ensures (c.in_err-done.ensures fs e (ready_sound c.requires.0.ready e) H.0 H.1 H.2 H.3 k.0 t)))
+
+pub returns-in-Some : goal.returns-in-Some
+returns-in-Some c fs e =
+    let a = c.args in let kept = c.kept_run in let H = c.home_of-k.ensures.right fs e in let y = a.checked.now.size.layout in let t = trie_from a.image.now in
+    let content : Content = record { value = a.value; run = kept.result } in
+    let k = put_content y content a.value a.run refl kept.ensures (search rules) (search rules) in
+    let told = rw c.in-Some.is at c.in_ok-done.ensures in
+    trie_left _ _ a.image.now c.told-image c.fits-image
+    (one_taken a.file.now t y fs a.name.now a.limit k.1 kept.ensures (told fs e (ready_sound c.requires.0.ready e) H.0 H.1 H.2 H.3 k.0 t))
+
+pub slot_at-requires : goal.slot_at-requires
+slot_at-requires c =
+    let told = rw c.in_default.is at c.in_ok-done.ensures in
+    (rw told.0 c.requires.0.ready.said.sized, c.home_of-k.ensures.inside)
+
+pub split-requires : goal.split-requires
+split-requires c =
+    let told = rw c.in_default.is at c.in_ok-done.ensures in
+    (rw told.0 c.requires.0, c.home_of-k.ensures.inside)
 
 pub returns : goal.returns
 returns c fs e =
-    let a = c.args in let kept = c.kept_run in let home = c.home_of-k in let slot = c.slot_at-slot in let spot = c.spot_in-spot in
-    let n = a.name.now in let y = a.checked.size.layout in let content : Content = record { value = a.value; run = kept.result } in
-    let S = ready_sound c.requires.1.ready e in
-    let H = home.ensures.right fs e in
-    let R = subst (λ (z : List ℕ). ReadAs y z H.0 H.1 H.2) (sym slot.ensures.0) (slot_read a.file.now e S home.result H.3.is) in
-    let P = spot.ensures.1 H.0 H.1 H.2 R n c.requires.2 c.requires.3 in
+    let a = c.args in let kept = c.kept_run in let H = c.home_of-k.ensures.right fs e in let y = a.checked.now.size.layout in
+    let content : Content = record { value = a.value; run = kept.result } in
+    let S = ready_sound c.requires.0.ready e in
     let k = put_content y content a.value a.run refl kept.ensures (search rules) (search rules) in
-    let one = c.put_one in
-    trie_left one.result _ a.image.now c.requires.0 (λ i. omega (arith, c.slice_known-2-1.given i))
-    (one_taken a.file.now (trie_from a.image.now) y fs n a.limit k.1 kept.ensures (one.ensures fs e S c.requires.2 H.0 H.1 H.2 H.3 P k.0 (trie_from a.image.now)))
+    let told = rw c.in_default.is at c.in_ok-done.ensures in
+    let full = told.1 fs e S H.0 H.1 H.2 H.3 in
+    let A = stands a.checked.now.size a.file.now a.key e S H.3 (rw told.0 at c.slot_at.ensures) c.spot_in-spot.ensures c.requires.1 c.requires.2 in
+    split_taken a.file.now a.image.now y H.3 k.1 (kept_run y a.run) a.limit full.0
+    (rw told.0 at c.split.ensures fs e a.name.now _ H.0 H.1 H.2 (record {
+      legal = c.requires.1;
+      home = H.3;
+      new = full.0;
+      counted = full.1;
+      row_is = row_there A _ _ (c.overfull-row.ensures H.0 H.1 H.2 A.read c.requires.1 A.spot full.0 (fits_there A content k.0)).0;
+    }))

@@ -5,25 +5,23 @@ use Rattle.checking.proofs.Ready.{ready_ordered}
 use Rattle.reading.proofs.Listing.{list_all, list_short}
 use Rattle.reading.proofs.list_checked.Goals as goal
 
-pub returns-then-output-bytes : goal.returns-then-output-bytes
-returns-then-output-bytes c R f g =
+pub returns-then-output-len : goal.returns-then-output-len
+returns-then-output-len c R f g =
     let a = c.args in
     let O = ready_ordered R R.is in
-    let P = c.holder-from.ensures.found R.slots O f in
-    let Q = c.holder-to.ensures.found R.slots O g in
+    let P = c.holder.ensures.found R.slots O f in
+    let Q = c.holder-2.ensures.found R.slots O g in
     let w = bytes_each a.file.now (λ i. omega (arith, c.type_inv.file i)) in
-    list_short O w a.first.now a.second.now f g P Q c.requires.1 c.requires.2 _ c.bytes_between-bytes.ensures.1 (omega arith)
+    list_short _ c.len-len.ensures O w a.first.now a.second.now f g P Q c.requires.1 c.requires.2 a.output.now (omega (arith, c.if-output-len.true))
 
-pub write_between-requires : goal.write_between-requires
-write_between-requires c =
-    let t = c.bytes_between-bytes.ensures in
-    (c.requires.0.said.sized, c.requires.0.slots_inside, c.holder-to.ensures.small, omega (arith, t.0), omega (arith, t.1, c.if-output-bytes.false))
+pub write-requires : goal.write-requires
+write-requires c = (omega (arith, c.len-len.ensures.1, c.if-output-len.false), omega (arith, c.len-len.ensures.0, c.len-len.ensures.1))
 
 pub returns : goal.returns
 returns c R f g =
     let a = c.args in
     let O = ready_ordered R R.is in
-    let P = c.holder-from.ensures.found R.slots O f in
-    let Q = c.holder-to.ensures.found R.slots O g in
+    let P = c.holder.ensures.found R.slots O f in
+    let Q = c.holder-2.ensures.found R.slots O g in
     let w = bytes_each a.file.now (λ i. omega (arith, c.type_inv.file i)) in
-    list_all O w a.first.now a.second.now f g P Q c.requires.1 c.requires.2 _ c.bytes_between-bytes.ensures.1 _ (omega (arith, c.if-output-bytes.false)) c.write_between.ensures c.entries_in.ensures
+    list_all _ c.len-len.ensures O w a.first.now a.second.now f g P Q c.requires.1 c.requires.2 a.output.now (omega (arith, c.if-output-len.false)) c.write.ensures c.entries_in.ensures

@@ -4,4 +4,4 @@ use Rattle.rebuilding.proofs.cell_of.Goals as goal
 
 pub returns : goal.returns
 unfolding cell_at
-returns c = rw (c.one_less.ensures, c.side_of-right.ensures, c.side_of-left.ensures)
+returns c = rw (c.saturating_sub.ensures, c.side_of-2.ensures, c.side_of.ensures)

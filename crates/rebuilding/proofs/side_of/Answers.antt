@@ -5,8 +5,8 @@ use Rattle.rebuilding.proofs.side_of.Goals as goal
 
 pub returns-then-from-to : goal.returns-then-from-to
 unfolding side_at
-returns-then-from-to c = rw (lt-ltb _ _ c.if-from-to.true, c.u16_of_usize.ensures)
+returns-then-from-to c = rw (lt-ltb _ _ c.if-from-to.true)
 
 pub returns : goal.returns
 unfolding side_at
-returns c = rw (le-ltb _ _ c.if-from-to.false, c.u16_of_u8.ensures.0)
+returns c = rw (le-ltb _ _ c.if-from-to.false)

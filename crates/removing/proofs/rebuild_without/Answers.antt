@@ -1,12 +1,15 @@
--- `rebuild_without` meets its contract.
+-- `rebuild_without` meets its contract: the strings are given, since a merge leaves no more than there were.
 use Rattle.model.proofs.Prelude.{arith}
-use Rattle.removing.proofs.Removing.{rebuild_told}
+use Rattle.removing.proofs.Removing.{left_there, rebuild_told}
 use Rattle.removing.proofs.rebuild_without.Goals as goal
 
-pub strings_of-strings-requires : goal.strings_of-strings-requires
-strings_of-strings-requires c =
-    (c.requires.0, c.leave_out.ensures.0 _ c.requires.1, omega (arith, c.requires.2))
+pub strings_of-requires : goal.strings_of-requires
+strings_of-requires c =
+    (c.requires.sized, c.leave_out.ensures.0 _ c.requires.slots_inside, omega (arith, c.requires.count_most))
+
+pub unwrap-strings-requires : goal.unwrap-strings-requires
+unwrap-strings-requires c = left_there c.args.checked c.args.file.now _ c.requires c.leave_out.ensures.2 c.strings_of.ensures
 
 pub returns : goal.returns
-returns c =
-    rebuild_told c.args.checked c.args.file.now c.strings_of-strings.result _ c.args.right c.requires.3 c.strings_of-strings.ensures c.leave_out.ensures.2 c.rebuild.ensures
+returns c L =
+    rebuild_told c.args.checked c.args.file.now _ L c.leave_out.ensures.2 (rw c.unwrap-strings.ensures at c.strings_of.ensures) c.rebuild.ensures

@@ -1,34 +1,16 @@
 -- `slots::lower_half` meets its contract.
-use Rattle.model.proofs.Prelude.{◌+◌, ◌-◌, ◌∙◌, ◌≡◌, arith, refl}
+use Rattle.model.proofs.Prelude.{◌-◌, ◌∙◌, ◌≡◌, arith, refl}
 use Rattle.model.proofs.Format.{bytes_each}
-use Rattle.entries.proofs.Products.{room_most, stands}
 use Rattle.slots.proofs.Halves.{lower_row}
 use Rattle.slots.proofs.Slots.{lower_is, slot_written}
 use Rattle.slots.proofs.Spots.{slot_reads}
 use Rattle.slots.proofs.lower_half.Goals as goal
 
-pub part-part-requires : goal.part-part-requires
-part-part-requires c =
-    let e = c.entry_size in let p = c.requires in let b = c.args.layout.b in (
-      omega (arith, (stands e.result 0 (b + 1) (omega arith) (omega (arith, p.0.1)) e.ensures.1.most).most, c.part-arg-1.given),
-      omega (arith, p.0.1),
-      omega (arith, e.ensures.1.least),
-      e.ensures.1.most,
-      omega arith,
-      omega (arith, p.3),
-    )
-
-pub written-requires : goal.written-requires
-written-requires c =
-    let q = c.part-part in let e = c.entry_size in let a = c.args in let p = c.requires in let n = a.stay - 0 in
-    (c.lower_bound.ensures.1, p.1, omega (arith, p.0.1, p.3), omega (arith, q.ensures.1, room_most e.result n e.ensures.1.most (omega (arith, p.0.1, p.3))))
-
 pub returns : goal.returns
 returns c l u es ws r m n =
-    let v = c.written in let q = c.part-part in let e = c.entry_size in let a = c.args in let p = c.requires in let b = a.layout.b in
-    let fits = (stands e.result 0 (b + 1) (omega arith) (omega (arith, p.0.1)) e.ensures.1.most).most in
+    let v = c.written.ensures in let q = c.part-part in let w = c.whole in let a = c.args in let s = a.slot.now in
     let z : a.stay - 0 ≡ a.stay = omega arith in
-    slot_written a.layout l a.string.now _ _ _ q.result.now a.stay v.result p.0.1
-    (c.lower_bound.ensures.0 ∙ lower_is a.layout a.slot.now (slot_reads a.layout a.slot.now p.0 (bytes_each a.slot.now (λ j. omega (arith, c.type_inv.slot j))) r))
-    refl (q.ensures.1 ∙ rw (e.ensures.0, z)) v.ensures.1
-    (rw (q.ensures.0, e.ensures.0) (lower_row a.layout a.row.now ws m n a.stay p.3 (rw (← e.ensures.0) (omega (arith, c.part-arg-1.given))))) v.ensures.0
+    slot_written s.layout l a.string.now _ _ _ q.result.bytes.now a.stay c.written.result s.of_size.1
+    (c.lower.ensures.0 ∙ lower_is s.layout s.bytes.now (slot_reads s.layout s.bytes.now s.of_size (bytes_each s.bytes.now s.each) r))
+    refl (q.ensures.3 ∙ rw (w.ensures.1, z)) v.1
+    (rw (q.ensures.0, w.ensures.0, w.ensures.1) (lower_row s.layout a.row.now ws m n a.stay c.requires.2 (rw (w.ensures.0, w.ensures.1, w.ensures.2) at w.result.fits))) v.0

@@ -8,7 +8,6 @@ pub returns : goal.returns
 returns c =
     let a = c.args in (
       written_copies a.lower.now a.upper.now a.entries.now c.copy.new.d c.copy-2.new.d c.copy-3.new.d a.count
-          c.u8_of_usize.result c.u8_of_usize-2.result c.u8_of_usize-3.result (omega arith) (omega arith) (omega arith)
-          c.u8_of_usize.ensures c.u8_of_usize-2.ensures c.u8_of_usize-3.ensures c.copy.ensures c.copy-2.ensures c.copy-3.ensures,
+          (omega arith) (omega arith) (omega arith) c.copy.ensures c.copy-2.ensures c.copy-3.ensures,
       bytes_each a.entries.now (λ i. omega (arith, c.type_inv.entries i)),
     )

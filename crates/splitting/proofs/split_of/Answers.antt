@@ -20,7 +20,7 @@ returns c =
       },
       λ l u ws R size r.
           let at = c.place_of-place.ensures.is l u ws R size r in
-          divides R y c.requires.0 size (trie_from c.args.image.now) c.walk_of-walk.result c.bound_key_at.result c.args.row.now r
+          divides R y c.requires.0 size (trie_from c.args.image.now) c.walk_of-walk.result c.of_bound.result c.args.row.now r
           (c.name_of-key.ensures ws r size ∙ ap (name_at ws) at) (c.length_at-len.ensures.is l u ws R size r ∙ ap (λ (j : ℕ). length (split_string j y.b ws)) at) c.beginning-string.ensures
-          c.bound_key_at.ensures c.stay_in-stay.ensures c.walk_of-walk.ensures.1 c.shared_with-shared.ensures.1,
+          c.of_bound.ensures c.stay_in-stay.ensures c.walk_of-walk.ensures.1 c.shared_with-shared.ensures.1,
     )

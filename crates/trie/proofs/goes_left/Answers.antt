@@ -6,5 +6,5 @@ use Rattle.trie.proofs.goes_left.Goals as goal
 pub returns : goal.returns
 returns c = let a = c.args in
     let named : length a.name.now ≡ 24 = search rules in
-    simp sub-zero at c.compared-compared.ensures.0
+    simp sub-zero at c.compared.ensures.0
     ∙ within_is_at_most a.name.now (take a.len a.string.now) (omega (arith, named, length-take a.len a.string.now))

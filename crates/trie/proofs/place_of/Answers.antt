@@ -11,7 +11,7 @@ returns-then-more-eq0 c =
 pub returns-then-count-i : goal.returns-then-count-i
 returns-then-count-i c =
     let a = c.args in
-    place_past a.count a.more c.in-Cell.is c.if-more-eq0.false c.if-count-i.true
+    place_past a.count a.more c.in-Cell.is c.if-more-eq0.false (omega (arith, c.if-count-i.true))
 
 pub returns-in-Slot : goal.returns-in-Slot
 returns-in-Slot c =

@@ -1,5 +1,5 @@
 -- `holder` meets its contract: the halves close in on the name's place.
-use Rattle.model.proofs.Prelude.{◌+◌, ◌-◌, ◌/◌, arith}
+use Rattle.model.proofs.Prelude.{◌+◌, ◌-◌, ◌/◌, arith, refl}
 use Rattle.file.proofs.Holding.{closing_down, closing_end, closing_start, closing_up, ordered_some, probe_below, probe_upto}
 use Rattle.file.proofs.order.holder.Goals as goal
 
@@ -18,13 +18,13 @@ pub loop-least-preserved-then-compared : goal.loop-least-preserved-then-compared
 loop-least-preserved-then-compared c =
     let l = c.loop-least in
     let middle = l.least + (l.most - l.least) / 2 in
-    (omega arith, omega arith, λ fs O g. closing_down O _ middle (probe_upto O _ g middle _ _ (omega arith) c.usize_of_u8.ensures.0 c.slot_at-slot.ensures.0 (rw (← c.upper_bound.ensures.0) c.compared-compared.ensures.0) c.if-compared.true) (l.invariant.2 fs O g))
+    (omega arith, omega arith, λ fs O g. closing_down O _ middle (probe_upto O _ g middle _ _ (omega arith) refl c.slot_at-slot.ensures.0 (rw (← c.upper.ensures.0) c.compared-compared.ensures.0) c.if-compared.true) (l.invariant.2 fs O g))
 
 pub loop-least-preserved : goal.loop-least-preserved
 loop-least-preserved c =
     let l = c.loop-least in
     let middle = l.least + (l.most - l.least) / 2 in
-    (omega arith, omega arith, λ fs O g. closing_up O _ middle (omega arith) (probe_below O _ g middle _ _ (omega arith) c.usize_of_u8.ensures.0 c.slot_at-slot.ensures.0 (rw (← c.upper_bound.ensures.0) c.compared-compared.ensures.0) c.if-compared.false) (l.invariant.2 fs O g))
+    (omega arith, omega arith, λ fs O g. closing_up O _ middle (omega arith) (probe_below O _ g middle _ _ (omega arith) refl c.slot_at-slot.ensures.0 (rw (← c.upper.ensures.0) c.compared-compared.ensures.0) c.if-compared.false) (l.invariant.2 fs O g))
 
 pub returns : goal.returns
 returns c =

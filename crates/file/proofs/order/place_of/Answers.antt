@@ -1,5 +1,5 @@
 -- `place_of` meets its contract: the halves close in on a place not above the count.
-use Rattle.model.proofs.Prelude.{List, ◌+◌, ◌-◌, ◌/◌, ◌<◌, ◌∙◌, ◌≡◌, arith, false, get_or, subst, sym, true, ℕ}
+use Rattle.model.proofs.Prelude.{List, ◌+◌, ◌-◌, ◌/◌, ◌<◌, ◌∙◌, ◌≡◌, arith, false, get_or, refl, subst, sym, true, ℕ}
 use Rattle.model.specs.Files.{Slot}
 use Rattle.digits.specs.Keys.{key_value}
 use Rattle.file.specs.Orders.{Known, Listed, placed, stands}
@@ -21,7 +21,7 @@ loop-least-preserved-then-is_before c =
     let told : (fs : List Slot) → Known c.args.size.layout c.args.file.now fs → Listed fs c.args.order.now c.args.count
     → stands (key_value c.args.high) (key_value c.args.low) (placed fs c.args.order.now m) ≡ true =
     λ fs. λ K. λ L.
-    let y = place_read K c.args.order.now c.args.count L m (omega arith) _ c.usize_of_u8.ensures.0 _ c.slot_at-slot.ensures.0 in
+    let y = place_read K c.args.order.now c.args.count L m (omega arith) _ refl _ c.slot_at-slot.ensures.0 in
     sym (c.is_before.ensures c.args.size.layout (placed fs c.args.order.now m) (L m (omega arith)) y (K.well (get_or c.args.order.now m 0))) ∙ c.if-is_before.true in
     (omega arith, omega arith, λ fs. λ K. λ L. ((l.invariant.2 fs K L).0, λ h. told fs K L))
 
@@ -32,7 +32,7 @@ loop-least-preserved c =
     let told : (fs : List Slot) → Known c.args.size.layout c.args.file.now fs → Listed fs c.args.order.now c.args.count
     → stands (key_value c.args.high) (key_value c.args.low) (placed fs c.args.order.now m) ≡ false =
     λ fs. λ K. λ L.
-    let y = place_read K c.args.order.now c.args.count L m (omega arith) _ c.usize_of_u8.ensures.0 _ c.slot_at-slot.ensures.0 in
+    let y = place_read K c.args.order.now c.args.count L m (omega arith) _ refl _ c.slot_at-slot.ensures.0 in
     sym (c.is_before.ensures c.args.size.layout (placed fs c.args.order.now m) (L m (omega arith)) y (K.well (get_or c.args.order.now m 0))) ∙ c.if-is_before.false in
     (omega arith, omega arith, λ fs. λ K. λ L. (λ j. λ e. subst (λ (n : ℕ). stands (key_value c.args.high) (key_value c.args.low) (placed fs c.args.order.now n) ≡ false) (omega arith) (told fs K L), (l.invariant.2 fs K L).1))
 

@@ -1,7 +1,8 @@
 -- `repeated_upper` meets its contract: the neighbours passed have different upper bounds.
-use Rattle.model.proofs.Prelude.{List, ◌-◌, ◌≡◌, arith, subst, suc, ℕ, ℕ_discrete}
+use Rattle.model.proofs.Prelude.{List, ◌-◌, ◌∙◌, ◌≡◌, arith, refl, rules, subst, suc, ℕ, ℕ_discrete}
 use Rattle.model.specs.Files.{Slot, head, upper_of}
 use Rattle.digits.specs.Keys.{key_value}
+use Rattle.digits.proofs.Laws.{same_words}
 use Rattle.file.specs.Orders.{Known, Listed, placed}
 use Rattle.file.proofs.Comparing.{place_high}
 use Rattle.file.proofs.Chains.{other_upper, same_upper}
@@ -20,20 +21,21 @@ slot_at-slot-requires c =
     let l = c.loop-j in
     (c.requires.0, omega (arith, c.requires.1 l.j))
 
-pub returns-then-is_same : goal.returns-then-is_same
-returns-then-is_same c =
+pub returns-then-eq : goal.returns-then-eq
+returns-then-eq c =
     let l = c.loop-j in
     let o = c.args.order.now in
     let n = c.args.count in (
-      λ h. l.invariant.0,
+      search rules,
+      l.invariant.0,
       λ fs. λ K. λ L. record {
         apart = l.invariant.1 fs K L;
         same = λ i e h. subst (λ (k : ℕ). upper_of (head (placed fs o k)) ≡ upper_of (head (placed fs o l.j))) (omega arith)
             (same_upper K o n (omega (arith, c.requires.3)) L (l.j - 1) l.j (omega arith) (omega arith)
-            (key_value c.high_key.result) (key_value c.high_key-in-loop-j.result)
-            (place_high K o n L (l.j - 1) (omega arith) _ c.usize_of_u8.ensures.0 _ c.slot_at-before.ensures.0 _ c.high_key.ensures)
-            (place_high K o n L l.j (omega arith) _ c.usize_of_u8-in-loop-j.ensures.0 _ c.slot_at-slot.ensures.0 _ c.high_key-in-loop-j.ensures)
-            c.is_same.result c.is_same.ensures c.if-is_same.true);
+            (key_value c.high.result) (key_value c.high-in-loop-j.result)
+            (place_high K o n L (l.j - 1) (omega arith) _ refl _ c.slot_at-before.ensures.0 _ c.high.ensures)
+            (place_high K o n L l.j (omega arith) _ refl _ c.slot_at-slot.ensures.0 _ c.high-in-loop-j.ensures)
+            c.eq.result (c.eq.ensures ∙ same_words c.high.result c.high-in-loop-j.result (omega arith) (omega arith) (omega arith) (omega arith)) c.if-eq.true);
       },
     )
 
@@ -44,10 +46,10 @@ loop-j-preserved c =
     let now : (fs : List Slot) → Known c.args.size.layout c.args.file.now fs → Listed fs o n
     → upper_of (head (placed fs o (l.j - 1))) ≡ upper_of (head (placed fs o l.j)) → ⊥ =
     λ fs. λ K. λ L. other_upper K o n (omega (arith, c.requires.3)) L (l.j - 1) l.j (omega arith) (omega arith)
-    (key_value c.high_key.result) (key_value c.high_key-in-loop-j.result)
-    (place_high K o n L (l.j - 1) (omega arith) _ c.usize_of_u8.ensures.0 _ c.slot_at-before.ensures.0 _ c.high_key.ensures)
-    (place_high K o n L l.j (omega arith) _ c.usize_of_u8-in-loop-j.ensures.0 _ c.slot_at-slot.ensures.0 _ c.high_key-in-loop-j.ensures)
-    c.is_same.result c.is_same.ensures c.if-is_same.false in (
+    (key_value c.high.result) (key_value c.high-in-loop-j.result)
+    (place_high K o n L (l.j - 1) (omega arith) _ refl _ c.slot_at-before.ensures.0 _ c.high.ensures)
+    (place_high K o n L l.j (omega arith) _ refl _ c.slot_at-slot.ensures.0 _ c.high-in-loop-j.ensures)
+    c.eq.result (c.eq.ensures ∙ same_words c.high.result c.high-in-loop-j.result (omega arith) (omega arith) (omega arith) (omega arith)) c.if-eq.false in (
       omega arith,
       λ fs. λ K. λ L. λ i. λ h. λ g. elim (ℕ_discrete (suc i) l.j) [
         | yes e ↦ subst (λ (k : ℕ). upper_of (head (placed fs o i)) ≡ upper_of (head (placed fs o k)) → ⊥) (omega arith)
@@ -58,10 +60,5 @@ loop-j-preserved c =
 
 pub returns : goal.returns
 returns c =
-    let l = c.loop-j in (
-      λ h. absurd (omega arith),
-      λ fs. λ K. λ L. record {
-        apart = λ i h g. l.invariant.1 fs K L i (omega arith) g;
-        same = λ i e h. absurd (omega arith);
-      },
-    )
+    let l = c.loop-j in
+    λ fs. λ K. λ L. record { apart = λ i h g. l.invariant.1 fs K L i (omega arith) g; same = λ i e h. absurd (omega arith) }

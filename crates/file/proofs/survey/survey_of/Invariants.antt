@@ -5,7 +5,5 @@ use Rattle.file.specs.Orders.{Laid}
 use Rattle.file.proofs.survey.survey_of.Given as goal
 
 abbrev pub invariant-loop-k : goal.invariant-loop-k
-invariant-loop-k l = (l.k ≤ l.size.slots) × (l.count + l.k ≤ l.size.slots) × Below l.order l.size.slots × Laid l.file l.size l.k l.order l.count l.used
-
-abbrev pub decreases-loop-k : goal.decreases-loop-k
-decreases-loop-k l = l.k
+invariant-loop-k l =
+    (l.survey.count + l.k ≤ l.size.slots) × Below l.survey.order l.size.slots × Laid l.file l.size l.k l.survey.order l.survey.count l.survey.used

@@ -5,8 +5,8 @@ use Rattle.surveying.proofs.row.highest.Goals as goal
 pub loop-spot-init : goal.loop-spot-init
 loop-spot-init c = tt
 
-pub returns-then-size-usize_of_u8 : goal.returns-then-size-usize_of_u8
-returns-then-size-usize_of_u8 c = (some_slot _ c.args.size c.requires).0
+pub returns-then-size-k : goal.returns-then-size-k
+returns-then-size-k c = (some_slot _ c.args.size c.requires).0
 
 pub loop-spot-preserved : goal.loop-spot-preserved
 loop-spot-preserved c = tt

@@ -1,5 +1,5 @@
 -- `step` meets its contract: the path with the digit written into it is the cell's string.
-use Rattle.model.proofs.Prelude.{◌∙◌, arith, sym}
+use Rattle.model.proofs.Prelude.{◌∙◌, arith, refl, sym}
 use Rattle.trie.proofs.Laws.{goes_left, goes_right, last_strays, number_strays, strays}
 use Rattle.trie.proofs.Walk.step.Goals as goal
 
@@ -17,10 +17,10 @@ pub returns-then-goes_left : goal.returns-then-goes_left
 returns-then-goes_left c =
     let a = c.args in
     let w = sym c.goes_left.ensures ∙ c.if-goes_left.true in
-    (omega arith, λ o cs e f u. goes_left a.name.now a.self a.i a.cell o cs e f u c.usize_of_u8-at.ensures.0 (omega arith) (omega arith) w c.place_of.ensures)
+    (omega arith, λ o cs e f u. goes_left a.name.now a.self a.i a.cell o cs e f u refl (omega arith) (omega arith) w c.place_of.ensures)
 
 pub returns : goal.returns
 returns c =
     let a = c.args in
     let w = sym c.goes_left.ensures ∙ c.if-goes_left.false in
-    (omega arith, λ o cs e f u. goes_right a.name.now a.self a.i a.cell o cs e f u c.usize_of_u8-at.ensures.0 (omega arith) (omega arith) w c.place_of-2.ensures)
+    (omega arith, λ o cs e f u. goes_right a.name.now a.self a.i a.cell o cs e f u refl (omega arith) (omega arith) w c.place_of-2.ensures)

@@ -1,8 +1,0 @@
--- `digits::highest_key` meets its contract.
-use Rattle.model.proofs.Prelude.{refl}
-use Rattle.digits.specs.Keys.{continued, key_value, value}
-use Rattle.digits.proofs.highest_key.Goals as goal
-
-pub returns : goal.returns
-unfolding continued key_value value
-returns c = refl

@@ -1,8 +1,0 @@
--- `digits::lowest_key` meets its contract.
-use Rattle.model.proofs.Prelude.{refl}
-use Rattle.digits.specs.Keys.{key_value}
-use Rattle.digits.proofs.lowest_key.Goals as goal
-
-pub returns : goal.returns
-unfolding key_value
-returns c = refl
