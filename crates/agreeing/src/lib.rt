@@ -220,6 +220,24 @@ fn matches(file: &[u8], size: Size, order: &[u8; 64], count: usize, image: &Imag
     )
 }
 
+// The exact test, by the strings of the file. In the machine code too it is a function of its own: its arrays would otherwise stand on
+// the stack of every call that looks at the whole file, and hardly one needs it.
+#[cold]
+#[inline(never)]
+fn is_agreeing_exactly(
+    file: &[u8],
+    size: Size,
+    order: &[u8; 64],
+    count: usize,
+    image: &Image,
+) -> bool
+    requires { (Sized (length file.now) size) × (Below order.now size.slots) × (count ≤ 64) }
+    ensures { AgreeingTold result file.now size order.now count (trie_from image.now) }
+{
+    let strings = strings::strings_of(file, size, order, count);
+    agreement::agreement_of(image, strings.as_ref()).is_some()
+}
+
 // Whether the trie of an image agrees with a sound file whose used slots stand in range order.
 pub fn is_agreeing(file: &[u8], size: Size, order: &[u8; 64], count: usize, image: &Image) -> bool
     requires { (Sized (length file.now) size) × (Below order.now size.slots) × (count ≤ 64) }
@@ -228,6 +246,5 @@ pub fn is_agreeing(file: &[u8], size: Size, order: &[u8; 64], count: usize, imag
     if matches(file, size, order, count, image) {
         return true;
     }
-    let strings = strings::strings_of(file, size, order, count);
-    agreement::agreement_of(image, strings.as_ref()).is_some()
+    is_agreeing_exactly(file, size, order, count, image)
 }

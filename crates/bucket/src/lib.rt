@@ -4,11 +4,12 @@
 // `slots` and `serving` there are bounds and entries, and no offset inside a slot.
 #![tactic(auto)]
 
-ghost use Rattle.std.specs.Prelude.{◌≡◌, ◌&&◌, ◌≤◌, ◌<◌, ◌+◌, leb, drop, length, take};
+ghost use Rattle.std.specs.Prelude.{true, ◌≡◌, ◌&&◌, ◌≤◌, ◌<◌, ◌+◌, leb, drop, length, take};
 ghost use Rattle.model.specs.Order.{diff};
 ghost use Rattle.model.specs.Tests.{is_legal_bound};
 ghost use Rattle.digits.specs.Keys.{is_all_zero};
-ghost use Rattle.bucket.specs.Slots.{SharedTold, bound_bytes_at};
+ghost use Rattle.bucket.specs.Forms.{is_all_clear};
+ghost use Rattle.bucket.specs.Slots.{Following, SharedTold, bound_bytes_at};
 
 use digits::Key;
 
@@ -65,6 +66,33 @@ pub fn shared_uppers(one: &[u8], two: &[u8]) -> usize
         return shared;
     }
     digits::shared(bound_at(one, 3, 32), bound_at(two, 3, 32))
+}
+
+// Whether the bytes that a used slot leaves zero are zero; its entries reach to `end`. Bytes 4 to 7 are the upper half of the first word.
+// Of any bytes, as `follows` is: neither needs to know the layout.
+pub fn is_clear(slot: &[u8], end: usize) -> bool
+    requires { (64 ≤ end) × (end ≤ length slot.now) }
+    ensures { result ≡ is_all_clear slot.now end }
+{
+    if digits::little_endian(slot, 0) >> 32 != 0 {
+        return false;
+    }
+    if digits::little_endian(slot, 56) != 0 {
+        return false;
+    }
+    digits::is_zero(&slot[end..])
+}
+
+// Whether a slot's range begins where that of the slot before ends: the bytes of the two bounds are the same, all 24 of them. So the
+// lowest slot follows on the highest: both bounds are empty.
+pub fn follows(slot: &[u8], before: &[u8]) -> bool
+    requires { (64 ≤ length slot.now) × (64 ≤ length before.now) }
+    ensures { result ≡ true → Following slot.now before.now }
+{
+    if slot[2] != before[3] {
+        return false;
+    }
+    Key::at(slot, 8) == Key::at(before, 32)
 }
 
 // Whether these 24 bytes are a bound of `len` digits. Nearly always they are, and are found so by words.

@@ -95,18 +95,12 @@ impl<'a> Slot<'a> {
         self.first(self.count())
     }
 
-    // Whether the bytes that a used slot leaves zero are zero; its entries reach to `end`. Bytes 4 to 7 are the upper half of the first word.
+    // Whether the bytes that a used slot leaves zero are zero; its entries reach to `end`.
     pub fn is_clear(&self, end: usize) -> bool
         requires { (64 ≤ end) × (end ≤ length self.now.bytes.now) }
         ensures { result ≡ is_all_clear self.now.bytes.now end }
     {
-        if digits::little_endian(self.bytes, 0) >> 32 != 0 {
-            return false;
-        }
-        if digits::little_endian(self.bytes, 56) != 0 {
-            return false;
-        }
-        digits::is_zero(&self.bytes[end..])
+        crate::is_clear(self.bytes, end)
     }
 
     // The entries, where as many as byte 1 says fit and the bytes that are always zero are zero.
@@ -164,16 +158,12 @@ impl<'a> Slot<'a> {
         self.bytes[3] == 0
     }
 
-    // Whether its range begins where that of the slot before ends: the bytes of the two bounds are the same, all 24 of them. So the
-    // lowest slot follows on the highest: both bounds are empty.
+    // Whether its range begins where that of the slot before ends.
     pub fn follows(&self, before: &[u8]) -> bool
         requires { 64 ≤ length before.now }
         ensures { result ≡ true → Following self.now.bytes.now before.now }
     {
-        if self.bytes[2] != before[3] {
-            return false;
-        }
-        Key::at(self.bytes, 8) == Key::at(before, 32)
+        crate::follows(self.bytes, before)
     }
 
     // Whether the upper bound is seen to be one. Most bounds end within the first word, and the compiler puts their test in place.
@@ -250,7 +240,7 @@ impl<'a> Slot<'a> {
         if !a.low().is_below(low) {
             return false;
         }
-        is_upper_part(&self.row(), &a.row(), low)
+        is_upper_part(&self.first(self.count()), &a.first(a.count()), low)
     }
 
     // R1.8: whether the name is in the range, an empty lower bound being no limit; if not, the first digit number where the name differs

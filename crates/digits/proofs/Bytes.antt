@@ -20,6 +20,15 @@ word_part s at h f = record { bytes = bytes_part s 8 at f; eight = length_part s
 pub or_zero : (a b : ℕ) → bit_or a b ≡ 0 → (a ≡ 0) × (b ≡ 0)
 or_zero a b e = (omega (arith, or_add_and a b, and_le_l a b, and_le_r a b), omega (arith, or_add_and a b, and_le_l a b, and_le_r a b))
 
+pub or_eqb : (a b : ℕ) → eqb (bit_or a b) 0 ≡ (eqb a 0 && eqb b 0)
+or_eqb a b = elim (ℕ_discrete a 0) [
+  | no n ↦ rw (ne_eqb a 0 n, ne_eqb (bit_or a b) 0 (λ z. n (or_zero a b z).0))
+  | yes e ↦ elim (ℕ_discrete b 0) [
+    | no n ↦ rw (eq-eqb a 0 e, ne_eqb b 0 n, ne_eqb (bit_or a b) 0 (λ z. n (or_zero a b z).1))
+    | yes f ↦ rw (e, f)
+  ]
+]
+
 -- Numbers whose first byte is lowest.
 value_of_step : (n k m : ℕ) (xs : List ℕ) → k < length xs → m ≡ suc k → value_of (take (suc n) (drop k xs)) ≡ get_or xs k 0 + 256 * value_of (take n (drop m xs))
 unfolding value_of

@@ -11,6 +11,11 @@ use Rattle.model.proofs.Names.{filled_short, no_blank}
 use Rattle.digits.specs.declared.Key.{Key}
 use Rattle.digits.specs.Keys.{is_all_zero, key_value}
 
+-- A check that gathers: w of the whole is a so far and b of what is left.
+pub gathers : (w a b c d r : Bool) → w ≡ (a && b) → b ≡ (c && d) → r ≡ (a && c) → w ≡ (r && d)
+gathers w true b c d r p q s = p ∙ q ∙ rw s
+gathers w false b c d r p q s = p ∙ rw s
+
 pub gathered : (w a b : Bool) → w ≡ (a && b) → b ≡ true → a ≡ w
 gathered w true b p q = sym (p ∙ q)
 gathered w false b p q = sym p

@@ -68,8 +68,8 @@ pub fn with_names(seen: Seen, s: &[u8], e: usize, count: usize) -> Seen
     let mut least = seen.least;
     let mut ascents = seen.ascents;
     let mut last = Key::lowest();
+    let mut at = 0;
     for k in 0..count {
-        let at = e * k;
         for i in 0..32 {
             most[i] = most[i].max(s[at + i]);
             least[i] = least[i].min(s[at + i]);
@@ -77,6 +77,7 @@ pub fn with_names(seen: Seen, s: &[u8], e: usize, count: usize) -> Seen
         let name = Key::at(s, at);
         ascents &= ascent(last, name);
         last = name;
+        at += e;
     }
     Seen {
         most,

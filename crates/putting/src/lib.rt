@@ -140,7 +140,8 @@ fn is_image(image: &[u8])
 {}
 
 // A new name whose bucket is full: refused where no slot is free or the strings would be too many. The trie grows with the last of
-// the two stores (R8.1).
+// the two stores (R8.1). Its plan and its tables stand on the stack of a split alone, not of every put.
+#[inline(never)]
 fn split(
     file: &mut [u8],
     image: &mut Image,
@@ -190,8 +191,9 @@ fn is_full(spot: &Spot) -> bool
     !spot.held && spot.slot.layout.b <= spot.count
 }
 
-// Put into slot k, the name's home; none where the name is new and the bucket is full. The plan is made here, not in the caller: the stack
-// has no room for it beside what a split needs.
+// Put into slot k, the name's home; none where the name is new and the bucket is full. The plan is made here, and in a function of its own
+// in the machine code too: the stack has no room for it beside what a split needs.
+#[inline(never)]
 fn put_in(
     file: &mut [u8],
     size: Size,

@@ -89,7 +89,9 @@ fn removal(file: &[u8], checked: &Checked, place: usize, spot: &Spot) -> RemoveP
     }
 }
 
-// R7.10: what the removal of a name is to store, in a file that passed the checks. An absent name needs no store.
+// R7.10: what the removal of a name is to store, in a file that passed the checks. An absent name needs no store. It is a function of its
+// own in the machine code too: what a merge needs on the stack is gone again before the trie is rebuilt.
+#[inline(never)]
 fn remove_plan(file: &[u8], checked: &Checked, name: &[u8; 24], key: Key) -> Option<RemovePlan>
     requires { (Ready checked.now file.now) × (Legal name.now) × (key_value key ≡ digits_value name.now) }
     ensures { (IfSome result (λ p. Fits p.plan checked.now.size)) × (RemoveTold result checked.now file.now name.now) }

@@ -41,12 +41,12 @@ fn is_under(slot: &Slot, high: Key, name: Key, last: usize) -> bool
 pub fn serves(slot: &Slot, name: Key) -> bool
     ensures { result ≡ true → Serves slot.now.layout slot.now.bytes.now (key_value name) }
 {
+    if slot.bytes[1] == 0 {
+        return false;
+    }
     let Some(row) = slot.whole_row() else {
         return false;
     };
-    if row.count == 0 {
-        return false;
-    }
     if !gathering::are_names(row.bytes, row.e, row.count) {
         return false;
     }

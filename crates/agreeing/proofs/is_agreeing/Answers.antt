@@ -1,12 +1,5 @@
--- `is_agreeing` meets its contract: by the pass, or by the strings written down.
-use Rattle.agreeing.proofs.Agreeing.{listed_told}
+-- `is_agreeing` meets its contract: by the pass, or by the exact test.
 use Rattle.agreeing.proofs.is_agreeing.Goals as goal
 
 pub returns-then-matches : goal.returns-then-matches
 returns-then-matches c = c.matches.ensures c.if-matches.true
-
-pub returns : goal.returns
-returns c =
-    let a = c.args in
-    rw c.is_some.ensures (listed_told a.file.now a.size a.order.now a.count c.requires.0 c.strings_of-strings.result c.agreement_of.result _
-    c.strings_of-strings.ensures (rw c.as_ref.ensures.value at c.agreement_of.ensures))
