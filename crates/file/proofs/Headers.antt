@@ -1,6 +1,8 @@
 -- The header as it is tested, byte by byte, is the header that a writer writes; and what create writes is a new file.
 use Rattle.std.specs.Prelude.{Option as Maybe, Some, None}
-use Rattle.model.proofs.Prelude.{Bool, List, Option, [], ◌%◌, ◌&&◌, ◌*◌, ◌++◌, ◌+◌, ◌-◌, ◌/◌, ◌<◌, ◌∙◌, ◌∷◌, ◌≡◌, ◌≤◌, ap, arith, drop, eq-eqb, eqb, eqb-true, false, get_or, length, length-replicate, length-take-le, nothing, refl, replicate, replicate-append-replicate, set, some, suc, suc-mul, sym, take, true, zero, zero-mul, ℕ}
+use Rattle.model.proofs.Prelude.{Bool, List, Option, [], ◌%◌, ◌&&◌, ◌*◌, ◌++◌, ◌+◌, ◌-◌, ◌/◌, ◌<◌, ◌∙◌, ◌∷◌, ◌≡◌, ◌≤◌, ap, arith, drop, eq-eqb, eqb, eqb-true, false, get_or, length, length-drop, length-replicate, length-take-le, nothing, refl, replicate, replicate-append-replicate, set, some, suc, suc-mul, sym, take, take_all, true, zero, zero-mul, ℕ}
+use Rattle.std.proofs.lemmas.Slice.{take-put_mid}
+use borrow.Rule.Slice.PartMut.{mid_of, put_mid, same_len_mid}
 use Rattle.model.specs.Order.{none}
 use Rattle.model.specs.Files.{created, free, used}
 use Rattle.model.specs.declared.Layout.{Layout}
@@ -105,6 +107,15 @@ empty y =
 -- The bytes that create writes over zeros.
 abbrev pub marks : Layout → ℕ → List ℕ → List ℕ
 marks y slots zs = set (set (set (set (set (set (set zs 0 0x54) 1 0x4B) 2 0x46) 3 y.version) 5 y.b) 6 slots) 16 1
+
+-- All bytes cleared, from the first one on.
+pub cleared_whole : (xs zs : List ℕ) → zs ≡ replicate (length (mid_of 0 (length xs - 0) xs)) 0 → put_mid 0 (length xs - 0) xs zs ≡ replicate (length xs) 0
+cleared_whole xs zs z =
+    let part : length (mid_of 0 (length xs - 0) xs) ≡ length xs = length-take-le (length xs - 0) (drop 0 xs) (omega (arith, length-drop 0 xs)) ∙ (omega arith) in
+    let zeros : zs ≡ replicate (length xs) 0 = z ∙ ap (λ (m : ℕ). replicate {A = ℕ} m 0) part in
+    let size : length zs ≡ length xs = ap length zeros ∙ length-replicate {A = ℕ} (length xs) 0 in
+    sym (take_all (length xs) (put_mid 0 (length xs - 0) xs zs) (omega (arith, same_len_mid 0 (length xs - 0) xs zs (size ∙ sym part))))
+    ∙ take-put_mid 0 (length xs - 0) xs zs (length xs) (omega (arith, size)) (omega arith) ∙ zeros
 
 slot_size-some : (y : Layout) → 1 ≤ slot_size y
 unfolding slot_size

@@ -196,7 +196,8 @@ pub fn create(file: &mut [u8], size: Size)
     requires { Sized (length file.old) size }
     ensures { file.new ≡ file_bytes size.layout (created size.slots) }
 {
-    file.fill(0);
+    // From byte 0 on: what the header does not write is zero too.
+    file[0..].fill(0);
     file[0] = b'T';
     file[1] = b'K';
     file[2] = b'F';

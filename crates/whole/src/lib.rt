@@ -77,15 +77,14 @@ fn strings_of(file: &[u8]) -> Result<Strings, Cause>
 pub fn rebuild(file: &[u8], image: &mut Image) -> TrieAnswer
     ensures { Rebuilds result image.new file.now }
 {
-    // By reference, since a copy of the strings would stand on the stack beside them.
-    match &strings_of(file) {
+    match strings_of(file) {
         Ok(strings) => {
-            rebuilding::rebuild(image, strings);
+            rebuilding::rebuild(image, &strings);
             Ok(())
         }
         Err(cause) => {
             image::write_cleared(image, 0, 0);
-            Err(*cause)
+            Err(cause)
         }
     }
 }
