@@ -101,7 +101,7 @@ module _ (s : Strings) (ss done more : List Str) (before behind : List ℕ) (x :
         | no q ↦ rw (eq-eqb i 0 (omega arith), eq-eqb (suc m) (length x) (omega arith))
       ]
 
-module _ (fs : List Slot) (cs : List Cell) (cells : ℕ) (few : cells ≤ 256) (a : Side) where
+module _ (fs : List Slot) (cs : List Cell) (cells : ℕ) (a : Side) where
   -- The strings before the upper of the bucket before place j are met.
   pub record Reached (g : Standing) (n j : ℕ) : Type 0 where
     pub done : List Str
@@ -114,7 +114,7 @@ module _ (fs : List Slot) (cs : List Cell) (cells : ℕ) (few : cells ≤ 256) (
     pub strings_are : done ++ rest (ranges fs) (get_or (order_of fs) (j - 1) 0) (drop j (order_of fs)) ≡ strings_of fs
     pub slots_are : before ++ leaves_from (ranges fs) (get_or (order_of fs) (j - 1) 0) (drop j (order_of fs)) ≡ slots_between fs none (strings_of fs)
     pub kept : Kept g.marks seen g.on_stack
-    pub back : (last : List ℕ) → Passes cs (strings_in cells few fs) g.on_stack g.side g.least seen last → Passes cs (strings_in cells few fs) [] a 0 [] last
+    pub back : (few : cells ≤ 256) (last : List ℕ) → Passes cs (strings_in cells few fs) g.on_stack g.side g.least seen last → Passes cs (strings_in cells few fs) [] a 0 [] last
 
   pub reached_start : {b : ℕ} → Sound b fs → (marks : List ℕ) → Reached (record { marks = marks; on_stack = []; side = a; least = 0 }) 0 1
   reached_start S marks =
@@ -130,7 +130,7 @@ module _ (fs : List Slot) (cs : List Cell) (cells : ℕ) (few : cells ≤ 256) (
         strings_are = G.strings_are;
         slots_are = G.slots_are;
         kept = record { unmarked = λ k e. refl; once = λ k. omega arith };
-        back = λ last p. p;
+        back = λ few last p. p;
       }
 
   module _ {g : Standing} {n j : ℕ} (R : Reached g n j) where
@@ -148,7 +148,7 @@ module _ (fs : List Slot) (cs : List Cell) (cells : ℕ) (few : cells ≤ 256) (
       strings_are = rw (place, add-one j) (append_assoc R.done ss (rest F D Ds) ∙ strings);
       slots_are = rw (place, add-one j) (append_assoc R.before (lefts B C ss) (leaves_from F D Ds) ∙ slots);
       kept = O.kept R.seen R.kept;
-      back = λ last p. R.back last (O.back (strings_in cells few fs) R.seen last refl (rw R.seen_count asked) R.kept p);
+      back = λ few last p. R.back few last (O.back (strings_in cells few fs) R.seen last refl (rw R.seen_count (asked few)) R.kept p);
     }
       where
         F : RangeTable
@@ -175,8 +175,8 @@ module _ (fs : List Slot) (cs : List Cell) (cells : ℕ) (few : cells ≤ 256) (
         slots : R.before ++ (lefts B C ss ++ leaves_from F D Ds) ≡ slots_between fs none (strings_of fs)
         slots = rw (eB, eC, ek, ex, ey) (rw comes at R.slots_are)
 
-        asked : BoundAt x k B C (strings_in cells few fs) n
-        asked = bound_at (strings_in cells few fs) (strings_of fs) R.done (rest F D Ds) R.before (leaves_from F D Ds) x k B C n fits strings slots refl refl R.done_count R.before_count
+        asked : (few : cells ≤ 256) → BoundAt x k B C (strings_in cells few fs) n
+        asked few = bound_at (strings_in cells few fs) (strings_of fs) R.done (rest F D Ds) R.before (leaves_from F D Ds) x k B C n fits strings slots refl refl R.done_count R.before_count
 
     -- Behind the last bound the leaf of the last bucket is left.
     module _ (h : length (order_of fs) ≤ j) (e : n ≡ cells) where
@@ -186,38 +186,38 @@ module _ (fs : List Slot) (cs : List Cell) (cells : ℕ) (few : cells ≤ 256) (
       pub reached_all : length (strings_of fs) ≡ cells
       reached_all = ap length (sym (sym (append-nil R.done) ∙ rw none_left at R.strings_are)) ∙ R.done_count ∙ e
 
-      pub reached_end : {x : ℕ} → g.on_stack ≡ [] → g.side ≡ slot x → x ≡ get_or (order_of fs) (j - 1) 0 → Passes cs (strings_in cells few fs) [] a 0 [] R.seen
-      reached_end {x} s q b =
+      pub reached_end : (few : cells ≤ 256) {x : ℕ} → g.on_stack ≡ [] → g.side ≡ slot x → x ≡ get_or (order_of fs) (j - 1) 0 → Passes cs (strings_in cells few fs) [] a 0 [] R.seen
+      reached_end few {x} s q b =
           let last : get_or (slots_between fs none (strings_of fs)) n 0 ≡ get_or (order_of fs) (j - 1) 0 =
           rw (← rw none_left at R.slots_are) (get_or_at R.before (get_or (order_of fs) (j - 1) 0) [] 0 n R.before_count) in
-          R.back R.seen (rw (s, q) (ends {seen = R.seen} (b ∙ sym (rw R.seen_count last)) (R.seen_count ∙ e)))
+          R.back few R.seen (rw (s, q) (ends {seen = R.seen} (b ∙ sym (rw R.seen_count last)) (R.seen_count ∙ e)))
 
 -- The same of any file that the bytes may be, in the order that is given.
 module _ (file order : List ℕ) (size : Size) (count : ℕ) (cs : List Cell) (cells : ℕ) (a : Side) where
   abbrev pub Reaches : Standing → ℕ → ℕ → Type 0
-  Reaches g n j = (few : cells ≤ 256) (fs : List Slot) → Given file order size count fs → Reached fs cs cells few a g n j
+  Reaches g n j = (fs : List Slot) → Given file order size count fs → Reached fs cs cells a g n j
 
   pub reaches_start : (marks arr : List ℕ) (p : Spot) → p.top ≡ 0 → side_from p.side ≡ a → p.least ≡ 0 → Reaches (standing marks arr p) 0 1
-  reaches_start marks arr p t e l few fs g = rw (stack_none p.top arr t, e, l) (reached_start fs cs cells few a g.1 marks)
+  reaches_start marks arr p t e l fs g = rw (stack_none p.top arr t, e, l) (reached_start fs cs cells a g.1 marks)
 
   pub reaches_step : {g h : Standing} (n j B C k : ℕ) (x xs ys : List ℕ) → Below order size.slots → 1 ≤ j → j < count → B ≡ get_or order (j - 1) 0 → C ≡ get_or order j 0
       → xs ≡ bytes_at_slot size.layout B file → ys ≡ bytes_at_slot size.layout C file → x ≡ upper_bytes xs → SharedTold k xs ys → k ≤ length x
       → Reaches g n j → Onward cs cells (BoundAt x k B C) (length x - k) g h → Reaches h (n + (length x - k)) (j + 1)
-  reaches_step n j B C k x xs ys below first more b_is c_is xs_is ys_is x_is told fits R O few fs g =
+  reaches_step n j B C k x xs ys below first more b_is c_is xs_is ys_is x_is told fits R O fs g =
       let U : Uppered xs ((ranges fs).upper (get_or (order_of fs) (j - 1) 0)) = rw xs_is (uppered_at file order size count fs g (j - 1) B (omega arith) b_is (rw b_is (below (j - 1)))) in
       let W : Uppered ys ((ranges fs).upper (get_or (order_of fs) j 0)) = rw ys_is (uppered_at file order size count fs g j C more c_is (rw c_is (below j))) in
       let u : x ≡ (ranges fs).upper (get_or (order_of fs) (j - 1) 0) = x_is ∙ uppered_bytes U in
-      reached_step fs cs cells few a (R few fs g) B C k x ((ranges fs).upper (get_or (order_of fs) j 0)) (omega (arith, g.2))
+      reached_step fs cs cells a (R fs g) B C k x ((ranges fs).upper (get_or (order_of fs) j 0)) (omega (arith, g.2))
       (b_is ∙ order_at file order size count fs g (j - 1) (omega arith)) (c_is ∙ order_at file order size count fs g j more) u refl (rw u (told _ _ U W)) fits O
 
   pub reaches_end : (image : List ℕ) (side : ℕ) → cs ≡ (trie_from image).cells → a ≡ side_from side
       → (marks arr : List ℕ) (p : Spot) (n j x : ℕ) → 1 ≤ j → count ≤ j → p.side ≡ x → x ≡ get_or order (j - 1) 0 → x < 256 → p.top ≡ 0 → n ≡ cells
       → Reaches (standing marks arr p) n j → (few : cells ≤ 256) (fs : List Slot) → Given file order size count fs → Passing fs image cells side few
   reaches_end image side ec ea marks arr p n j x first last s b small t e R few fs g =
-      let r = R few fs g in
+      let r = R fs g in
       let all_passed : length (order_of fs) ≤ j = omega (arith, g.2) in
       record {
-        all = reached_all fs cs cells few a r all_passed e;
+        all = reached_all fs cs cells a r all_passed e;
         order = r.seen;
-        passes = rw (← ec, ← ea) (reached_end fs cs cells few a r all_passed e (stack_none p.top arr t) (rw s (sym (side_slot x (omega arith)))) (b ∙ order_at file order size count fs g (j - 1) (omega (arith, r.inside, g.2))));
+        passes = rw (← ec, ← ea) (reached_end fs cs cells a r all_passed e few (stack_none p.top arr t) (rw s (sym (side_slot x (omega arith)))) (b ∙ order_at file order size count fs g (j - 1) (omega (arith, r.inside, g.2))));
       }

@@ -1,6 +1,5 @@
 -- Each call's answer, as a number, with the bytes and words lent: a law for a malformed image, and one for all others.
 use Rattle.model.proofs.Prelude.{List, ◌∙◌, ◌≡◌, ap, eq-eqb, length, ne_eqb, refl, sym, ℕ}
-use Rattle.std.specs.Array.{IsWholeChunk}
 use Rattle.std.specs.Prelude.{Err, Ok, Result}
 use Rattle.model.specs.declared.Cause.{Cause}
 use Rattle.model.specs.Results.{ListAnswer, LookUpAnswer, PutAnswer, RecoverAnswer, RemoveAnswer, TrieAnswer}
@@ -52,46 +51,48 @@ module _ (image : List ℕ) (ill : length image ≡ image_length → ⊥) where
 pub done : {T : Type 0} {x : Result T Cause} {d v : T} → x ≡ Ok d → d ≡ v → x ≡ Ok v
 done e f = rw f at e
 
--- The call's outcome, said. The call is lent the whole image.
-module _ (image : List ℕ) {lent : List ℕ} (whole : IsWholeChunk image lent image_length) where
+-- The call's outcome, said.
+module _ (image : List ℕ) (well : length image ≡ image_length) where
   pub create_said : (file : List ℕ) (version b slots : ℕ) {x a : TrieAnswer} {ys zs : List ℕ} {n : ℕ} → x ≡ a
       → Creates x ys zs (create_of file version b slots) → n ≡ (said_by_create a).0 → pal_create_of file version b slots image ≡ (n, ys, zs)
   unfolding pal_create_of
-  create_said file version b slots t e s = rw (eq-eqb (length image) image_length whole.long, ← e.0, ← e.1, ← e.2, s, t)
+  create_said file version b slots t e s = rw (eq-eqb (length image) image_length well, ← e.0, ← e.1, ← e.2, s, t)
 
   pub rebuild_said : (file : List ℕ) {x a : TrieAnswer} {zs : List ℕ} {n : ℕ} → x ≡ a → Rebuilds x zs file → n ≡ (said_by_rebuild a).0
       → pal_rebuild_of file image ≡ (n, zs)
   unfolding pal_rebuild_of
-  rebuild_said file t e s = rw (eq-eqb (length image) image_length whole.long, ← e.0, ← e.1, s, t)
+  rebuild_said file t e s = rw (eq-eqb (length image) image_length well, ← e.0, ← e.1, s, t)
 
-  pub look_up_said : (file name out : List ℕ) {x a : LookUpAnswer} {ws : List ℕ} {n : ℕ} → x ≡ a → x ≡ look_up_of file (trie_from lent) name
-      → n ≡ (said_by_look_up a).0 → ws ≡ out_after (said_by_look_up a) out → pal_look_up_of file image name out ≡ (n, ws)
-  unfolding pal_look_up_of
-  look_up_said file name out t e s w =
-      let e = rw whole.same at e in rw (eq-eqb (length image) image_length whole.long, ← e, s, w, t)
+  -- What the call is lent is the whole image.
+  module _ {lent : List ℕ} (same : lent ≡ image) where
+    pub look_up_said : (file name out : List ℕ) {x a : LookUpAnswer} {ws : List ℕ} {n : ℕ} → x ≡ a → x ≡ look_up_of file (trie_from lent) name
+        → n ≡ (said_by_look_up a).0 → ws ≡ out_after (said_by_look_up a) out → pal_look_up_of file image name out ≡ (n, ws)
+    unfolding pal_look_up_of
+    look_up_said file name out t e s w =
+        let e = rw same at e in rw (eq-eqb (length image) image_length well, ← e, s, w, t)
 
-  pub put_said : (file name : List ℕ) (value run limit : ℕ) (out : List ℕ) {x a : PutAnswer} {ys zs ws : List ℕ} {n : ℕ} → x ≡ a
-      → (x, ys, zs) ≡ put_left lent (put_of file (trie_from lent) name value run limit) → n ≡ (said_by_put a).0 → ws ≡ out_after (said_by_put a) out
-      → pal_put_of file image name value run limit out ≡ (n, ys, zs, ws)
-  unfolding pal_put_of
-  put_said file name value run limit out t e s w =
-      let e = rw whole.same at e in
-      rw (eq-eqb (length image) image_length whole.long, ← ap (λ (o : PutAnswer × List ℕ × List ℕ). o.2) e, ← ap (λ (o : PutAnswer × List ℕ × List ℕ). o.1) e, ← ap (λ (o : PutAnswer × List ℕ × List ℕ). o.0) e, t, s, w)
+    pub put_said : (file name : List ℕ) (value run limit : ℕ) (out : List ℕ) {x a : PutAnswer} {ys zs ws : List ℕ} {n : ℕ} → x ≡ a
+        → (x, ys, zs) ≡ put_left lent (put_of file (trie_from lent) name value run limit) → n ≡ (said_by_put a).0 → ws ≡ out_after (said_by_put a) out
+        → pal_put_of file image name value run limit out ≡ (n, ys, zs, ws)
+    unfolding pal_put_of
+    put_said file name value run limit out t e s w =
+        let e = rw same at e in
+        rw (eq-eqb (length image) image_length well, ← ap (λ (o : PutAnswer × List ℕ × List ℕ). o.2) e, ← ap (λ (o : PutAnswer × List ℕ × List ℕ). o.1) e, ← ap (λ (o : PutAnswer × List ℕ × List ℕ). o.0) e, t, s, w)
 
-  pub remove_said : (file name : List ℕ) (limit : ℕ) (out : List ℕ) {x a : RemoveAnswer} {ys zs ws : List ℕ} {n : ℕ} → x ≡ a
-      → (x, ys, zs) ≡ remove_left lent (remove_of file (trie_from lent) name limit) → n ≡ (said_by_remove a).0 → ws ≡ out_after (said_by_remove a) out
-      → pal_remove_of file image name limit out ≡ (n, ys, zs, ws)
-  unfolding pal_remove_of
-  remove_said file name limit out t e s w =
-      let e = rw whole.same at e in
-      rw (eq-eqb (length image) image_length whole.long, ← ap (λ (o : RemoveAnswer × List ℕ × List ℕ). o.2) e, ← ap (λ (o : RemoveAnswer × List ℕ × List ℕ). o.1) e, ← ap (λ (o : RemoveAnswer × List ℕ × List ℕ). o.0) e, t, s, w)
+    pub remove_said : (file name : List ℕ) (limit : ℕ) (out : List ℕ) {x a : RemoveAnswer} {ys zs ws : List ℕ} {n : ℕ} → x ≡ a
+        → (x, ys, zs) ≡ remove_left lent (remove_of file (trie_from lent) name limit) → n ≡ (said_by_remove a).0 → ws ≡ out_after (said_by_remove a) out
+        → pal_remove_of file image name limit out ≡ (n, ys, zs, ws)
+    unfolding pal_remove_of
+    remove_said file name limit out t e s w =
+        let e = rw same at e in
+        rw (eq-eqb (length image) image_length well, ← ap (λ (o : RemoveAnswer × List ℕ × List ℕ). o.2) e, ← ap (λ (o : RemoveAnswer × List ℕ × List ℕ). o.1) e, ← ap (λ (o : RemoveAnswer × List ℕ × List ℕ). o.0) e, t, s, w)
 
-  pub list_said : (file first second output out : List ℕ) {x a : ListAnswer} {ys ws : List ℕ} {n : ℕ}
-      → x ≡ a → listed x ys ≡ list_of file (trie_from lent) first second output → n ≡ (said_by_list a).0
-      → ws ≡ out_after (said_by_list a) out → pal_list_of file image first second output out ≡ (n, ys, ws)
-  unfolding pal_list_of
-  list_said file first second output out t e s w =
-      let e = rw whole.same at e in rw (eq-eqb (length image) image_length whole.long, ← e, s, w, t)
+    pub list_said : (file first second output out : List ℕ) {x a : ListAnswer} {ys ws : List ℕ} {n : ℕ}
+        → x ≡ a → listed x ys ≡ list_of file (trie_from lent) first second output → n ≡ (said_by_list a).0
+        → ws ≡ out_after (said_by_list a) out → pal_list_of file image first second output out ≡ (n, ys, ws)
+    unfolding pal_list_of
+    list_said file first second output out t e s w =
+        let e = rw same at e in rw (eq-eqb (length image) image_length well, ← e, s, w, t)
 
 -- Look up walks over the image itself.
 pub look_up_walked : (image file name : List ℕ) {n : List ℕ} {x : LookUpAnswer} (p : Place) → n ≡ filled name → p ≡ place_reached (walk_of (trie_from image) n)

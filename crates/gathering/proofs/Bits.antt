@@ -247,3 +247,13 @@ module _ (most least : List ℕ) (ascents a₁ a₂ a₃ u₁ u₂ u₃ : ℕ) w
       let y₂ = g₂ (λ j h. (omega (arith, blank_at 8 j h, C.under (8 + j) (omega arith)), omega (arith, L (8 + j)))) in
       let y₃ = g₃ (λ j h. (omega (arith, blank_at 8 j h, C.under (16 + j) (omega arith)), omega (arith, L (16 + j)))) in
       rw (x₁, x₂, x₃, y₁, y₂, y₃) refl
+
+  -- The word that has the sign too: it is 0 where the others are and the names ascend, and only there.
+  abbrev signed : ℕ
+  signed = bit_or all (1 - ascents / 2 ^ 63)
+
+  pub signed_zero : signed ≡ 0 → (2 ^ 63 ≤ ascents) × (all ≡ 0)
+  signed_zero z = let p = or_zero all (1 - ascents / 2 ^ 63) z in (omega (arith, p.1), p.0)
+
+  pub zero_signed : ascents < 2 ^ 64 → 2 ^ 63 ≤ ascents → all ≡ 0 → signed ≡ 0
+  zero_signed fits r z = let s : ascents / 2 ^ 63 ≡ 1 = omega (arith, r) in rw (s, z) refl

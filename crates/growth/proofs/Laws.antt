@@ -1,5 +1,5 @@
 -- What the code's tests say of the definitions, and how its loops go on.
-use Rattle.model.proofs.Prelude.{List, ◌*◌, ◌+◌, ◌-◌, ◌<◌, ◌∙◌, ◌≡◌, ◌≤◌, ap, arith, dec_le, dec_lt, eq-eqb, get_or, get_or-set_other, get_or-set_same, le-leb, le-ltb, length, length-set, lt-leb, lt-ltb, ne_eqb, refl, set, subst, sym, ℕ, ℕ_discrete}
+use Rattle.model.proofs.Prelude.{List, ◌*◌, ◌+◌, ◌-◌, ◌<◌, ◌∙◌, ◌≡◌, ◌≤◌, ap, arith, dec_le, dec_lt, eq-eqb, get_or, get_or-set_other, get_or-set_same, le-leb, le-ltb, length, length-set, lt-leb, lt-ltb, ne_eqb, refl, set, sets, subst, sym, ℕ, ℕ_discrete}
 use Rattle.model.specs.declared.Cell.{Cell}
 use Rattle.model.specs.declared.Side.{Side}
 use Rattle.model.specs.declared.Side.TheVariants.{Cell as further, Slot as slot}
@@ -9,8 +9,9 @@ use Rattle.model.specs.Tries.{at_cell, zero_cell}
 use Rattle.trie.specs.declared.Hand.{Hand}
 use Rattle.trie.specs.declared.Hand.TheVariants.{Left, Right}
 use Rattle.trie.specs.declared.Walk.{Walk}
-use Rattle.image.specs.Images.{Held, cell_from, trie_from}
+use Rattle.image.specs.Images.{Held, cell_bytes, cell_from, image_length, trie_from}
 use Rattle.image.proofs.Images.{cell_of}
+use Rattle.image.proofs.Imaging.{cell_put, left_held, right_held}
 use Rattle.growth.specs.Parts.{Redirected, Written, cell_turned, new_cell, next_side, side_joined, side_turned, walk_joined}
 
 module _ {side : Side} {s : ℕ} (place last a n : ℕ) where
@@ -125,3 +126,24 @@ module _ (xs ys : List ℕ) (i : ℕ) (h : i < 256) {x : Cell}
       let joined : x ≡ side_joined (at_cell (trie_from xs).cells i) w.hand count =
       new ∙ ap (λ (d : Cell). side_joined d w.hand count) (read ∙ sym (cell_of xs i h)) in
       rw (← at, lt-leb count i l) (stored k.0 k.1 ∙ ap (λ (d : Cell). record { cells = set (trie_from xs).cells i d; count = (trie_from xs).count; first = (trie_from xs).first }) joined)
+
+-- The same of a cell's bytes, written over any image: whatever sides an image has, it holds.
+module _ (xs : List ℕ) {ys : List ℕ} (size : length xs ≡ image_length) (bytes : (j : ℕ) → get_or xs j 0 < 256) (i : ℕ) (x : Cell) (stored : ys ≡ sets xs (4 + 6 * i) (cell_bytes x)) (h : i < 256) where
+  put : Held x.left → Held x.right → trie_from ys ≡ record { cells = set (trie_from xs).cells i x; count = (trie_from xs).count; first = (trie_from xs).first }
+  put l r = ap trie_from stored ∙ cell_put xs size bytes i x h l r
+
+  held : {c : Cell} → c ≡ cell_from xs (4 + 6 * i) → Held c.left × Held c.right
+  held read = rw (read ∙ sym (cell_of xs i h)) (left_held xs size bytes i h, right_held xs size bytes i h)
+
+  pub redirect_bytes : {t : Trie} {places : List ℕ} {last a n : ℕ} {c : Cell} → Redirected t places i last a n (trie_from xs) → n < 32768
+      → c ≡ cell_from xs (4 + 6 * i) → x ≡ cell_turned c (get_or places i 0) last a n → Redirected t places (i + 1) last a n (trie_from ys)
+  redirect_bytes R k read turned = redirect_stored xs ys i h put R k read (held read) turned
+
+  pub write_bytes : {t : Trie} {count : ℕ} {s : Str} {shared a n at m f : ℕ} → Written t count s shared a n i (trie_from xs) × ((trie_from xs).count ≡ m) × ((trie_from xs).first ≡ f)
+      → count ≤ i → i - count ≡ at - shared → shared ≤ at → count + (length s - shared) ≤ 256 → a < 32768 → n < 32768
+      → x ≡ new_cell s at i (count + (length s - shared)) a n → Written t count s shared a n (i + 1) (trie_from ys) × ((trie_from ys).count ≡ m) × ((trie_from ys).first ≡ f)
+  write_bytes {t} {count} {s} {shared} {a} {n} {at} W b same b' room k k' new = write_stored xs ys i h put at W b same b' room k k' new
+
+  pub graft_bytes : {c : Cell} {count : ℕ} (w : Walk) → count ≤ 256 → i ≡ w.cell → i < count
+      → c ≡ cell_from xs (4 + 6 * i) → x ≡ side_joined c w.hand count → trie_from ys ≡ walk_joined (trie_from xs) count w
+  graft_bytes w few at l read new = graft_stored xs ys i h put w few at l read (held read) new

@@ -234,7 +234,7 @@ module _ (s : Span) {count : ℕ} {fs : List Slot} (O : Ordered s.file.now s.siz
       all_length = rw all_between at (parts_length (to + 1 - from) from (omega (arith, P.inside, Q.inside, O.count_is)))
 
 -- R10.7; else the entries are written over the beginning of the output, and their number is given (R9.8).
-module _ (s : Span) {len : ℕ} (l : (len ≤ 40960) × (len ≡ length (bytes_of s))) {count : ℕ} {fs : List Slot} (O : Ordered s.file.now s.size s.order.now count fs)
+module _ (s : Span) {len : ℕ} (l : len ≡ length (bytes_of s)) {count : ℕ} {fs : List Slot} (O : Ordered s.file.now s.size s.order.now count fs)
     (given : AreBytes s.file.now) (n m : Str) (f : Legal n) (g : Legal m) (P : Holder fs n s.from) (Q : Holder fs m s.to)
     (p : key_value s.low ≡ value n) (q : key_value s.high ≡ value m) (out : List ℕ) where
   abbrev all : List Entry
@@ -244,7 +244,7 @@ module _ (s : Span) {len : ℕ} (l : (len ≤ 40960) × (len ≡ length (bytes_o
   written = bytes_are s O given n m f g P Q p q
 
   length_is : len ≡ entry_length s.size.layout * length all
-  length_is = l.1 ∙ ap length written ∙ all_length s O given n m f g P Q
+  length_is = l ∙ ap length written ∙ all_length s O given n m f g P Q
 
   pub list_short : length out < len → listed (Refused ShortOutput) out ≡ list_entries (entry_length s.size.layout) all out
   unfolding list_entries
@@ -256,7 +256,7 @@ module _ (s : Span) {len : ℕ} (l : (len ≤ 40960) × (len ≡ length (bytes_o
   list_all {left} h u {k} r =
       let i : k ≡ length all = r ∙ ap (λ (n : ℕ). n / entry_length s.size.layout) length_is ∙ mul-div_cancel_left (length all) (omega (arith, (entry_size s.size.layout).least)) in
       let a : left ≡ bytes_of_entries (entry_length s.size.layout) all ++ drop (entry_length s.size.layout * length all) out =
-      u ∙ ap₂ (λ (x : List ℕ) (n : ℕ). x ++ drop n out) written (sym l.1 ∙ length_is) in
+      u ∙ ap₂ (λ (x : List ℕ) (n : ℕ). x ++ drop n out) written (sym l ∙ length_is) in
       rw (le-ltb (length out) (entry_length s.size.layout * length all) (omega (arith, length_is)), a, i)
 
 -- List, in the order 1, 2, 3, 4, 7 (R10.9).

@@ -10,10 +10,10 @@ use Rattle.model.specs.Order.{Low, Str, none}
 use Rattle.model.specs.Tests.{is_legal_name}
 use Rattle.model.specs.Names.{Legal, filled}
 use Rattle.model.specs.Entries.{Entry, find}
-use Rattle.model.specs.Files.{Slot}
+use Rattle.model.specs.Files.{Slot, Sound}
 use Rattle.model.specs.Rebuilding.{rebuilt_trie}
 use Rattle.model.specs.Changes.{Result, Store, call, refuse, removal, remove, remove_in, stored, stores, stores_if, trie_removed}
-use Rattle.model.specs.Format.{AreBytes, read_slots}
+use Rattle.model.specs.Format.{AreBytes, file_size, read_file, read_slots}
 use Rattle.model.specs.Places.{place_of}
 use Rattle.model.specs.Calls.{RemoveDone, looked_of, refusing, remove_by_stores, remove_of, remove_on_looked, stores_bytes}
 use Rattle.model.proofs.Calls.{Answered, is_made, remove_right}
@@ -64,17 +64,36 @@ one_freed : (p : RemovePlan) {right : ℕ} (y : Layout) (fs : List Slot) (ss : L
     → (length ss ≡ 2) × Joined y.b fs ss right
 one_freed p {right} y fs ss e q = subst (λ (r : Maybe ℕ). Frees r y.b fs ss) e q.1
 
--- The strings of what a merge leaves are 256 or fewer, so they are given; and the image is that of their trie.
+-- The place of the slot that is freed is one in order.
+freed_place : (p : RemovePlan) {right : ℕ} (y : Layout) (fs : List Slot) (a : Result) → p.right ≡ Some right → RemovePlanned p y fs a → right < length (order_of fs)
+freed_place p y fs (refuse r) e q = absurd q
+freed_place p y fs (stores ss) e q = (one_freed p y fs ss e q).1.inside
+
+-- The strings of an order without a place, of a sound file whose order that is; and the image is that of their trie.
+module _ (c : Checked) (xs : List ℕ) (rest : List ℕ) {right : ℕ} (inside : right < c.survey.count)
+    (o : take (c.survey.count - 1) rest ≡ take right c.survey.order ++ drop (suc right) (take c.survey.count c.survey.order))
+    {fs : List Slot} (e : read_file xs ≡ some (c.size.layout, fs)) (S : Sound c.size.layout.b fs) (n : length fs ≡ c.size.slots)
+    (m : c.survey.count ≡ suc (length (order_of fs)))
+    (i : order_of fs ≡ take right (take c.survey.count c.survey.order) ++ drop (suc right) (take c.survey.count c.survey.order)) where
+  strung_without : {g : Maybe Strings} → Listed g xs c.size rest (c.survey.count - 1) → Strung g (strings_of fs) (slots_between fs none (strings_of fs))
+  strung_without l =
+      let before : take right (take c.survey.count c.survey.order) ≡ take right c.survey.order = take-take right c.survey.count c.survey.order (omega arith) in
+      let listed : read_slots c.size.layout c.size.slots 0 xs ≡ some fs = rw (← n) (read_file_read xs e).listed in
+      let count : c.survey.count - 1 ≡ length (order_of fs) = omega arith in
+      let order : take (c.survey.count - 1) rest ≡ order_of fs = o ∙ sym (i ∙ ap (λ (ys : List ℕ). ys ++ drop (suc right) (take c.survey.count c.survey.order)) before) in
+      l.strung fs listed S count order
+
+  pub rebuilt_without : {s : Strings} {image : List ℕ} → Listed (Some s) xs c.size rest (c.survey.count - 1)
+      → image ≡ image_of (rebuilt_of s.lens s.digits s.slots s.count) → string_count fs ≤ 256 → image ≡ image_of (rebuilt_trie fs)
+  unfolding string_count
+  rebuilt_without {s} l q few = q ∙ ap image_of (rebuilt_right S s (strung_without l) few)
+
+-- The strings of what a merge leaves are 256 or fewer, so they are given.
 module _ (c : Checked) (xs : List ℕ) (rest : List ℕ) {right : ℕ} (L : Left c xs right)
     (o : take (c.survey.count - 1) rest ≡ take right c.survey.order ++ drop (suc right) (take c.survey.count c.survey.order)) where
   left_strung : {g : Maybe Strings} → Listed g xs c.size rest (c.survey.count - 1)
       → Strung g (strings_of L.slots) (slots_between L.slots none (strings_of L.slots))
-  left_strung l =
-      let before : take right (take c.survey.count c.survey.order) ≡ take right c.survey.order = take-take right c.survey.count c.survey.order (omega (arith, L.inside)) in
-      let listed : read_slots c.size.layout c.size.slots 0 xs ≡ some L.slots = rw (← L.as_many) (read_file_read xs L.is).listed in
-      let count : c.survey.count - 1 ≡ length (order_of L.slots) = omega (arith, L.fewer) in
-      let order : take (c.survey.count - 1) rest ≡ order_of L.slots = o ∙ sym (L.order ∙ ap (λ (ys : List ℕ). ys ++ drop (suc right) (take c.survey.count c.survey.order)) before) in
-      l.strung L.slots listed L.sound count order
+  left_strung = strung_without c xs rest L.inside o L.is L.sound L.as_many L.fewer L.order
 
   few_left : length (strings_of L.slots) ≤ 256
   unfolding string_count
@@ -89,7 +108,7 @@ module _ (c : Checked) (xs : List ℕ) (rest : List ℕ) {right : ℕ} (L : Left
 
   pub rebuild_told : {s : Strings} {image : List ℕ} → Listed (Some s) xs c.size rest (c.survey.count - 1)
       → image ≡ image_of (rebuilt_of s.lens s.digits s.slots s.count) → image ≡ image_of (rebuilt_trie L.slots)
-  rebuild_told {s} l q = q ∙ ap image_of (rebuilt_right L.sound s (left_strung l) few_left)
+  rebuild_told l q = rebuilt_without c xs rest L.inside o L.is L.sound L.as_many L.fewer L.order l q L.few
 
 -- What a remove leaves, by its parts, and what it is to leave.
 abbrev leaving : RemoveAnswer → List ℕ → Trie → RemoveDone
@@ -126,8 +145,9 @@ module _ (xs ys : List ℕ) (t : Trie) (c : Checked) (R : Ready c xs) (limit : �
   few_strings = R.few
 
   -- What a merge leaves.
-  module _ (bytes : AreBytes xs) (same : length ys ≡ length xs) (n : Str) {right : ℕ} (h : p.right ≡ Some right) (e : d ≡ false) where
+  module _ (bytes : AreBytes xs) (n : Str) {right : ℕ} (h : p.right ≡ Some right) (e : d ≡ false) where
     merge_left : (a : Result) → RemovePlanned p y fs a → Answered y.b (place_of y) fs (remove n) a → Left c ys right
+    unfolding file_size
     merge_left (refuse r) q A = absurd q
     merge_left (stores []) q A = absurd (omega (arith, (one_freed p y fs [] h q).0))
     merge_left (stores (v ∷ [])) q A = absurd (omega (arith, (one_freed p y fs (v ∷ []) h q).0))
@@ -141,12 +161,14 @@ module _ (xs ys : List ℕ) (t : Trie) (c : Checked) (R : Ready c xs) (limit : �
         (let k : ◌≡◌ {A = Option (Layout × ℕ)} (some (y, c.size.slots)) (some (y, length fs)) = sym R.said.header ∙ headed_header_of (read_file_read xs R.is).headed in
         let j : ◌≡◌ {A = Layout × ℕ} (y, c.size.slots) (y, length fs) = cc in
         sym (ap (λ (x : Layout × ℕ). x.1) j)) in
+        let read : read_file ys ≡ some (y, stored (v ∷ w ∷ []) fs) = rw left (read_stored y xs bytes R.is (place_of y) z tt J.sound) in
+        let as_many : length (stored (v ∷ w ∷ []) fs) ≡ c.size.slots = length-set (set fs v.0 v.1) w.0 w.1 ∙ length-set fs v.0 v.1 ∙ slots in
         record {
           slots = stored (v ∷ w ∷ []) fs;
-          is = rw left (read_stored y xs bytes R.is (place_of y) z tt J.sound);
-          sized = record { legal = R.said.sized.legal; whole = same ∙ R.said.sized.whole };
+          is = read;
+          sized = record { legal = R.said.sized.legal; whole = (read_file_read ys read).headed.whole ∙ ap (file_size y) as_many };
           sound = J.sound;
-          as_many = length-set (set fs v.0 v.1) w.0 w.1 ∙ length-set fs v.0 v.1 ∙ slots;
+          as_many = as_many;
           slots_inside = R.slots_inside;
           count_most = R.count_most;
           inside = omega (arith, J.inside, R.count_is);
@@ -200,6 +222,9 @@ module _ {xs image name : List ℕ} {limit : ℕ} {c : Checked} {r : Maybe Remov
     planned : RemovePlanned p c.size.layout R.slots asked
     planned = subst (λ (x : Maybe RemovePlan). RemoveAsked x c.size.layout R.slots asked) some_plan (P.told R.slots R.is)
 
+    pub freed_inside : {right : ℕ} → p.right ≡ Some right → right < c.survey.count
+    freed_inside h = omega (arith, R.count_is, freed_place p c.size.layout R.slots asked h planned)
+
     answered : Answered c.size.layout.b (place_of c.size.layout) R.slots (remove (filled name)) asked
     answered = remove_right c.size.layout.b (place_of c.size.layout) R.slots R.sound (filled name)
 
@@ -210,14 +235,14 @@ module _ {xs image name : List ℕ} {limit : ℕ} {c : Checked} {r : Maybe Remov
       pub left_removed : d ≡ false → p.right ≡ None → (Removed 1, ys, image) ≡ left_of xs image name limit
       left_removed e h = left_by (by_one xs ys (trie_from image) c R limit p d C asked planned e h)
 
-      module _ (same : length ys ≡ length xs) {right : ℕ} (h : p.right ≡ Some right) (e : d ≡ false) where
+      module _ {right : ℕ} (h : p.right ≡ Some right) (e : d ≡ false) where
         pub freed_left : Left c ys right
-        freed_left = merge_left xs ys (trie_from image) c R limit p d C P.bytes same (filled name) h e asked planned answered
+        freed_left = merge_left xs ys (trie_from image) c R limit p d C P.bytes (filled name) h e asked planned answered
 
         pub left_merged : {image' : List ℕ} → RebuildTold image' c ys right → (Removed 2, ys, image') ≡ left_of xs image name limit
         unfolding freed_left
         left_merged T =
-            by_merge xs ys (trie_from image) c R limit p d C P.bytes same (filled name) h e asked planned answered image (T freed_left) ∙ left_by refl
+            by_merge xs ys (trie_from image) c R limit p d C P.bytes (filled name) h e asked planned answered image (T freed_left) ∙ left_by refl
 
 -- What is refused before that, with no byte changed.
 module _ (xs image name : List ℕ) (limit : ℕ) where

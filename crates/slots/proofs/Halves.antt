@@ -15,7 +15,7 @@ use Rattle.digits.proofs.Bounds.{name_over}
 use Rattle.digits.specs.Keys.{continued, value}
 use Rattle.entries.specs.Rows.{entries_from, is_not_above, last_of, values}
 use Rattle.entries.proofs.Copies.{moved}
-use Rattle.entries.proofs.Lists.{name_there, part_list, values_are}
+use Rattle.entries.proofs.Lists.{drop-read_entries, name_there, part_list, take-read_entries, values_are}
 use Rattle.entries.proofs.Padding.{copied, zeros_padded}
 use Rattle.entries.proofs.Places.{numbers}
 use Rattle.slots.specs.Spots.{RowOf}
@@ -79,17 +79,36 @@ module _ (y : Layout) (row : List ℕ) (ws : List Entry) (r : RowOf y row ws) (n
         ap (λ (m : ℕ). read_entries e m (take (e * (k - 0)) (drop (e * 0) row))) (sym z)
         ∙ part_list e (y.b + 1) 0 k row least fits (omega arith) (omega arith) ∙ ap₂ take z row_is
 
-  -- As the code counts them, without the first and the last.
+  -- How many stay, counted in any bytes that hold all but the first and the last.
+  counted : {l : Low} {u : Str} (s : Str) (v : ℕ) (zs : List ℕ) → read_entries e (y.b - 1) zs ≡ take (y.b - 1) (drop 1 ws) → 1 ≤ y.b → Row l ws u → Bound s
+      → v ≡ value (continued s) → name_at ws 0 ⊑ s → s ≺ name_at ws y.b → 1 + is_not_above v (values e (y.b - 1) zs) ≡ length (stay s ws)
+  counted s v zs c h R b q f g =
+      let legal = bound_is_legal_bound b in
+      let k = y.b in
+      let low : ltb v (value (name_at ws 0)) ≡ false = ap (λ (x : ℕ). ltb x (value (name_at ws 0))) q ∙ name_over s (name_at ws 0) legal (row_at R 0 (omega arith)).0 ∙ ap not (le_is_at_most (name_at ws 0) s f) in
+      let high : ltb v (value (name_at ws k)) ≡ true = ap (λ (x : ℕ). ltb x (value (name_at ws k))) q ∙ name_over s (name_at ws k) legal (row_at R k (omega arith)).0 ∙ ap not (lt_is_at_most (name_at ws k) s g) in
+      ap (λ (x : List ℕ). 1 + is_not_above v x) (values_are e (k - 1) zs ∙ ap numbers c)
+      ∙ middle_counted v k ws n h low high
+      ∙ omega (arith, ap (λ (x : ℕ). is_not_above x (numbers ws)) q, (moved s legal R).1, keep_parts (λ x. is_at_most x s) ws)
+
+  -- As the code counts them, in the row's own bytes of these; and the same in all its bytes past the first.
   pub stay_counted : {l : Low} {u : Str} (s : Str) (v : ℕ) → 1 ≤ y.b → e * (y.b + 1) ≤ length row → Row l ws u → Bound s → v ≡ value (continued s)
       → name_at ws 0 ⊑ s → s ≺ name_at ws y.b → 1 + is_not_above v (values e (y.b - 1) (entries_from e 1 y.b row)) ≡ length (stay s ws)
   unfolding entries_from
   stay_counted s v h fits R b q f g =
-      let legal = bound_is_legal_bound b in
       let k = y.b in
       let c : read_entries e (k - 1) (entries_from e 1 k row) ≡ take (k - 1) (drop 1 ws) =
       part_list e (k + 1) 1 k row (omega (arith, (entry_size y).least)) fits h (omega arith) ∙ ap (λ (x : List Entry). take (k - 1) (drop 1 x)) row_is in
-      let low : ltb v (value (name_at ws 0)) ≡ false = ap (λ (x : ℕ). ltb x (value (name_at ws 0))) q ∙ name_over s (name_at ws 0) legal (row_at R 0 (omega arith)).0 ∙ ap not (le_is_at_most (name_at ws 0) s f) in
-      let high : ltb v (value (name_at ws k)) ≡ true = ap (λ (x : ℕ). ltb x (value (name_at ws k))) q ∙ name_over s (name_at ws k) legal (row_at R k (omega arith)).0 ∙ ap not (lt_is_at_most (name_at ws k) s g) in
-      ap (λ (x : List ℕ). 1 + is_not_above v x) (values_are e (k - 1) (entries_from e 1 k row) ∙ ap numbers c)
-      ∙ middle_counted v k ws n h low high
-      ∙ omega (arith, ap (λ (x : ℕ). is_not_above x (numbers ws)) q, (moved s legal R).1, keep_parts (λ x. is_at_most x s) ws)
+      counted s v (entries_from e 1 k row) c h R b q f g
+
+  pub stay_counted_past : {l : Low} {u : Str} (s : Str) (v : ℕ) → 1 ≤ y.b → Row l ws u → Bound s → v ≡ value (continued s) → name_at ws 0 ⊑ s → s ≺ name_at ws y.b
+      → 1 + is_not_above v (values e (y.b - 1) (drop e row)) ≡ length (stay s ws)
+  stay_counted_past s v h R b q f g =
+      let k = y.b in
+      let o : e * 1 ≡ e = omega arith in
+      let d : drop (e * 1) row ≡ drop e row = ap (λ (m : ℕ). drop m row) o in
+      let m : k + 1 - 1 ≡ k = omega arith in
+      let c : read_entries e (k - 1) (drop e row) ≡ take (k - 1) (drop 1 ws) =
+      sym (take-read_entries e (k - 1) k (drop e row) (omega arith))
+      ∙ ap (take (k - 1)) (ap₂ (read_entries e) (sym m) (sym d) ∙ sym (drop-read_entries e 1 (k + 1) row (omega arith)) ∙ ap (drop 1) row_is) in
+      counted s v (drop e row) c h R b q f g

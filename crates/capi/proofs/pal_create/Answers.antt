@@ -11,9 +11,9 @@ returns-in_default c =
 pub returns-in-Ok : goal.returns-in-Ok
 returns-in-Ok c =
     let a = c.args in
-    create_said a.trie.now c.in-Some.ensures.cases a.file.now a.version a.b a.slots c.in-Ok.is c.create.ensures refl
+    create_said a.trie.now c.in-Some.ensures.cases.long a.file.now a.version a.b a.slots c.in-Ok.is c.create.ensures refl
 
 pub returns-in-Err : goal.returns-in-Err
 returns-in-Err c =
     let a = c.args in
-    create_said a.trie.now c.in-Some.ensures.cases a.file.now a.version a.b a.slots c.in-Err.is c.create.ensures c.from.ensures
+    create_said a.trie.now c.in-Some.ensures.cases.long a.file.now a.version a.b a.slots c.in-Err.is c.create.ensures c.from.ensures

@@ -11,17 +11,17 @@ returns-in_default c =
 pub returns-in-Ok-Some : goal.returns-in-Ok-Some
 returns-in-Ok-Some c =
     let a = c.args in
-    look_up_said a.trie.now c.in-Some.ensures.cases a.file.now a.name.now a.out.now (done c.in-Ok-Some.is c.in-Ok-Some.field-0-is)
+    look_up_said a.trie.now c.in-Some.ensures.cases.long c.in-Some.ensures.cases.same a.file.now a.name.now a.out.now (done c.in-Ok-Some.is c.in-Ok-Some.field-0-is)
     (look_up_walked c.in-Some.image.now a.file.now a.name.now c.place_in.result c.filled-filled.ensures c.place_in.ensures c.look_up_from.ensures) refl refl
 
 pub returns-in-Ok-None : goal.returns-in-Ok-None
 returns-in-Ok-None c =
     let a = c.args in
-    look_up_said a.trie.now c.in-Some.ensures.cases a.file.now a.name.now a.out.now (done c.in-Ok-None.is c.in-Ok-None.field-0-is)
+    look_up_said a.trie.now c.in-Some.ensures.cases.long c.in-Some.ensures.cases.same a.file.now a.name.now a.out.now (done c.in-Ok-None.is c.in-Ok-None.field-0-is)
     (look_up_walked c.in-Some.image.now a.file.now a.name.now c.place_in.result c.filled-filled.ensures c.place_in.ensures c.look_up_from.ensures) refl refl
 
 pub returns-in-Err : goal.returns-in-Err
 returns-in-Err c =
     let a = c.args in
-    look_up_said a.trie.now c.in-Some.ensures.cases a.file.now a.name.now a.out.now c.in-Err.is
+    look_up_said a.trie.now c.in-Some.ensures.cases.long c.in-Some.ensures.cases.same a.file.now a.name.now a.out.now c.in-Err.is
     (look_up_walked c.in-Some.image.now a.file.now a.name.now c.place_in.result c.filled-filled.ensures c.place_in.ensures c.look_up_from.ensures) c.refused.ensures.0 c.refused.ensures.1

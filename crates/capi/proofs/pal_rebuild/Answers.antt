@@ -11,9 +11,9 @@ returns-in_default c =
 pub returns-in-Ok : goal.returns-in-Ok
 returns-in-Ok c =
     let a = c.args in
-    rebuild_said a.trie.now c.in-Some.ensures.cases a.file.now c.in-Ok.is c.rebuild.ensures refl
+    rebuild_said a.trie.now c.in-Some.ensures.cases.long a.file.now c.in-Ok.is c.rebuild.ensures refl
 
 pub returns-in-Err : goal.returns-in-Err
 returns-in-Err c =
     let a = c.args in
-    rebuild_said a.trie.now c.in-Some.ensures.cases a.file.now c.in-Err.is c.rebuild.ensures c.from.ensures
+    rebuild_said a.trie.now c.in-Some.ensures.cases.long a.file.now c.in-Err.is c.rebuild.ensures c.from.ensures

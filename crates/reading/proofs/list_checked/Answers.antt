@@ -12,7 +12,7 @@ returns-then-output-len c R f g =
     let P = c.holder.ensures.found R.slots O f in
     let Q = c.holder-2.ensures.found R.slots O g in
     let w = bytes_each a.file.now (λ i. omega (arith, c.type_inv.file i)) in
-    list_short _ c.len-len.ensures O w a.first.now a.second.now f g P Q c.requires.1 c.requires.2 a.output.now (omega (arith, c.if-output-len.true))
+    list_short _ c.len-len.ensures.1 O w a.first.now a.second.now f g P Q c.requires.1 c.requires.2 a.output.now (omega (arith, c.if-output-len.true))
 
 pub write-requires : goal.write-requires
 write-requires c = (omega (arith, c.len-len.ensures.1, c.if-output-len.false), omega (arith, c.len-len.ensures.0, c.len-len.ensures.1))
@@ -24,4 +24,4 @@ returns c R f g =
     let P = c.holder.ensures.found R.slots O f in
     let Q = c.holder-2.ensures.found R.slots O g in
     let w = bytes_each a.file.now (λ i. omega (arith, c.type_inv.file i)) in
-    list_all _ c.len-len.ensures O w a.first.now a.second.now f g P Q c.requires.1 c.requires.2 a.output.now (omega (arith, c.if-output-len.false)) c.write.ensures c.entries_in.ensures
+    list_all _ c.len-len.ensures.1 O w a.first.now a.second.now f g P Q c.requires.1 c.requires.2 a.output.now (omega (arith, c.if-output-len.false)) c.write.ensures c.entries_in.ensures

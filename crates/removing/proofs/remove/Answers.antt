@@ -1,5 +1,5 @@
 -- `remove` meets its contract: what is refused, and what is left of a plan that is committed.
-use Rattle.model.proofs.Prelude.{arith, rules}
+use Rattle.model.proofs.Prelude.{arith}
 use Rattle.model.proofs.Format.{bytes_each}
 use Rattle.model.proofs.Names.{is_legal_name_legal}
 use Rattle.checking.proofs.Laws.{error_is, lacking, naming_illegal, naming_legal, there}
@@ -62,8 +62,8 @@ returns-in_default-right c =
 
 pub rebuild_without-requires : goal.rebuild_without-requires
 rebuild_without-requires c =
-    freed_left (prepared (goal.at.rebuild_without-requires c).After-remove_plan) c.in-Some.is c.commit.result c.commit.ensures (search rules) c.in-Some-right.is c.if-commit.false
+    freed_left (prepared (goal.at.rebuild_without-requires c).After-remove_plan) c.in-Some.is c.commit.result c.commit.ensures c.in-Some-right.is c.if-commit.false
 
 pub returns : goal.returns
 returns c =
-    left_merged (prepared (goal.at.returns c).After-remove_plan) c.in-Some.is c.commit.result c.commit.ensures (search rules) c.in-Some-right.is c.if-commit.false c.rebuild_without.ensures
+    left_merged (prepared (goal.at.returns c).After-remove_plan) c.in-Some.is c.commit.result c.commit.ensures c.in-Some-right.is c.if-commit.false c.rebuild_without.ensures
