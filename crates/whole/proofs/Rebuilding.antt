@@ -1,10 +1,10 @@
 -- Rebuild, by its order of refusals, and the trie that it gives.
-use Rattle.std.specs.Prelude.{Err, IsErrAnd, None, Ok, Option as Maybe, Result, Some, ok_or}
-use Rattle.model.proofs.Prelude.{List, ◌∙◌, ◌≡◌, ◌≤◌, ap, arith, le-leb, length, lt-leb, refl, sym, ℕ}
+use Rattle.std.specs.Prelude.{Err, IsErrAnd, None, Ok, Option as Maybe, Result, Some, is_err, ok_or}
+use Rattle.model.proofs.Prelude.{List, ◌∙◌, ◌≡◌, ◌≤◌, ap, arith, le-leb, length, lt-leb, refl, sym, true, ℕ}
 use Rattle.model.specs.declared.Cause.{Cause}
 use Rattle.model.specs.declared.Trie.{Trie}
 use Rattle.model.specs.declared.Cause.TheVariants.{BadFile, ManyStrings}
-use Rattle.model.specs.Results.{Given, TrieRefused}
+use Rattle.model.specs.Results.{Given, TrieAnswer, TrieRefused}
 use Rattle.model.specs.Searches.{string_count, strings_of}
 use Rattle.model.specs.Checks.{is_bad, is_sound}
 use Rattle.model.specs.Format.{check_file}
@@ -20,10 +20,15 @@ use Rattle.strings.specs.Arrays.{Listed}
 use Rattle.image.specs.Clearing.{cleared}
 use Rattle.image.specs.Images.{image_of}
 use Rattle.rebuilding.proofs.Right.{rebuilt_right}
-use Rattle.whole.specs.Gathering.{Gathered}
-use Rattle.whole.specs.Outcomes.{Rebuilds}
+use Rattle.rebuilding.specs.Runs.{rebuilt_of}
+use Rattle.whole.specs.Outcomes.{Rebuilds, left_by}
 use Rattle.file.proofs.Surveying.{Read, sound_read}
 use Rattle.strings.proofs.Surveyed.{strung}
+
+-- The strings that a trie is rebuilt from, or why none is.
+abbrev pub Gathered : Result Strings Cause → List ℕ → Type 0
+Gathered (Ok s) xs = rebuild_of xs ≡ record { answer = Given; trie = rebuilt_of s.lens s.digits s.slots s.count }
+Gathered (Err cause) xs = rebuild_of xs ≡ record { answer = TrieRefused cause; trie = new_trie }
 
 pub cleared_new : image_of (cleared 0 0) ≡ image_of new_trie
 unfolding cleared
@@ -60,3 +65,19 @@ gathered xs s v (Some g) h e z l =
 -- Refused, the trie without cells is written.
 pub not_rebuilt : (xs image : List ℕ) {r : Result Strings Cause} {cause : Cause} → r ≡ Err cause → Gathered r xs → image ≡ image_of (cleared 0 0) → Rebuilds (TrieRefused cause) image xs
 not_rebuilt xs image e h q = rw (rw e at h) (refl, q ∙ cleared_new)
+
+pub refused : (r : TrieAnswer) {cause : Cause} (xs image : List ℕ) → IsErrAnd r (λ e. e ≡ cause) → Gathered (Err cause) xs → Rebuilds r (left_by r image) xs
+refused (Ok x) xs image a h = absurd a
+refused (Err e) xs image a h = rw a (not_rebuilt xs (image_of new_trie) refl h (sym cleared_new))
+
+pub too_many : (xs : List ℕ) {g : Maybe Strings} → g ≡ None → Gathered (ok_or g ManyStrings) xs → Rebuilds (TrieRefused ManyStrings) (image_of new_trie) xs
+too_many xs e h = not_rebuilt xs (image_of new_trie) refl (rw e at h) (sym cleared_new)
+
+pub cleared_behind : (r : TrieAnswer) (xs image last : List ℕ) → is_err r ≡ true → Rebuilds r (left_by r image) xs → last ≡ image_of (cleared 0 0) → Rebuilds r last xs
+cleared_behind (Ok x) xs image last e h q = cc
+cleared_behind (Err c) xs image last e h q = (h.0, q ∙ cleared_new ∙ h.1)
+
+-- Given, the image of the strings' trie is.
+pub rebuilt : (xs image : List ℕ) {g : Maybe Strings} {s : Strings} → g ≡ Some s → Gathered (ok_or g ManyStrings) xs
+    → image ≡ image_of (rebuilt_of s.lens s.digits s.slots s.count) → Rebuilds Given image xs
+rebuilt xs image e h q = rw (rw e at h) (refl, q)

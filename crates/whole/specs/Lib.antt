@@ -1,3 +1,2 @@
 pub mod Small
 pub mod Outcomes
-pub mod Gathering

@@ -1,7 +1,7 @@
 -- A call's outcome put together from what the code gives: the answer, and the bytes lent as they are left.
 use Rattle.std.specs.Prelude.{Err, Ok, Result, ◌≡◌, List, ℕ}
-use Rattle.model.specs.Results.{RecoverAnswer, TrieAnswer}
-use Rattle.model.specs.Calls.{CreateDone, RecoverDone, rebuild_of}
+use Rattle.model.specs.Results.{Given, RecoverAnswer, TrieAnswer, TrieRefused}
+use Rattle.model.specs.Calls.{CreateDone, RecoverDone, new_trie, rebuild_of}
 use Rattle.model.specs.Checks.{Kind, is_bad, is_cut, is_sound}
 use Rattle.file.specs.declared.survey.Fault.{Fault}
 use Rattle.file.specs.declared.survey.Fault.TheVariants.{Bad, Cut}
@@ -23,3 +23,8 @@ recovered r xs = record { answer = r; file = xs }
 -- The answer, and the image of the trie.
 abbrev pub Rebuilds : TrieAnswer → List ℕ → List ℕ → Type 0
 Rebuilds r image xs = (r ≡ (rebuild_of xs).answer) × (image ≡ image_of (rebuild_of xs).trie)
+
+-- An image that is left so, once a refusal has given the trie without cells.
+abbrev pub left_by : TrieAnswer → List ℕ → List ℕ
+left_by Given image = image
+left_by (TrieRefused cause) image = image_of new_trie

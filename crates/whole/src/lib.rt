@@ -5,14 +5,12 @@
 ghost use Rattle.std.specs.Prelude.{◌≡◌};
 ghost use Rattle.model.specs.Calls.{create_of, recover_of};
 ghost use Rattle.model.specs.Format.{check_file};
-ghost use Rattle.whole.specs.Gathering.{Gathered};
-ghost use Rattle.whole.specs.Outcomes.{Creates, Rebuilds, found, recovered};
+ghost use Rattle.whole.specs.Outcomes.{Creates, Rebuilds, found, left_by, recovered};
 ghost use Rattle.whole.specs.Small.{Small};
 
 use file::Fault;
 use image::Image;
 use model::{Cause, Layout, RecoverAnswer, Recovery, TrieAnswer};
-use trie::Strings;
 
 // A number that is no size of a file stays none.
 fn small(x: u64) -> usize
@@ -64,27 +62,27 @@ pub fn recover(file: &mut [u8], limit: u64) -> RecoverAnswer
     }
 }
 
-// The strings of the bucket headers of a file that can be rebuilt from.
-fn strings_of(file: &[u8]) -> Result<Strings, Cause>
-    ensures { Gathered result file.now }
+// Writes the image of the trie of the bucket headers alone; refused, it leaves the image to its caller. The strings are made and used
+// here: handed on in a `Result`, they would stand on the stack once more.
+fn rebuild_from(file: &[u8], image: &mut Image) -> TrieAnswer
+    ensures { Rebuilds result (left_by result image.new) file.now }
 {
     let size = file::header_of(file).ok_or(Cause::BadFile)?;
     let survey = surveying::survey_of(file, size)?;
-    strings::strings_of(file, size, &survey.order, survey.count).ok_or(Cause::ManyStrings)
+    let Some(strings) = strings::strings_of(file, size, &survey.order, survey.count) else {
+        return Err(Cause::ManyStrings);
+    };
+    rebuilding::rebuild(image, &strings);
+    Ok(())
 }
 
 // Writes the image of the trie of the bucket headers alone. Refused, it gives the trie without cells.
 pub fn rebuild(file: &[u8], image: &mut Image) -> TrieAnswer
     ensures { Rebuilds result image.new file.now }
 {
-    match strings_of(file) {
-        Ok(strings) => {
-            rebuilding::rebuild(image, &strings);
-            Ok(())
-        }
-        Err(cause) => {
-            image::write_cleared(image, 0, 0);
-            Err(cause)
-        }
+    let answer = rebuild_from(file, image);
+    if answer.is_err() {
+        image::write_cleared(image, 0, 0);
     }
+    answer
 }
