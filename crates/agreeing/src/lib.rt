@@ -221,7 +221,7 @@ fn matches(file: &[u8], size: Size, order: &[u8; 64], count: usize, image: &Imag
 }
 
 // The exact test, by the strings of the file. In the machine code too it is a function of its own: its arrays would otherwise stand on
-// the stack of every call that looks at the whole file, and hardly one needs it.
+// the stack of put, remove and list, which ask for agreement, and hardly one call needs it.
 #[cold]
 #[inline(never)]
 fn is_agreeing_exactly(

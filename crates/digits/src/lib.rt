@@ -158,7 +158,7 @@ fn continued(s: &[u8], at: usize, end: usize, len: usize) -> u64
 }
 
 // Whether the bytes of so many words are zero. The words are gathered and tested once, which the compiler does several at a time: nearly
-// always all are zero, and a call looks at each free slot.
+// always all are zero, and a call that looks at the whole file looks at each free slot.
 fn are_words_zero(s: &[u8], words: usize) -> bool
     requires { 8 * words ≤ length s.now }
     ensures { is_all_zero s.now ≡ (result && is_all_zero (drop (8 * words) s.now)) }
