@@ -248,7 +248,7 @@ module _ (most least : List ℕ) (ascents a₁ a₂ a₃ u₁ u₂ u₃ : ℕ) w
       let y₃ = g₃ (λ j h. (omega (arith, blank_at 8 j h, C.under (16 + j) (omega arith)), omega (arith, L (16 + j)))) in
       rw (x₁, x₂, x₃, y₁, y₂, y₃) refl
 
-  -- The word that has the sign too: it is 0 where the others are and the names ascend, and only there.
+  -- The word that has the sign too: it is 0 just where `all` is 0 and the names ascend.
   abbrev signed : ℕ
   signed = bit_or all (1 - ascents / 2 ^ 63)
 

@@ -127,7 +127,7 @@ module _ (xs ys : List ℕ) (i : ℕ) (h : i < 256) {x : Cell}
       new ∙ ap (λ (d : Cell). side_joined d w.hand count) (read ∙ sym (cell_of xs i h)) in
       rw (← at, lt-leb count i l) (stored k.0 k.1 ∙ ap (λ (d : Cell). record { cells = set (trie_from xs).cells i d; count = (trie_from xs).count; first = (trie_from xs).first }) joined)
 
--- The same of a cell's bytes, written over any image: whatever sides an image has, it holds.
+-- The same of a cell's bytes, written over any image: every side that is read from an image is held.
 module _ (xs : List ℕ) {ys : List ℕ} (size : length xs ≡ image_length) (bytes : (j : ℕ) → get_or xs j 0 < 256) (i : ℕ) (x : Cell) (stored : ys ≡ sets xs (4 + 6 * i) (cell_bytes x)) (h : i < 256) where
   put : Held x.left → Held x.right → trie_from ys ≡ record { cells = set (trie_from xs).cells i x; count = (trie_from xs).count; first = (trie_from xs).first }
   put l r = ap trie_from stored ∙ cell_put xs size bytes i x h l r

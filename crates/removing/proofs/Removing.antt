@@ -64,12 +64,12 @@ one_freed : (p : RemovePlan) {right : ℕ} (y : Layout) (fs : List Slot) (ss : L
     → (length ss ≡ 2) × Joined y.b fs ss right
 one_freed p {right} y fs ss e q = subst (λ (r : Maybe ℕ). Frees r y.b fs ss) e q.1
 
--- The place of the slot that is freed is one in order.
+-- The slot that is freed has a place in the order.
 freed_place : (p : RemovePlan) {right : ℕ} (y : Layout) (fs : List Slot) (a : Result) → p.right ≡ Some right → RemovePlanned p y fs a → right < length (order_of fs)
 freed_place p y fs (refuse r) e q = absurd q
 freed_place p y fs (stores ss) e q = (one_freed p y fs ss e q).1.inside
 
--- The strings of an order without a place, of a sound file whose order that is; and the image is that of their trie.
+-- A sound file whose order is the old one without one place: its strings, and the image of their trie.
 module _ (c : Checked) (xs : List ℕ) (rest : List ℕ) {right : ℕ} (inside : right < c.survey.count)
     (o : take (c.survey.count - 1) rest ≡ take right c.survey.order ++ drop (suc right) (take c.survey.count c.survey.order))
     {fs : List Slot} (e : read_file xs ≡ some (c.size.layout, fs)) (S : Sound c.size.layout.b fs) (n : length fs ≡ c.size.slots)

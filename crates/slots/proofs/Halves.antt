@@ -91,7 +91,7 @@ module _ (y : Layout) (row : List ℕ) (ws : List Entry) (r : RowOf y row ws) (n
       ∙ middle_counted v k ws n h low high
       ∙ omega (arith, ap (λ (x : ℕ). is_not_above x (numbers ws)) q, (moved s legal R).1, keep_parts (λ x. is_at_most x s) ws)
 
-  -- As the code counts them, in the row's own bytes of these; and the same in all its bytes past the first.
+  -- As the code counts them, in the part of the row that has just these entries.
   pub stay_counted : {l : Low} {u : Str} (s : Str) (v : ℕ) → 1 ≤ y.b → e * (y.b + 1) ≤ length row → Row l ws u → Bound s → v ≡ value (continued s)
       → name_at ws 0 ⊑ s → s ≺ name_at ws y.b → 1 + is_not_above v (values e (y.b - 1) (entries_from e 1 y.b row)) ≡ length (stay s ws)
   unfolding entries_from
@@ -101,6 +101,7 @@ module _ (y : Layout) (row : List ℕ) (ws : List Entry) (r : RowOf y row ws) (n
       part_list e (k + 1) 1 k row (omega (arith, (entry_size y).least)) fits h (omega arith) ∙ ap (λ (x : List Entry). take (k - 1) (drop 1 x)) row_is in
       counted s v (entries_from e 1 k row) c h R b q f g
 
+  -- The same in all bytes behind the first entry.
   pub stay_counted_past : {l : Low} {u : Str} (s : Str) (v : ℕ) → 1 ≤ y.b → Row l ws u → Bound s → v ≡ value (continued s) → name_at ws 0 ⊑ s → s ≺ name_at ws y.b
       → 1 + is_not_above v (values e (y.b - 1) (drop e row)) ≡ length (stay s ws)
   stay_counted_past s v h R b q f g =

@@ -77,7 +77,7 @@ pub cleared_behind : (r : TrieAnswer) (xs image last : List ℕ) → is_err r �
 cleared_behind (Ok x) xs image last e h q = cc
 cleared_behind (Err c) xs image last e h q = (h.0, q ∙ cleared_new ∙ h.1)
 
--- Given, the image of the strings' trie is.
+-- Where the answer is `Given`, the image is that of the strings' trie.
 pub rebuilt : (xs image : List ℕ) {g : Maybe Strings} {s : Strings} → g ≡ Some s → Gathered (ok_or g ManyStrings) xs
     → image ≡ image_of (rebuilt_of s.lens s.digits s.slots s.count) → Rebuilds Given image xs
 rebuilt xs image e h q = rw (rw e at h) (refl, q)

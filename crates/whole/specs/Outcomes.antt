@@ -24,7 +24,7 @@ recovered r xs = record { answer = r; file = xs }
 abbrev pub Rebuilds : TrieAnswer → List ℕ → List ℕ → Type 0
 Rebuilds r image xs = (r ≡ (rebuild_of xs).answer) × (image ≡ image_of (rebuild_of xs).trie)
 
--- An image that is left so, once a refusal has given the trie without cells.
+-- The image at the end: as it was left, or, after a refusal, that of the trie without cells.
 abbrev pub left_by : TrieAnswer → List ℕ → List ℕ
 left_by Given image = image
 left_by (TrieRefused cause) image = image_of new_trie
